@@ -1,0 +1,16 @@
+-- How a reader with rules answers. A rule maps what is read to the list of all refusals that it gives, in order. The rules of a reader are joined by `++`, and the first refusal of the joined list is the answer.
+use Rattle.std.specs.Prelude.{◌≡◌, ◌≢◌, List, [], ◌∷◌, Bool, if◌then◌else◌, Result, Ok, Err}
+
+-- the refusal, unless the fact holds
+abbrev pub unless : {E : Type 0} → Bool → E → List E
+unless fact e = if fact then [] else e ∷ []
+
+-- no refusal lets the value stand, and the first one answers otherwise
+abbrev pub settle : {A E : Type 0} → List E → A → Result A E
+settle [] x = Ok x
+settle (e ∷ es) x = Err e
+
+-- what a call answered, seen by view, is the right answer; want of memory may come in place of any
+abbrev pub Answers : {X Y E : Type 0} → E → (X → Y) → Result X E → Result Y E → Type 0
+Answers memory view (Ok x) right = right ≡ Ok (view x)
+Answers memory view (Err e) right = e ≢ memory → right ≡ Err e
