@@ -1,0 +1,19 @@
+-- The scaling of a field by geomagnetic latitude.
+use Rattle.std.specs.Prelude.{ℕ, nat_le, List, [], ◌∷◌, Option, Some, None, find}
+
+-- latitudes in hundredths of a degree, each with the scaling in tenths
+abbrev pub latitude_table : List (ℕ × ℕ)
+latitude_table =
+    (4000, 1) ∷ (4500, 2) ∷ (5000, 3) ∷ (5400, 5) ∷ (5600, 6) ∷ (5700, 7) ∷ (5800, 8) ∷ (5900, 9) ∷ (6000, 10) ∷ []
+
+-- the first row whose latitude is at least the given one
+unfoldable pub row_at : ℕ → Option (ℕ × ℕ)
+row_at latitude = find (λ row. nat_le latitude row.0) latitude_table
+
+abbrev pub tenths_or_ten : Option (ℕ × ℕ) → ℕ
+tenths_or_ten None = 10
+tenths_or_ten (Some row) = row.1
+
+-- the scaling of that row, and 10 if there is none
+abbrev pub alpha_of : ℕ → ℕ
+alpha_of latitude = tenths_or_ten (row_at latitude)
