@@ -1,4 +1,4 @@
-use Rattle.std.proofs.Common.{rules, ◌≡◌, ℕ, ◌<◌, ◌+◌, List, map, length, string_bytes, drop, get_or, cond, Bool, true, false, Some, sym, ap, ◌∙◌, refl, subst, drop-cons, add-one, suc, ◌∷◌}
+use Rattle.std.proofs.Common.{rules, ◌≡◌, ℕ, ◌<◌, ◌+◌, List, map, length, string_bytes, drop, get_or, cond, Bool, true, false, Some, sym, ap, ◌∙◌, drop-cons, add-one, suc, ◌∷◌}
 use Rattle.std.specs.Cmp.Lexicographic.{slice_cmp, pointwise, texts_ties}
 use Rattle.std.specs.Ordering.{nat_cmp}
 use Rattle.std.specs.FinMap.{find}
