@@ -1,8 +1,7 @@
 -- What the rows of the table keep.
-use Rattle.std.proofs.Common.{◌≡◌, ℕ, ◌≤◌, nat_le, List, [], ◌∷◌, Bool, Some, None, find, arith, inl, inr}
+use Rattle.std.proofs.Common.{◌≡◌, ℕ, ◌≤◌, nat_le, List, [], ◌∷◌, Bool, Some, find, arith, inl, inr}
 use Rattle.std.proofs.lemmas.Bool.{cases_Bool}
 use Rattle.std.specs.List.{AllByRecursion}
-use Rattle.std.specs.declared.option.Option.{Option}
 use Rattle.gic_scale.specs.Alpha.{latitude_table, row_at}
 
 -- a scaling is from 1 to 10 tenths
