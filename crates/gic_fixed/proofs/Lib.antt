@@ -1,0 +1,5 @@
+pub mod Integers
+pub mod Signs
+pub mod Divisions
+pub mod Enclosures
+pub mod Sums
