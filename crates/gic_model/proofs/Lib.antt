@@ -1,0 +1,15 @@
+pub mod Members
+pub mod SumLaws
+pub mod Ends
+pub mod Ratios
+pub mod Row
+pub mod Conductance
+pub mod Greatest
+pub mod Residual
+pub mod RoundedResidual
+pub mod Settled
+pub mod Certificate
+pub mod Pushes
+pub mod Superposition
+pub mod Agreement
+pub mod Switched

@@ -1,0 +1,16 @@
+pub mod Network
+pub mod Voltages
+pub mod Sums
+pub mod Standing
+pub mod Solution
+pub mod Earthing
+pub mod Bound
+pub mod Guess
+pub mod Encloses
+pub mod Sharp
+pub mod Switched
+pub mod SolutionLaws
+pub mod CertificateLaws
+pub mod BoundLaws
+pub mod WorkedLoop
+pub mod WorkedNeutral

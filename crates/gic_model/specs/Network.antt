@@ -1,0 +1,41 @@
+-- A network: its number of nodes, and its elements by their places. A node is its place in the node order.
+use Rattle.std.specs.Prelude.{ℕ, ◌≡◌, ◌≤◌, ◌<◌, ◌⊎◌, Bool, false, ◌==◌, ◌||◌, List, length}
+use Rattle.std.specs.List.{AllByRecursion, count_by}
+use Rattle.gic_model.specs.declared.parts.End.{End}
+use Rattle.gic_model.specs.declared.parts.End.TheVariants.{Node, Earth}
+use Rattle.gic_model.specs.declared.parts.Element.{Element}
+
+-- how many nodes there are, and the elements in the order of their places
+pub record Network : Type 0 where
+  pub nodes : ℕ
+  pub list : List Element
+
+-- whether this end is the node k
+abbrev pub is_node : End → ℕ → Bool
+is_node (Node m) k = m.0 == k
+is_node Earth k = false
+
+-- whether the element ends at the node k
+abbrev pub ends_at : Element → ℕ → Bool
+ends_at e k = (e.from.0 == k) || is_node e.to k
+
+-- an end is one of the nodes, or earth
+abbrev pub IsEndWithin : ℕ → End → Type 0
+IsEndWithin nodes (Node m) = m.0 < nodes
+IsEndWithin nodes Earth = Unit {0}
+
+-- an element between two different ends of a network of this many nodes, with its resistance in micro-ohm within the limits
+pub record IsElementWithin (nodes : ℕ) (e : Element) : Type 0 where
+  pub from_node : e.from.0 < nodes
+  pub to_end : IsEndWithin nodes e.to
+  pub ends_differ : is_node e.to e.from.0 ≡ false
+  pub one_or_three : (e.times ≡ 1) ⊎ (e.times ≡ 3)
+  pub least_ohm : 1000 ≤ e.micro_ohm
+  pub most_ohm : e.micro_ohm ≤ 1000000000
+
+-- the network is within the limits, and no node has more than 256 elements
+pub record IsWithinLimits (n : Network) : Type 0 where
+  pub few_nodes : n.nodes ≤ 7680
+  pub few_elements : length n.list ≤ 19968
+  pub each_element : AllByRecursion (IsElementWithin n.nodes) n.list
+  pub few_at_a_node : (k : ℕ) → k < n.nodes → count_by (λ e. ends_at e k) n.list ≤ 256

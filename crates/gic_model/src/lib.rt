@@ -1,0 +1,11 @@
+//! The elements of a direct-current network, and what its solutions are.
+#![tactic(auto)]
+
+pub mod elements;
+pub mod laws;
+pub mod parts;
+pub mod volts;
+
+pub use elements::Elements;
+pub use parts::{Element, End, Item, Role, Switching};
+pub use volts::Volts;

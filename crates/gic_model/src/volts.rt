@@ -1,0 +1,64 @@
+//! The voltages of the elements.
+use crate::elements::Elements;
+use gic_base::{ElementId, OutOfMemory};
+use std::alloc::Global;
+use std::marker::Model;
+
+/// One voltage in nanovolts for each element, in the elements' order, each from -60000000000000 to 60000000000000.
+/// It drives current from the element's `from` to its `to`.
+#[derive(Drop)]
+pub struct Volts {
+    list: Vec<i64>,
+}
+
+impl Model for Volts {
+    ghost use Rattle.std.specs.Prelude.{List, ℤ};
+    ghost use Rattle.gic_model.specs.Voltages.{number_at, AreVolts};
+
+    ghost Value = { List ℤ };
+
+    ghost view = { λ v. v.list.items };
+
+    ghost invariant = { λ v. AreVolts (number_at v.list.items) };
+}
+
+impl Volts {
+    ghost use Rattle.std.specs.Prelude.{◌≡◌, ◌≤◌, ◌<◌, pos, length, replicate, slice_set, unsigned_abs, IfOk};
+    ghost use Rattle.gic_model.specs.Voltages.{number_at, most_volts, AreVolts};
+
+    /// No voltage in any element.
+    pub fn new(alloc: Global, elements: &Elements) -> Result<Volts, OutOfMemory>
+        ensures { IfOk result (λ volts. volts ≡ replicate (length elements.now.list) (pos 0)) }
+    {
+        match vec![in alloc; 0; elements.list().len()] {
+            Ok(list) => Ok(Volts { list }),
+            Err(_) => Err(OutOfMemory),
+        }
+    }
+
+    /// How many elements there are. The answer also tells that no voltage is beyond the limit.
+    pub fn count(&self) -> usize
+        ensures value { result ≡ length self.now }
+        ensures limit { AreVolts (number_at self.now) }
+    {
+        self.list.len()
+    }
+
+    /// The voltage of an element.
+    pub fn get(&self, element: ElementId) -> i64
+        requires { element.0 < length self.now }
+        ensures value { result ≡ number_at self.now element.0 }
+        ensures limit { AreVolts (number_at self.now) }
+    {
+        self.list[element.0 as usize]
+    }
+
+    /// Changes the voltage of this element alone.
+    pub fn set(&mut self, element: ElementId, nanovolts: i64)
+        requires element { element.0 < length self.old }
+        requires limit { unsigned_abs nanovolts ≤ most_volts }
+        ensures { self.new ≡ slice_set self.old element.0 nanovolts }
+    {
+        self.list[element.0 as usize] = nanovolts;
+    }
+}
