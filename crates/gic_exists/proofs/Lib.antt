@@ -1,0 +1,12 @@
+pub mod Mixing
+pub mod Elimination
+pub mod Listed
+pub mod Square
+pub mod Places
+pub mod Balanced
+pub mod Forms
+pub mod Existence
+pub mod Currents
+pub mod InNetworks
+pub mod Items
+pub mod WorkedNetworks
