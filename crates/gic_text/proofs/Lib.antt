@@ -1,0 +1,5 @@
+pub mod Digits
+pub mod Injective
+pub mod Words
+pub mod Sizes
+pub mod Joined
