@@ -1,0 +1,14 @@
+use Rattle.std.proofs.Common.{◌≡◌, ◌≤◌, length, arith, rules, ap}
+use Rattle.gic_case.specs.Lists.{ends_of}
+use Rattle.gic_case.proofs.Degrees.{length-ends_of}
+use Rattle.gic_case.proofs.degree.ends_of.Goals as goal
+
+pub returns-clause-few : goal.returns-clause-few
+unfolding ends_of
+returns-clause-few c =
+    let same : c.push_line_ends.new.ends.items ≡ ends_of c.args.network.now = search rules in
+    let many = ap length same in
+    let most = length-ends_of c.args.network.now in
+    let substations : length c.args.network.now.substations ≤ 1024 = search rules in
+    let lines : length c.args.network.now.lines ≤ 8192 = search rules in
+    omega (arith, many, most)

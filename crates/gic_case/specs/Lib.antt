@@ -1,0 +1,7 @@
+pub mod Keys
+pub mod Lists
+pub mod Names
+pub mod Pass
+pub mod Rows
+pub mod Rules
+pub mod Values

@@ -1,0 +1,184 @@
+-- The rules of a case, each read by itself: the refusals for all places where a document breaks it, in order. A document is accepted where no rule gives one, and the first of all answers otherwise.
+use Rattle.std.specs.Prelude.{ℕ, ◌+◌, ◌-◌, ◌==◌, nat_le, nat_lt, List, [], ◌∷◌, ◌++◌, length, map, flat_map, Bool, true, not, if◌then◌else◌, Option, Some, None, unwrap_or, is_some, Result}
+use Rattle.std.specs.List.{enumerate_from, range_with_len}
+use Rattle.std.specs.Str.{is_utf8}
+use Rattle.toml.specs.Data.{Data, Items, no_items, item, Members, get_member, as_array}
+use Rattle.toml.specs.Parse.{parse_document}
+use Rattle.gic_base.specs.Refusals.{unless, settle}
+use Rattle.gic_scale.specs.ZoneView.{ZoneView}
+use Rattle.gic_case.specs.Keys.{fits_document, list_key}
+use Rattle.gic_case.specs.Values.{natural_within}
+use Rattle.gic_case.specs.Rows.{breaks_value, breaks_zone, zone_of, breaks_substation, substation_of, breaks_bus, bus_of, breaks_line, line_of}
+use Rattle.gic_case.specs.Names.{is_repeat, place_in}
+use Rattle.gic_case.specs.Lists.{Lists, node_names, ends_of, degree_of}
+use Rattle.gic_case.specs.declared.field.Field.TheVariants as fields
+use Rattle.gic_case.specs.declared.refusal.Part.{Part}
+use Rattle.gic_case.specs.declared.refusal.Part.TheVariants as parts
+use Rattle.gic_case.specs.declared.refusal.CaseRefusal.{CaseRefusal}
+use Rattle.gic_case.specs.declared.refusal.CaseRefusal.TheVariants as refusals
+use Rattle.gic_case.specs.declared.item.Substation.{Substation}
+use Rattle.gic_case.specs.declared.item.Bus.{Bus}
+use Rattle.gic_case.specs.declared.item.Line.{Line}
+use Rattle.gic_case.specs.declared.row.BusRow.{BusRow}
+use Rattle.gic_case.specs.declared.row.LineRow.{LineRow}
+
+-- the entries of an array
+abbrev pub list_in : Items → List Data
+list_in no_items = []
+list_in (item d ds) = d ∷ list_in ds
+
+-- the entries of a list that is there, and none otherwise
+abbrev pub array_in : Option Data → List Data
+array_in None = []
+array_in (Some d) = list_in (unwrap_or (as_array d) no_items)
+
+-- the entries of a list of the document
+abbrev pub entries_of : Part → Members → List Data
+entries_of list ms = array_in (get_member (list_key list) ms)
+
+-- a list is an array where it is there
+abbrev pub is_array : Option Data → Bool
+is_array None = true
+is_array (Some d) = is_some (as_array d)
+
+-- a list is an array of so many rows at most, and each row keeps its rules
+abbrev pub breaks_list : Part → (limit : ℕ) → (ℕ → Data → List CaseRefusal) → Members → List CaseRefusal
+breaks_list list limit breaks ms =
+    unless (is_array (get_member (list_key list) ms)) (refusals.Key list 0)
+    ++ (unless (nat_le (length (entries_of list ms)) limit) (refusals.TooMany list)
+    ++ flat_map (λ p. breaks p.0 p.1) (enumerate_from 1 (entries_of list ms)))
+
+-- the document has its keys, a format of 1 or 2, and its lists
+unfoldable pub breaks_form : Members → List CaseRefusal
+breaks_form ms =
+    unless (fits_document ms) (refusals.Key parts.Case 0)
+    ++ (breaks_value (natural_within 1 2) parts.Case 0 fields.Format ms
+    ++ (breaks_list parts.Zone 256 breaks_zone ms
+    ++ (breaks_list parts.Substation 1024 breaks_substation ms
+    ++ (breaks_list parts.Bus 3072 breaks_bus ms
+    ++ breaks_list parts.Line 8192 breaks_line ms))))
+
+-- the rows as they are written, with names in place of references
+pub record Written : Type 0 where
+  pub zones : List ZoneView
+  pub substations : List Substation
+  pub buses : List BusRow
+  pub lines : List LineRow
+
+-- the rows of a document, each field that breaks its rule taken as nought
+unfoldable pub written_in : Members → Written
+written_in ms = record {
+  zones = map zone_of (entries_of parts.Zone ms);
+  substations = map substation_of (entries_of parts.Substation ms);
+  buses = map bus_of (entries_of parts.Bus ms);
+  lines = map line_of (entries_of parts.Line ms);
+}
+
+-- the names of all rows, list after list
+abbrev pub written_names : Written → List (List ℕ)
+written_names w = map (λ z. z.name) w.zones ++ (map (λ s. s.name) w.substations ++ (map (λ b. b.name) w.buses ++ map (λ l. l.name) w.lines))
+
+-- the refusal for a place in these names
+abbrev pub duplicate_at : (zones substations buses : ℕ) → ℕ → CaseRefusal
+duplicate_at zones substations buses i =
+    if nat_lt i zones then refusals.Duplicate parts.Zone (i + 1)
+    else if nat_lt i (zones + substations) then refusals.Duplicate parts.Substation (i - zones + 1)
+    else if nat_lt i (zones + substations + buses) then refusals.Duplicate parts.Bus (i - (zones + substations) + 1)
+    else refusals.Duplicate parts.Line (i - (zones + substations + buses) + 1)
+
+-- a row's name is the name of no earlier row
+unfoldable pub breaks_once : Written → List CaseRefusal
+breaks_once w =
+    let names = written_names w in
+    flat_map (λ i. unless (not (is_repeat names i)) (duplicate_at (length w.zones) (length w.substations) (length w.buses) i)) (range_with_len 0 (length names))
+
+-- where the substation of a name stands in its list, if there is one
+abbrev pub substation_place : Written → List ℕ → Option ℕ
+substation_place w = place_in (map (λ s. s.name) w.substations)
+
+-- the same for buses
+abbrev pub bus_place : Written → List ℕ → Option ℕ
+bus_place w = place_in (map (λ b. b.name) w.buses)
+
+-- the same for zones
+abbrev pub zone_place : Written → List ℕ → Option ℕ
+zone_place w = place_in (map (λ z. z.name) w.zones)
+
+-- a bus is in one of the substations
+abbrev pub breaks_bus_reference : Written → ℕ → BusRow → List CaseRefusal
+breaks_bus_reference w row b = unless (is_some (substation_place w b.substation)) (refusals.Unknown parts.Bus row fields.Substation)
+
+-- a line runs between two of the buses, in one of the zones
+abbrev pub breaks_line_references : Written → ℕ → LineRow → List CaseRefusal
+breaks_line_references w row l =
+    unless (is_some (bus_place w l.from)) (refusals.Unknown parts.Line row fields.From)
+    ++ (unless (is_some (bus_place w l.to)) (refusals.Unknown parts.Line row fields.To)
+    ++ unless (is_some (zone_place w l.zone)) (refusals.Unknown parts.Line row fields.Zone))
+
+-- each reference is the name of a row of its list
+unfoldable pub breaks_references : Written → List CaseRefusal
+breaks_references w =
+    flat_map (λ p. breaks_bus_reference w p.0 p.1) (enumerate_from 1 w.buses)
+    ++ flat_map (λ p. breaks_line_references w p.0 p.1) (enumerate_from 1 w.lines)
+
+-- a bus, with the place of its substation
+abbrev pub bus_with_place : Written → BusRow → Bus
+bus_with_place w b = record { name = b.name; substation = unwrap_or (substation_place w b.substation) 0 }
+
+-- a line, with the places of its buses and its zone
+abbrev pub line_with_places : Written → LineRow → Line
+line_with_places w l = record {
+  name = l.name;
+  from = unwrap_or (bus_place w l.from) 0;
+  to = unwrap_or (bus_place w l.to) 0;
+  zone = unwrap_or (zone_place w l.zone) 0;
+  resistance = l.resistance;
+  north = l.north;
+  east = l.east;
+  blocked = l.blocked;
+}
+
+-- the lists, with places in place of names; a name that is nowhere stands for the first place
+unfoldable pub resolved : Written → Lists
+resolved w = record { zones = w.zones; substations = w.substations; buses = map (bus_with_place w) w.buses; lines = map (line_with_places w) w.lines }
+
+-- the two buses of each of these lines, numbered from here on, are not one
+abbrev pub breaks_same_ends_from : (row : ℕ) → List Line → List CaseRefusal
+breaks_same_ends_from row lines = flat_map (λ p. unless (not (p.1.from == p.1.to)) (refusals.SameEnds parts.Line p.0)) (enumerate_from row lines)
+
+-- no item has one bus for two
+abbrev pub breaks_same_ends : Lists → List CaseRefusal
+breaks_same_ends c = breaks_same_ends_from 1 c.lines
+
+-- at most 256 of the ends are at each of the nodes with these names, numbered from here on
+abbrev pub breaks_degree_from : (node : ℕ) → (names : List (List ℕ)) → (ends : List ℕ) → List CaseRefusal
+breaks_degree_from node names ends = flat_map (λ p. unless (nat_le (degree_of ends p.0) 256) (refusals.Degree p.1)) (enumerate_from node names)
+
+-- at most 256 elements end at each node
+abbrev pub breaks_degree : Lists → List CaseRefusal
+breaks_degree c = breaks_degree_from 0 (node_names c) (ends_of c)
+
+-- all rules on a document, in their order
+unfoldable pub broken_in : Members → List CaseRefusal
+broken_in ms =
+    let w = written_in ms in
+    let c = resolved w in
+    breaks_form ms ++ (breaks_once w ++ (breaks_references w ++ (breaks_same_ends c ++ breaks_degree c)))
+
+-- all rules on bytes, as the document that they are
+abbrev pub broken : Option Members → List CaseRefusal
+broken None = refusals.NotToml ∷ []
+broken (Some ms) = broken_in ms
+
+-- the lists of a document, and none where there is no document
+abbrev pub lists_of : Option Members → Lists
+lists_of None = record { zones = []; substations = []; buses = []; lines = [] }
+lists_of (Some ms) = resolved (written_in ms)
+
+-- the document that the bytes are, if they are UTF-8 and TOML
+abbrev pub document_of : List ℕ → Option Members
+document_of bytes = if is_utf8 bytes then parse_document bytes else None
+
+-- the case that the bytes are, or the first rule that they break
+unfoldable pub case_of : List ℕ → Result Lists CaseRefusal
+case_of bytes = settle (broken (document_of bytes)) (lists_of (document_of bytes))

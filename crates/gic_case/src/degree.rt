@@ -1,0 +1,103 @@
+//! The nodes at which elements end.
+ghost use Rattle.std.specs.Prelude.{◌≡◌, ℕ, ◌<◌, ◌^◌, ◌++◌, OnOk, IfOk, length, slice_index, vec_len};
+ghost use Rattle.gic_base.specs.Refusals.{Answers, settle};
+ghost use Rattle.gic_case.specs.declared.refusal.CaseRefusal.TheVariants.{Memory};
+ghost use Rattle.gic_case.specs.Lists.{earthing_ends, line_ends, ends_of, degree_of, node_names};
+ghost use Rattle.gic_case.specs.Rules.{breaks_same_ends_from, breaks_degree};
+
+use crate::item::{Line, Substation};
+use crate::network::Network;
+use crate::refusal::{CaseRefusal, Part};
+use std::alloc::{AllocError, Global};
+
+/// The most elements that may end at a node.
+const LIMIT: u32 = 256;
+
+/// Whether each line has two buses.
+pub(crate) fn ends_differ(lines: &[Line]) -> Result<(), CaseRefusal>
+    requires { length lines.now < 2 ^ 16 }
+    ensures { Answers Memory (λ u. u) result (settle (breaks_same_ends_from 1 lines.now) (tt {0})) }
+{
+    for (i, line) in lines.iter().enumerate() {
+        if line.from == line.to {
+            return Err(CaseRefusal::SameEnds {
+                list: Part::Line,
+                row: i as u32 + 1,
+            });
+        }
+    }
+    Ok(())
+}
+
+/// Adds the nodes at which the earthings end.
+fn push_earthing_ends(ends: &mut Vec<u32>, substations: &[Substation]) -> Result<(), AllocError>
+    requires { length substations.now < 2 ^ 16 }
+    ensures { OnOk result (ends.new.items ≡ ends.old.items ++ earthing_ends substations.now) }
+{
+    for (node, substation) in substations.iter().enumerate() {
+        if substation.ground.is_some() {
+            ends.push(node as u32)?;
+        }
+    }
+    Ok(())
+}
+
+/// Adds the nodes at which the lines end, where the buses follow the node `first_bus - 1`.
+fn push_line_ends(ends: &mut Vec<u32>, first_bus: u32, lines: &[Line]) -> Result<(), AllocError>
+    requires { first_bus < 2 ^ 16 }
+    ensures { OnOk result (ends.new.items ≡ ends.old.items ++ line_ends first_bus lines.now) }
+{
+    for line in lines {
+        if !line.blocked {
+            ends.push(first_bus + u32::from(line.from))?;
+            ends.push(first_bus + u32::from(line.to))?;
+        }
+    }
+    Ok(())
+}
+
+/// The nodes at which the elements end, a node once for each end.
+#[tactic(auto, unfolding(crate::specs::Lists::ends_of))]
+fn ends_of(alloc: Global, network: &Network) -> Result<Vec<u32>, AllocError>
+    ensures ends { IfOk result (λ v. v.items ≡ ends_of network.now) }
+    ensures few { IfOk result (λ v. vec_len v < 2 ^ 32) }
+{
+    let mut ends = Vec::new(alloc);
+    push_earthing_ends(&mut ends, network.substations.as_slice())?;
+    let first_bus = network.substations.len() as u32;
+    push_line_ends(&mut ends, first_bus, network.lines.as_slice())?;
+    Ok(ends)
+}
+
+/// How many of the ends are at each node.
+fn degrees(alloc: Global, nodes: usize, ends: &[u32]) -> Result<Vec<u32>, AllocError>
+    requires { length ends.now < 2 ^ 32 }
+    ensures count { IfOk result (λ v. vec_len v ≡ nodes) }
+    ensures degrees { IfOk result (λ v. (k : ℕ) → k < nodes → slice_index v.items k ≡ degree_of ends.now k) }
+{
+    let mut counts = vec![in alloc; 0u32; nodes]?;
+    for end in ends {
+        let node = *end as usize;
+        if node < counts.len() {
+            counts[node] += 1;
+        }
+    }
+    Ok(counts)
+}
+
+/// Whether at most 256 elements end at each node.
+pub(crate) fn few_ends(alloc: Global, network: &Network) -> Result<(), CaseRefusal>
+    ensures { Answers Memory (λ u. u) result (settle (breaks_degree network.now) (tt {0})) }
+{
+    let ends = ends_of(alloc, network)?;
+    let nodes = network.substations.len() + network.buses.len();
+    let counts = degrees(alloc, nodes, ends.as_slice())?;
+    for (node, count) in counts.iter().enumerate() {
+        if *count > LIMIT {
+            return Err(CaseRefusal::Degree {
+                node: network.node_name(node),
+            });
+        }
+    }
+    Ok(())
+}

@@ -1,0 +1,93 @@
+//! Documents, and the rows of their lists.
+ghost use Rattle.std.specs.Prelude.{◌≡◌, ◌≤◌, IfOk, length};
+ghost use Rattle.toml.specs.View.{table_view};
+ghost use Rattle.gic_base.specs.Refusals.{Answers};
+ghost use Rattle.gic_base.specs.Passes.{or_refuse, test};
+ghost use Rattle.gic_case.specs.declared.refusal.CaseRefusal.TheVariants.{NotToml, Key, Memory};
+ghost use Rattle.gic_case.specs.declared.refusal.Part.TheVariants as parts;
+ghost use Rattle.gic_case.specs.Keys.{fits_document};
+ghost use Rattle.gic_case.specs.Rules.{Written, document_of};
+ghost use Rattle.gic_case.specs.Pass.{rows_of};
+
+use crate::field::Field;
+use crate::item::Substation;
+use crate::keys::fits_document;
+use crate::list::list_at;
+use crate::refusal::{CaseRefusal, Part};
+use crate::row::{BusRow, LineRow};
+use crate::value::natural_at;
+use gic_scale::Zone;
+use std::alloc::Global;
+use std::marker::Model;
+use toml::Table;
+
+/// The document that bytes are.
+pub(crate) fn document_of(alloc: Global, bytes: &[u8]) -> Result<Table, CaseRefusal>
+    ensures { Answers Memory (λ t. table_view t) result (or_refuse (document_of bytes.now) NotToml) }
+{
+    match toml::table_from_slice(alloc, bytes) {
+        Ok(table) => Ok(table),
+        Err(e) => {
+            if e.is_memory() {
+                Err(CaseRefusal::Memory)
+            } else {
+                Err(CaseRefusal::NotToml)
+            }
+        }
+    }
+}
+
+/// Whether the document has the keys that it may and must have.
+fn document_keys(table: &Table) -> Result<(), CaseRefusal>
+    ensures { Answers Memory (λ u. u) result (test (fits_document (table_view table.now)) (Key parts.Case 0)) }
+{
+    if fits_document(table) {
+        Ok(())
+    } else {
+        Err(CaseRefusal::Key {
+            list: Part::Case,
+            row: 0,
+        })
+    }
+}
+
+/// The rows as they are written, with names in place of references.
+#[derive(Drop)]
+pub(crate) struct Rows {
+    pub(crate) zones: Vec<Zone>,
+    pub(crate) substations: Vec<Substation>,
+    pub(crate) buses: Vec<BusRow>,
+    pub(crate) lines: Vec<LineRow>,
+}
+
+impl Model for Rows {
+    ghost use Rattle.std.specs.Prelude.{◌≤◌, length};
+    ghost use Rattle.gic_case.specs.Rules.{Written};
+
+    ghost Value = { Written };
+
+    ghost view = { λ r. record { zones = r.zones.items; substations = r.substations.items; buses = r.buses.items; lines = r.lines.items } };
+
+    ghost invariant = { λ r. (length r.zones.items ≤ 256) × (length r.substations.items ≤ 1024) × (length r.buses.items ≤ 3072) × (length r.lines.items ≤ 8192) };
+}
+
+impl Rows {
+    /// The rows that a document has.
+    #[tactic(auto, unfolding(crate::specs::Pass::rows_of))]
+    pub(crate) fn read(alloc: Global, table: &Table) -> Result<Rows, CaseRefusal>
+        ensures { Answers Memory (λ r. r) result (rows_of (table_view table.now)) }
+    {
+        document_keys(table)?;
+        natural_at(Part::Case, 0, Field::Format, 1, 2, table)?;
+        let zones = list_at(alloc, Part::Zone, 256, table)?;
+        let substations = list_at(alloc, Part::Substation, 1024, table)?;
+        let buses = list_at(alloc, Part::Bus, 3072, table)?;
+        let lines = list_at(alloc, Part::Line, 8192, table)?;
+        Ok(Rows {
+            zones,
+            substations,
+            buses,
+            lines,
+        })
+    }
+}

@@ -1,0 +1,26 @@
+//! The reader of cases: from the bytes of a TOML document to the lists of a network that keeps all rules, or to the
+//! first rule that is broken.
+#![tactic(auto)]
+
+mod case;
+mod degree;
+mod document;
+mod field;
+mod item;
+mod keys;
+mod list;
+mod names;
+mod network;
+mod reference;
+mod refusal;
+mod row;
+mod unique;
+mod value;
+
+pub use case::{Case, read_case};
+pub use field::Field;
+pub use item::{Bus, Line, Substation};
+pub use refusal::{CaseRefusal, Part};
+
+#[cfg(test)]
+mod tests;

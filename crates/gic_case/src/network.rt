@@ -1,0 +1,71 @@
+//! The lists of a case, with places in place of names.
+ghost use Rattle.std.specs.Prelude.{◌≡◌, ◌<◌, [], length, slice_index_or};
+ghost use Rattle.gic_base.specs.Refusals.{Answers};
+ghost use Rattle.gic_case.specs.declared.refusal.CaseRefusal.TheVariants.{Memory};
+ghost use Rattle.gic_case.specs.Lists.{node_names};
+ghost use Rattle.gic_case.specs.Pass.{resolve};
+
+use crate::document::Rows;
+use crate::item::{Bus, Line, Substation};
+use crate::reference::{resolved_buses, resolved_lines};
+use crate::refusal::CaseRefusal;
+use gic_base::Name;
+use gic_scale::Zone;
+use std::alloc::Global;
+use std::marker::Model;
+
+/// The lists, whose lines and degrees are still to be looked at.
+#[derive(Drop)]
+pub(crate) struct Network {
+    pub(crate) zones: Vec<Zone>,
+    pub(crate) substations: Vec<Substation>,
+    pub(crate) buses: Vec<Bus>,
+    pub(crate) lines: Vec<Line>,
+}
+
+impl Model for Network {
+    ghost use Rattle.std.specs.Prelude.{◌≤◌, length};
+    ghost use Rattle.gic_case.specs.Lists.{Lists};
+
+    ghost Value = { Lists };
+
+    ghost view = { λ n. record { zones = n.zones.items; substations = n.substations.items; buses = n.buses.items; lines = n.lines.items } };
+
+    ghost invariant = { λ n. (length n.substations.items ≤ 1024) × (length n.buses.items ≤ 3072) × (length n.lines.items ≤ 8192) };
+}
+
+impl Network {
+    /// The lists of these rows, each reference looked up in its list.
+    #[tactic(auto, unfolding(crate::specs::Pass::resolve))]
+    pub(crate) fn resolve(alloc: Global, rows: Rows) -> Result<Network, CaseRefusal>
+        ensures { Answers Memory (λ n. n) result (resolve rows) }
+    {
+        let buses = resolved_buses(alloc, &rows)?;
+        let lines = resolved_lines(alloc, &rows)?;
+        let Rows {
+            zones,
+            substations,
+            buses: _,
+            lines: _,
+        } = rows;
+        Ok(Network {
+            zones,
+            substations,
+            buses,
+            lines,
+        })
+    }
+
+    /// The name of a node.
+    pub(crate) fn node_name(&self, node: usize) -> Name
+        requires { node < length (node_names self.now) }
+        ensures { result ≡ slice_index_or (node_names self.now) node [] }
+    {
+        let first_bus = self.substations.len();
+        if node < first_bus {
+            self.substations[node].name
+        } else {
+            self.buses[node - first_bus].name
+        }
+    }
+}

@@ -1,0 +1,66 @@
+//! Names are unique in the whole case.
+ghost use Rattle.std.specs.Prelude.{◌≡◌, ◌≤◌, ◌<◌, ◌^◌, ◌≢◌, IfOk, length};
+ghost use Rattle.gic_base.specs.Refusals.{Answers};
+ghost use Rattle.gic_case.specs.declared.refusal.CaseRefusal.TheVariants.{Memory};
+ghost use Rattle.gic_case.specs.Rules.{written_names, duplicate_at};
+ghost use Rattle.gic_case.specs.Pass.{unique};
+
+use crate::document::Rows;
+use crate::list::push_names;
+use crate::names::first_repeat;
+use crate::refusal::{CaseRefusal, Part};
+use gic_base::Name;
+use std::alloc::{AllocError, Global};
+
+/// The names of all rows, list after list.
+fn names_of(alloc: Global, rows: &Rows) -> Result<Vec<Name>, AllocError>
+    ensures { IfOk result (λ v. v.items ≡ written_names rows.now) }
+{
+    let mut names = Vec::new(alloc);
+    push_names(&mut names, rows.zones.as_slice())?;
+    push_names(&mut names, rows.substations.as_slice())?;
+    push_names(&mut names, rows.buses.as_slice())?;
+    push_names(&mut names, rows.lines.as_slice())?;
+    Ok(names)
+}
+
+/// The refusal for a place in the names, where the first lists have so many rows.
+fn duplicate_at(zones: usize, substations: usize, buses: usize, i: usize) -> CaseRefusal
+    requires zones { zones ≤ 256 }
+    requires substations { substations ≤ 1024 }
+    requires buses { buses ≤ 3072 }
+    requires place { i < 2 ^ 16 }
+    ensures value { result ≡ duplicate_at zones substations buses i }
+    ensures cause { result ≢ Memory }
+{
+    let (list, before) = if i < zones {
+        (Part::Zone, 0)
+    } else if i < zones + substations {
+        (Part::Substation, zones)
+    } else if i < zones + substations + buses {
+        (Part::Bus, zones + substations)
+    } else {
+        (Part::Line, zones + substations + buses)
+    };
+    CaseRefusal::Duplicate {
+        list,
+        row: (i - before) as u32 + 1,
+    }
+}
+
+/// Whether no name comes twice.
+#[tactic(auto, using(crate::proofs::Rows::names_length), unfolding(crate::specs::Pass::unique))]
+pub(crate) fn unique(alloc: Global, rows: &Rows) -> Result<(), CaseRefusal>
+    ensures { Answers Memory (λ u. u) result (unique rows.now) }
+{
+    let names = names_of(alloc, rows)?;
+    match first_repeat(alloc, names.as_slice())? {
+        Some(i) => Err(duplicate_at(
+            rows.zones.len(),
+            rows.substations.len(),
+            rows.buses.len(),
+            i,
+        )),
+        None => Ok(()),
+    }
+}

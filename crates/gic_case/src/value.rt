@@ -1,0 +1,159 @@
+//! The values of fields.
+ghost use Rattle.std.specs.Prelude.{◌≡◌, ◌≤◌, IfSome, IfOk, OnOk};
+ghost use Rattle.toml.specs.Data.{as_bool};
+ghost use Rattle.toml.specs.View.{view, table_view};
+ghost use Rattle.gic_base.specs.Refusals.{Answers};
+ghost use Rattle.gic_case.specs.declared.refusal.CaseRefusal.TheVariants.{Memory};
+ghost use Rattle.gic_case.specs.Values.{natural_within, span_within, read_name};
+ghost use Rattle.gic_case.specs.Rows.{ohm_within, metres_within};
+ghost use Rattle.gic_case.specs.Pass.{required, optional};
+
+use crate::field::Field;
+use crate::keys::at_key;
+use crate::refusal::{CaseRefusal, Part};
+use gic_base::Name;
+use toml::{Table, Value};
+
+/// The number that a value is, where it is one within bounds.
+fn natural_within(low: u32, high: u32, value: &Value) -> Option<u32>
+    ensures value { result ≡ natural_within low high (view value.now) }
+    ensures within { IfSome result (λ n. (low ≤ n) × (n ≤ high)) }
+{
+    let number = value.as_integer()?;
+    if i64::from(low) <= number && number <= i64::from(high) {
+        Some(number as u32)
+    } else {
+        None
+    }
+}
+
+/// The metres that a value is, where it is a number of at most 1000000 to either side.
+fn metres_within(value: &Value) -> Option<i32>
+    ensures { result ≡ metres_within (view value.now) }
+{
+    let number = value.as_integer()?;
+    if -1000000 <= number && number <= 1000000 {
+        Some(number as i32)
+    } else {
+        None
+    }
+}
+
+/// The name that a value is, where it is one.
+fn read_name(value: &Value) -> Option<Name>
+    ensures { result ≡ read_name (view value.now) }
+{
+    match value.as_str() {
+        Some(text) => Name::read(text.as_bytes()),
+        None => None,
+    }
+}
+
+/// A whole number, within bounds.
+#[tactic(auto, unfolding(crate::specs::Pass::required))]
+pub(crate) fn natural_at(
+    list: Part,
+    row: u32,
+    at: Field,
+    low: u32,
+    high: u32,
+    table: &Table,
+) -> Result<u32, CaseRefusal>
+    ensures value { Answers Memory (λ n. n) result (required (natural_within low high) list row at (table_view table.now)) }
+    ensures within { IfOk result (λ n. (low ≤ n) × (n ≤ high)) }
+{
+    let refusal = CaseRefusal::Value {
+        list,
+        row,
+        field: at,
+    };
+    match at_key(table, at.key()) {
+        Some(value) => natural_within(low, high, value).ok_or(refusal),
+        None => Err(refusal),
+    }
+}
+
+/// A resistance in micro-ohm.
+pub(crate) fn ohm_at(list: Part, row: u32, at: Field, table: &Table) -> Result<u32, CaseRefusal>
+    ensures { Answers Memory (λ n. n) result (required ohm_within list row at (table_view table.now)) }
+{
+    natural_at(list, row, at, 1000, 1000000000, table)
+}
+
+/// A resistance in micro-ohm that may be absent.
+#[tactic(auto, unfolding(crate::specs::Pass::optional))]
+pub(crate) fn optional_ohm_at(
+    list: Part,
+    row: u32,
+    at: Field,
+    table: &Table,
+) -> Result<Option<u32>, CaseRefusal>
+    ensures { Answers Memory (λ n. n) result (optional ohm_within list row at (table_view table.now)) }
+{
+    match at_key(table, at.key()) {
+        Some(value) => match natural_within(1000, 1000000000, value) {
+            Some(number) => Ok(Some(number)),
+            None => Err(CaseRefusal::Value {
+                list,
+                row,
+                field: at,
+            }),
+        },
+        None => Ok(None),
+    }
+}
+
+/// A part of a span, in metres.
+#[tactic(auto, unfolding(crate::specs::Pass::required))]
+pub(crate) fn metres_at(list: Part, row: u32, at: Field, table: &Table) -> Result<i32, CaseRefusal>
+    ensures { Answers Memory (λ n. n) result (required metres_within list row at (table_view table.now)) }
+{
+    let refusal = CaseRefusal::Value {
+        list,
+        row,
+        field: at,
+    };
+    match at_key(table, at.key()) {
+        Some(value) => metres_within(value).ok_or(refusal),
+        None => Err(refusal),
+    }
+}
+
+/// A name.
+#[tactic(auto, unfolding(crate::specs::Pass::required))]
+pub(crate) fn name_at(list: Part, row: u32, at: Field, table: &Table) -> Result<Name, CaseRefusal>
+    ensures { Answers Memory (λ n. n) result (required read_name list row at (table_view table.now)) }
+{
+    let refusal = CaseRefusal::Value {
+        list,
+        row,
+        field: at,
+    };
+    match at_key(table, at.key()) {
+        Some(value) => read_name(value).ok_or(refusal),
+        None => Err(refusal),
+    }
+}
+
+/// A flag that may be absent.
+#[tactic(auto, unfolding(crate::specs::Pass::optional))]
+pub(crate) fn optional_flag_at(
+    list: Part,
+    row: u32,
+    at: Field,
+    table: &Table,
+) -> Result<Option<bool>, CaseRefusal>
+    ensures { Answers Memory (λ b. b) result (optional as_bool list row at (table_view table.now)) }
+{
+    match at_key(table, at.key()) {
+        Some(value) => match value.as_bool() {
+            Some(flag) => Ok(Some(flag)),
+            None => Err(CaseRefusal::Value {
+                list,
+                row,
+                field: at,
+            }),
+        },
+        None => Ok(None),
+    }
+}
