@@ -1,0 +1,83 @@
+-- What the definition gives at words that are written out.
+use Rattle.std.proofs.Common.{◌≡◌, refl, [], ◌∷◌, codes}
+use Rattle.std.specs.Prelude.{Ok, Err, negsuc, pos}
+use Rattle.clap.proofs.OnLiterals.{clap_on_literals}
+use Rattle.gic_text.specs.Decimal.{read_decimal, whole_of}
+use Rattle.gic_words.specs.Command.{command_of_words, faults_of, matches_of_words}
+use Rattle.gic_words.specs.Table.{is_among, mode_of, use_of}
+use Rattle.gic_words.specs.Options.{options_of}
+use Rattle.gic_words.specs.declared.option.Opt.TheVariants.{Case, North}
+use Rattle.gic_words.specs.declared.options.Options.TheVariants.{Volts}
+use Rattle.gic_words.specs.declared.fault.Usage.TheVariants as usage
+
+pub no_words : options_of [] ≡ Err usage.Words
+unfolding clap_on_literals command_of_words faults_of options_of
+no_words = refl
+
+pub no_mode : options_of (codes "--case=p" ∷ []) ≡ Err usage.Words
+unfolding clap_on_literals command_of_words faults_of options_of
+no_mode = refl
+
+pub option_twice : options_of (codes "volts" ∷ codes "--case=p" ∷ codes "--case=p" ∷ []) ≡ Err usage.Words
+unfolding clap_on_literals command_of_words faults_of options_of
+option_twice = refl
+
+pub unknown_option : options_of (codes "volts" ∷ codes "--case=p" ∷ codes "--width=5" ∷ []) ≡ Err usage.Words
+unfolding clap_on_literals command_of_words faults_of options_of
+unknown_option = refl
+
+pub no_value : options_of (codes "volts" ∷ codes "--case" ∷ []) ≡ Err usage.Words
+unfolding clap_on_literals command_of_words faults_of options_of
+no_value = refl
+
+pub second_mode : options_of (codes "volts" ∷ codes "volts" ∷ codes "--case=p" ∷ []) ≡ Err usage.Words
+unfolding clap_on_literals command_of_words faults_of options_of
+second_mode = refl
+
+pub help : options_of (codes "--help" ∷ []) ≡ Err usage.Words
+unfolding clap_on_literals command_of_words faults_of options_of
+help = refl
+
+pub short_help : options_of (codes "-h" ∷ []) ≡ Err usage.Words
+unfolding clap_on_literals command_of_words faults_of options_of
+short_help = refl
+
+pub version : options_of (codes "--version" ∷ []) ≡ Err usage.Words
+unfolding clap_on_literals command_of_words faults_of options_of
+version = refl
+
+pub unknown_mode : options_of (codes "fly" ∷ []) ≡ Err usage.Mode
+unfolding clap_on_literals command_of_words faults_of matches_of_words options_of mode_of
+unknown_mode = refl
+
+pub mode_before_options : options_of (codes "list" ∷ codes "--north=x" ∷ []) ≡ Err usage.Mode
+unfolding clap_on_literals command_of_words faults_of matches_of_words options_of mode_of
+mode_before_options = refl
+
+pub missing_case : options_of (codes "volts" ∷ []) ≡ Err (usage.Missing Case)
+unfolding clap_on_literals command_of_words faults_of matches_of_words options_of is_among mode_of use_of
+missing_case = refl
+
+pub case_before_north : options_of (codes "volts" ∷ codes "--north=x" ∷ []) ≡ Err (usage.Missing Case)
+unfolding clap_on_literals command_of_words faults_of matches_of_words options_of is_among mode_of use_of
+case_before_north = refl
+
+pub north_too_far : options_of (codes "volts" ∷ codes "--case=p" ∷ codes "--north=20001" ∷ []) ≡ Err (usage.Number North)
+unfolding clap_on_literals command_of_words faults_of matches_of_words options_of is_among mode_of use_of read_decimal whole_of
+north_too_far = refl
+
+pub north_before_east : options_of (codes "volts" ∷ codes "--east=x" ∷ codes "--north=x" ∷ codes "--case=p" ∷ []) ≡ Err (usage.Number North)
+unfolding clap_on_literals command_of_words faults_of matches_of_words options_of is_among mode_of use_of read_decimal whole_of
+north_before_east = refl
+
+pub both_fields : options_of (codes "volts" ∷ codes "--case=p" ∷ codes "--north=-500" ∷ codes "--east" ∷ codes "7" ∷ []) ≡ Ok (Volts (codes "p") (negsuc 499) (pos 7))
+unfolding clap_on_literals command_of_words faults_of matches_of_words options_of is_among mode_of use_of read_decimal whole_of
+both_fields = refl
+
+pub mode_last : options_of (codes "--case=p" ∷ codes "volts" ∷ []) ≡ Ok (Volts (codes "p") (pos 0) (pos 0))
+unfolding clap_on_literals command_of_words faults_of matches_of_words options_of is_among mode_of use_of
+mode_last = refl
+
+pub empty_case : options_of (codes "volts" ∷ codes "--case=" ∷ []) ≡ Ok (Volts [] (pos 0) (pos 0))
+unfolding clap_on_literals command_of_words faults_of matches_of_words options_of is_among mode_of use_of
+empty_case = refl

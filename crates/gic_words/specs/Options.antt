@@ -1,0 +1,113 @@
+-- The options that words give, or their first fault.
+use Rattle.std.specs.Prelude.{◌≡◌, ◌≢◌, ◌≤◌, ℕ, true, List, [], ◌∷◌, ℤ, pos, unsigned_abs, Some, None, Ok, Err, Result, is_some, unwrap_or, option_and_then, if◌then◌else◌, ⊤}
+use Rattle.std.specs.declared.option.Option.{Option}
+use Rattle.clap.specs.Words.{Kinds, Row}
+use Rattle.gic_words.specs.Table.{all_options, form_of, mode_of, use_of}
+use Rattle.gic_words.specs.Command.{given, given_mode, faults_of, matches_of_words, is_taken}
+use Rattle.gic_words.specs.Values.{number_in}
+use Rattle.gic_words.specs.declared.option.Opt.{Opt}
+use Rattle.gic_words.specs.declared.option.Opt.TheVariants.{Case, North, East}
+use Rattle.gic_words.specs.declared.option.Form.{Form}
+use Rattle.gic_words.specs.declared.option.Form.TheVariants as form
+use Rattle.gic_words.specs.declared.mode.Mode.{Mode}
+use Rattle.gic_words.specs.declared.mode.Mode.TheVariants as mode
+use Rattle.gic_words.specs.declared.options.Options.{Options}
+use Rattle.gic_words.specs.declared.options.Options.TheVariants as options
+use Rattle.gic_words.specs.declared.fault.WordsRefusal.{WordsRefusal}
+use Rattle.gic_words.specs.declared.fault.WordsRefusal.TheVariants as refusal
+use Rattle.gic_words.specs.declared.mode.Use.{Use}
+use Rattle.gic_words.specs.declared.mode.Use.TheVariants.{Required, Allowed, Unused}
+use Rattle.gic_words.specs.declared.fault.Usage.{Usage}
+use Rattle.gic_words.specs.declared.fault.Usage.TheVariants as usage
+
+-- a value that is not what its form asks
+abbrev pub form_fault : Form → Opt → List ℕ → Option Usage
+form_fault form.Name o text = None
+form_fault (form.Number least most) o text = if is_some (number_in o text) then None else Some (usage.Number o)
+
+-- the fault of the value of an option that the mode uses
+abbrev pub value_fault : Opt → List ℕ → Option Usage
+value_fault o text = form_fault (form_of o) o text
+
+-- the fault of an option, given or not, by the use that the mode has for it
+abbrev pub use_fault : Use → Opt → Option (List ℕ) → Option Usage
+use_fault Unused o (Some text) = Some (usage.Extra o)
+use_fault Unused o None = None
+use_fault Required o None = Some (usage.Missing o)
+use_fault Required o (Some text) = value_fault o text
+use_fault Allowed o None = None
+use_fault Allowed o (Some text) = value_fault o text
+
+-- the fault of one option
+abbrev pub option_fault : Mode → Opt → Option (List ℕ) → Option Usage
+option_fault m o value = use_fault (use_of m o) o value
+
+abbrev pub or_next : Option Usage → Option Usage → Option Usage
+or_next (Some u) next = Some u
+or_next None next = next
+
+-- the first fault of these options
+abbrev pub first_fault : Mode → List Row → List Opt → Option Usage
+first_fault m rows [] = None
+first_fault m rows (o ∷ os) = or_next (option_fault m o (given rows o)) (first_fault m rows os)
+
+-- ---- what the options are, where they have no fault
+
+-- a name that is required
+abbrev pub text_of : List Row → Opt → List ℕ
+text_of rows o = unwrap_or (given rows o) []
+
+-- a number that may be given
+abbrev pub number_of : List Row → Opt → Option ℤ
+number_of rows o = option_and_then (number_in o) (given rows o)
+
+-- the field in one direction, 0 where it is not given
+abbrev pub field_of : List Row → Opt → ℤ
+field_of rows o = unwrap_or (number_of rows o) (pos 0)
+
+-- the options of a mode
+abbrev pub options_by : Mode → List Row → Options
+options_by mode.Volts rows = options.Volts (text_of rows Case) (field_of rows North) (field_of rows East)
+
+-- each part of a field lies within 20000 mV/km
+abbrev pub HasFieldsWithin : Options → Type 0
+HasFieldsWithin (options.Volts case north east) = (unsigned_abs north ≤ 20000) × (unsigned_abs east ≤ 20000)
+
+-- ---- the words
+
+-- the options, unless there is a fault
+abbrev pub unless : Option Usage → Options → Result Options Usage
+unless (Some u) o = Err u
+unless None o = Ok o
+
+-- the options of a mode, or their first fault
+abbrev pub options_in_mode : Option Mode → List Row → Result Options Usage
+options_in_mode None rows = Err usage.Mode
+options_in_mode (Some m) rows = unless (first_fault m rows all_options) (options_by m rows)
+
+-- the mode that the matches name
+abbrev pub mode_in : List Row → Option Mode
+mode_in rows = option_and_then mode_of (given_mode rows)
+
+-- the options of clap's matches
+abbrev pub options_of_rows : List Row → Result Options Usage
+options_of_rows rows = options_in_mode (mode_in rows) rows
+
+-- words in which clap's definition finds a fault are refused as such
+abbrev pub unless_faulty : Kinds → List Row → Result Options Usage
+unless_faulty [] rows = options_of_rows rows
+unless_faulty (k ∷ ks) rows = Err usage.Words
+
+-- the options of the words, or the first usage fault
+unfoldable pub options_of : List (List ℕ) → Result Options Usage
+options_of words = unless_faulty (faults_of words) (matches_of_words words)
+
+-- the answer is that of the words, want of memory aside
+abbrev pub ReadsWords : Result Options Usage → Result Options WordsRefusal → Type 0
+ReadsWords right (Ok o) = right ≡ Ok o
+ReadsWords right (Err (refusal.Usage u)) = right ≡ Err u
+ReadsWords right (Err refusal.Memory) = ⊤
+
+-- words that clap's test takes are not refused as such
+abbrev pub KeepsTaken : List (List ℕ) → Result Options WordsRefusal → Type 0
+KeepsTaken words r = is_taken words ≡ true → r ≢ Err (refusal.Usage usage.Words)

@@ -1,0 +1,67 @@
+-- The tables of options and modes.
+use Rattle.std.specs.Prelude.{ℕ, ◌==◌, Bool, List, [], ◌∷◌, codes, pos, negsuc, if◌then◌else◌, find}
+use Rattle.std.specs.declared.option.Option.{Option}
+use Rattle.std.specs.List.{list_any}
+use Rattle.std.specs.Str.{bytes_eq}
+use Rattle.gic_words.specs.declared.option.Form.{Form}
+use Rattle.gic_words.specs.declared.option.Form.TheVariants as form
+use Rattle.gic_words.specs.declared.mode.Mode.{Mode}
+use Rattle.gic_words.specs.declared.mode.Mode.TheVariants as mode
+use Rattle.gic_words.specs.declared.mode.Use.{Use}
+use Rattle.gic_words.specs.declared.mode.Use.TheVariants.{Required, Allowed, Unused}
+use Rattle.gic_words.specs.declared.option.Opt.{Opt}
+use Rattle.gic_words.specs.declared.option.Opt.TheVariants.{Case, North, East}
+
+-- ---- the options
+
+-- the name of an option, without its hyphens
+abbrev pub name_of : Opt → List ℕ
+name_of Case = codes "case"
+name_of North = codes "north"
+name_of East = codes "east"
+
+-- in the order in which their faults are found
+abbrev pub all_options : List Opt
+all_options = Case ∷ North ∷ East ∷ []
+
+-- the form of the values of an option; fields are from -20000 to 20000 mV/km
+abbrev pub form_of : Opt → Form
+form_of Case = form.Name
+form_of North = form.Number (negsuc 19999) (pos 20000)
+form_of East = form.Number (negsuc 19999) (pos 20000)
+
+-- the place of an option in the table
+abbrev pub place_of : Opt → ℕ
+place_of Case = 0
+place_of North = 1
+place_of East = 2
+
+-- whether an option is one of these
+unfoldable pub is_among : Opt → List Opt → Bool
+is_among o options = list_any (λ other. place_of other == place_of o) options
+
+-- ---- the modes
+
+-- the word that asks for a mode
+abbrev pub word_of : Mode → List ℕ
+word_of mode.Volts = codes "volts"
+
+abbrev pub all_modes : List Mode
+all_modes = mode.Volts ∷ []
+
+-- the mode that a word names
+unfoldable pub mode_of : List ℕ → Option Mode
+mode_of word = find (λ m. bytes_eq (word_of m) word) all_modes
+
+-- the options that a mode requires
+abbrev pub required_by : Mode → List Opt
+required_by mode.Volts = Case ∷ []
+
+-- the further options that it may have
+abbrev pub allowed_by : Mode → List Opt
+allowed_by mode.Volts = North ∷ East ∷ []
+
+-- what use a mode has for an option
+unfoldable pub use_of : Mode → Opt → Use
+use_of m o = if is_among o (required_by m) then Required
+    else (if is_among o (allowed_by m) then Allowed else Unused)

@@ -1,0 +1,45 @@
+//! Laws over the definitions, each the contract of a function that does nothing.
+ghost use Rattle.std.specs.Prelude.{◌≡◌, List, [], ◌∷◌, codes, pos, negsuc, Some, None, Ok, Err};
+ghost use Rattle.clap.specs.Words.{Row};
+ghost use Rattle.gic_words.specs.declared.mode.Mode.{Mode};
+ghost use Rattle.gic_words.specs.declared.mode.Use.TheVariants.{Required};
+ghost use Rattle.gic_words.specs.declared.option.Opt.{Opt};
+ghost use Rattle.gic_words.specs.declared.option.Opt.TheVariants.{Case, North};
+ghost use Rattle.gic_words.specs.declared.options.Options.TheVariants.{Volts};
+ghost use Rattle.gic_words.specs.declared.fault.Usage.TheVariants as usage;
+ghost use Rattle.gic_words.specs.Command.{given};
+ghost use Rattle.gic_words.specs.Table.{all_options, use_of};
+ghost use Rattle.gic_words.specs.Options.{first_fault, options_of, text_of};
+
+/// Where no fault is found, each option that the mode requires is given, so that no default stands for it.
+pub fn required_law()
+    ensures { (m : Mode) (rows : List Row) (o : Opt) →
+        use_of m o ≡ Required → first_fault m rows all_options ≡ None → given rows o ≡ Some (text_of rows o) }
+{}
+
+/// What some words give that are refused.
+pub fn refused_words_law()
+    ensures no_words { options_of [] ≡ Err usage.Words }
+    ensures no_mode { options_of (codes "--case=p" ∷ []) ≡ Err usage.Words }
+    ensures option_twice { options_of (codes "volts" ∷ codes "--case=p" ∷ codes "--case=p" ∷ []) ≡ Err usage.Words }
+    ensures unknown_option { options_of (codes "volts" ∷ codes "--case=p" ∷ codes "--width=5" ∷ []) ≡ Err usage.Words }
+    ensures no_value { options_of (codes "volts" ∷ codes "--case" ∷ []) ≡ Err usage.Words }
+    ensures second_mode { options_of (codes "volts" ∷ codes "volts" ∷ codes "--case=p" ∷ []) ≡ Err usage.Words }
+    ensures help { options_of (codes "--help" ∷ []) ≡ Err usage.Words }
+    ensures short_help { options_of (codes "-h" ∷ []) ≡ Err usage.Words }
+    ensures version { options_of (codes "--version" ∷ []) ≡ Err usage.Words }
+    ensures unknown_mode { options_of (codes "fly" ∷ []) ≡ Err usage.Mode }
+    ensures mode_before_options { options_of (codes "list" ∷ codes "--north=x" ∷ []) ≡ Err usage.Mode }
+    ensures missing_case { options_of (codes "volts" ∷ []) ≡ Err (usage.Missing Case) }
+    ensures case_before_north { options_of (codes "volts" ∷ codes "--north=x" ∷ []) ≡ Err (usage.Missing Case) }
+    ensures north_too_far { options_of (codes "volts" ∷ codes "--case=p" ∷ codes "--north=20001" ∷ []) ≡ Err (usage.Number North) }
+    ensures north_before_east { options_of (codes "volts" ∷ codes "--east=x" ∷ codes "--north=x" ∷ codes "--case=p" ∷ []) ≡ Err (usage.Number North) }
+{}
+
+/// What some words give that are accepted.
+pub fn accepted_words_law()
+    ensures both_fields { options_of (codes "volts" ∷ codes "--case=p" ∷ codes "--north=-500" ∷ codes "--east" ∷ codes "7" ∷ [])
+        ≡ Ok (Volts (codes "p") (negsuc 499) (pos 7)) }
+    ensures mode_last { options_of (codes "--case=p" ∷ codes "volts" ∷ []) ≡ Ok (Volts (codes "p") (pos 0) (pos 0)) }
+    ensures empty_case { options_of (codes "volts" ∷ codes "--case=" ∷ []) ≡ Ok (Volts [] (pos 0) (pos 0)) }
+{}

@@ -1,0 +1,123 @@
+//! The options of the modes.
+ghost use Rattle.std.specs.Prelude.{◌≡◌, ◌≤◌, IfOk, IfSome, map, string_bytes, unsigned_abs};
+ghost use Rattle.clap.specs.Words.{rows_of, found_of};
+ghost use Rattle.gic_words.specs.Values.{IsWithin};
+ghost use Rattle.gic_words.specs.Options.{text_of, number_of, field_of, options_by, mode_in};
+ghost use Rattle.gic_words.specs.Options.{options_of, options_of_rows, ReadsWords, KeepsTaken, HasFieldsWithin};
+
+use crate::command::{ParseRefusal, mode_word, parse, value_of};
+use crate::fault::{Usage, WordsRefusal, first_fault};
+use crate::mode::Mode;
+use crate::name::FileName;
+use crate::option::Opt;
+use crate::value::read_number;
+use clap::ArgMatches;
+use std::alloc::{AllocError, Global};
+
+/// What words ask for: a mode with its options.
+#[derive(Drop)]
+pub enum Options {
+    /// The voltage of each line of a case, in a field of so many mV/km to the north and to the east, each from -20000
+    /// to 20000, and 0 where it is not given.
+    Volts {
+        case: FileName,
+        north: i32,
+        east: i32,
+    },
+}
+
+/// A name that is required.
+fn file(alloc: Global, matches: &ArgMatches<'_>, option: Opt) -> Result<FileName, AllocError>
+    ensures { IfOk result (λ name. name ≡ text_of (rows_of (found_of matches.now)) option) }
+{
+    FileName::copy(alloc, value_of(matches, option).unwrap_or(""))
+}
+
+/// A number that may be given.
+fn number(matches: &ArgMatches<'_>, option: Opt) -> Option<i64>
+    ensures value { result ≡ number_of (rows_of (found_of matches.now)) option }
+    ensures within { IfSome result (IsWithin option) }
+{
+    read_number(option, value_of(matches, option)?)
+}
+
+/// The field to the north, in mV/km.
+fn north(matches: &ArgMatches<'_>) -> i32
+    ensures value { result ≡ field_of (rows_of (found_of matches.now)) Opt.North }
+    ensures small { unsigned_abs result ≤ 20000 }
+{
+    match number(matches, Opt::North) {
+        Some(value) => value as i32,
+        None => 0,
+    }
+}
+
+/// The field to the east, in mV/km.
+fn east(matches: &ArgMatches<'_>) -> i32
+    ensures value { result ≡ field_of (rows_of (found_of matches.now)) Opt.East }
+    ensures small { unsigned_abs result ≤ 20000 }
+{
+    match number(matches, Opt::East) {
+        Some(value) => value as i32,
+        None => 0,
+    }
+}
+
+fn volts(alloc: Global, matches: &ArgMatches<'_>) -> Result<Options, AllocError>
+    ensures value { IfOk result (λ o. o ≡ options_by Mode.Volts (rows_of (found_of matches.now))) }
+    ensures fields { IfOk result HasFieldsWithin }
+{
+    let case = file(alloc, matches, Opt::Case)?;
+    Ok(Options::Volts {
+        case,
+        north: north(matches),
+        east: east(matches),
+    })
+}
+
+/// The options that a mode takes from the matches.
+fn options_by(alloc: Global, mode: Mode, matches: &ArgMatches<'_>) -> Result<Options, AllocError>
+    ensures value { IfOk result (λ o. o ≡ options_by mode (rows_of (found_of matches.now))) }
+    ensures fields { IfOk result HasFieldsWithin }
+{
+    match mode {
+        Mode::Volts => volts(alloc, matches),
+    }
+}
+
+/// The mode of the matches.
+fn mode_of(matches: &ArgMatches<'_>) -> Option<Mode>
+    ensures { result ≡ mode_in (rows_of (found_of matches.now)) }
+{
+    Mode::read(mode_word(matches)?)
+}
+
+/// The options of the matches.
+fn read_matches(alloc: Global, matches: &ArgMatches<'_>) -> Result<Options, WordsRefusal>
+    ensures right { ReadsWords (options_of_rows (rows_of (found_of matches.now))) result }
+    ensures fields { IfOk result HasFieldsWithin }
+{
+    let Some(mode) = mode_of(matches) else {
+        return Err(WordsRefusal::Usage(Usage::Mode));
+    };
+    if let Some(fault) = first_fault(mode, matches) {
+        return Err(WordsRefusal::Usage(fault));
+    }
+    let options = options_by(alloc, mode, matches)?;
+    Ok(options)
+}
+
+/// The options that the words give, or their first fault: `Words`, then `Mode`, then those of the options in the order
+/// of their table. `Memory` comes for want of memory alone.
+pub fn read_words(alloc: Global, words: &[String]) -> Result<Options, WordsRefusal>
+    ensures right { ReadsWords (options_of (map string_bytes words.now)) result }
+    ensures taken { KeepsTaken (map string_bytes words.now) result }
+    // The options' fields are in their ranges.
+    ensures fields { IfOk result HasFieldsWithin }
+{
+    match parse(alloc, words) {
+        Ok(matches) => read_matches(alloc, &matches),
+        Err(ParseRefusal::NotTaken) => Err(WordsRefusal::Usage(Usage::Words)),
+        Err(ParseRefusal::Memory) => Err(WordsRefusal::Memory),
+    }
+}
