@@ -1,0 +1,77 @@
+//! What a run of the program found, and how it is written.
+ghost use Rattle.std.specs.Prelude.{OnOk};
+ghost use Rattle.std.specs.Io.KnownBytes.{Appends};
+ghost use Rattle.gic_base.specs.Causes.{HasCause};
+ghost use Rattle.gic_base.specs.Pieces.{AppendsPart};
+ghost use Rattle.gic_report.specs.Text.{FitsCase, report_text};
+
+use crate::volts::write_volts;
+use gic_base::{Sink, WriteFailed};
+use gic_case::Case;
+use gic_text::LineBuilder;
+use std::marker::Model;
+
+/// The voltages along the lines of a case in nanovolts, in the order of its lines.
+#[derive(Debug, Drop)]
+pub struct LineVolts {
+    list: Vec<i64>,
+}
+
+impl Model for LineVolts {
+    ghost use Rattle.std.specs.Prelude.{ℤ, List};
+
+    ghost Value = { List ℤ };
+
+    ghost view = { λ v. v.list.items };
+}
+
+impl LineVolts {
+    ghost use Rattle.std.specs.Prelude.{◌≡◌};
+
+    /// The voltages in nanovolts, one per line of the case. Takes no memory.
+    pub fn new(list: Vec<i64>) -> LineVolts
+        ensures { result ≡ list.items }
+    {
+        LineVolts { list }
+    }
+
+    /// The voltages in nanovolts, in the order of the lines.
+    pub fn as_slice(&self) -> &[i64]
+        ensures { result.now ≡ self.now }
+    {
+        self.list.as_slice()
+    }
+}
+
+/// What a run found.
+#[derive(Debug, Drop)]
+pub enum Report {
+    /// The voltage along each line under one uniform field; north and east are its parts in mV/km.
+    Volts {
+        north: i32,
+        east: i32,
+        lines: LineVolts,
+    },
+}
+
+/// Writes the text of a report on a case, with one `write_all` per line. Where a write fails, the text's front is
+/// written. Takes no memory.
+pub fn write_report<S: Sink>(
+    case: &Case,
+    report: &Report,
+    line: &mut LineBuilder,
+    out: &mut S,
+) -> Result<(), WriteFailed>
+    requires lines { FitsCase case.now report.now }
+    ensures all { OnOk result (Appends (S.written out.old) (S.written out.new)
+        (report_text case.now report.now)) }
+    ensures part { AppendsPart (S.written out.old) (S.written out.new)
+        (report_text case.now report.now) }
+    ensures cause { HasCause (S.faults out.old) (S.faults out.new) result }
+{
+    match report {
+        Report::Volts { north, east, lines } => {
+            write_volts(case.lines(), *north, *east, lines.as_slice(), line, out)
+        }
+    }
+}

@@ -1,0 +1,50 @@
+//! Lines that several reports have.
+ghost use Rattle.std.specs.Prelude.{◌<◌, length, OnOk};
+ghost use Rattle.std.specs.Io.KnownBytes.{Appends};
+ghost use Rattle.gic_base.specs.Causes.{HasCause};
+ghost use Rattle.gic_base.specs.Pieces.{AppendsPart};
+ghost use Rattle.gic_text.specs.Lines.{line_text};
+ghost use Rattle.gic_report.specs.Text.{word_line, field_line};
+
+use gic_base::{Sink, WriteFailed, write_all};
+use gic_text::LineBuilder;
+
+/// Writes a line of one word.
+pub fn write_word<S: Sink>(
+    word: &[u8],
+    line: &mut LineBuilder,
+    out: &mut S,
+) -> Result<(), WriteFailed>
+    requires { length word.now < 512 }
+    ensures all { OnOk result (Appends (S.written out.old) (S.written out.new)
+        (line_text (word_line word.now))) }
+    ensures part { AppendsPart (S.written out.old) (S.written out.new)
+        (line_text (word_line word.now)) }
+    ensures cause { HasCause (S.faults out.old) (S.faults out.new) result }
+{
+    line.start();
+    line.word(word);
+    write_all(out, line.finish())
+}
+
+/// Writes the line of a uniform field, in mV/km.
+#[tactic(auto, using(gic_text::proofs::Sizes::line_room))]
+pub fn write_field<S: Sink>(
+    north: i32,
+    east: i32,
+    line: &mut LineBuilder,
+    out: &mut S,
+) -> Result<(), WriteFailed>
+    ensures all { OnOk result (Appends (S.written out.old) (S.written out.new)
+        (line_text (field_line north east))) }
+    ensures part { AppendsPart (S.written out.old) (S.written out.new)
+        (line_text (field_line north east)) }
+    ensures cause { HasCause (S.faults out.old) (S.faults out.new) result }
+{
+    line.start();
+    line.word(b"north");
+    line.number(i128::from(north));
+    line.word(b"east");
+    line.number(i128::from(east));
+    write_all(out, line.finish())
+}
