@@ -1,0 +1,6 @@
+pub mod Faults
+pub mod Told
+pub mod Outcome
+pub mod Reasons
+pub mod Right
+pub mod Answers

@@ -1,0 +1,37 @@
+-- What a report has to say.
+use Rattle.std.specs.Prelude.{◌≡◌, ℕ, ℤ, List, [], map, slice_index_or}
+use Rattle.gic_scale.specs.ZoneView.{ZoneView}
+use Rattle.gic_case.specs.Lists.{Lists}
+use Rattle.gic_induce.specs.Voltage.{line_nanovolts}
+use Rattle.gic_report.specs.declared.report.Report.{Report}
+use Rattle.gic_report.specs.declared.report.Report.TheVariants as report
+use Rattle.gic_study.specs.declared.accept.Accepted.{Accepted}
+use Rattle.gic_study.specs.declared.accept.Accepted.TheVariants as accepted
+
+abbrev pub no_zone : ZoneView
+no_zone = record { name = []; latitude = 0; beta = 0 }
+
+-- the zone at a place; the zone of each line of a case is there
+abbrev pub zone_among : List ZoneView → ℕ → ZoneView
+zone_among zones place = slice_index_or zones place no_zone
+
+-- the voltage of each line, blocked ones too, in one field for all zones
+abbrev pub line_volts : Lists → ℤ → ℤ → List ℤ
+line_volts case north east = map (λ l. line_nanovolts l (zone_among case.zones l.zone) north east) case.lines
+
+-- a report of voltages: the field is that of the options, and each number is its line's voltage
+pub record IsRightVolts (case : Lists) (north east north' east' : ℤ) (lines : List ℤ) : Type 0 where
+  pub north_is : north' ≡ north
+  pub east_is : east' ≡ east
+  pub lines_are : lines ≡ line_volts case north east
+
+-- the case of what is accepted
+abbrev pub case_in : Accepted → Lists
+case_in (accepted.Volts case north east) = case
+
+abbrev pub IsRightReportOfVolts : Lists → ℤ → ℤ → Report → Type 0
+IsRightReportOfVolts case north east (report.Volts north' east' lines) = IsRightVolts case north east north' east' lines
+
+-- the report is right for what is accepted
+abbrev pub IsRight : Accepted → Report → Type 0
+IsRight (accepted.Volts case north east) report = IsRightReportOfVolts case north east report

@@ -1,0 +1,106 @@
+//! What the words and the files ask for.
+ghost use Rattle.std.specs.Prelude.{◌≡◌, ◌≤◌, IfOk, IfErr, OnOk, map, string_bytes, length};
+ghost use Rattle.gic_words.specs.Options.{HasFieldsWithin};
+ghost use Rattle.gic_study.specs.Told.{told, MayBeWhole};
+ghost use Rattle.gic_study.specs.Outcome.{outcome, MayAccept, MayRead, AsksFieldsWithin};
+ghost use Rattle.gic_study.specs.Reasons.{ReadsOptions, FetchFails, ReadFails, HasReason};
+
+use crate::fault::{Fault, File};
+use gic_base::{FetchRefusal, Library, read_whole};
+use gic_case::{Case, CaseRefusal, read_case};
+use gic_words::{Options, WordsRefusal, read_words};
+use std::alloc::Global;
+
+/// What is to be reported, with the files that it needs, all read and accepted.
+#[derive(Drop)]
+pub enum Accepted {
+    /// The voltages of the lines of a case in a uniform field, in mV/km.
+    Volts { case: Case, north: i32, east: i32 },
+}
+
+impl Accepted {
+    ghost use Rattle.std.specs.Prelude.{◌≡◌};
+    ghost use Rattle.gic_study.specs.Right.{case_in};
+
+    /// The case that the report is of.
+    pub(crate) fn case(&self) -> &Case
+        ensures { result.now ≡ case_in self.now }
+    {
+        match self {
+            Accepted::Volts { case, .. } => case,
+        }
+    }
+}
+
+/// The options that the words give.
+fn options(alloc: Global, words: &[String]) -> Result<Options, Fault>
+    ensures right { ReadsOptions (map string_bytes words.now) result }
+    ensures fields { IfOk result HasFieldsWithin }
+{
+    match read_words(alloc, words) {
+        Ok(options) => Ok(options),
+        Err(WordsRefusal::Usage(usage)) => Err(Fault::Usage(usage)),
+        Err(WordsRefusal::Memory) => Err(Fault::Memory),
+    }
+}
+
+/// Fetches a file that the words name.
+fn fetch_file<L: Library>(
+    alloc: Global,
+    library: &mut L,
+    name: &str,
+    file: File,
+) -> Result<Vec<u8>, Fault>
+    ensures content { L.content library.new ≡ L.content library.old }
+    ensures failures { OnOk result (L.failures library.new ≡ L.failures library.old) }
+    ensures bytes { IfOk result (λ bytes. MayBeWhole (told (L.content library.old) name.now) bytes.items) }
+    ensures err { IfErr result (FetchFails (told (L.content library.old) name.now)
+        (L.failures library.old) (L.failures library.new) name.now file) }
+{
+    match read_whole(alloc, library, name) {
+        Ok(bytes) => Ok(bytes),
+        Err(FetchRefusal::Failed) => Err(Fault::CannotRead(file)),
+        Err(FetchRefusal::TooLong) => Err(Fault::TooLong(file)),
+        Err(FetchRefusal::Memory) => Err(Fault::Memory),
+    }
+}
+
+/// Fetches and reads the case that the words name.
+fn case<L: Library>(alloc: Global, library: &mut L, name: &str) -> Result<Case, Fault>
+    ensures content { L.content library.new ≡ L.content library.old }
+    ensures failures { OnOk result (L.failures library.new ≡ L.failures library.old) }
+    ensures ok { IfOk result (MayRead (told (L.content library.old) name.now)) }
+    ensures err { IfErr result (ReadFails (told (L.content library.old) name.now)
+        (L.failures library.old) (L.failures library.new) name.now) }
+{
+    let bytes = fetch_file(alloc, library, name, File::Case)?;
+    match read_case(alloc, &bytes) {
+        Ok(case) => Ok(case),
+        Err(CaseRefusal::Memory) => Err(Fault::Memory),
+        Err(refusal) => Err(Fault::Case(refusal)),
+    }
+}
+
+/// Reads the words, and then the files that they name.
+pub(crate) fn accept<L: Library>(
+    alloc: Global,
+    words: &[String],
+    library: &mut L,
+) -> Result<Accepted, Fault>
+    ensures ok { IfOk result (MayAccept (outcome (map string_bytes words.now) (L.content library.old))) }
+    ensures fields { IfOk result AsksFieldsWithin }
+    ensures err { IfErr result (HasReason (map string_bytes words.now)
+        (outcome (map string_bytes words.now) (L.content library.old))
+        (L.failures library.old) (L.failures library.new)) }
+{
+    match options(alloc, words)? {
+        Options::Volts {
+            case: name,
+            north,
+            east,
+        } => {
+            let case = case(alloc, library, name.as_str())?;
+            Ok(Accepted::Volts { case, north, east })
+        }
+    }
+}

@@ -1,0 +1,192 @@
+//! The line that tells a fault.
+ghost use Rattle.std.specs.Prelude.{◌≡◌, ◌∷◌, ◌++◌, OnOk, map};
+ghost use Rattle.std.specs.Io.KnownBytes.{Appends};
+ghost use Rattle.gic_base.specs.Causes.{HasCause};
+ghost use Rattle.gic_base.specs.Pieces.{AppendsPart};
+ghost use Rattle.gic_text.specs.Lines.{spaced};
+ghost use Rattle.gic_study.specs.Faults.{flag, file_word, part_word, row_words, field_words, told_line, line_of_fault};
+
+use crate::fault::{Fault, File};
+use gic_base::{Name, Sink, WriteFailed, write_all};
+use gic_case::{CaseRefusal, Field, Part};
+use gic_words::{Opt, Usage};
+
+/// Writes a space and a word.
+fn write_after_space<E: Sink>(word: &str, err: &mut E) -> Result<(), WriteFailed>
+    ensures all { OnOk result (Appends (E.written err.old) (E.written err.new) (32 ∷ word.now)) }
+    ensures part { AppendsPart (E.written err.old) (E.written err.new) (32 ∷ word.now) }
+    ensures cause { HasCause (E.faults err.old) (E.faults err.new) result }
+{
+    write_all(err, b" ")?;
+    write_all(err, word.as_bytes())
+}
+
+/// Writes words, each after a space.
+fn write_spaced<E: Sink>(words: &[&str], err: &mut E) -> Result<(), WriteFailed>
+    ensures all { OnOk result (Appends (E.written err.old) (E.written err.new) (spaced (map (λ w. w.now) words.entry.now))) }
+    ensures part { AppendsPart (E.written err.old) (E.written err.new) (spaced (map (λ w. w.now) words.entry.now)) }
+    ensures cause { HasCause (E.faults err.old) (E.faults err.new) result }
+{
+    for word in words {
+        write_after_space(word, err)?;
+    }
+    Ok(())
+}
+
+/// Writes the line of the program's name, words and more words.
+fn write_joined<E: Sink>(words: &[&str], more: &[&str], err: &mut E) -> Result<(), WriteFailed>
+    ensures all { OnOk result (Appends (E.written err.old) (E.written err.new) (told_line (map (λ w. w.now) words.entry.now ++ map (λ w. w.now) more.entry.now))) }
+    ensures part { AppendsPart (E.written err.old) (E.written err.new) (told_line (map (λ w. w.now) words.entry.now ++ map (λ w. w.now) more.entry.now)) }
+    ensures cause { HasCause (E.faults err.old) (E.faults err.new) result }
+{
+    write_all(err, b"gicstudy:")?;
+    write_spaced(words, err)?;
+    write_spaced(more, err)?;
+    write_all(err, b"\n")
+}
+
+/// Writes the line of the program's name and words.
+fn write_line<E: Sink>(words: &[&str], err: &mut E) -> Result<(), WriteFailed>
+    ensures all { OnOk result (Appends (E.written err.old) (E.written err.new) (told_line (map (λ w. w.now) words.entry.now))) }
+    ensures part { AppendsPart (E.written err.old) (E.written err.new) (told_line (map (λ w. w.now) words.entry.now)) }
+    ensures cause { HasCause (E.faults err.old) (E.faults err.new) result }
+{
+    write_joined(words, &[], err)
+}
+
+/// How an option is written.
+fn flag(option: Opt) -> &'static str
+    ensures { result.now ≡ flag option }
+{
+    match option {
+        Opt::Case => "--case",
+        Opt::North => "--north",
+        Opt::East => "--east",
+    }
+}
+
+/// How a fault line names a file.
+fn file_word(file: File) -> &'static str
+    ensures { result.now ≡ file_word file }
+{
+    match file {
+        File::Case => "case",
+    }
+}
+
+/// How a fault line names a list of the case.
+fn part_word(list: Part) -> &'static str
+    ensures { result.now ≡ part_word list }
+{
+    match list {
+        Part::Case => "case",
+        Part::Zone => "zone",
+        Part::Substation => "substation",
+        Part::Bus => "bus",
+        Part::Line => "line",
+    }
+}
+
+/// Writes the line of a fault of the words.
+fn write_usage<E: Sink>(usage: Usage, err: &mut E) -> Result<(), WriteFailed>
+    ensures all { OnOk result (Appends (E.written err.old) (E.written err.new) (line_of_fault (Fault.Usage usage))) }
+    ensures part { AppendsPart (E.written err.old) (E.written err.new) (line_of_fault (Fault.Usage usage)) }
+    ensures cause { HasCause (E.faults err.old) (E.faults err.new) result }
+{
+    match usage {
+        Usage::Words => write_line(&["usage:", "words"], err),
+        Usage::Mode => write_line(&["usage:", "mode"], err),
+        Usage::Extra { option } => write_line(&["usage:", "extra", flag(option)], err),
+        Usage::Missing { option } => write_line(&["usage:", "missing", flag(option)], err),
+        Usage::Number { option } => write_line(&["usage:", "number", flag(option)], err),
+    }
+}
+
+/// Writes the line of words, a list and a row.
+fn write_row<E: Sink>(words: &[&str], list: Part, row: u32, err: &mut E) -> Result<(), WriteFailed>
+    ensures all { OnOk result (Appends (E.written err.old) (E.written err.new) (told_line (row_words (map (λ w. w.now) words.entry.now) list row))) }
+    ensures part { AppendsPart (E.written err.old) (E.written err.new) (told_line (row_words (map (λ w. w.now) words.entry.now) list row)) }
+    ensures cause { HasCause (E.faults err.old) (E.faults err.new) result }
+{
+    let mut buffer = itoa::Buffer::new();
+    write_joined(words, &[part_word(list), "row", buffer.format(row)], err)
+}
+
+/// Writes the line of words, a list, a row and a field.
+fn write_field<E: Sink>(
+    words: &[&str],
+    list: Part,
+    row: u32,
+    field: Field,
+    err: &mut E,
+) -> Result<(), WriteFailed>
+    ensures all { OnOk result (Appends (E.written err.old) (E.written err.new) (told_line (field_words (map (λ w. w.now) words.entry.now) list row field))) }
+    ensures part { AppendsPart (E.written err.old) (E.written err.new) (told_line (field_words (map (λ w. w.now) words.entry.now) list row field)) }
+    ensures cause { HasCause (E.faults err.old) (E.faults err.new) result }
+{
+    let mut buffer = itoa::Buffer::new();
+    let place = [
+        part_word(list),
+        "row",
+        buffer.format(row),
+        "field",
+        field.key(),
+    ];
+    write_joined(words, &place, err)
+}
+
+/// Writes the line of a node at which too many elements end.
+fn write_degree<E: Sink>(node: Name, err: &mut E) -> Result<(), WriteFailed>
+    ensures all { OnOk result (Appends (E.written err.old) (E.written err.new) (line_of_fault (Fault.Case (CaseRefusal.Degree node)))) }
+    ensures part { AppendsPart (E.written err.old) (E.written err.new) (line_of_fault (Fault.Case (CaseRefusal.Degree node))) }
+    ensures cause { HasCause (E.faults err.old) (E.faults err.new) result }
+{
+    write_all(err, b"gicstudy: case: degree at node ")?;
+    write_all(err, node.as_bytes())?;
+    write_all(err, b"\n")
+}
+
+/// Writes the line of a refused case.
+fn write_case<E: Sink>(refusal: CaseRefusal, err: &mut E) -> Result<(), WriteFailed>
+    ensures all { OnOk result (Appends (E.written err.old) (E.written err.new) (line_of_fault (Fault.Case refusal))) }
+    ensures part { AppendsPart (E.written err.old) (E.written err.new) (line_of_fault (Fault.Case refusal)) }
+    ensures cause { HasCause (E.faults err.old) (E.faults err.new) result }
+{
+    match refusal {
+        CaseRefusal::NotToml => write_line(&["case:", "not", "toml"], err),
+        CaseRefusal::Key { list, row } => write_row(&["case:", "key", "in"], list, row, err),
+        CaseRefusal::Value { list, row, field } => {
+            write_field(&["case:", "value", "in"], list, row, field, err)
+        }
+        CaseRefusal::TooMany { list } => {
+            write_line(&["case:", "too", "many", "in", part_word(list)], err)
+        }
+        CaseRefusal::Duplicate { list, row } => {
+            write_row(&["case:", "duplicate", "name", "in"], list, row, err)
+        }
+        CaseRefusal::Unknown { list, row, field } => {
+            write_field(&["case:", "unknown", "name", "in"], list, row, field, err)
+        }
+        CaseRefusal::SameEnds { list, row } => {
+            write_row(&["case:", "same", "ends", "in"], list, row, err)
+        }
+        CaseRefusal::Degree { node } => write_degree(node, err),
+        CaseRefusal::Memory => write_line(&["out", "of", "memory"], err),
+    }
+}
+
+/// Writes the line that tells a fault. Takes no memory.
+pub(crate) fn write_fault<E: Sink>(fault: &Fault, err: &mut E) -> Result<(), WriteFailed>
+    ensures all { OnOk result (Appends (E.written err.old) (E.written err.new) (line_of_fault fault.now)) }
+    ensures part { AppendsPart (E.written err.old) (E.written err.new) (line_of_fault fault.now) }
+    ensures cause { HasCause (E.faults err.old) (E.faults err.new) result }
+{
+    match fault {
+        Fault::Usage(usage) => write_usage(*usage, err),
+        Fault::CannotRead(file) => write_line(&["cannot", "read", file_word(*file)], err),
+        Fault::CannotWrite => write_line(&["cannot", "write"], err),
+        Fault::Case(refusal) => write_case(*refusal, err),
+        Fault::TooLong(file) => write_line(&["too", "long:", file_word(*file)], err),
+        Fault::Memory => write_line(&["out", "of", "memory"], err),
+    }
+}
