@@ -1,0 +1,39 @@
+//! The program `gicstudy`: analyses geomagnetically induced currents in a transmission network.
+#![tactic(auto)]
+
+mod files;
+mod streams;
+#[cfg(test)]
+mod tests;
+
+use files::FileLibrary;
+use gic_study::gicstudy;
+use std::alloc::Global;
+use std::io::ErrorKind;
+use std::process::ExitCode;
+use std::{env, io};
+use streams::StreamSink;
+
+/// The words after the program's name.
+fn words(rt: &HostRuntime, alloc: Global) -> io::Result<Vec<String>> {
+    let mut words = Vec::new(alloc);
+    for word in env::args(rt)?.skip(1) {
+        words.push(word)?;
+    }
+    Ok(words)
+}
+
+/// Makes the library and the sinks, does what the words ask for, and ends with the status. Words that are no texts end
+/// it with status 2, and want of memory for them with status 11; nothing is written then.
+fn main(rt: HostRuntime) -> ExitCode {
+    let alloc = rt.alloc();
+    let words = match words(&rt, alloc) {
+        Ok(words) => words,
+        Err(error) if error.kind() == ErrorKind::OutOfMemory => return ExitCode::from(11),
+        Err(_) => return ExitCode::from(2),
+    };
+    let mut out = StreamSink::new(rt.stdout());
+    let mut err = StreamSink::new(rt.stderr());
+    let mut library = FileLibrary::new(rt);
+    ExitCode::from(gicstudy(alloc, &words, &mut library, &mut out, &mut err))
+}
