@@ -1,0 +1,77 @@
+//! Runs of the top call over files in memory.
+use gic_base::{MemoryLibrary, MemorySink};
+use gic_study::gicstudy;
+use std::alloc::{AllocError, Global};
+use std::process::Abort;
+
+/// Case P without transformers: two substations, and a line of 100 km towards the north.
+pub(crate) const CASE_P: &str = "format = 1
+zone = [{ name = \"Z\", latitude = 6000, beta = 100 }]
+substation = [{ name = \"A\", ground = 1000000 }, { name = \"B\", ground = 1000000 }]
+bus = [{ name = \"a\", substation = \"A\" }, { name = \"b\", substation = \"B\" }]
+line = [{ name = \"L\", from = \"a\", to = \"b\", zone = \"Z\", resistance = 3000000, north = 100000, east = 0 }]
+";
+
+/// What a run left.
+#[derive(Drop)]
+pub(crate) struct Ended {
+    pub(crate) status: u8,
+    pub(crate) out: MemorySink,
+    pub(crate) err: MemorySink,
+}
+
+/// Words as a program gets them.
+pub(crate) fn words_of(alloc: Global, words: &[&str]) -> Result<Vec<String>, AllocError> {
+    let mut list = Vec::new(alloc);
+    for word in words {
+        list.push(String::from_str(alloc, word)?)?;
+    }
+    Ok(list)
+}
+
+/// A library of one file `p`.
+pub(crate) fn library_of(
+    alloc: Global,
+    case: &[u8],
+    failing: &[u64],
+) -> Result<MemoryLibrary, AllocError> {
+    let mut files = Vec::new(alloc);
+    files.push((String::from_str(alloc, "p")?, Vec::from_slice(alloc, case)?))?;
+    Ok(MemoryLibrary::new(alloc, files, Vec::from_slice(alloc, failing)?))
+}
+
+/// Runs the words over the file `p`, where these calls fail.
+pub(crate) fn run_failing(
+    alloc: Global,
+    words: &[&str],
+    case: &[u8],
+    fetches: &[u64],
+    writes: &[u64],
+    tellings: &[u64],
+) -> Result<Ended, AllocError> {
+    let words = words_of(alloc, words)?;
+    let mut library = library_of(alloc, case, fetches)?;
+    let mut out = MemorySink::new(alloc, Vec::from_slice(alloc, writes)?);
+    let mut err = MemorySink::new(alloc, Vec::from_slice(alloc, tellings)?);
+    let status = gicstudy(alloc, &words, &mut library, &mut out, &mut err);
+    Ok(Ended { status, out, err })
+}
+
+/// Runs the words over the file `p`.
+pub(crate) fn run(alloc: Global, words: &[&str], case: &[u8]) -> Result<Ended, AllocError> {
+    run_failing(alloc, words, case, &[], &[], &[])
+}
+
+/// Asserts that a run ended with a status, this text on the output and this one on the error sink.
+pub(crate) fn expect_run(
+    rt: &impl Abort,
+    run: &Ended,
+    status: u8,
+    out: &str,
+    err: &str,
+    name: &str,
+) {
+    assert!(rt; run.status == status, "{name}: status");
+    assert!(rt; run.out.bytes() == out.as_bytes(), "{name}: output");
+    assert!(rt; run.err.bytes() == err.as_bytes(), "{name}: error line");
+}
