@@ -1,0 +1,11 @@
+use Rattle.std.proofs.Common.{◌≡◌, ◌≤◌, length, take}
+use Rattle.std.specs.List.{filter}
+use Rattle.gic_net.specs.Row.{stands_by}
+use Rattle.gic_net.proofs.row.gather_standing.Given as goal
+
+abbrev pub invariant-loop-place : goal.invariant-loop-place
+invariant-loop-place l = record {
+  room : length l.all ≤ length l.front;
+  behind : l.degree ≤ l.place-index;
+  front : take l.degree l.front ≡ filter (stands_by l.list l.opened) (take l.place-index l.all);
+}

@@ -1,0 +1,6 @@
+pub mod Net
+pub mod Row
+pub mod ItemIndex
+pub mod Rows
+pub mod OpenSet
+pub mod SwitchingLaws

@@ -1,0 +1,12 @@
+//! The standing network: which elements stand, and which of them end at each node, while items are opened and closed.
+#![tactic(auto)]
+
+mod item_index;
+pub mod laws;
+mod net;
+mod row;
+mod rows;
+#[cfg(test)]
+mod tests;
+
+pub use net::Net;

@@ -1,0 +1,160 @@
+//! The standing network.
+ghost use Rattle.std.specs.Prelude.{◌≡◌, replicate, false, IfOk};
+
+use crate::item_index::{ItemIndex, has_element, index_items};
+use crate::row::{Row, number_of};
+use crate::rows::{full_rows, gather_item};
+use gic_base::{ElementId, NodeId, OutOfMemory};
+use gic_model::{Element, Elements, Item};
+use std::alloc::Global;
+use std::marker::Model;
+
+/// The elements of a network, and which of their items are open.
+#[derive(Drop)]
+pub struct Net {
+    nodes: u16,
+    list: Vec<Element>,
+    /// For each number of an item whether it is open.
+    opened: Vec<bool>,
+    index: ItemIndex,
+    rows: Vec<Row>,
+}
+
+impl Model for Net {
+    ghost use Rattle.std.specs.FinSet as set;
+    ghost use Rattle.std.specs.Coded.{codes, coded_ℕ};
+    ghost use Rattle.std.specs.Ordering.{nat_cmp};
+    ghost use Rattle.gic_net.specs.Net.{NetView};
+    ghost use Rattle.gic_net.specs.Rows.{IsStored};
+    ghost use Rattle.gic_net.specs.OpenSet.{open_set};
+
+    ghost Value = { NetView };
+
+    ghost coded = { Prim.hlevel (codes, set.code {R = nat_cmp} coded_ℕ) };
+
+    ghost view = { λ a.
+        record {
+          network = record { nodes = a.nodes; list = a.list.items };
+          open_items = open_set a.opened.items;
+        } };
+
+    ghost invariant = { λ a.
+        IsStored (record { nodes = a.nodes; list = a.list.items }) a.opened.items a.index.first.items a.index.next.items a.rows.items };
+}
+
+impl Net {
+    ghost use Rattle.std.specs.Prelude.{◌≡◌, ◌<◌, ◌≤◌, length, true, IfOk, IsTrue};
+    ghost use Rattle.std.specs.List.{Contains};
+    ghost use Rattle.gic_model.specs.Network.{IsWithinLimits, IsElementWithin, ends_at};
+    ghost use Rattle.gic_model.specs.Standing.{is_live, is_standing};
+    ghost use Rattle.gic_net.specs.Net.{NetView, stands, standing, element_of, row_at, placed_at, closed_net, switched_net};
+
+    /// All elements stand.
+    pub fn build(alloc: Global, elements: &Elements) -> Result<Net, OutOfMemory>
+        ensures { IfOk result (λ net. net ≡ closed_net elements.now) }
+    {
+        let nodes = elements.nodes();
+        let list = copied(alloc, elements.list())?;
+        let rows = full_rows(alloc, nodes, list.as_slice())?;
+        let index = index_items(alloc, list.as_slice())?;
+        let opened = all_closed(alloc, index.first.len())?;
+        Ok(Net {
+            nodes,
+            list,
+            opened,
+            index,
+            rows,
+        })
+    }
+
+    /// Opens or closes an item. An item that has no element changes nothing.
+    pub fn switch(&mut self, item: Item, opens: bool)
+        ensures { self.new ≡ switched_net self.old item opens }
+    {
+        let number = number_of(item) as usize;
+        if has_element(self.list.as_slice(), &self.index, number) {
+            self.opened[number] = opens;
+            gather_item(
+                self.rows.as_mut_slice(),
+                self.list.as_slice(),
+                self.opened.as_slice(),
+                &self.index,
+                number,
+            );
+        }
+    }
+
+    /// How many nodes there are.
+    pub fn nodes(&self) -> u16
+        ensures value { result ≡ self.now.network.nodes }
+        ensures limits { IsWithinLimits self.now.network }
+    {
+        self.nodes
+    }
+
+    /// The element that the net was built with.
+    pub fn element(&self, element: ElementId) -> Element
+        requires { element.0 < length self.now.network.list }
+        ensures value { result ≡ element_of self.now.network element.0 }
+        ensures within { IsElementWithin self.now.network.nodes result }
+    {
+        self.list[element.0 as usize]
+    }
+
+    /// Whether the element stands.
+    pub fn stands(&self, element: ElementId) -> bool
+        requires { element.0 < length self.now.network.list }
+        ensures value { result ≡ stands self.now (element_of self.now.network element.0).item }
+        ensures place { result ≡ is_standing (standing self.now) element.0 }
+        ensures listed { IsTrue result → Contains (standing self.now) (element.0, element_of self.now.network element.0) }
+    {
+        !self.opened[number_of(self.list[element.0 as usize].item) as usize]
+    }
+
+    /// Whether a standing element ends at the node.
+    pub fn live(&self, node: NodeId) -> bool
+        requires { node.0 < self.now.network.nodes }
+        ensures { result ≡ is_live (standing self.now) node.0 }
+    {
+        self.degree(node) > 0
+    }
+
+    /// How many standing elements end at the node.
+    pub fn degree(&self, node: NodeId) -> u16
+        requires { node.0 < self.now.network.nodes }
+        ensures value { result ≡ length (row_at self.now node.0) }
+        ensures few { result ≤ 256 }
+    {
+        self.rows[node.0 as usize].degree() as u16
+    }
+
+    /// One of them, in the order of the elements.
+    pub fn element_at(&self, node: NodeId, place: u16) -> ElementId
+        requires node { node.0 < self.now.network.nodes }
+        requires place { place < length (row_at self.now node.0) }
+        ensures value { placed_at self.now node.0 place ≡ (result.0, element_of self.now.network result.0) }
+        ensures inside { result.0 < length self.now.network.list }
+        ensures within { IsElementWithin self.now.network.nodes (element_of self.now.network result.0) }
+        ensures ends { ends_at (element_of self.now.network result.0) node.0 ≡ true }
+    {
+        ElementId(self.rows[node.0 as usize].element_at(place as usize))
+    }
+}
+
+fn copied(alloc: Global, list: &[Element]) -> Result<Vec<Element>, OutOfMemory>
+    ensures { IfOk result (λ copy. copy.items ≡ list.now) }
+{
+    match Vec::from_slice(alloc, list) {
+        Ok(copy) => Ok(copy),
+        Err(_) => Err(OutOfMemory),
+    }
+}
+
+fn all_closed(alloc: Global, count: usize) -> Result<Vec<bool>, OutOfMemory>
+    ensures { IfOk result (λ opened. opened.items ≡ replicate count false) }
+{
+    match vec![in alloc; false; count] {
+        Ok(opened) => Ok(opened),
+        Err(_) => Err(OutOfMemory),
+    }
+}
