@@ -1,0 +1,11 @@
+//! Whether every live node of a standing network is earthed.
+#![tactic(auto)]
+
+mod scratch;
+mod spread;
+#[cfg(test)]
+mod tests;
+mod unearthed;
+
+pub use scratch::Scratch;
+pub use unearthed::{Unearthed, earthed};

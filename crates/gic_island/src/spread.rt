@@ -1,0 +1,80 @@
+//! How the reached nodes spread from earth.
+ghost use Rattle.std.specs.Prelude.{◌≡◌, ◌<◌, ◌↔◌, [], IsTrue};
+ghost use Rattle.gic_model.specs.Standing.{other_end as end_other_than};
+ghost use Rattle.gic_model.specs.Earthing.{LeadsToEarth};
+ghost use Rattle.gic_net.specs.Net.{standing};
+ghost use Rattle.gic_island.specs.Spread.{StartsAtEarth, IsSpread, GainsJoined};
+
+use crate::scratch::Scratch;
+use gic_base::NodeId;
+use gic_model::{Element, End};
+use gic_net::Net;
+
+/// Reaches the nodes from which an element leads to earth.
+pub fn reach_from_earth(net: &Net, scratch: &mut Scratch)
+    requires nodes { scratch.old.nodes ≡ net.now.network.nodes }
+    requires empty { scratch.old.reached ≡ [] }
+    ensures nodes { scratch.new.nodes ≡ scratch.old.nodes }
+    ensures starts { StartsAtEarth (standing net.now) scratch.new.reached }
+{
+    for node in 0..net.nodes() {
+        if leads_to_earth(net, NodeId(node)) {
+            scratch.reach(node);
+        }
+    }
+}
+
+/// Reaches each node that a chain joins to one that is reached. Each enters the order once.
+pub fn spread(net: &Net, scratch: &mut Scratch)
+    requires nodes { scratch.old.nodes ≡ net.now.network.nodes }
+    requires starts { StartsAtEarth (standing net.now) scratch.old.reached }
+    ensures nodes { scratch.new.nodes ≡ scratch.old.nodes }
+    ensures spread { IsSpread (standing net.now) scratch.new.reached }
+{
+    let mut done = 0;
+    while done < scratch.count() {
+        let node = scratch.reached_at(done);
+        reach_joined(net, scratch, NodeId(node));
+        done += 1;
+    }
+}
+
+/// Whether an element leads from the node to earth.
+fn leads_to_earth(net: &Net, node: NodeId) -> bool
+    requires { node.0 < net.now.network.nodes }
+    ensures { IsTrue result ↔ LeadsToEarth (standing net.now) node.0 }
+{
+    for place in 0..net.degree(node) {
+        if let End::Earth = net.element(net.element_at(node, place)).to {
+            return true;
+        }
+    }
+    false
+}
+
+/// Reaches the nodes that an element joins to the node.
+fn reach_joined(net: &Net, scratch: &mut Scratch, node: NodeId)
+    requires nodes { scratch.old.nodes ≡ net.now.network.nodes }
+    requires node { node.0 < net.now.network.nodes }
+    ensures nodes { scratch.new.nodes ≡ scratch.old.nodes }
+    ensures gains { GainsJoined (standing net.now) node.0 scratch.old.reached scratch.new.reached }
+{
+    for place in 0..net.degree(node) {
+        let element = net.element(net.element_at(node, place));
+        match other_end(node, element) {
+            End::Node(other) => scratch.reach(other.0),
+            End::Earth => {}
+        }
+    }
+}
+
+/// The end of the element that isn't the node.
+fn other_end(node: NodeId, element: Element) -> End
+    ensures { result ≡ end_other_than node.0 element }
+{
+    if element.from.0 == node.0 {
+        element.to
+    } else {
+        End::Node(element.from)
+    }
+}
