@@ -1,0 +1,13 @@
+-- Guesses of the potentials, in grains, by the places of the nodes.
+use Rattle.std.specs.Prelude.{ℕ, ◌≡◌, ◌^◌, ◌<◌, ◌≤◌, List, length, ℤ, unsigned_abs}
+use Rattle.gic_model.specs.Voltages.{number_at}
+
+-- no guess is beyond 2^96, either way
+abbrev pub AreCut : (ℕ → ℤ) → Type 0
+AreCut x = (k : ℕ) → unsigned_abs (x k) ≤ 2 ^ 96
+
+-- what a solver keeps: one guess for each of fewer than 2^16 nodes, none beyond 2^96, and as much room again
+pub record AreGuesses (guesses next : List ℤ) : Type 0 where
+  pub cut : AreCut (number_at guesses)
+  pub room : length next ≡ length guesses
+  pub few : length guesses < 2 ^ 16

@@ -1,0 +1,117 @@
+//! The current of one element over guesses.
+ghost use Rattle.std.specs.Prelude.{◌≡◌, ◌+◌, ◌*◌, ◌/◌, ◌^◌, ◌<◌, ◌≤◌, length, pos, ◌+ℤ◌, ◌-ℤ◌, ◌*ℤ◌, unsigned_abs};
+ghost use Rattle.std.specs.Int.{div_ceil};
+ghost use Rattle.gic_fixed.specs.Encloses.{IsWithin};
+ghost use Rattle.gic_fixed.specs.Rounding.{floor_div, ceil_div};
+ghost use Rattle.gic_model.specs.Network.{IsEndWithin, IsElementWithin};
+ghost use Rattle.gic_model.specs.Standing.{value_at, leaving as leaving_of};
+ghost use Rattle.gic_model.specs.Voltages.{number_at, most_volts};
+ghost use Rattle.gic_model.specs.Guess.{part_times_ohms};
+ghost use Rattle.gic_sweep.specs.Guesses.{AreCut};
+
+use gic_base::{ElementId, NodeId};
+use gic_fixed::Interval;
+use gic_model::{Element, End, Volts};
+
+/// The guess at an end, 0 at earth.
+fn guess_there(guesses: &[i128], end: End) -> i128
+    requires { IsEndWithin (length guesses.now) end }
+    ensures { result ≡ value_at (number_at guesses.now) end }
+{
+    match end {
+        End::Node(node) => guesses[node.0 as usize],
+        End::Earth => 0,
+    }
+}
+
+/// A voltage in grains.
+fn in_grains(nanovolts: i64) -> i128
+    requires { unsigned_abs nanovolts ≤ most_volts }
+    ensures value { result ≡ pos (2 ^ 36) *ℤ nanovolts }
+    ensures small { unsigned_abs result ≤ 2 ^ 82 }
+{
+    68_719_476_736 * nanovolts as i128
+}
+
+/// What drives a current, in grains.
+fn drive(from: i128, to: i128, push: i128) -> i128
+    requires from { unsigned_abs from ≤ 2 ^ 96 }
+    requires to { unsigned_abs to ≤ 2 ^ 96 }
+    requires push { unsigned_abs push ≤ 2 ^ 82 }
+    ensures value { result ≡ from -ℤ to +ℤ push }
+    ensures small { unsigned_abs result ≤ 2 ^ 97 + 2 ^ 82 }
+{
+    from - to + push
+}
+
+/// 256 times an element's conductance, times its resistance.
+fn weight(times: u8) -> u32
+    requires { times ≤ 3 }
+    ensures { result ≡ 256 * (times * 1000000) }
+{
+    256 * (times as u32 * 1_000_000)
+}
+
+fn product(weight: u32, drive: i128) -> i128
+    requires weight { weight ≤ 768000000 }
+    requires drive { unsigned_abs drive ≤ 2 ^ 97 + 2 ^ 82 }
+    ensures { result ≡ pos weight *ℤ drive }
+{
+    weight as i128 * drive
+}
+
+/// A drive times 256 times the element's conductance.
+fn weighed(times: u8, drive: i128) -> i128
+    requires times { times ≤ 3 }
+    requires drive { unsigned_abs drive ≤ 2 ^ 97 + 2 ^ 82 }
+    ensures value { result ≡ pos (256 * (times * 1000000)) *ℤ drive }
+    ensures small { unsigned_abs result ≤ 256 * (times * 1000000) * (2 ^ 97 + 2 ^ 82) }
+{
+    product(weight(times), drive)
+}
+
+/// What leaves the node.
+fn leaving(node: NodeId, element: &Element, flow: i128) -> i128
+    requires { unsigned_abs flow ≤ 768000000 * (2 ^ 97 + 2 ^ 82) }
+    ensures value { result ≡ leaving_of node.0 element.now flow }
+    ensures small { unsigned_abs result ≡ unsigned_abs flow }
+{
+    if element.from.0 == node.0 {
+        flow
+    } else {
+        -flow
+    }
+}
+
+/// An element's part of the residual at a node in units of 2^-44 nanoampere, times its resistance.
+fn part(volts: &Volts, guesses: &[i128], node: NodeId, place: ElementId, element: &Element) -> i128
+    requires element { IsElementWithin (length guesses.now) element.now }
+    requires place { place.0 < length volts.now }
+    requires guesses { AreCut (number_at guesses.now) }
+    ensures value { result ≡ part_times_ohms (number_at volts.now) (number_at guesses.now) node.0 (place.0, element.now) }
+    ensures small { unsigned_abs result ≤ 256 * (element.now.times * 1000000) * (2 ^ 97 + 2 ^ 82) }
+{
+    let from = guesses[element.from.0 as usize];
+    let to = guess_there(guesses, element.to);
+    let push = in_grains(volts.get(place));
+    leaving(node, element, weighed(element.times, drive(from, to, push)))
+}
+
+/// An element's part of the residual at a node in units of 2^-44 nanoampere, rounded down and up.
+pub fn current(
+    volts: &Volts,
+    guesses: &[i128],
+    node: NodeId,
+    place: ElementId,
+    element: &Element,
+) -> Interval
+    requires element { IsElementWithin (length guesses.now) element.now }
+    requires place { place.0 < length volts.now }
+    requires guesses { AreCut (number_at guesses.now) }
+    ensures low { result.lo ≡ floor_div (part_times_ohms (number_at volts.now) (number_at guesses.now) node.0 (place.0, element.now)) (pos element.now.micro_ohm) }
+    ensures high { result.hi ≡ ceil_div (part_times_ohms (number_at volts.now) (number_at guesses.now) node.0 (place.0, element.now)) (pos element.now.micro_ohm) }
+    ensures small { IsWithin (div_ceil (element.now.times * 1000000 * 2 ^ 20) element.now.micro_ohm * 2 ^ 86) result.lo result.hi }
+{
+    let times_ohms = part(volts, guesses, node, place, element);
+    Interval::point(times_ohms).div_out(element.micro_ohm as i128)
+}

@@ -1,0 +1,146 @@
+//! Guesses of the potentials.
+use crate::node_sums::rounded_residual;
+use crate::steps::Steps;
+use crate::sweeping::sweep_into;
+use gic_base::{NodeId, OutOfMemory};
+use gic_fixed::Interval;
+use gic_model::Volts;
+use gic_model::laws::rounded_residual_law;
+use gic_net::Net;
+use std::alloc::Global;
+use std::marker::Model;
+use std::mem;
+use std::sync::ledger::Ledger;
+
+/// One guess for each node, in grains of 2^-36 nanovolt, each from -2^96 to 2^96.
+#[derive(Drop)]
+pub struct Solver {
+    guesses: Vec<i128>,
+    /// Room for the guesses of the next sweep.
+    next: Vec<i128>,
+}
+
+impl Model for Solver {
+    ghost use Rattle.std.specs.Prelude.{List, ℤ};
+    ghost use Rattle.gic_sweep.specs.Guesses.{AreGuesses};
+
+    ghost Value = { List ℤ };
+
+    ghost view = { λ s. s.guesses.items };
+
+    ghost invariant = { λ s. AreGuesses s.guesses.items s.next.items };
+}
+
+ghost use Rattle.std.specs.Prelude.{◌≡◌, ℤ, ◌+◌, ◌^◌, ◌<◌, ◌≤◌, ◌*◌, length, IfOk, replicate, pos, ◌-ℤ◌, ◌≤ℤ◌, unsigned_abs};
+ghost use Rattle.gic_base.specs.declared.id.NodeId.{NodeId};
+ghost use Rattle.gic_fixed.specs.Encloses.{IsWithin};
+ghost use Rattle.gic_model.specs.Guess.{HoldsResidual, diagonal};
+ghost use Rattle.gic_model.specs.Voltages.{number_at};
+ghost use Rattle.gic_net.specs.Net.{standing, row_at};
+ghost use Rattle.gic_sweep.specs.Guesses.{AreCut};
+ghost use Rattle.gic_sweep.specs.Sweep.{IsSweep};
+
+impl Solver {
+    /// For a network of this many nodes; all guesses are 0.
+    pub fn new(alloc: Global, nodes: u16) -> Result<Solver, OutOfMemory>
+        ensures { IfOk result (λ solver. solver ≡ replicate nodes (pos 0)) }
+    {
+        let Ok(guesses) = vec![in alloc; 0; nodes as usize] else {
+            return Err(OutOfMemory);
+        };
+        let Ok(next) = vec![in alloc; 0; nodes as usize] else {
+            return Err(OutOfMemory);
+        };
+        Ok(Solver { guesses, next })
+    }
+
+    /// Makes all guesses 0.
+    pub fn clear(&mut self)
+        ensures { self.new ≡ replicate (length self.old) (pos 0) }
+    {
+        self.guesses.fill(0);
+    }
+
+    /// The guess at a node. The answer also tells that no guess is beyond its limit.
+    pub fn guess(&self, node: NodeId) -> i128
+        requires { node.0 < length self.now }
+        ensures value { result ≡ number_at self.now node.0 }
+        ensures cut { AreCut (number_at self.now) }
+    {
+        self.guesses[node.0 as usize]
+    }
+
+    /// Makes each node's guess the closure's answer for that node, and ticks once.
+    pub fn fill<L: Ledger, F: Fn(NodeId) -> i128>(&mut self, grains: &F, steps: &mut Steps<L>)
+        requires callable { (node : NodeId) → node.0 < length self.old → F.pre grains.now node }
+        requires small { (node : NodeId) (z : ℤ) → node.0 < length self.old → F.post grains.now node z → unsigned_abs z ≤ 2 ^ 96 }
+        ensures each { (node : NodeId) → node.0 < length self.old → F.post grains.now node (number_at self.new node.0) }
+        ensures same_length { length self.new ≡ length self.old }
+        ensures tick { steps.new ≡ steps.old + 1 }
+    {
+        fill_all(grains, &mut self.guesses);
+        steps.tick();
+    }
+
+    /// The guesses, by their nodes.
+    fn guesses(&self) -> &[i128]
+        ensures value { result.now ≡ self.now }
+        ensures cut { AreCut (number_at self.now) }
+    {
+        self.guesses.as_slice()
+    }
+
+    fn advance(&mut self, net: &Net, volts: &Volts)
+        requires volts { length volts.now ≡ length net.now.network.list }
+        requires nodes { length self.old ≡ net.now.network.nodes }
+        ensures sweep { IsSweep (standing net.now) (number_at volts.now) (number_at self.old) (number_at self.new) }
+        ensures same_length { length self.new ≡ length self.old }
+    {
+        sweep_into(net, volts, &self.guesses, &mut self.next);
+        mem::swap(&mut self.guesses, &mut self.next);
+    }
+}
+
+fn fill_all<F: Fn(NodeId) -> i128>(grains: &F, guesses: &mut [i128])
+    requires callable { (node : NodeId) → node.0 < length guesses.old → F.pre grains.now node }
+    requires small { (node : NodeId) (z : ℤ) → node.0 < length guesses.old → F.post grains.now node z → unsigned_abs z ≤ 2 ^ 96 }
+    requires cut { AreCut (number_at guesses.old) }
+    requires few { length guesses.old < 2 ^ 16 }
+    ensures each { (node : NodeId) → node.0 < length guesses.old → F.post grains.now node (number_at guesses.new node.0) }
+    ensures cut { AreCut (number_at guesses.new) }
+{
+    for node in 0..guesses.len() {
+        guesses[node] = grains(NodeId(node as u16));
+    }
+}
+
+/// One sweep over the guesses, which ticks once: the guess at each live node moves to within `2 + 4096 * h / d` grains
+/// of the old guess less its old residual over the node's diagonal d, where h is how many standing elements the node
+/// has, and is then cut to its limit. All residuals are those of the old guesses. The guesses at dead nodes stay. The
+/// voltages and the guesses are those of the net's elements and nodes.
+pub fn sweep<L: Ledger>(net: &Net, volts: &Volts, solver: &mut Solver, steps: &mut Steps<L>)
+    requires volts { length volts.now ≡ length net.now.network.list }
+    requires nodes { length solver.old ≡ net.now.network.nodes }
+    ensures sweep { IsSweep (standing net.now) (number_at volts.now) (number_at solver.old) (number_at solver.new) }
+    ensures same_length { length solver.new ≡ length solver.old }
+    ensures tick { steps.new ≡ steps.old + 1 }
+{
+    solver.advance(net, volts);
+    steps.tick();
+}
+
+/// An interval in units of 2^-44 nanoampere that holds the residual of the guesses at a node: the current that leaves
+/// it less the current that enters it. It is at most as wide as the node has standing elements. The voltages and the
+/// guesses are those of the net's elements and nodes.
+pub fn residual(net: &Net, volts: &Volts, solver: &Solver, node: NodeId) -> Interval
+    requires volts { length volts.now ≡ length net.now.network.list }
+    requires nodes { length solver.now ≡ net.now.network.nodes }
+    requires node { node.0 < net.now.network.nodes }
+    ensures holds { HoldsResidual (standing net.now) (number_at volts.now) (number_at solver.now) node.0 result.lo result.hi }
+    ensures narrow { (result.hi -ℤ result.lo) ≤ℤ pos (length (row_at net.now node.0)) }
+    ensures small { IsWithin (diagonal (standing net.now) node.0 * 2 ^ 86) result.lo result.hi }
+{
+    rounded_residual_law();
+    let _nodes = net.nodes();
+    rounded_residual(net, volts, solver.guesses(), node)
+}
