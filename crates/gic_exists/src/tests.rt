@@ -37,7 +37,7 @@ fn line() -> Element
     }
 }
 
-/// The winding of a transformer from a bus to a neutral, of 0.1 ohm a phase.
+/// The winding of a transformer from a bus to a neutral, of 0.3 ohm a phase.
 fn winding(transformer: u16, bus: u16, neutral: u16) -> Element
     ensures { result ≡ record { from = node bus; to = End.Node (node neutral); times = 3; micro_ohm = 300000; item = Item.Transformer transformer; role = Role.High } }
 {
