@@ -46,7 +46,7 @@ impl Scratch {
     }
 
     /// No node is reached.
-    pub fn clear(&mut self)
+    pub(crate) fn clear(&mut self)
         ensures { self.new ≡ record self.old { reached = [] } }
     {
         self.marks.fill(false);
@@ -54,7 +54,7 @@ impl Scratch {
     }
 
     /// The node is reached, as the last one unless it was before.
-    pub fn reach(&mut self, node: u16)
+    pub(crate) fn reach(&mut self, node: u16)
         requires { node < self.old.nodes }
         ensures { self.new ≡ record self.old { reached = with_node self.old.reached node } }
     {
@@ -66,7 +66,7 @@ impl Scratch {
     }
 
     /// Whether the node is reached.
-    pub fn has(&self, node: u16) -> bool
+    pub(crate) fn has(&self, node: u16) -> bool
         requires { node < self.now.nodes }
         ensures { result ≡ is_reached self.now.reached node }
     {
@@ -74,7 +74,7 @@ impl Scratch {
     }
 
     /// How many nodes are reached.
-    pub fn count(&self) -> usize
+    pub(crate) fn count(&self) -> usize
         ensures value { result ≡ length self.now.reached }
         ensures few { result ≤ self.now.nodes }
     {
@@ -82,7 +82,7 @@ impl Scratch {
     }
 
     /// The node that was reached at this place of the order.
-    pub fn reached_at(&self, place: usize) -> u16
+    pub(crate) fn reached_at(&self, place: usize) -> u16
         requires { place < length self.now.reached }
         ensures value { result ≡ slice_index self.now.reached place }
         ensures inside { result < self.now.nodes }
