@@ -52,7 +52,7 @@ pub struct Element {
     pub role: Role,
 }
 
-/// A row of a switching list: from `time` on, in the storm's unit of time, the item is open or closed.
+/// A row of a switching list: from `time` on, in seconds, the item is open (`opens`) or closed.
 #[derive(Clone, Copy, PartialEq, Eq, Debug)]
 pub struct Switching {
     pub time: u32,
