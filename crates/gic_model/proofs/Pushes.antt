@@ -25,7 +25,7 @@ use Rattle.gic_model.proofs.Certificate.{error_bound}
 abbrev pub no_guess : ℕ → ℤ
 no_guess m = pos 0
 
-no_guess-at : (t : End) → value_at no_guess t ≡ pos 0
+pub no_guess-at : (t : End) → value_at no_guess t ≡ pos 0
 no_guess-at (Node m) = refl
 no_guess-at Earth = refl
 

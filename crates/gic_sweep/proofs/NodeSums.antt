@@ -36,7 +36,7 @@ diagonal_most net k limits h =
     let most = sum_by-le diagonal_part (2 ^ 32) (row_at net k) (All-from_recursion (λ p. diagonal_part p ≤ 2 ^ 32) (row_at net k) each) in
     omega (arith, most, few_at net k limits h)
 
-live_some : (net : NetView) (k : ℕ) → IsLive (standing net) k → 0 < length (row_at net k)
+pub live_some : (net : NetView) (k : ℕ) → IsLive (standing net) k → 0 < length (row_at net k)
 live_some net k live = above (length (row_at net k)) (some_any (λ p. ends_at p.1 k) (standing net) ∙ live)
   where
     above : (n : ℕ) → nat_lt 0 n ≡ true → 0 < n

@@ -61,6 +61,14 @@ impl Solver {
         self.guesses.fill(0);
     }
 
+    /// How many nodes there are. The answer also tells that no guess is beyond its limit.
+    pub fn count(&self) -> usize
+        ensures value { result ≡ length self.now }
+        ensures cut { AreCut (number_at self.now) }
+    {
+        self.guesses.len()
+    }
+
     /// The guess at a node. The answer also tells that no guess is beyond its limit.
     pub fn guess(&self, node: NodeId) -> i128
         requires { node.0 < length self.now }
