@@ -1,15 +1,22 @@
 -- The ends of elements, and their counts.
-use Rattle.std.proofs.Common.{◌≡◌, ◌≢◌, ℕ, ◌+◌, ◌*◌, ◌≤◌, ◌<◌, List, [], ◌∷◌, length, take, drop, get_or, true, nat_le, sym, ap, ◌∙◌, arith, inl, inr, add-one, drop-cons, length-append, length-take-le, is_some}
+use Rattle.std.proofs.Common.{◌≡◌, ◌≢◌, ℕ, suc, ◌+◌, ◌*◌, ◌≤◌, ◌<◌, List, [], ◌∷◌, ◌++◌, Option, Some, None, refl, length, take, drop, get_or, true, nat_le, sym, ap, ◌∙◌, arith, inl, inr, add-one, drop-cons, length-append, length-take-le, is_some}
 use Rattle.std.proofs.Math.ListN.{set}
 use Rattle.std.proofs.lemmas.Bool.{cases_Bool, cases_eq}
 use Rattle.std.proofs.lemmas.Bool.Decides.{nat_tests}
 use Rattle.std.proofs.lemmas.List.{get_or-set_same, get_or-set_other, get_or_default}
 use Rattle.std.proofs.lemmas.List.Sums.{count_by_more_no, count_by_more_yes, count_by-le-length}
 use Rattle.std.specs.Prelude.{◌==◌}
-use Rattle.gic_case.specs.Lists.{Lists, earthing_ends_from, line_ends, ends_of, degree_of}
+use Rattle.std.specs.List.{flat_map}
+use Rattle.gic_case.specs.Lists.{Lists, earthing_ends_from, earthing_ends, line_ends, grid_of, neutrals_from, neutrals_of, winding_ends, device_ends, transformer_ends, ends_of, degree_of}
 use Rattle.gic_case.specs.Rules.{breaks_degree_from}
 use Rattle.gic_case.specs.declared.item.Substation.{Substation}
 use Rattle.gic_case.specs.declared.item.Line.{Line}
+use Rattle.gic_case.specs.declared.item.Bus.{Bus}
+use Rattle.gic_case.specs.declared.item.Kind.{Kind}
+use Rattle.gic_case.specs.declared.item.Kind.TheVariants as kinds
+use Rattle.gic_case.specs.declared.item.Neutral.{Neutral}
+use Rattle.gic_case.specs.declared.item.Neutral.TheVariants as devices
+use Rattle.gic_case.specs.declared.item.Transformer.{Transformer}
 
 -- among so many ends there are at most so many at a node
 pub degree_most : (ends : List ℕ) (i k : ℕ) → i < length ends → degree_of (take i ends) k ≤ i
@@ -70,7 +77,53 @@ length-line_ends first_bus (l ∷ ls) =
       | inr other ↦ rw other (omega (arith, more))
     ]
 
-pub length-ends_of : (c : Lists) → length (ends_of c) ≤ length c.substations + 2 * length c.lines
+length-flat_map : {A : Type 0} (f : A → List ℕ) (n : ℕ) → ((x : A) → length (f x) ≤ n) → (xs : List A) → length (flat_map f xs) ≤ n * length xs
+length-flat_map f n few [] = omega arith
+length-flat_map f n few (x ∷ xs) = rw length-append (omega (arith, few x, length-flat_map f n few xs))
+
+length-neutrals_from : (buses : List Bus) (node : ℕ) (ts : List Transformer) → length (neutrals_from buses node ts) ≡ length ts
+length-neutrals_from buses node [] = refl
+length-neutrals_from buses node (t ∷ ts) =
+    elim (cases_Bool (is_some t.neutral)) [
+      | inl own ↦ rw own (ap (λ n. suc n) (length-neutrals_from buses (node + 1) ts))
+      | inr none ↦ rw none (ap (λ n. suc n) (length-neutrals_from buses node ts))
+    ]
+
+length-winding_ends : (first_bus neutral : ℕ) (k : Kind) → length (winding_ends first_bus neutral k) ≤ 4
+length-winding_ends first_bus neutral (kinds.DeltaWye high high_resistance) = omega arith
+length-winding_ends first_bus neutral (kinds.WyeWye high low low_volts high_resistance low_resistance) = omega arith
+length-winding_ends first_bus neutral (kinds.Auto high low low_volts series_resistance common_resistance) = omega arith
+length-winding_ends first_bus neutral kinds.DeltaDelta = omega arith
+
+length-device_ends : (neutral grid : ℕ) (o : Option Neutral) → length (device_ends neutral grid o) ≤ 2
+length-device_ends neutral grid None = omega arith
+length-device_ends neutral grid (Some (devices.Resistor ohm)) = omega arith
+length-device_ends neutral grid (Some devices.Blocked) = omega arith
+
+length-transformer_ends : (c : Lists) → length (transformer_ends c) ≤ 6 * length c.transformers
+length-transformer_ends c =
+    let many = length-neutrals_from c.buses (length c.substations + length c.buses) c.transformers in
+    let windings = length-flat_map {A = ℕ × Transformer} (λ p. winding_ends (length c.substations) p.0 p.1.kind) 4 (λ p. length-winding_ends (length c.substations) p.0 p.1.kind) (neutrals_of c) in
+    let devices = length-flat_map {A = ℕ × Transformer} (λ p. device_ends p.0 (grid_of c.buses p.1.kind) p.1.neutral) 2 (λ p. length-device_ends p.0 (grid_of c.buses p.1.kind) p.1.neutral) (neutrals_of c) in
+    rw length-append (omega (arith, many, windings, devices))
+
+pub length-ends_of : (c : Lists) → length (ends_of c) ≤ length c.substations + (2 * length c.lines + 6 * length c.transformers)
 unfolding ends_of
 length-ends_of c =
-    rw length-append (omega (arith, length-earthing_ends_from 0 c.substations, length-line_ends (length c.substations) c.lines))
+    let earthings = length-earthing_ends_from 0 c.substations in
+    let lines = length-line_ends (length c.substations) c.lines in
+    let transformers = length-transformer_ends c in
+    rw (length-append (earthing_ends c.substations) (line_ends (length c.substations) c.lines ++ transformer_ends c), length-append (line_ends (length c.substations) c.lines) (transformer_ends c))
+    (omega (arith, earthings, lines, transformers))
+
+-- the ends at transformers, from what the code holds of the lists
+pub transformer_ends_by : (c : Lists) (first_bus first_neutral : ℕ) (buses : List Bus) (ts : List Transformer) (neutrals : List (ℕ × Transformer))
+    → first_bus ≡ length c.substations → first_neutral ≡ first_bus + length c.buses → buses ≡ c.buses → ts ≡ c.transformers → neutrals ≡ neutrals_from buses first_neutral ts
+    → flat_map (λ p. winding_ends first_bus p.0 p.1.kind) neutrals ++ flat_map (λ p. device_ends p.0 (grid_of buses p.1.kind) p.1.neutral) neutrals ≡ transformer_ends c
+transformer_ends_by c first_bus first_neutral buses ts neutrals bus neutral same_buses same_transformers all =
+    let ends : ℕ → List Bus → List (ℕ × Transformer) → List ℕ =
+    λ n bs ns. flat_map (λ p. winding_ends n p.0 p.1.kind) ns ++ flat_map (λ p. device_ends p.0 (grid_of bs p.1.kind) p.1.neutral) ns in
+    let first : first_neutral ≡ length c.substations + length c.buses = neutral ∙ ap (λ n. n + length c.buses) bus in
+    let here : neutrals ≡ neutrals_of c =
+    all ∙ ap (λ bs. neutrals_from bs first_neutral ts) same_buses ∙ ap (λ n. neutrals_from c.buses n ts) first ∙ ap (λ xs. neutrals_from c.buses (length c.substations + length c.buses) xs) same_transformers in
+    ap (λ n. ends n buses neutrals) bus ∙ ap (λ bs. ends (length c.substations) bs neutrals) same_buses ∙ ap (λ ns. ends (length c.substations) c.buses ns) here

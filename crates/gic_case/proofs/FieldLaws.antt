@@ -3,17 +3,20 @@ use Rattle.std.proofs.Common.{◌≡◌, ℕ, List, [], ◌∷◌, ◌++◌, Boo
 use Rattle.toml.specs.Data.{Data, Members, no_members, get_member, as_table, as_bool}
 use Rattle.gic_base.specs.Refusals.{unless, settle}
 use Rattle.gic_base.specs.Passes.{◌>>=◌, or_refuse}
-use Rattle.gic_base.proofs.RefusalLaws.{then_law, last_law, value_law}
-use Rattle.gic_case.specs.Keys.{key_of, fits}
+use Rattle.gic_base.proofs.RefusalLaws.{then_law, last_law, value_law, test_law}
+use Rattle.gic_case.specs.Keys.{key_of, has, fits}
 use Rattle.gic_case.specs.Values.{natural_within, read_name, value_at}
-use Rattle.gic_case.specs.Rows.{members_in, breaks_keys, breaks_value, breaks_present, breaks_optional, ohm_within, metres_within, zone_fields, breaks_zone, zone_of, breaks_substation, substation_of, bus_fields, breaks_bus, bus_of, line_fields, breaks_line, line_of}
-use Rattle.gic_case.specs.Pass.{required, optional_in, optional, row_table, zone_row, substation_row, bus_row, line_row}
+use Rattle.gic_case.specs.Rows.{members_in, breaks_keys, breaks_value, breaks_present, breaks_optional, ohm_within, volts_within, metres_within, read_neutral, zone_fields, breaks_zone, zone_of, breaks_substation, substation_of, bus_fields, breaks_bus, bus_of, line_fields, breaks_line, line_of}
+use Rattle.gic_case.specs.Transformers.{read_kind, kind_of, breaks_bus_name, breaks_ohm, breaks_volts, breaks_own, breaks_transformer, name_in, ohm_in, volts_in, own_of, transformer_of}
+use Rattle.gic_case.specs.Pass.{required, optional_in, optional, row_table, zone_row, substation_row, bus_row, line_row, table_with, delta_wye_row, wye_wye_row, auto_row, kind_row, transformer_row}
 use Rattle.gic_case.specs.declared.field.Field.{Field}
 use Rattle.gic_case.specs.declared.field.Field.TheVariants as fields
 use Rattle.gic_case.specs.declared.refusal.Part.{Part}
 use Rattle.gic_case.specs.declared.refusal.Part.TheVariants as parts
 use Rattle.gic_case.specs.declared.refusal.CaseRefusal.{CaseRefusal}
 use Rattle.gic_case.specs.declared.refusal.CaseRefusal.TheVariants as refusals
+use Rattle.gic_case.specs.declared.transformer.KindWord.{KindWord}
+use Rattle.gic_case.specs.declared.transformer.KindWord.TheVariants as words
 
 -- a field
 pub required_law : {A : Type 0} (read : Data → Option A) (list : Part) (row : ℕ) (at : Field) (ms : Members) (d : A)
@@ -40,18 +43,24 @@ fit_law : {B : Type 0} (b : Bool) (ms : Members) (e : CaseRefusal) (f : Members 
 fit_law true ms e f es y h = h
 fit_law false ms e f es y h = refl
 
-table_cases : {B : Type 0} (list : Part) (needed others : List Field) (row : ℕ) (o : Option Members) (f : Members → Result B CaseRefusal) (es : List CaseRefusal) (y : B)
+table_cases : {B : Type 0} (fit : Members → Bool) (e : CaseRefusal) (o : Option Members) (f : Members → Result B CaseRefusal) (es : List CaseRefusal) (y : B)
     → f (unwrap_or o no_members) ≡ settle es y
-    → (or_refuse (option_and_then (λ ms. cond (fits needed others ms) (Some ms) None) o) (refusals.Key list row) >>= f)
-    ≡ settle (unless (is_some o && fits needed others (unwrap_or o no_members)) (refusals.Key list row) ++ es) y
-table_cases list needed others row None f es y h = refl
-table_cases list needed others row (Some ms) f es y h = fit_law (fits needed others ms) ms (refusals.Key list row) f es y h
+    → (or_refuse (option_and_then (λ ms. cond (fit ms) (Some ms) None) o) e >>= f) ≡ settle (unless (is_some o && fit (unwrap_or o no_members)) e ++ es) y
+table_cases fit e None f es y h = refl
+table_cases fit e (Some ms) f es y h = fit_law (fit ms) ms e f es y h
 
 -- a row's table, and its fields after it
 pub table_law : {B : Type 0} (list : Part) (needed others : List Field) (row : ℕ) (d : Data) (f : Members → Result B CaseRefusal) (es : List CaseRefusal) (y : B)
     → f (members_in d) ≡ settle es y → (row_table list needed others row d >>= f) ≡ settle (breaks_keys list needed others row d ++ es) y
 unfolding row_table
-table_law list needed others row d f es y h = table_cases list needed others row (as_table d) f es y h
+table_law list needed others row d f es y h = table_cases (fits needed others) (refusals.Key list row) (as_table d) f es y h
+
+-- the table of a transformer, which has a kind
+kinded_law : {B : Type 0} (row : ℕ) (d : Data) (f : Members → Result B CaseRefusal) (es : List CaseRefusal) (y : B)
+    → f (members_in d) ≡ settle es y
+    → (table_with parts.Transformer fields.Kind row d >>= f) ≡ settle (unless (is_some (as_table d) && has fields.Kind (members_in d)) (refusals.Key parts.Transformer row) ++ es) y
+unfolding table_with
+kinded_law row d f es y h = table_cases (has fields.Kind) (refusals.Key parts.Transformer row) (as_table d) f es y h
 
 name_law : (list : Part) (row : ℕ) (at : Field) (ms : Members) → required read_name list row at ms ≡ settle (breaks_value read_name list row at ms) (unwrap_or (value_at read_name at ms) [])
 name_law list row at ms = required_law read_name list row at ms []
@@ -98,3 +107,42 @@ line_law row d =
     (then_law _ _ _ _ _ _ (required_law metres_within parts.Line row fields.North ms (pos 0))
     (then_law _ _ _ _ _ _ (required_law metres_within parts.Line row fields.East ms (pos 0))
     (last_law _ _ _ _ (optional_law as_bool parts.Line row fields.Blocked ms)))))))))
+
+bus_name_law : (row : ℕ) (at : Field) (ms : Members) → required read_name parts.Transformer row at ms ≡ settle (breaks_bus_name row at ms) (name_in at ms)
+bus_name_law row at ms = name_law parts.Transformer row at ms
+
+ohm_law : (row : ℕ) (at : Field) (ms : Members) → required ohm_within parts.Transformer row at ms ≡ settle (breaks_ohm row at ms) (ohm_in at ms)
+ohm_law row at ms = natural_law 1000 1000000000 parts.Transformer row at ms
+
+volts_law : (row : ℕ) (at : Field) (ms : Members) → required volts_within parts.Transformer row at ms ≡ settle (breaks_volts row at ms) (volts_in at ms)
+volts_law row at ms = natural_law 1000 2000000 parts.Transformer row at ms
+
+-- the fields that are a kind's own
+own_law : (kind : KindWord) (row : ℕ) (ms : Members) → kind_row kind row ms ≡ settle (breaks_own kind row ms) (own_of kind ms)
+unfolding kind_row delta_wye_row wye_wye_row auto_row
+own_law words.DeltaWye row ms = then_law _ _ _ _ _ _ (bus_name_law row fields.High ms) (last_law _ _ _ _ (ohm_law row fields.HighResistance ms))
+own_law words.WyeWye row ms =
+    then_law _ _ _ _ _ _ (bus_name_law row fields.High ms)
+    (then_law _ _ _ _ _ _ (bus_name_law row fields.Low ms)
+    (then_law _ _ _ _ _ _ (volts_law row fields.LowVolts ms)
+    (then_law _ _ _ _ _ _ (ohm_law row fields.HighResistance ms)
+    (last_law _ _ _ _ (ohm_law row fields.LowResistance ms)))))
+own_law words.Auto row ms =
+    then_law _ _ _ _ _ _ (bus_name_law row fields.High ms)
+    (then_law _ _ _ _ _ _ (bus_name_law row fields.Low ms)
+    (then_law _ _ _ _ _ _ (volts_law row fields.LowVolts ms)
+    (then_law _ _ _ _ _ _ (ohm_law row fields.SeriesResistance ms)
+    (last_law _ _ _ _ (ohm_law row fields.CommonResistance ms)))))
+own_law words.DeltaDelta row ms = refl
+
+pub transformer_law : (devices : Bool) (row : ℕ) (d : Data) → transformer_row devices row d ≡ settle (breaks_transformer devices row d) (transformer_of d)
+unfolding transformer_row
+transformer_law devices row d =
+    let ms = members_in d in
+    kinded_law row d _ _ _
+    (then_law _ _ _ _ _ _ (required_law read_kind parts.Transformer row fields.Kind ms words.DeltaDelta)
+    (then_law _ _ _ _ _ _ (test_law _ _)
+    (then_law _ _ _ _ _ _ (bus_name_law row fields.Name ms)
+    (then_law _ _ _ _ _ _ (volts_law row fields.HighVolts ms)
+    (then_law _ _ _ _ _ _ (own_law (kind_of ms) row ms)
+    (last_law _ _ _ _ (optional_law read_neutral parts.Transformer row fields.Neutral ms)))))))

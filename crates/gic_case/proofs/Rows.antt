@@ -16,5 +16,5 @@ pub count_length : (vs : List Value) → count_of (items_view vs) ≡ length vs
 count_length [] = refl
 count_length (v ∷ vs) = omega (arith, count_length vs)
 
-pub names_length : (w : Written) → length (written_names w) ≡ length w.zones + (length w.substations + (length w.buses + length w.lines))
+pub names_length : (w : Written) → length (written_names w) ≡ length w.zones + (length w.substations + (length w.buses + (length w.lines + length w.transformers)))
 names_length w = simp (length-append, length-map)

@@ -23,6 +23,16 @@ key_of fields.Resistance = codes "resistance"
 key_of fields.North = codes "north"
 key_of fields.East = codes "east"
 key_of fields.Blocked = codes "blocked"
+key_of fields.Kind = codes "kind"
+key_of fields.HighVolts = codes "high_volts"
+key_of fields.High = codes "high"
+key_of fields.Low = codes "low"
+key_of fields.LowVolts = codes "low_volts"
+key_of fields.HighResistance = codes "high_resistance"
+key_of fields.LowResistance = codes "low_resistance"
+key_of fields.SeriesResistance = codes "series_resistance"
+key_of fields.CommonResistance = codes "common_resistance"
+key_of fields.Neutral = codes "neutral"
 
 -- the key of a list; the document itself has none
 abbrev pub list_key : Part → List ℕ
@@ -31,6 +41,7 @@ list_key parts.Zone = codes "zone"
 list_key parts.Substation = codes "substation"
 list_key parts.Bus = codes "bus"
 list_key parts.Line = codes "line"
+list_key parts.Transformer = codes "transformer"
 
 -- the two texts are one
 abbrev pub same : List ℕ → List ℕ → Bool
@@ -46,7 +57,7 @@ is_list_key these k = list_any (λ list. same k (list_key list)) these
 
 -- the document may have the key: its format, and the lists
 abbrev pub is_document_key : List ℕ → Bool
-is_document_key k = is_among (fields.Format ∷ []) k || is_list_key (parts.Zone ∷ parts.Substation ∷ parts.Bus ∷ parts.Line ∷ []) k
+is_document_key k = is_among (fields.Format ∷ []) k || is_list_key (parts.Zone ∷ parts.Substation ∷ parts.Bus ∷ parts.Line ∷ parts.Transformer ∷ []) k
 
 -- each key of the members passes the test
 abbrev pub has_only : (List ℕ → Bool) → Members → Bool

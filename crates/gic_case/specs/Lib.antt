@@ -4,4 +4,6 @@ pub mod Names
 pub mod Pass
 pub mod Rows
 pub mod Rules
+pub mod Sides
+pub mod Transformers
 pub mod Values

@@ -1,11 +1,16 @@
 -- A case as contracts see it, and what every case keeps.
-use Rattle.std.specs.Prelude.{◌≢◌, ◌≤◌, ◌<◌, ◌+◌, ◌==◌, ℕ, List, [], ◌∷◌, ◌++◌, length, map, flat_map, if◌then◌else◌, is_some, IfSome, All, AllPairs, IsTrue, count_by, unsigned_abs}
-use Rattle.std.specs.List.{enumerate_from}
+use Rattle.std.specs.Prelude.{◌≡◌, ◌≢◌, ◌≤◌, ◌<◌, ◌+◌, ◌==◌, ℕ, List, [], ◌∷◌, ◌++◌, length, map, flat_map, slice_index_or, Bool, true, false, if◌then◌else◌, Option, Some, None, is_some, IfSome, All, AllPairs, IsTrue, count_by, unsigned_abs}
+use Rattle.std.specs.List.{enumerate_from, filter}
 use Rattle.gic_base.specs.Name.{is_name}
 use Rattle.gic_scale.specs.ZoneView.{ZoneView, IsZone}
 use Rattle.gic_case.specs.declared.item.Substation.{Substation}
 use Rattle.gic_case.specs.declared.item.Bus.{Bus}
 use Rattle.gic_case.specs.declared.item.Line.{Line}
+use Rattle.gic_case.specs.declared.item.Kind.{Kind}
+use Rattle.gic_case.specs.declared.item.Kind.TheVariants as kinds
+use Rattle.gic_case.specs.declared.item.Neutral.{Neutral}
+use Rattle.gic_case.specs.declared.item.Neutral.TheVariants as devices
+use Rattle.gic_case.specs.declared.item.Transformer.{Transformer}
 
 -- the lists of a case, whose references are places in these lists, from 0
 pub record Lists : Type 0 where
@@ -13,14 +18,23 @@ pub record Lists : Type 0 where
   pub substations : List Substation
   pub buses : List Bus
   pub lines : List Line
+  pub transformers : List Transformer
+
+-- the lists with these rows
+abbrev pub lists_with : List ZoneView → List Substation → List Bus → List Line → List Transformer → Lists
+lists_with zones substations buses lines transformers = record { zones = zones; substations = substations; buses = buses; lines = lines; transformers = transformers }
 
 -- the names of all rows, list after list
 abbrev pub names_of : Lists → List (List ℕ)
-names_of c = map (λ z. z.name) c.zones ++ (map (λ s. s.name) c.substations ++ (map (λ b. b.name) c.buses ++ map (λ l. l.name) c.lines))
+names_of c = map (λ z. z.name) c.zones ++ (map (λ s. s.name) c.substations ++ (map (λ b. b.name) c.buses ++ (map (λ l. l.name) c.lines ++ map (λ t. t.name) c.transformers)))
 
--- the names of the nodes in node order: the substations, then the buses
+-- the transformers that have a neutral device, and with it a neutral node of their own
+abbrev pub with_device : List Transformer → List Transformer
+with_device = filter (λ t. is_some t.neutral)
+
+-- the names of the nodes in node order: the substations, then the buses, then the neutral nodes, which are named as their transformers
 abbrev pub node_names : Lists → List (List ℕ)
-node_names c = map (λ s. s.name) c.substations ++ map (λ b. b.name) c.buses
+node_names c = map (λ s. s.name) c.substations ++ (map (λ b. b.name) c.buses ++ map (λ t. t.name) (with_device c.transformers))
 
 -- the nodes of these substations, numbered from here on, at which an earthing ends
 abbrev pub earthing_ends_from : (node : ℕ) → List Substation → List ℕ
@@ -34,17 +48,64 @@ earthing_ends = earthing_ends_from 0
 abbrev pub line_ends : (first_bus : ℕ) → List Line → List ℕ
 line_ends first_bus lines = flat_map (λ l. if l.blocked then [] else (first_bus + l.from) ∷ (first_bus + l.to) ∷ []) lines
 
--- the nodes at which the elements end, a node once for each end
+-- the place of the substation that the bus at a place is in
+abbrev pub substation_at : List Bus → ℕ → ℕ
+substation_at buses place = slice_index_or (map (λ b. b.substation) buses) place 0
+
+-- the ground grid of a transformer: the substation of its high bus; a delta-delta unit, which has no bus, counts as at the first
+abbrev pub grid_of : List Bus → Kind → ℕ
+grid_of buses (kinds.DeltaWye high high_resistance) = substation_at buses high
+grid_of buses (kinds.WyeWye high low low_volts high_resistance low_resistance) = substation_at buses high
+grid_of buses (kinds.Auto high low low_volts series_resistance common_resistance) = substation_at buses high
+grid_of buses kinds.DeltaDelta = 0
+
+-- each of these transformers with the node of its neutral: its own where it has a neutral device, numbered from here on, and its ground grid otherwise
+abbrev pub neutrals_from : List Bus → (node : ℕ) → List Transformer → List (ℕ × Transformer)
+neutrals_from buses node [] = []
+neutrals_from buses node (t ∷ ts) = if is_some t.neutral then (node, t) ∷ neutrals_from buses (node + 1) ts else (grid_of buses t.kind, t) ∷ neutrals_from buses node ts
+
+-- the transformers of a case with the nodes of their neutrals; the neutral nodes follow the buses
+abbrev pub neutrals_of : Lists → List (ℕ × Transformer)
+neutrals_of c = neutrals_from c.buses (length c.substations + length c.buses) c.transformers
+
+-- the nodes at which the windings of a transformer with this neutral end: high and low windings run to the neutral, the series winding to the low bus, and the common one from there to the neutral
+abbrev pub winding_ends : (first_bus neutral : ℕ) → Kind → List ℕ
+winding_ends first_bus neutral (kinds.DeltaWye high high_resistance) = (first_bus + high) ∷ neutral ∷ []
+winding_ends first_bus neutral (kinds.WyeWye high low low_volts high_resistance low_resistance) = (first_bus + high) ∷ neutral ∷ (first_bus + low) ∷ neutral ∷ []
+winding_ends first_bus neutral (kinds.Auto high low low_volts series_resistance common_resistance) = (first_bus + high) ∷ (first_bus + low) ∷ (first_bus + low) ∷ neutral ∷ []
+winding_ends first_bus neutral kinds.DeltaDelta = []
+
+-- the nodes at which a neutral resistor ends: the neutral node and the ground grid; a blocking device gives no element
+abbrev pub device_ends : (neutral grid : ℕ) → Option Neutral → List ℕ
+device_ends neutral grid None = []
+device_ends neutral grid (Some (devices.Resistor ohm)) = neutral ∷ grid ∷ []
+device_ends neutral grid (Some devices.Blocked) = []
+
+-- the nodes at which the windings of the transformers end, and then those at which their neutral resistors end
+abbrev pub transformer_ends : Lists → List ℕ
+transformer_ends c =
+    flat_map (λ p. winding_ends (length c.substations) p.0 p.1.kind) (neutrals_of c)
+    ++ flat_map (λ p. device_ends p.0 (grid_of c.buses p.1.kind) p.1.neutral) (neutrals_of c)
+
+-- the nodes at which the elements end, a node once for each end: earthings, lines, windings, neutral resistors
 unfoldable pub ends_of : Lists → List ℕ
-ends_of c = earthing_ends c.substations ++ line_ends (length c.substations) c.lines
+ends_of c = earthing_ends c.substations ++ (line_ends (length c.substations) c.lines ++ transformer_ends c)
 
 -- how many of these ends are at the node
 abbrev pub degree_of : List ℕ → ℕ → ℕ
 degree_of ends k = count_by (λ n. n == k) ends
 
--- what every substation keeps: an earthing of 1000 to 1000000000 micro-ohm, if any
+-- a resistance in micro-ohm within its range
+abbrev pub IsOhm : ℕ → Type 0
+IsOhm ohm = (1000 ≤ ohm) × (ohm ≤ 1000000000)
+
+-- a rated voltage in V within its range
+abbrev pub IsRated : ℕ → Type 0
+IsRated volts = (1000 ≤ volts) × (volts ≤ 2000000)
+
+-- what every substation keeps: an earthing within the range, if any
 abbrev pub IsSoundSubstation : Substation → Type 0
-IsSoundSubstation s = IfSome s.ground (λ ohm. (1000 ≤ ohm) × (ohm ≤ 1000000000))
+IsSoundSubstation s = IfSome s.ground IsOhm
 
 -- what every line keeps: two different buses and a zone of the case, a resistance and a span within their ranges
 pub record IsSoundLine (c : Lists) (l : Line) : Type 0 where
@@ -57,16 +118,53 @@ pub record IsSoundLine (c : Lists) (l : Line) : Type 0 where
   pub north_within : unsigned_abs l.north ≤ 1000000
   pub east_within : unsigned_abs l.east ≤ 1000000
 
+-- the two sides of a unit: two different buses of one substation, and a low voltage within its range that is not above the high one
+pub record AreSides (c : Lists) (high low high_volts low_volts : ℕ) : Type 0 where
+  pub high_within : high < length c.buses
+  pub low_within : low < length c.buses
+  pub ends_differ : high ≢ low
+  pub together : substation_at c.buses high ≡ substation_at c.buses low
+  pub low_rated : IsRated low_volts
+  pub order : low_volts ≤ high_volts
+
+-- what the kind of a transformer of this high voltage keeps
+abbrev pub IsSoundKind : Lists → (high_volts : ℕ) → Kind → Type 0
+IsSoundKind c volts (kinds.DeltaWye high high_resistance) = (high < length c.buses) × IsOhm high_resistance
+IsSoundKind c volts (kinds.WyeWye high low low_volts high_resistance low_resistance) = AreSides c high low volts low_volts × (IsOhm high_resistance × IsOhm low_resistance)
+IsSoundKind c volts (kinds.Auto high low low_volts series_resistance common_resistance) = AreSides c high low volts low_volts × (IsOhm series_resistance × IsOhm common_resistance)
+IsSoundKind c volts kinds.DeltaDelta = Unit {0}
+
+-- a neutral resistor is within the range
+abbrev pub IsSoundDevice : Neutral → Type 0
+IsSoundDevice (devices.Resistor ohm) = IsOhm ohm
+IsSoundDevice devices.Blocked = Unit {0}
+
+-- whether a kind has windings in the network
+abbrev pub has_windings : Kind → Bool
+has_windings (kinds.DeltaWye high high_resistance) = true
+has_windings (kinds.WyeWye high low low_volts high_resistance low_resistance) = true
+has_windings (kinds.Auto high low low_volts series_resistance common_resistance) = true
+has_windings kinds.DeltaDelta = false
+
+-- what every transformer keeps: a rated voltage, a sound kind, and a sound neutral device if any, which a delta-delta unit hasn't
+pub record IsSoundTransformer (c : Lists) (t : Transformer) : Type 0 where
+  pub rated : IsRated t.high_volts
+  pub kind_sound : IsSoundKind c t.high_volts t.kind
+  pub device_sound : IfSome t.neutral IsSoundDevice
+  pub no_device : has_windings t.kind ≡ false → is_some t.neutral ≡ false
+
 -- what every case keeps
 pub record IsSound (c : Lists) : Type 0 where
   pub few_zones : length c.zones ≤ 256
   pub few_substations : length c.substations ≤ 1024
   pub few_buses : length c.buses ≤ 3072
   pub few_lines : length c.lines ≤ 8192
+  pub few_transformers : length c.transformers ≤ 3584
   pub zones_sound : All IsZone c.zones
   pub substations_sound : All IsSoundSubstation c.substations
   pub buses_within : All (λ b. b.substation < length c.substations) c.buses
   pub lines_sound : All (IsSoundLine c) c.lines
+  pub transformers_sound : All (IsSoundTransformer c) c.transformers
   pub names_sound : All (λ n. IsTrue (is_name n)) (names_of c)
   pub names_differ : AllPairs (λ x y. x ≢ y) (names_of c)
   pub few_ends : (k : ℕ) → k < length (node_names c) → degree_of (ends_of c) k ≤ 256

@@ -1,15 +1,16 @@
 -- What one pass over the document reads, up to the first refusal. It serves the private functions of the reader alone: its contract speaks of rules.
-use Rattle.std.specs.Prelude.{ℕ, ◌+◌, nat_lt, suc, List, [], ◌∷◌, length, false, if◌then◌else◌, Option, Some, None, option_and_then, option_map, unwrap_or, Result, Ok, Err}
+use Rattle.std.specs.Prelude.{ℕ, ◌+◌, ◌==◌, nat_lt, suc, List, [], ◌∷◌, length, Bool, false, if◌then◌else◌, Option, Some, None, option_and_then, option_map, unwrap_or, Result, Ok, Err}
 use Rattle.toml.specs.Data.{Data, Items, no_items, item, Members, get_member, as_array, as_bool, as_table}
 use Rattle.gic_base.specs.Refusals.{settle}
 use Rattle.gic_base.specs.Passes.{◌>>=◌, or_refuse, test}
 use Rattle.gic_scale.specs.ZoneView.{ZoneView}
-use Rattle.gic_case.specs.Keys.{key_of, fits, fits_document, list_key}
+use Rattle.gic_case.specs.Keys.{key_of, has, fits, fits_document, list_key}
 use Rattle.gic_case.specs.Values.{natural_within, read_name, value_at}
-use Rattle.gic_case.specs.Rows.{ohm_within, metres_within, zone_fields, bus_fields, line_fields, substation_with}
+use Rattle.gic_case.specs.Rows.{ohm_within, volts_within, metres_within, read_neutral, zone_fields, bus_fields, line_fields, substation_with}
+use Rattle.gic_case.specs.Transformers.{read_kind, fields_of, others_of}
 use Rattle.gic_case.specs.Names.{first_repeat}
 use Rattle.gic_case.specs.Lists.{Lists}
-use Rattle.gic_case.specs.Rules.{Written, written_names, duplicate_at, substation_place, bus_place, zone_place, breaks_same_ends, breaks_degree}
+use Rattle.gic_case.specs.Rules.{Written, written_names, duplicate_at, substation_place, bus_place, zone_place, breaks_same_ends, breaks_same_sides, breaks_apart, breaks_voltage_order, breaks_degree}
 use Rattle.gic_case.specs.declared.field.Field.{Field}
 use Rattle.gic_case.specs.declared.field.Field.TheVariants as fields
 use Rattle.gic_case.specs.declared.refusal.Part.{Part}
@@ -19,8 +20,16 @@ use Rattle.gic_case.specs.declared.refusal.CaseRefusal.TheVariants as refusals
 use Rattle.gic_case.specs.declared.item.Substation.{Substation}
 use Rattle.gic_case.specs.declared.item.Bus.{Bus}
 use Rattle.gic_case.specs.declared.item.Line.{Line}
+use Rattle.gic_case.specs.declared.item.Kind.{Kind}
+use Rattle.gic_case.specs.declared.item.Kind.TheVariants as kinds
+use Rattle.gic_case.specs.declared.item.Transformer.{Transformer}
 use Rattle.gic_case.specs.declared.row.BusRow.{BusRow}
 use Rattle.gic_case.specs.declared.row.LineRow.{LineRow}
+use Rattle.gic_case.specs.declared.row.KindRow.{KindRow}
+use Rattle.gic_case.specs.declared.row.KindRow.TheVariants as rows
+use Rattle.gic_case.specs.declared.row.TransformerRow.{TransformerRow}
+use Rattle.gic_case.specs.declared.transformer.KindWord.{KindWord}
+use Rattle.gic_case.specs.declared.transformer.KindWord.TheVariants as words
 
 -- the value of a field
 unfoldable pub required : {A : Type 0} → (Data → Option A) → Part → ℕ → Field → Members → Result A CaseRefusal
@@ -79,6 +88,56 @@ line_row row d = do
   blocked ← optional as_bool parts.Line row fields.Blocked ms
   Ok (record { name = name; from = from; to = to; zone = zone; resistance = resistance; north = north; east = east; blocked = unwrap_or blocked false })
 
+-- a table that has a field
+unfoldable pub table_with : Part → Field → ℕ → Data → Result Members CaseRefusal
+table_with list at row d = or_refuse (option_and_then (λ ms. if has at ms then Some ms else None) (as_table d)) (refusals.Key list row)
+
+-- what a delta-wye unit has of its own
+unfoldable pub delta_wye_row : ℕ → Members → Result KindRow CaseRefusal
+delta_wye_row row ms = do
+  high ← required read_name parts.Transformer row fields.High ms
+  high_resistance ← required ohm_within parts.Transformer row fields.HighResistance ms
+  Ok (rows.DeltaWye high high_resistance)
+
+-- what a wye-wye unit has of its own
+unfoldable pub wye_wye_row : ℕ → Members → Result KindRow CaseRefusal
+wye_wye_row row ms = do
+  high ← required read_name parts.Transformer row fields.High ms
+  low ← required read_name parts.Transformer row fields.Low ms
+  low_volts ← required volts_within parts.Transformer row fields.LowVolts ms
+  high_resistance ← required ohm_within parts.Transformer row fields.HighResistance ms
+  low_resistance ← required ohm_within parts.Transformer row fields.LowResistance ms
+  Ok (rows.WyeWye high low low_volts high_resistance low_resistance)
+
+-- what an autotransformer has of its own
+unfoldable pub auto_row : ℕ → Members → Result KindRow CaseRefusal
+auto_row row ms = do
+  high ← required read_name parts.Transformer row fields.High ms
+  low ← required read_name parts.Transformer row fields.Low ms
+  low_volts ← required volts_within parts.Transformer row fields.LowVolts ms
+  series_resistance ← required ohm_within parts.Transformer row fields.SeriesResistance ms
+  common_resistance ← required ohm_within parts.Transformer row fields.CommonResistance ms
+  Ok (rows.Auto high low low_volts series_resistance common_resistance)
+
+-- what a transformer of a kind has of its own
+unfoldable pub kind_row : KindWord → ℕ → Members → Result KindRow CaseRefusal
+kind_row words.DeltaWye row ms = delta_wye_row row ms
+kind_row words.WyeWye row ms = wye_wye_row row ms
+kind_row words.Auto row ms = auto_row row ms
+kind_row words.DeltaDelta row ms = Ok rows.DeltaDelta
+
+-- a row of the transformers
+unfoldable pub transformer_row : (devices : Bool) → ℕ → Data → Result TransformerRow CaseRefusal
+transformer_row devices row d = do
+  ms ← table_with parts.Transformer fields.Kind row d
+  word ← required read_kind parts.Transformer row fields.Kind ms
+  keys ← test (fits (fields_of word) (others_of devices word) ms) (refusals.Key parts.Transformer row)
+  name ← required read_name parts.Transformer row fields.Name ms
+  high_volts ← required volts_within parts.Transformer row fields.HighVolts ms
+  kind ← kind_row word row ms
+  neutral ← optional read_neutral parts.Transformer row fields.Neutral ms
+  Ok (record { name = name; high_volts = high_volts; kind = kind; neutral = neutral })
+
 -- the items of an array
 abbrev pub items_or : CaseRefusal → Option Data → Result Items CaseRefusal
 items_or e None = Ok no_items
@@ -111,7 +170,8 @@ rows_of ms = do
   substations ← list_at parts.Substation 1024 substation_row ms
   buses ← list_at parts.Bus 3072 bus_row ms
   lines ← list_at parts.Line 8192 line_row ms
-  Ok (record { zones = zones; substations = substations; buses = buses; lines = lines })
+  transformers ← list_at parts.Transformer 3584 (transformer_row (format == 2)) ms
+  Ok (record { zones = zones; substations = substations; buses = buses; lines = lines; transformers = transformers })
 
 -- the refusal, if there is one
 abbrev pub refuse_if : Option CaseRefusal → Result (Unit {0}) CaseRefusal
@@ -120,7 +180,7 @@ refuse_if (Some e) = Err e
 
 -- no name comes twice
 unfoldable pub unique : Written → Result (Unit {0}) CaseRefusal
-unique w = refuse_if (option_map (duplicate_at (length w.zones) (length w.substations) (length w.buses)) (first_repeat (written_names w)))
+unique w = refuse_if (option_map (duplicate_at (length w.zones) (length w.substations) (length w.buses) (length w.lines)) (first_repeat (written_names w)))
 
 -- each element of a list, numbered from here on
 abbrev pub each : {A B : Type 0} → (ℕ → A → Result B CaseRefusal) → ℕ → List A → Result (List B) CaseRefusal
@@ -145,12 +205,32 @@ line_in bus zone row l = do
   place ← place_at zone parts.Line row fields.Zone l.zone
   Ok (record { name = l.name; from = from; to = to; zone = place; resistance = l.resistance; north = l.north; east = l.east; blocked = l.blocked })
 
+-- the place of the bus of a side
+abbrev pub side_at : (bus : List ℕ → Option ℕ) → ℕ → Field → List ℕ → Result ℕ CaseRefusal
+side_at bus = place_at bus parts.Transformer
+
+-- a kind, with the places of its buses
+unfoldable pub kind_in : (bus : List ℕ → Option ℕ) → ℕ → KindRow → Result Kind CaseRefusal
+kind_in bus row (rows.DeltaWye high high_resistance) = side_at bus row fields.High high >>= (λ h. Ok (kinds.DeltaWye h high_resistance))
+kind_in bus row (rows.WyeWye high low low_volts high_resistance low_resistance) =
+    side_at bus row fields.High high >>= (λ h. side_at bus row fields.Low low >>= (λ l. Ok (kinds.WyeWye h l low_volts high_resistance low_resistance)))
+kind_in bus row (rows.Auto high low low_volts series_resistance common_resistance) =
+    side_at bus row fields.High high >>= (λ h. side_at bus row fields.Low low >>= (λ l. Ok (kinds.Auto h l low_volts series_resistance common_resistance)))
+kind_in bus row rows.DeltaDelta = Ok kinds.DeltaDelta
+
+-- a transformer, with the places of its buses
+unfoldable pub transformer_in : (bus : List ℕ → Option ℕ) → ℕ → TransformerRow → Result Transformer CaseRefusal
+transformer_in bus row t = do
+  kind ← kind_in bus row t.kind
+  Ok (record { name = t.name; high_volts = t.high_volts; kind = kind; neutral = t.neutral })
+
 -- the lists, with places in place of names
 unfoldable pub resolve : Written → Result Lists CaseRefusal
 resolve w = do
   buses ← each (bus_in (substation_place w)) 1 w.buses
   lines ← each (line_in (bus_place w) (zone_place w)) 1 w.lines
-  Ok (record { zones = w.zones; substations = w.substations; buses = buses; lines = lines })
+  transformers ← each (transformer_in (bus_place w)) 1 w.transformers
+  Ok (record { zones = w.zones; substations = w.substations; buses = buses; lines = lines; transformers = transformers })
 
 -- the case that a document is, or the first broken rule
 unfoldable pub case_in : Members → Result Lists CaseRefusal
@@ -158,6 +238,9 @@ case_in ms = do
   w ← rows_of ms
   once ← unique w
   c ← resolve w
-  apart ← settle (breaks_same_ends c) (tt {0})
+  lines ← settle (breaks_same_ends c) (tt {0})
+  sides ← settle (breaks_same_sides c) (tt {0})
+  together ← settle (breaks_apart c) (tt {0})
+  ordered ← settle (breaks_voltage_order c) (tt {0})
   few ← settle (breaks_degree c) (tt {0})
   Ok c

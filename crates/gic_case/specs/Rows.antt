@@ -1,9 +1,9 @@
 -- The rules of single rows, each read by itself: the refusals that a row gives, in order; and the rows as they are written, with names in place of references.
-use Rattle.std.specs.Prelude.{ℕ, ℤ, pos, List, [], ◌∷◌, ◌++◌, false, ◌&&◌, Option, Some, None, unwrap_or, is_some}
-use Rattle.toml.specs.Data.{Data, Members, no_members, get_member, as_table, as_bool}
+use Rattle.std.specs.Prelude.{ℕ, ℤ, pos, List, [], ◌∷◌, ◌++◌, false, ◌&&◌, if◌then◌else◌, Option, Some, None, option_map, unwrap_or, is_some, codes}
+use Rattle.toml.specs.Data.{Data, Members, no_members, get_member, as_table, as_bool, as_str}
 use Rattle.gic_base.specs.Refusals.{unless}
 use Rattle.gic_scale.specs.ZoneView.{ZoneView}
-use Rattle.gic_case.specs.Keys.{key_of, fits}
+use Rattle.gic_case.specs.Keys.{key_of, same, fits}
 use Rattle.gic_case.specs.Values.{natural_within, span_within, read_name, value_at}
 use Rattle.gic_case.specs.declared.field.Field.{Field}
 use Rattle.gic_case.specs.declared.field.Field.TheVariants as fields
@@ -12,6 +12,8 @@ use Rattle.gic_case.specs.declared.refusal.Part.TheVariants as parts
 use Rattle.gic_case.specs.declared.refusal.CaseRefusal.{CaseRefusal}
 use Rattle.gic_case.specs.declared.refusal.CaseRefusal.TheVariants as refusals
 use Rattle.gic_case.specs.declared.item.Substation.{Substation}
+use Rattle.gic_case.specs.declared.item.Neutral.{Neutral}
+use Rattle.gic_case.specs.declared.item.Neutral.TheVariants as devices
 use Rattle.gic_case.specs.declared.row.BusRow.{BusRow}
 use Rattle.gic_case.specs.declared.row.LineRow.{LineRow}
 
@@ -43,6 +45,19 @@ ohm_within = natural_within 1000 1000000000
 -- a part of a span, in metres
 abbrev pub metres_within : Data → Option ℤ
 metres_within = span_within 1000000
+
+-- a rated voltage in V
+abbrev pub volts_within : Data → Option ℕ
+volts_within = natural_within 1000 2000000
+
+-- the neutral device that a text tells, or a resistance where there is no text
+unfoldable pub device_in : (text : Option (List ℕ)) → (ohm : Option ℕ) → Option Neutral
+device_in None ohm = option_map devices.Resistor ohm
+device_in (Some s) ohm = if same s (codes "blocked") then Some devices.Blocked else None
+
+-- a neutral device: a resistance, or the string `blocked`
+abbrev pub read_neutral : Data → Option Neutral
+read_neutral d = device_in (as_str d) (ohm_within d)
 
 -- the fields of a zone
 abbrev pub zone_fields : List Field

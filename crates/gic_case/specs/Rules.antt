@@ -7,10 +7,13 @@ use Rattle.toml.specs.Parse.{parse_document}
 use Rattle.gic_base.specs.Refusals.{unless, settle}
 use Rattle.gic_scale.specs.ZoneView.{ZoneView}
 use Rattle.gic_case.specs.Keys.{fits_document, list_key}
-use Rattle.gic_case.specs.Values.{natural_within}
+use Rattle.gic_case.specs.Values.{natural_within, value_at}
 use Rattle.gic_case.specs.Rows.{breaks_value, breaks_zone, zone_of, breaks_substation, substation_of, breaks_bus, bus_of, breaks_line, line_of}
+use Rattle.gic_case.specs.Transformers.{breaks_transformer, transformer_of}
 use Rattle.gic_case.specs.Names.{is_repeat, place_in}
 use Rattle.gic_case.specs.Lists.{Lists, node_names, ends_of, degree_of}
+use Rattle.gic_case.specs.Sides.{sides_of, sides_differ, are_together, are_ordered}
+use Rattle.gic_case.specs.declared.field.Field.{Field}
 use Rattle.gic_case.specs.declared.field.Field.TheVariants as fields
 use Rattle.gic_case.specs.declared.refusal.Part.{Part}
 use Rattle.gic_case.specs.declared.refusal.Part.TheVariants as parts
@@ -19,8 +22,14 @@ use Rattle.gic_case.specs.declared.refusal.CaseRefusal.TheVariants as refusals
 use Rattle.gic_case.specs.declared.item.Substation.{Substation}
 use Rattle.gic_case.specs.declared.item.Bus.{Bus}
 use Rattle.gic_case.specs.declared.item.Line.{Line}
+use Rattle.gic_case.specs.declared.item.Kind.{Kind}
+use Rattle.gic_case.specs.declared.item.Kind.TheVariants as kinds
+use Rattle.gic_case.specs.declared.item.Transformer.{Transformer}
 use Rattle.gic_case.specs.declared.row.BusRow.{BusRow}
 use Rattle.gic_case.specs.declared.row.LineRow.{LineRow}
+use Rattle.gic_case.specs.declared.row.KindRow.{KindRow}
+use Rattle.gic_case.specs.declared.row.KindRow.TheVariants as rows
+use Rattle.gic_case.specs.declared.row.TransformerRow.{TransformerRow}
 
 -- the entries of an array
 abbrev pub list_in : Items → List Data
@@ -48,6 +57,10 @@ breaks_list list limit breaks ms =
     ++ (unless (nat_le (length (entries_of list ms)) limit) (refusals.TooMany list)
     ++ flat_map (λ p. breaks p.0 p.1) (enumerate_from 1 (entries_of list ms)))
 
+-- transformers may have neutral devices: the format is 2
+abbrev pub allows_devices : Members → Bool
+allows_devices ms = unwrap_or (value_at (natural_within 1 2) fields.Format ms) 0 == 2
+
 -- the document has its keys, a format of 1 or 2, and its lists
 unfoldable pub breaks_form : Members → List CaseRefusal
 breaks_form ms =
@@ -56,7 +69,8 @@ breaks_form ms =
     ++ (breaks_list parts.Zone 256 breaks_zone ms
     ++ (breaks_list parts.Substation 1024 breaks_substation ms
     ++ (breaks_list parts.Bus 3072 breaks_bus ms
-    ++ breaks_list parts.Line 8192 breaks_line ms))))
+    ++ (breaks_list parts.Line 8192 breaks_line ms
+    ++ breaks_list parts.Transformer 3584 (breaks_transformer (allows_devices ms)) ms)))))
 
 -- the rows as they are written, with names in place of references
 pub record Written : Type 0 where
@@ -64,6 +78,7 @@ pub record Written : Type 0 where
   pub substations : List Substation
   pub buses : List BusRow
   pub lines : List LineRow
+  pub transformers : List TransformerRow
 
 -- the rows of a document, each field that breaks its rule taken as nought
 unfoldable pub written_in : Members → Written
@@ -72,25 +87,27 @@ written_in ms = record {
   substations = map substation_of (entries_of parts.Substation ms);
   buses = map bus_of (entries_of parts.Bus ms);
   lines = map line_of (entries_of parts.Line ms);
+  transformers = map transformer_of (entries_of parts.Transformer ms);
 }
 
 -- the names of all rows, list after list
 abbrev pub written_names : Written → List (List ℕ)
-written_names w = map (λ z. z.name) w.zones ++ (map (λ s. s.name) w.substations ++ (map (λ b. b.name) w.buses ++ map (λ l. l.name) w.lines))
+written_names w = map (λ z. z.name) w.zones ++ (map (λ s. s.name) w.substations ++ (map (λ b. b.name) w.buses ++ (map (λ l. l.name) w.lines ++ map (λ t. t.name) w.transformers)))
 
 -- the refusal for a place in these names
-abbrev pub duplicate_at : (zones substations buses : ℕ) → ℕ → CaseRefusal
-duplicate_at zones substations buses i =
+abbrev pub duplicate_at : (zones substations buses lines : ℕ) → ℕ → CaseRefusal
+duplicate_at zones substations buses lines i =
     if nat_lt i zones then refusals.Duplicate parts.Zone (i + 1)
     else if nat_lt i (zones + substations) then refusals.Duplicate parts.Substation (i - zones + 1)
     else if nat_lt i (zones + substations + buses) then refusals.Duplicate parts.Bus (i - (zones + substations) + 1)
-    else refusals.Duplicate parts.Line (i - (zones + substations + buses) + 1)
+    else if nat_lt i (zones + substations + buses + lines) then refusals.Duplicate parts.Line (i - (zones + substations + buses) + 1)
+    else refusals.Duplicate parts.Transformer (i - (zones + substations + buses + lines) + 1)
 
 -- a row's name is the name of no earlier row
 unfoldable pub breaks_once : Written → List CaseRefusal
 breaks_once w =
     let names = written_names w in
-    flat_map (λ i. unless (not (is_repeat names i)) (duplicate_at (length w.zones) (length w.substations) (length w.buses) i)) (range_with_len 0 (length names))
+    flat_map (λ i. unless (not (is_repeat names i)) (duplicate_at (length w.zones) (length w.substations) (length w.buses) (length w.lines) i)) (range_with_len 0 (length names))
 
 -- where the substation of a name stands in its list, if there is one
 abbrev pub substation_place : Written → List ℕ → Option ℕ
@@ -115,11 +132,23 @@ breaks_line_references w row l =
     ++ (unless (is_some (bus_place w l.to)) (refusals.Unknown parts.Line row fields.To)
     ++ unless (is_some (zone_place w l.zone)) (refusals.Unknown parts.Line row fields.Zone))
 
+-- a side of a transformer is at one of the buses
+abbrev pub breaks_side_reference : Written → ℕ → Field → (bus : List ℕ) → List CaseRefusal
+breaks_side_reference w row at bus = unless (is_some (bus_place w bus)) (refusals.Unknown parts.Transformer row at)
+
+-- the sides that a kind has are at buses: first the high one, then the low one
+abbrev pub breaks_kind_references : Written → ℕ → KindRow → List CaseRefusal
+breaks_kind_references w row (rows.DeltaWye high high_resistance) = breaks_side_reference w row fields.High high
+breaks_kind_references w row (rows.WyeWye high low low_volts high_resistance low_resistance) = breaks_side_reference w row fields.High high ++ breaks_side_reference w row fields.Low low
+breaks_kind_references w row (rows.Auto high low low_volts series_resistance common_resistance) = breaks_side_reference w row fields.High high ++ breaks_side_reference w row fields.Low low
+breaks_kind_references w row rows.DeltaDelta = []
+
 -- each reference is the name of a row of its list
 unfoldable pub breaks_references : Written → List CaseRefusal
 breaks_references w =
     flat_map (λ p. breaks_bus_reference w p.0 p.1) (enumerate_from 1 w.buses)
-    ++ flat_map (λ p. breaks_line_references w p.0 p.1) (enumerate_from 1 w.lines)
+    ++ (flat_map (λ p. breaks_line_references w p.0 p.1) (enumerate_from 1 w.lines)
+    ++ flat_map (λ p. breaks_kind_references w p.0 p.1.kind) (enumerate_from 1 w.transformers))
 
 -- a bus, with the place of its substation
 abbrev pub bus_with_place : Written → BusRow → Bus
@@ -138,17 +167,67 @@ line_with_places w l = record {
   blocked = l.blocked;
 }
 
+-- the place of a bus, and the first place for a name that is nowhere
+abbrev pub side_place : Written → (bus : List ℕ) → ℕ
+side_place w bus = unwrap_or (bus_place w bus) 0
+
+-- a kind, with the places of its buses
+abbrev pub kind_with_places : Written → KindRow → Kind
+kind_with_places w (rows.DeltaWye high high_resistance) = kinds.DeltaWye (side_place w high) high_resistance
+kind_with_places w (rows.WyeWye high low low_volts high_resistance low_resistance) = kinds.WyeWye (side_place w high) (side_place w low) low_volts high_resistance low_resistance
+kind_with_places w (rows.Auto high low low_volts series_resistance common_resistance) = kinds.Auto (side_place w high) (side_place w low) low_volts series_resistance common_resistance
+kind_with_places w rows.DeltaDelta = kinds.DeltaDelta
+
+-- a transformer, with the places of its buses
+abbrev pub transformer_with_places : Written → TransformerRow → Transformer
+transformer_with_places w t = record {
+  name = t.name;
+  high_volts = t.high_volts;
+  kind = kind_with_places w t.kind;
+  neutral = t.neutral;
+}
+
 -- the lists, with places in place of names; a name that is nowhere stands for the first place
 unfoldable pub resolved : Written → Lists
-resolved w = record { zones = w.zones; substations = w.substations; buses = map (bus_with_place w) w.buses; lines = map (line_with_places w) w.lines }
+resolved w = record {
+  zones = w.zones;
+  substations = w.substations;
+  buses = map (bus_with_place w) w.buses;
+  lines = map (line_with_places w) w.lines;
+  transformers = map (transformer_with_places w) w.transformers;
+}
 
 -- the two buses of each of these lines, numbered from here on, are not one
 abbrev pub breaks_same_ends_from : (row : ℕ) → List Line → List CaseRefusal
 breaks_same_ends_from row lines = flat_map (λ p. unless (not (p.1.from == p.1.to)) (refusals.SameEnds parts.Line p.0)) (enumerate_from row lines)
 
--- no item has one bus for two
+-- no line has one bus for two
 abbrev pub breaks_same_ends : Lists → List CaseRefusal
 breaks_same_ends c = breaks_same_ends_from 1 c.lines
+
+-- the two sides of each of these transformers, numbered from here on, have two buses
+abbrev pub breaks_same_sides_from : (row : ℕ) → List Transformer → List CaseRefusal
+breaks_same_sides_from row transformers = flat_map (λ p. unless (sides_differ (sides_of p.1.kind)) (refusals.SameEnds parts.Transformer p.0)) (enumerate_from row transformers)
+
+-- no transformer has one bus for two
+abbrev pub breaks_same_sides : Lists → List CaseRefusal
+breaks_same_sides c = breaks_same_sides_from 1 c.transformers
+
+-- the two sides of each of these transformers, numbered from here on, are in one substation
+abbrev pub breaks_apart_from : List Bus → (row : ℕ) → List Transformer → List CaseRefusal
+breaks_apart_from buses row transformers = flat_map (λ p. unless (are_together buses (sides_of p.1.kind)) (refusals.Apart p.0)) (enumerate_from row transformers)
+
+-- no transformer stands in two substations
+abbrev pub breaks_apart : Lists → List CaseRefusal
+breaks_apart c = breaks_apart_from c.buses 1 c.transformers
+
+-- the low voltage of each of these transformers, numbered from here on, is not above its high voltage
+abbrev pub breaks_voltage_order_from : (row : ℕ) → List Transformer → List CaseRefusal
+breaks_voltage_order_from row transformers = flat_map (λ p. unless (are_ordered p.1.high_volts (sides_of p.1.kind)) (refusals.VoltageOrder p.0)) (enumerate_from row transformers)
+
+-- no transformer has a low voltage above its high voltage
+abbrev pub breaks_voltage_order : Lists → List CaseRefusal
+breaks_voltage_order c = breaks_voltage_order_from 1 c.transformers
 
 -- at most 256 of the ends are at each of the nodes with these names, numbered from here on
 abbrev pub breaks_degree_from : (node : ℕ) → (names : List (List ℕ)) → (ends : List ℕ) → List CaseRefusal
@@ -163,7 +242,14 @@ unfoldable pub broken_in : Members → List CaseRefusal
 broken_in ms =
     let w = written_in ms in
     let c = resolved w in
-    breaks_form ms ++ (breaks_once w ++ (breaks_references w ++ (breaks_same_ends c ++ breaks_degree c)))
+    breaks_form ms
+    ++ (breaks_once w
+    ++ (breaks_references w
+    ++ (breaks_same_ends c
+    ++ (breaks_same_sides c
+    ++ (breaks_apart c
+    ++ (breaks_voltage_order c
+    ++ breaks_degree c))))))
 
 -- all rules on bytes, as the document that they are
 abbrev pub broken : Option Members → List CaseRefusal
@@ -172,7 +258,7 @@ broken (Some ms) = broken_in ms
 
 -- the lists of a document, and none where there is no document
 abbrev pub lists_of : Option Members → Lists
-lists_of None = record { zones = []; substations = []; buses = []; lines = [] }
+lists_of None = record { zones = []; substations = []; buses = []; lines = []; transformers = [] }
 lists_of (Some ms) = resolved (written_in ms)
 
 -- the document that the bytes are, if they are UTF-8 and TOML

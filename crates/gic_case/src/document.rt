@@ -14,7 +14,7 @@ use crate::item::Substation;
 use crate::keys::fits_document;
 use crate::list::list_at;
 use crate::refusal::{CaseRefusal, Part};
-use crate::row::{BusRow, LineRow};
+use crate::row::{BusRow, LineRow, TransformerRow};
 use crate::value::natural_at;
 use gic_scale::Zone;
 use std::alloc::Global;
@@ -58,6 +58,7 @@ pub(crate) struct Rows {
     pub(crate) substations: Vec<Substation>,
     pub(crate) buses: Vec<BusRow>,
     pub(crate) lines: Vec<LineRow>,
+    pub(crate) transformers: Vec<TransformerRow>,
 }
 
 impl Model for Rows {
@@ -66,9 +67,9 @@ impl Model for Rows {
 
     ghost Value = { Written };
 
-    ghost view = { λ r. record { zones = r.zones.items; substations = r.substations.items; buses = r.buses.items; lines = r.lines.items } };
+    ghost view = { λ r. record { zones = r.zones.items; substations = r.substations.items; buses = r.buses.items; lines = r.lines.items; transformers = r.transformers.items } };
 
-    ghost invariant = { λ r. (length r.zones.items ≤ 256) × (length r.substations.items ≤ 1024) × (length r.buses.items ≤ 3072) × (length r.lines.items ≤ 8192) };
+    ghost invariant = { λ r. (length r.zones.items ≤ 256) × (length r.substations.items ≤ 1024) × (length r.buses.items ≤ 3072) × (length r.lines.items ≤ 8192) × (length r.transformers.items ≤ 3584) };
 }
 
 impl Rows {
@@ -78,16 +79,18 @@ impl Rows {
         ensures { Answers Memory (λ r. r) result (rows_of (table_view table.now)) }
     {
         document_keys(table)?;
-        natural_at(Part::Case, 0, Field::Format, 1, 2, table)?;
-        let zones = list_at(alloc, Part::Zone, 256, table)?;
-        let substations = list_at(alloc, Part::Substation, 1024, table)?;
-        let buses = list_at(alloc, Part::Bus, 3072, table)?;
-        let lines = list_at(alloc, Part::Line, 8192, table)?;
+        let devices = natural_at(Part::Case, 0, Field::Format, 1, 2, table)? == 2;
+        let zones = list_at(alloc, Part::Zone, 256, devices, table)?;
+        let substations = list_at(alloc, Part::Substation, 1024, devices, table)?;
+        let buses = list_at(alloc, Part::Bus, 3072, devices, table)?;
+        let lines = list_at(alloc, Part::Line, 8192, devices, table)?;
+        let transformers = list_at(alloc, Part::Transformer, 3584, devices, table)?;
         Ok(Rows {
             zones,
             substations,
             buses,
             lines,
+            transformers,
         })
     }
 }

@@ -18,6 +18,16 @@ pub enum Field {
     North,
     East,
     Blocked,
+    Kind,
+    HighVolts,
+    High,
+    Low,
+    LowVolts,
+    HighResistance,
+    LowResistance,
+    SeriesResistance,
+    CommonResistance,
+    Neutral,
 }
 
 impl Field {
@@ -39,6 +49,16 @@ impl Field {
             Field::North => "north",
             Field::East => "east",
             Field::Blocked => "blocked",
+            Field::Kind => "kind",
+            Field::HighVolts => "high_volts",
+            Field::High => "high",
+            Field::Low => "low",
+            Field::LowVolts => "low_volts",
+            Field::HighResistance => "high_resistance",
+            Field::LowResistance => "low_resistance",
+            Field::SeriesResistance => "series_resistance",
+            Field::CommonResistance => "common_resistance",
+            Field::Neutral => "neutral",
         }
     }
 }

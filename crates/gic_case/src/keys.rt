@@ -1,10 +1,10 @@
 //! The keys that tables may and must have.
-ghost use Rattle.std.specs.Prelude.{◌≡◌, option_map, ◌||◌, is_some};
+ghost use Rattle.std.specs.Prelude.{◌≡◌, option_map, ◌||◌};
 ghost use Rattle.toml.specs.Data.{get_member};
 ghost use Rattle.toml.specs.View.{view, table_view};
 ghost use Rattle.gic_base.specs.Refusals.{Answers};
 ghost use Rattle.gic_case.specs.declared.refusal.CaseRefusal.TheVariants.{Memory};
-ghost use Rattle.gic_case.specs.Keys.{key_of, list_key, is_among, is_list_key, is_document_key, has_only, has_all, fits, fits_document};
+ghost use Rattle.gic_case.specs.Keys.{list_key, is_among, is_list_key, is_document_key, has, has_only, has_all, fits, fits_document};
 ghost use Rattle.gic_case.specs.Pass.{row_table};
 
 use crate::field::{Field, is_among};
@@ -21,6 +21,7 @@ pub(crate) fn list_key(list: Part) -> &'static str
         Part::Substation => "substation",
         Part::Bus => "bus",
         Part::Line => "line",
+        Part::Transformer => "transformer",
     }
 }
 
@@ -37,7 +38,16 @@ fn is_document_key(key: &str) -> bool
     ensures { result ≡ is_document_key key.now }
 {
     is_among(&[Field::Format], key)
-        || is_list_key(&[Part::Zone, Part::Substation, Part::Bus, Part::Line], key)
+        || is_list_key(
+            &[
+                Part::Zone,
+                Part::Substation,
+                Part::Bus,
+                Part::Line,
+                Part::Transformer,
+            ],
+            key,
+        )
 }
 
 /// The value at a key.
@@ -48,8 +58,8 @@ pub(crate) fn at_key<'a>(table: &'a Table, key: &str) -> Option<&'a Value>
 }
 
 /// Whether a table has a field.
-fn has(table: &Table, at: Field) -> bool
-    ensures { result ≡ is_some (get_member (key_of at) (table_view table.now)) }
+pub(crate) fn has(table: &Table, at: Field) -> bool
+    ensures { result ≡ has at (table_view table.now) }
 {
     at_key(table, at.key()).is_some()
 }
@@ -76,7 +86,7 @@ fn has_only(required: &[Field], others: &[Field], table: &Table) -> bool
 }
 
 /// Whether a table has the fields that it must have, and no key but of these and the others.
-fn fits(required: &[Field], others: &[Field], table: &Table) -> bool
+pub(crate) fn fits(required: &[Field], others: &[Field], table: &Table) -> bool
     ensures { result ≡ fits required.now others.now (table_view table.now) }
 {
     has_only(required, others, table) && has_all(required, table)

@@ -11,15 +11,18 @@ mod keys;
 mod list;
 mod names;
 mod network;
+mod neutral;
 mod reference;
 mod refusal;
 mod row;
+mod side;
+mod transformer;
 mod unique;
 mod value;
 
 pub use case::{Case, read_case};
 pub use field::Field;
-pub use item::{Bus, Line, Substation};
+pub use item::{Bus, Kind, Line, Neutral, Substation, Transformer};
 pub use refusal::{CaseRefusal, Part};
 
 #[cfg(test)]

@@ -1,26 +1,24 @@
 //! The lists of a case, with places in place of names.
-ghost use Rattle.std.specs.Prelude.{◌≡◌, ◌<◌, [], length, slice_index_or};
 ghost use Rattle.gic_base.specs.Refusals.{Answers};
 ghost use Rattle.gic_case.specs.declared.refusal.CaseRefusal.TheVariants.{Memory};
-ghost use Rattle.gic_case.specs.Lists.{node_names};
 ghost use Rattle.gic_case.specs.Pass.{resolve};
 
 use crate::document::Rows;
-use crate::item::{Bus, Line, Substation};
-use crate::reference::{resolved_buses, resolved_lines};
+use crate::item::{Bus, Line, Substation, Transformer};
+use crate::reference::{resolved_buses, resolved_lines, resolved_transformers};
 use crate::refusal::CaseRefusal;
-use gic_base::Name;
 use gic_scale::Zone;
 use std::alloc::Global;
 use std::marker::Model;
 
-/// The lists, whose lines and degrees are still to be looked at.
+/// The lists, whose ends, voltages and degrees are still to be looked at.
 #[derive(Drop)]
 pub(crate) struct Network {
     pub(crate) zones: Vec<Zone>,
     pub(crate) substations: Vec<Substation>,
     pub(crate) buses: Vec<Bus>,
     pub(crate) lines: Vec<Line>,
+    pub(crate) transformers: Vec<Transformer>,
 }
 
 impl Model for Network {
@@ -29,9 +27,9 @@ impl Model for Network {
 
     ghost Value = { Lists };
 
-    ghost view = { λ n. record { zones = n.zones.items; substations = n.substations.items; buses = n.buses.items; lines = n.lines.items } };
+    ghost view = { λ n. record { zones = n.zones.items; substations = n.substations.items; buses = n.buses.items; lines = n.lines.items; transformers = n.transformers.items } };
 
-    ghost invariant = { λ n. (length n.substations.items ≤ 1024) × (length n.buses.items ≤ 3072) × (length n.lines.items ≤ 8192) };
+    ghost invariant = { λ n. (length n.substations.items ≤ 1024) × (length n.buses.items ≤ 3072) × (length n.lines.items ≤ 8192) × (length n.transformers.items ≤ 3584) };
 }
 
 impl Network {
@@ -42,30 +40,20 @@ impl Network {
     {
         let buses = resolved_buses(alloc, &rows)?;
         let lines = resolved_lines(alloc, &rows)?;
+        let transformers = resolved_transformers(alloc, &rows)?;
         let Rows {
             zones,
             substations,
             buses: _,
             lines: _,
+            transformers: _,
         } = rows;
         Ok(Network {
             zones,
             substations,
             buses,
             lines,
+            transformers,
         })
-    }
-
-    /// The name of a node.
-    pub(crate) fn node_name(&self, node: usize) -> Name
-        requires { node < length (node_names self.now) }
-        ensures { result ≡ slice_index_or (node_names self.now) node [] }
-    {
-        let first_bus = self.substations.len();
-        if node < first_bus {
-            self.substations[node].name
-        } else {
-            self.buses[node - first_bus].name
-        }
     }
 }

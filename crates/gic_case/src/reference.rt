@@ -6,15 +6,15 @@ ghost use Rattle.gic_case.specs.declared.refusal.CaseRefusal.TheVariants.{Memory
 ghost use Rattle.gic_case.specs.Keys.{same};
 ghost use Rattle.gic_case.specs.Names.{place_in};
 ghost use Rattle.gic_case.specs.Rules.{substation_place, bus_place, zone_place};
-ghost use Rattle.gic_case.specs.Pass.{each, place_at, bus_in, line_in};
+ghost use Rattle.gic_case.specs.Pass.{each, place_at, side_at, bus_in, line_in, kind_in, transformer_in};
 
 use crate::document::Rows;
 use crate::field::Field;
-use crate::item::{Bus, Line};
+use crate::item::{Bus, Kind, Line, Transformer};
 use crate::list::{Row, push_names};
 use crate::names::places_of;
 use crate::refusal::{CaseRefusal, Part};
-use crate::row::{BusRow, LineRow};
+use crate::row::{BusRow, KindRow, LineRow, TransformerRow};
 use gic_base::Name;
 use std::alloc::{AllocError, Global};
 use std::collections::HashMap;
@@ -92,6 +92,74 @@ fn line_in(
     })
 }
 
+/// The place of the bus of a transformer's side.
+fn side_at(buses: &HashMap<Name, u16>, row: u32, at: Field, bus: &Name) -> Result<u16, CaseRefusal>
+    ensures { Answers Memory (λ n. n) result (side_at (get same buses.now) row at bus.now) }
+{
+    place_at(buses, Part::Transformer, row, at, bus)
+}
+
+/// A kind, with the places of its buses.
+#[tactic(auto, unfolding(crate::specs::Pass::kind_in))]
+fn kind_in(buses: &HashMap<Name, u16>, row: u32, kind: &KindRow) -> Result<Kind, CaseRefusal>
+    ensures { Answers Memory (λ k. k) result (kind_in (get same buses.now) row kind.now) }
+{
+    match *kind {
+        KindRow::DeltaWye {
+            high,
+            high_resistance,
+        } => Ok(Kind::DeltaWye {
+            high: side_at(buses, row, Field::High, &high)?,
+            high_resistance,
+        }),
+        KindRow::WyeWye {
+            high,
+            low,
+            low_volts,
+            high_resistance,
+            low_resistance,
+        } => Ok(Kind::WyeWye {
+            high: side_at(buses, row, Field::High, &high)?,
+            low: side_at(buses, row, Field::Low, &low)?,
+            low_volts,
+            high_resistance,
+            low_resistance,
+        }),
+        KindRow::Auto {
+            high,
+            low,
+            low_volts,
+            series_resistance,
+            common_resistance,
+        } => Ok(Kind::Auto {
+            high: side_at(buses, row, Field::High, &high)?,
+            low: side_at(buses, row, Field::Low, &low)?,
+            low_volts,
+            series_resistance,
+            common_resistance,
+        }),
+        KindRow::DeltaDelta => Ok(Kind::DeltaDelta),
+    }
+}
+
+/// A transformer, with the places of its buses.
+#[tactic(auto, unfolding(crate::specs::Pass::transformer_in))]
+fn transformer_in(
+    buses: &HashMap<Name, u16>,
+    row: u32,
+    transformer: &TransformerRow,
+) -> Result<Transformer, CaseRefusal>
+    ensures { Answers Memory (λ t. t) result (transformer_in (get same buses.now) row transformer.now) }
+{
+    let kind = kind_in(buses, row, &transformer.kind)?;
+    Ok(Transformer {
+        name: transformer.name,
+        high_volts: transformer.high_volts,
+        kind,
+        neutral: transformer.neutral,
+    })
+}
+
 /// The buses, with the places of their substations.
 fn buses_in(
     alloc: Global,
@@ -127,6 +195,23 @@ fn lines_in(
     Ok(lines)
 }
 
+/// The transformers, with the places of their buses.
+fn transformers_in(
+    alloc: Global,
+    buses: &HashMap<Name, u16>,
+    rows: &[TransformerRow],
+) -> Result<Vec<Transformer>, CaseRefusal>
+    requires { length rows.now < 2 ^ 16 }
+    ensures value { Answers Memory (λ v. v.items) result (each (transformer_in (get same buses.now)) 1 rows.now) }
+    ensures count { IfOk result (λ v. vec_len v ≡ length rows.now) }
+{
+    let mut transformers = Vec::new(alloc);
+    for (i, transformer) in rows.iter().enumerate() {
+        transformers.push(transformer_in(buses, i as u32 + 1, transformer)?)?;
+    }
+    Ok(transformers)
+}
+
 /// The buses of a case.
 pub(crate) fn resolved_buses(alloc: Global, rows: &Rows) -> Result<Vec<Bus>, CaseRefusal>
     ensures value { Answers Memory (λ v. v.items) result (each (bus_in (substation_place rows.now)) 1 rows.now.buses) }
@@ -144,4 +229,16 @@ pub(crate) fn resolved_lines(alloc: Global, rows: &Rows) -> Result<Vec<Line>, Ca
     let buses = row_places(alloc, rows.buses.as_slice())?;
     let zones = row_places(alloc, rows.zones.as_slice())?;
     lines_in(alloc, &buses, &zones, rows.lines.as_slice())
+}
+
+/// The transformers of a case.
+pub(crate) fn resolved_transformers(
+    alloc: Global,
+    rows: &Rows,
+) -> Result<Vec<Transformer>, CaseRefusal>
+    ensures value { Answers Memory (λ v. v.items) result (each (transformer_in (bus_place rows.now)) 1 rows.now.transformers) }
+    ensures count { IfOk result (λ v. vec_len v ≡ length rows.now.transformers) }
+{
+    let places = row_places(alloc, rows.buses.as_slice())?;
+    transformers_in(alloc, &places, rows.transformers.as_slice())
 }

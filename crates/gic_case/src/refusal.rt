@@ -15,6 +15,7 @@ pub enum Part {
     Substation,
     Bus,
     Line,
+    Transformer,
 }
 
 /// The first broken rule, or want of memory. Rows count from 1; row 0 is the document or a whole list.
@@ -42,6 +43,12 @@ pub enum CaseRefusal {
     /// The two buses of the row are one.
     #[error("same ends in {list:?} row {row}")]
     SameEnds { list: Part, row: u32 },
+    /// The two buses of the transformer are in different substations.
+    #[error("apart in transformer row {row}")]
+    Apart { row: u32 },
+    /// The low voltage of the transformer is above its high voltage.
+    #[error("voltage order in transformer row {row}")]
+    VoltageOrder { row: u32 },
     /// More than 256 elements end at the node.
     #[error("degree at a node")]
     Degree { node: Name },

@@ -5,7 +5,7 @@ ghost use Rattle.gic_case.specs.declared.refusal.CaseRefusal.TheVariants.{Memory
 ghost use Rattle.gic_case.specs.Pass.{zone_row, substation_row, bus_row, line_row};
 
 use crate::field::Field;
-use crate::item::Substation;
+use crate::item::{Neutral, Substation};
 use crate::keys::row_table;
 use crate::refusal::{CaseRefusal, Part};
 use crate::value::{metres_at, name_at, natural_at, ohm_at, optional_flag_at, optional_ohm_at};
@@ -31,6 +31,39 @@ pub(crate) struct LineRow {
     pub(crate) north: i32,
     pub(crate) east: i32,
     pub(crate) blocked: bool,
+}
+
+/// What a transformer's kind has of its own, with the names of its buses.
+#[derive(Clone, Copy)]
+pub(crate) enum KindRow {
+    DeltaWye {
+        high: Name,
+        high_resistance: u32,
+    },
+    WyeWye {
+        high: Name,
+        low: Name,
+        low_volts: u32,
+        high_resistance: u32,
+        low_resistance: u32,
+    },
+    Auto {
+        high: Name,
+        low: Name,
+        low_volts: u32,
+        series_resistance: u32,
+        common_resistance: u32,
+    },
+    DeltaDelta,
+}
+
+/// A transformer, with the names of its buses.
+#[derive(Clone, Copy)]
+pub(crate) struct TransformerRow {
+    pub(crate) name: Name,
+    pub(crate) high_volts: u32,
+    pub(crate) kind: KindRow,
+    pub(crate) neutral: Option<Neutral>,
 }
 
 /// A row of the zones.

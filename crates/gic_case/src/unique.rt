@@ -21,16 +21,24 @@ fn names_of(alloc: Global, rows: &Rows) -> Result<Vec<Name>, AllocError>
     push_names(&mut names, rows.substations.as_slice())?;
     push_names(&mut names, rows.buses.as_slice())?;
     push_names(&mut names, rows.lines.as_slice())?;
+    push_names(&mut names, rows.transformers.as_slice())?;
     Ok(names)
 }
 
 /// The refusal for a place in the names, where the first lists have so many rows.
-fn duplicate_at(zones: usize, substations: usize, buses: usize, i: usize) -> CaseRefusal
+fn duplicate_at(
+    zones: usize,
+    substations: usize,
+    buses: usize,
+    lines: usize,
+    i: usize,
+) -> CaseRefusal
     requires zones { zones ≤ 256 }
     requires substations { substations ≤ 1024 }
     requires buses { buses ≤ 3072 }
+    requires lines { lines ≤ 8192 }
     requires place { i < 2 ^ 16 }
-    ensures value { result ≡ duplicate_at zones substations buses i }
+    ensures value { result ≡ duplicate_at zones substations buses lines i }
     ensures cause { result ≢ Memory }
 {
     let (list, before) = if i < zones {
@@ -39,8 +47,10 @@ fn duplicate_at(zones: usize, substations: usize, buses: usize, i: usize) -> Cas
         (Part::Substation, zones)
     } else if i < zones + substations + buses {
         (Part::Bus, zones + substations)
-    } else {
+    } else if i < zones + substations + buses + lines {
         (Part::Line, zones + substations + buses)
+    } else {
+        (Part::Transformer, zones + substations + buses + lines)
     };
     CaseRefusal::Duplicate {
         list,
@@ -59,6 +69,7 @@ pub(crate) fn unique(alloc: Global, rows: &Rows) -> Result<(), CaseRefusal>
             rows.zones.len(),
             rows.substations.len(),
             rows.buses.len(),
+            rows.lines.len(),
             i,
         )),
         None => Ok(()),

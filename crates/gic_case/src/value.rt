@@ -5,10 +5,11 @@ ghost use Rattle.toml.specs.View.{view, table_view};
 ghost use Rattle.gic_base.specs.Refusals.{Answers};
 ghost use Rattle.gic_case.specs.declared.refusal.CaseRefusal.TheVariants.{Memory};
 ghost use Rattle.gic_case.specs.Values.{natural_within, span_within, read_name};
-ghost use Rattle.gic_case.specs.Rows.{ohm_within, metres_within};
+ghost use Rattle.gic_case.specs.Rows.{ohm_within, volts_within, metres_within, read_neutral};
 ghost use Rattle.gic_case.specs.Pass.{required, optional};
 
 use crate::field::Field;
+use crate::item::Neutral;
 use crate::keys::at_key;
 use crate::refusal::{CaseRefusal, Part};
 use gic_base::Name;
@@ -49,6 +50,18 @@ fn read_name(value: &Value) -> Option<Name>
     }
 }
 
+/// The neutral device that a value is: a resistor in micro-ohm, or the word `blocked`.
+#[tactic(auto, unfolding(crate::specs::Rows::device_in))]
+fn read_neutral(value: &Value) -> Option<Neutral>
+    ensures { result ≡ read_neutral (view value.now) }
+{
+    match value.as_str() {
+        Some("blocked") => Some(Neutral::Blocked),
+        Some(_) => None,
+        None => natural_within(1000, 1000000000, value).map(Neutral::Resistor),
+    }
+}
+
 /// A whole number, within bounds.
 #[tactic(auto, unfolding(crate::specs::Pass::required))]
 pub(crate) fn natural_at(
@@ -78,6 +91,13 @@ pub(crate) fn ohm_at(list: Part, row: u32, at: Field, table: &Table) -> Result<u
     ensures { Answers Memory (λ n. n) result (required ohm_within list row at (table_view table.now)) }
 {
     natural_at(list, row, at, 1000, 1000000000, table)
+}
+
+/// A rated voltage in V.
+pub(crate) fn volts_at(list: Part, row: u32, at: Field, table: &Table) -> Result<u32, CaseRefusal>
+    ensures { Answers Memory (λ n. n) result (required volts_within list row at (table_view table.now)) }
+{
+    natural_at(list, row, at, 1000, 2000000, table)
 }
 
 /// A resistance in micro-ohm that may be absent.
@@ -148,6 +168,29 @@ pub(crate) fn optional_flag_at(
     match at_key(table, at.key()) {
         Some(value) => match value.as_bool() {
             Some(flag) => Ok(Some(flag)),
+            None => Err(CaseRefusal::Value {
+                list,
+                row,
+                field: at,
+            }),
+        },
+        None => Ok(None),
+    }
+}
+
+/// A neutral device that may be absent.
+#[tactic(auto, unfolding(crate::specs::Pass::optional))]
+pub(crate) fn optional_neutral_at(
+    list: Part,
+    row: u32,
+    at: Field,
+    table: &Table,
+) -> Result<Option<Neutral>, CaseRefusal>
+    ensures { Answers Memory (λ n. n) result (optional read_neutral list row at (table_view table.now)) }
+{
+    match at_key(table, at.key()) {
+        Some(value) => match read_neutral(value) {
+            Some(neutral) => Ok(Some(neutral)),
             None => Err(CaseRefusal::Value {
                 list,
                 row,

@@ -1,4 +1,4 @@
-use Rattle.std.proofs.Common.{◌≡◌, ◌<◌, ◌≤◌, ◌+◌, length, get_or, arith, ap, sym, ◌∙◌}
+use Rattle.std.proofs.Common.{◌≡◌, ◌<◌, ◌≤◌, length, get_or, arith, ap, sym, ◌∙◌}
 use Rattle.std.proofs.lemmas.Grind.{common_steps}
 use Rattle.gic_base.specs.Refusals.{settle}
 use Rattle.gic_case.specs.Lists.{node_names, ends_of, degree_of}
@@ -10,8 +10,8 @@ loop-node-preserved c =
     let names = node_names c.args.network.now in
     let ends = ends_of c.args.network.now in
     let node = c.loop-node.node in
+    let below : node < c.len.result = grind (arith, common_steps) in
     let within : node < length names = grind (arith, common_steps) in
-    let below : node < c.len.result + c.len-2.result = grind (arith, common_steps) in
     let counted : get_or c.in_ok-counts.counts.items node 0 ≡ degree_of c.as_slice.result.now node = c.in_ok-counts.ensures.degrees node below in
     let same : degree_of c.as_slice.result.now node ≡ degree_of ends node = ap (λ es. degree_of es node) (c.as_slice.ensures.value ∙ c.in_ok-ends.ensures.ends) in
     let few : degree_of ends node ≤ 256 = grind (arith, common_steps) in
