@@ -1,6 +1,12 @@
-//! The voltages that a field induces in lines.
+//! The fields of zones, and the voltages that they induce in the lines of a case.
 #![tactic(auto)]
 
+mod element_volts;
+mod fields;
+#[cfg(test)]
+mod tests;
 mod voltage;
 
+pub use element_volts::fill_volts;
+pub use fields::Fields;
 pub use voltage::line_nanovolts;

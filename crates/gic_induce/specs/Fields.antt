@@ -1,0 +1,15 @@
+-- The fields of zones: for each a pair (north, east) in mV/km.
+use Rattle.std.specs.Prelude.{ℕ, ℤ, pos, List, slice_index_or}
+use Rattle.gic_induce.specs.Voltage.{IsFieldWithin}
+
+-- both parts of a field are within 20000 mV/km
+abbrev pub IsField : ℤ × ℤ → Type 0
+IsField field = IsFieldWithin field.0 × IsFieldWithin field.1
+
+-- no field to the north and none to the east
+abbrev pub no_field : ℤ × ℤ
+no_field = (pos 0, pos 0)
+
+-- the field of the zone at this place
+abbrev pub field_at : List (ℤ × ℤ) → ℕ → ℤ × ℤ
+field_at fields zone = slice_index_or fields zone no_field
