@@ -1,0 +1,3 @@
+pub mod EndsOfRecords
+pub mod OneRead
+pub mod Turns

@@ -1,0 +1,15 @@
+use crate::Records;
+use csv::ByteRecord;
+use std::test::Fail;
+
+#[test]
+fn reads_two_records(rt: HostRuntime) -> Result<(), Fail> {
+    let mut records = Records::new(rt.alloc(), b"a,b\nc\n");
+    let mut row = ByteRecord::new(rt.alloc());
+    assert!(rt; records.read(&mut row)?);
+    assert_eq!(rt; row.len(), 2);
+    assert!(rt; records.read(&mut row)?);
+    assert_eq!(rt; row.len(), 1);
+    assert!(rt; !records.read(&mut row)?);
+    Ok(())
+}
