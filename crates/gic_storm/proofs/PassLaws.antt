@@ -1,0 +1,81 @@
+-- One pass over the records answers the first refusal of all rules.
+use Rattle.std.proofs.Common.{◌≡◌, ℕ, ◌+◌, ◌==◌, pos, nat_le, List, [], ◌∷◌, ◌++◌, length, map, Option, Some, None, is_some, Ok, refl, append_assoc}
+use Rattle.gic_base.specs.Refusals.{unless, settle}
+use Rattle.gic_base.specs.Passes.{◌>>=◌, or_refuse}
+use Rattle.gic_base.proofs.RefusalLaws.{then_law, last_law, value_law, test_law}
+use Rattle.gic_records.specs.Records.{records_of}
+use Rattle.gic_storm.specs.Columns.{form_of, width_of, north_place, east_place, time_in, field_in, zone_in, follows}
+use Rattle.gic_storm.specs.Pass.{row_in, rows_in, some_rows, storm_from}
+use Rattle.gic_storm.specs.Rules.{time_of, breaks_record, breaks_records, breaks_empty, broken_after, broken, row_of, rows_after, storm_with, storm_in, storm_of}
+use Rattle.gic_storm.specs.declared.form.Form.{Form}
+use Rattle.gic_storm.specs.declared.refusal.StormField.TheVariants as fields
+use Rattle.gic_storm.specs.declared.refusal.StormRefusal.{StormRefusal}
+use Rattle.gic_storm.specs.declared.refusal.StormRefusal.TheVariants as refusals
+
+-- the rules of a record but that of the number of rows
+abbrev breaks_columns : Form → List (List ℕ) → ℕ → Option ℕ → List (List ℕ) → List StormRefusal
+breaks_columns form zones row before columns =
+    unless (length columns == width_of form) (refusals.Shape row)
+    ++ (unless (is_some (time_in columns)) (refusals.Number row fields.Time)
+    ++ (unless (is_some (field_in columns (north_place form))) (refusals.Number row fields.North)
+    ++ (unless (is_some (field_in columns (east_place form))) (refusals.Number row fields.East)
+    ++ (unless (is_some (zone_in form zones columns)) (refusals.Zone row)
+    ++ unless (follows form before (time_of columns)) (refusals.Order row)))))
+
+-- one record
+row_law : (form : Form) (zones : List (List ℕ)) (row : ℕ) (before : Option ℕ) (columns : List (List ℕ))
+    → row_in form zones row before columns ≡ settle (breaks_columns form zones row before columns) (row_of form zones columns)
+unfolding row_in row_of
+row_law form zones row before columns =
+    then_law _ _ _ _ _ _ (test_law (length columns == width_of form) (refusals.Shape row))
+    (then_law _ _ _ _ _ _ (value_law (time_in columns) (refusals.Number row fields.Time) 0)
+    (then_law _ _ _ _ _ _ (value_law (field_in columns (north_place form)) (refusals.Number row fields.North) (pos 0))
+    (then_law _ _ _ _ _ _ (value_law (field_in columns (east_place form)) (refusals.Number row fields.East) (pos 0))
+    (then_law _ _ _ _ _ _ (value_law (zone_in form zones columns) (refusals.Zone row) None)
+    (last_law _ _ _ _ (test_law (follows form before (time_of columns)) (refusals.Order row)))))))
+
+time_row : (form : Form) (zones columns : List (List ℕ)) → (row_of form zones columns).time ≡ time_of columns
+unfolding row_of
+time_row form zones columns = refl
+
+parts_row : (form : Form) (zones : List (List ℕ)) (row : ℕ) (before : Option ℕ) (columns : List (List ℕ)) (more : List StormRefusal)
+    → breaks_record form zones row before columns ++ more ≡ unless (nat_le row 20000) refusals.TooMany ++ (breaks_columns form zones row before columns ++ more)
+unfolding breaks_record
+parts_row form zones row before columns more = append_assoc (unless (nat_le row 20000) refusals.TooMany) (breaks_columns form zones row before columns) more
+
+-- the records after the first
+pub rows_law : (form : Form) (zones : List (List ℕ)) (row : ℕ) (before : Option ℕ) (records : List (List (List ℕ)))
+    → rows_in form zones row before records ≡ settle (breaks_records form zones row before records) (map (row_of form zones) records)
+unfolding rows_in
+rows_law form zones row before [] = refl
+rows_law form zones row before (columns ∷ records) =
+    let more = breaks_records form zones (row + 1) (Some (time_of columns)) records in
+    let xs = map (row_of form zones) records in
+    let rest : rows_in form zones (row + 1) (Some (row_of form zones columns).time) records ≡ settle more xs = rw (time_row form zones columns) (rows_law form zones (row + 1) (Some (time_of columns)) records) in
+    rw (parts_row form zones row before columns more)
+    (then_law _ _ _ _ _ _ (test_law (nat_le row 20000) refusals.TooMany)
+    (then_law _ _ _ _ _ _ (row_law form zones row before columns)
+    (last_law _ _ _ (λ ys. row_of form zones columns ∷ ys) rest)))
+
+some_law : (form : Form) (zones : List (List ℕ)) (records : List (List (List ℕ))) → some_rows (map (row_of form zones) records) ≡ settle (breaks_empty records) (map (row_of form zones) records)
+some_law form zones [] = refl
+some_law form zones (columns ∷ records) = refl
+
+form_law : (o : Option Form) (zones : List (List ℕ)) (records : List (List (List ℕ)))
+    → (or_refuse o (refusals.Shape 0) >>= (λ form. rows_in form zones 1 None records >>= (λ xs. some_rows xs >>= (λ ys. Ok (storm_with zones ys)))))
+    ≡ settle (broken_after o zones records) (storm_with zones (rows_after o zones records))
+form_law None zones records = refl
+form_law (Some form) zones records =
+    then_law _ _ _ _ _ _ (rows_law form zones 1 None records)
+    (last_law _ _ _ (storm_with zones) (some_law form zones records))
+
+-- all records
+storm_law : (zones : List (List ℕ)) (records : List (List (List ℕ))) → storm_from zones records ≡ settle (broken zones records) (storm_in zones records)
+unfolding storm_from
+storm_law zones [] = refl
+storm_law zones (first ∷ records) = form_law (form_of first) zones records
+
+-- the storm of bytes
+pub storm_of_law : (zones : List (List ℕ)) (bytes : List ℕ) → storm_from zones (records_of bytes) ≡ storm_of zones bytes
+unfolding storm_of
+storm_of_law zones bytes = storm_law zones (records_of bytes)

@@ -1,0 +1,45 @@
+-- What one pass over the records reads, up to the first fault. Private functions are proved to read this; the contract of the reader speaks of the rules.
+use Rattle.std.specs.Prelude.{ℕ, ◌+◌, nat_le, ◌==◌, List, [], ◌∷◌, length, Option, Some, None, Result, Ok, Err}
+use Rattle.gic_base.specs.Passes.{◌>>=◌, or_refuse, test}
+use Rattle.gic_storm.specs.Columns.{form_of, width_of, north_place, east_place, time_in, field_in, zone_in, follows}
+use Rattle.gic_storm.specs.Rules.{storm_with}
+use Rattle.gic_storm.specs.StormView.{StormView}
+use Rattle.gic_storm.specs.declared.form.Form.{Form}
+use Rattle.gic_storm.specs.declared.refusal.StormField.TheVariants as fields
+use Rattle.gic_storm.specs.declared.refusal.StormRefusal.{StormRefusal}
+use Rattle.gic_storm.specs.declared.refusal.StormRefusal.TheVariants as refusals
+use Rattle.gic_storm.specs.declared.row.Row.{Row}
+
+-- the row that a record is, at a row that is not too late
+unfoldable pub row_in : Form → (zones : List (List ℕ)) → (row : ℕ) → (before : Option ℕ) → (columns : List (List ℕ)) → Result Row StormRefusal
+row_in form zones row before columns = do
+  shape ← test (length columns == width_of form) (refusals.Shape row)
+  time ← or_refuse (time_in columns) (refusals.Number row fields.Time)
+  north ← or_refuse (field_in columns (north_place form)) (refusals.Number row fields.North)
+  east ← or_refuse (field_in columns (east_place form)) (refusals.Number row fields.East)
+  zone ← or_refuse (zone_in form zones columns) (refusals.Zone row)
+  order ← test (follows form before time) (refusals.Order row)
+  Ok (record { time = time; zone = zone; north = north; east = east })
+
+-- the rows of the records, numbered from here on
+unfoldable pub rows_in : Form → (zones : List (List ℕ)) → (row : ℕ) → (before : Option ℕ) → List (List (List ℕ)) → Result (List Row) StormRefusal
+rows_in form zones row before [] = Ok []
+rows_in form zones row before (columns ∷ records) =
+    test (nat_le row 20000) refusals.TooMany
+    >>= (λ few. row_in form zones row before columns
+    >>= (λ x. rows_in form zones (row + 1) (Some x.time) records
+    >>= (λ xs. Ok (x ∷ xs))))
+
+-- the rows, of which there is one at least
+abbrev pub some_rows : List Row → Result (List Row) StormRefusal
+some_rows [] = Err refusals.Empty
+some_rows (x ∷ xs) = Ok (x ∷ xs)
+
+-- the storm that the records are, or the first broken rule
+unfoldable pub storm_from : (zones : List (List ℕ)) → List (List (List ℕ)) → Result StormView StormRefusal
+storm_from zones [] = Err (refusals.Shape 0)
+storm_from zones (first ∷ records) = do
+  form ← or_refuse (form_of first) (refusals.Shape 0)
+  xs ← rows_in form zones 1 None records
+  ys ← some_rows xs
+  Ok (storm_with zones ys)
