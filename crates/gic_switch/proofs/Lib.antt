@@ -1,0 +1,6 @@
+pub mod InForce
+pub mod ItemsWithin
+pub mod NamedItems
+pub mod PassLaws
+pub mod ReadRows
+pub mod Runs

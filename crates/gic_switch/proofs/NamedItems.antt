@@ -1,0 +1,81 @@
+-- What each name stands for.
+use Rattle.std.proofs.Common.{◌≡◌, ℕ, suc, ◌+◌, ◌<◌, List, [], ◌∷◌, ◌++◌, length, map, take, get_or, Bool, true, false, cond, Option, Some, None, option_map, refl, sym, ap, ◌∙◌, arith, inl, inr, zero-add, length-take-le}
+use Rattle.std.specs.Prelude.{IsTrue}
+use Rattle.std.specs.List.{AllByRecursion}
+use Rattle.std.specs.Cmp.Lexicographic.{same_text}
+use Rattle.std.proofs.lemmas.Bool.{cases_Bool, false≢true}
+use Rattle.std.proofs.lemmas.Cmp.{nat_list_eq_equiv}
+use Rattle.std.proofs.lemmas.List.{take_more, map-append, length-map}
+use Rattle.std.proofs.lemmas.List.Elements.{recursion_from_All}
+use Rattle.gic_base.specs.Name.{is_name}
+use Rattle.gic_case.specs.Keys.{same}
+use Rattle.gic_case.specs.Names.{place_from, place_in}
+use Rattle.gic_case.specs.Lists.{Lists, IsSound}
+use Rattle.gic_model.specs.declared.parts.Item.{Item}
+use Rattle.gic_switch.specs.Items.{or_else, named}
+
+-- one more name behind the others
+place_last : (n : ℕ) (names : List (List ℕ)) (x q : List ℕ) → place_from n (names ++ x ∷ []) q ≡ or_else (place_from n names q) (cond (same q x) (Some (n + length names)) None)
+place_last n [] x q = let zeros : n ≡ n + 0 = omega arith in ap (λ m. cond (same q x) (Some m) None) zeros
+place_last n (y ∷ names) x q =
+    let sums : n + 1 + length names ≡ n + suc (length names) = omega arith in
+    elim (cases_Bool (same q y)) [
+      | inl here ↦ rw here
+      | inr other ↦ rw (other, place_last (n + 1) names x q, sums)
+    ]
+
+joined : (item : ℕ → Item) (a : Option Item) (p : Option ℕ) (b : Bool) (i : ℕ)
+    → or_else (or_else a (option_map item p)) (cond b (Some (item i)) None) ≡ or_else a (option_map item (or_else p (cond b (Some i) None)))
+joined item (Some x) p b i = refl
+joined item None (Some n) b i = refl
+joined item None None true i = refl
+joined item None None false i = refl
+
+-- what is found after the names of one more element, and what was found before
+pub entered : {X : Type 0} (name : X → List ℕ) (item : ℕ → Item) (before now after : List ℕ → Option Item) (xs : List X) (i : ℕ) (x : X) → i < length xs → x ≡ get_or xs i x
+    → ((q : List ℕ) → now q ≡ or_else (before q) (option_map item (place_in (map name (take i xs)) q)))
+    → ((q : List ℕ) → after q ≡ or_else (now q) (cond (same (name x) q) (Some (item i)) None))
+    → (q : List ℕ) → after q ≡ or_else (before q) (option_map item (place_in (map name (take (i + 1) xs)) q))
+entered name item before now after xs i x within at old new q =
+    let count : length (map name (take i xs)) ≡ i = length-map (take i xs) name ∙ length-take-le i xs (omega arith) in
+    let turned : same (name x) q ≡ same q (name x) = nat_list_eq_equiv.symm (name x) q in
+    let more : map name (take (i + 1) xs) ≡ map name (take i xs) ++ name x ∷ [] =
+    ap (map name) (take_more xs i x within ∙ ap (λ y. take i xs ++ y ∷ []) (sym at)) ∙ map-append name (take i xs) (x ∷ []) in
+    rw (new q, old q, turned, more, place_last 0 (map name (take i xs)) (name x) q, count, zero-add) (joined item (before q) (place_in (map name (take i xs)) q) (same q (name x)) i)
+
+or_none : {A : Type 0} (o : Option A) → o ≡ or_else o None
+or_none None = refl
+or_none (Some x) = refl
+
+-- the names that are left after a list with the same elements are those of both lists
+both_parts : {X : Type 0} (P : X → Type 0) (xs ys : List X) → AllByRecursion P (xs ++ ys) → AllByRecursion P xs × AllByRecursion P ys
+both_parts P [] ys all = (tt, all)
+both_parts P (x ∷ xs) ys all = let rest = both_parts P xs ys all.1 in ((all.0, rest.0), rest.1)
+
+-- all of these are names
+abbrev AreNames : List (List ℕ) → Type 0
+AreNames names = AllByRecursion (λ n. IsTrue (is_name n)) names
+
+-- a text that is no name is not among names
+not_among : (n : ℕ) (names : List (List ℕ)) (q : List ℕ) → is_name q ≡ false → AreNames names → place_from n names q ≡ None
+not_among n [] q bad all = refl
+not_among n (x ∷ names) q bad all =
+    elim (cases_Bool (same q x)) [
+      | inl here ↦ let one : q ≡ x = same_text q x (sym here) in absurd (false≢true (sym bad ∙ ap is_name one ∙ all.0))
+      | inr other ↦ rw other (not_among (n + 1) names q bad all.1)
+    ]
+
+-- a text from which no name is read is none
+pub no_name : (b : Bool) (q : List ℕ) → cond b (Some q) None ≡ None → b ≡ false
+no_name true q h = cc
+no_name false q h = refl
+
+-- a text that is no name stands for nothing
+pub nothing_named : (case : Lists) (q : List ℕ) → IsSound case → is_name q ≡ false → named case q ≡ None
+nothing_named case q sound bad =
+    let all = recursion_from_All (λ n. IsTrue (is_name n)) _ sound.names_sound in
+    let zones = both_parts _ (map (λ z. z.name) case.zones) _ all in
+    let substations = both_parts _ (map (λ s. s.name) case.substations) _ zones.1 in
+    let buses = both_parts _ (map (λ b. b.name) case.buses) _ substations.1 in
+    let lines = both_parts _ (map (λ l. l.name) case.lines) _ buses.1 in
+    rw (not_among 0 _ q bad lines.0, not_among 0 _ q bad lines.1, not_among 0 _ q bad substations.0) refl

@@ -1,0 +1,70 @@
+-- One pass over the records answers the first refusal of all rules.
+use Rattle.std.proofs.Common.{◌≡◌, ℕ, ◌+◌, ◌==◌, nat_le, List, [], ◌∷◌, ◌++◌, length, map, Option, Some, None, is_some, refl, append_assoc}
+use Rattle.gic_base.specs.Refusals.{unless, settle}
+use Rattle.gic_base.proofs.RefusalLaws.{then_law, last_law, value_law, test_law}
+use Rattle.gic_records.specs.Columns.{text_at}
+use Rattle.gic_records.specs.Records.{records_of}
+use Rattle.gic_storm.specs.Columns.{time_in}
+use Rattle.gic_case.specs.Lists.{Lists}
+use Rattle.gic_model.specs.declared.parts.Item.TheVariants as items
+use Rattle.gic_switch.specs.Columns.{is_head, action_in, follows}
+use Rattle.gic_switch.specs.Items.{item_in}
+use Rattle.gic_switch.specs.Pass.{row_in, rows_in, switchings_from}
+use Rattle.gic_switch.specs.Rules.{time_of, action_of, breaks_record, breaks_records, broken, row_of, list_of, switchings_of}
+use Rattle.gic_switch.specs.declared.action.Action.TheVariants.{Open}
+use Rattle.gic_switch.specs.declared.refusal.SwitchRefusal.{SwitchRefusal}
+use Rattle.gic_switch.specs.declared.refusal.SwitchRefusal.TheVariants as refusals
+
+-- the rules of a record but that of the number of rows
+abbrev breaks_columns : Lists → ℕ → Option ℕ → List (List ℕ) → List SwitchRefusal
+breaks_columns case row before columns =
+    unless (length columns == 3) (refusals.Shape row)
+    ++ (unless (is_some (time_in columns)) (refusals.Number row)
+    ++ (unless (follows before (time_of columns)) (refusals.Order row)
+    ++ (unless (is_some (action_in columns)) (refusals.Action row)
+    ++ unless (is_some (item_in case (action_of columns) (text_at columns 1))) (refusals.Item row))))
+
+-- one record
+row_law : (case : Lists) (row : ℕ) (before : Option ℕ) (columns : List (List ℕ))
+    → row_in case row before columns ≡ settle (breaks_columns case row before columns) (row_of case columns)
+unfolding row_in row_of
+row_law case row before columns =
+    then_law _ _ _ _ _ _ (test_law (length columns == 3) (refusals.Shape row))
+    (then_law _ _ _ _ _ _ (value_law (time_in columns) (refusals.Number row) 0)
+    (then_law _ _ _ _ _ _ (test_law (follows before (time_of columns)) (refusals.Order row))
+    (then_law _ _ _ _ _ _ (value_law (action_in columns) (refusals.Action row) Open)
+    (last_law _ _ _ _ (value_law (item_in case (action_of columns) (text_at columns 1)) (refusals.Item row) (items.Line 0))))))
+
+time_row : (case : Lists) (columns : List (List ℕ)) → (row_of case columns).time ≡ time_of columns
+unfolding row_of
+time_row case columns = refl
+
+parts_row : (case : Lists) (row : ℕ) (before : Option ℕ) (columns : List (List ℕ)) (more : List SwitchRefusal)
+    → breaks_record case row before columns ++ more ≡ unless (nat_le row 4096) refusals.TooMany ++ (breaks_columns case row before columns ++ more)
+unfolding breaks_record
+parts_row case row before columns more = append_assoc (unless (nat_le row 4096) refusals.TooMany) (breaks_columns case row before columns) more
+
+-- the records after the first
+rows_law : (case : Lists) (row : ℕ) (before : Option ℕ) (records : List (List (List ℕ)))
+    → rows_in case row before records ≡ settle (breaks_records case row before records) (map (row_of case) records)
+unfolding rows_in
+rows_law case row before [] = refl
+rows_law case row before (columns ∷ records) =
+    let more = breaks_records case (row + 1) (Some (time_of columns)) records in
+    let xs = map (row_of case) records in
+    let rest : rows_in case (row + 1) (Some (row_of case columns).time) records ≡ settle more xs = rw (time_row case columns) (rows_law case (row + 1) (Some (time_of columns)) records) in
+    rw (parts_row case row before columns more)
+    (then_law _ _ _ _ _ _ (test_law (nat_le row 4096) refusals.TooMany)
+    (then_law _ _ _ _ _ _ (row_law case row before columns)
+    (last_law _ _ _ (λ ys. row_of case columns ∷ ys) rest)))
+
+-- all records
+switchings_law : (case : Lists) (records : List (List (List ℕ))) → switchings_from case records ≡ settle (broken case records) (list_of case records)
+unfolding switchings_from
+switchings_law case [] = refl
+switchings_law case (first ∷ records) = then_law _ _ _ _ _ _ (test_law (is_head first) (refusals.Shape 0)) (rows_law case 1 None records)
+
+-- the switchings of bytes
+pub switchings_of_law : (case : Lists) (bytes : List ℕ) → switchings_from case (records_of bytes) ≡ switchings_of case bytes
+unfolding switchings_of
+switchings_of_law case bytes = switchings_law case (records_of bytes)
