@@ -1,0 +1,66 @@
+-- Where the neutrals of transformers are: a ground grid is a substation, and each neutral of its own is a node after the buses.
+use Rattle.std.proofs.Common.{◌≡◌, ℕ, ◌+◌, ◌<◌, ◌≤◌, ◌⊎◌, true, false, List, [], ◌∷◌, length, is_some, refl, arith, inl, inr}
+use Rattle.std.proofs.lemmas.Bool.{cases_Bool}
+use Rattle.std.proofs.lemmas.List.{get_or-map}
+use Rattle.std.specs.List.{AllByRecursion}
+use Rattle.gic_case.specs.declared.item.Bus.{Bus}
+use Rattle.gic_case.specs.declared.item.Kind.{Kind}
+use Rattle.gic_case.specs.declared.item.Kind.TheVariants as kinds
+use Rattle.gic_case.specs.declared.item.Transformer.{Transformer}
+use Rattle.gic_case.specs.Lists.{Lists, IsSound, IsSoundKind, IsSoundTransformer, has_windings, neutrals_from, grid_of, substation_at, with_device}
+
+-- each bus is in a substation of the case
+pub substation_within : (c : Lists) → IsSound c → (place : ℕ) → place < length c.buses → substation_at c.buses place < length c.substations
+substation_within c sound place within =
+    let none : Bus = record { name = []; substation = 0 } in
+    let at = get_or-map (λ (b : Bus). b.substation) c.buses place none 0 within in
+    let inside = sound.buses_within place none within in
+    omega (arith, at, inside)
+
+-- so the ground grid of a transformer that has windings is a substation
+pub grid_within : (c : Lists) → IsSound c → (volts : ℕ) (kind : Kind) → IsSoundKind c volts kind → has_windings kind ≡ true → grid_of c.buses kind < length c.substations
+grid_within c sound volts (kinds.DeltaWye high high_resistance) h has = substation_within c sound high h.0
+grid_within c sound volts (kinds.WyeWye high low low_volts high_resistance low_resistance) h has = substation_within c sound high h.0.high_within
+grid_within c sound volts (kinds.Auto high low low_volts series_resistance common_resistance) h has = substation_within c sound high h.0.high_within
+grid_within c sound volts kinds.DeltaDelta h has = absurd (cc has)
+
+-- the neutral of a transformer that has windings is a substation, or comes after the buses; the latter where it has a neutral device
+pub record IsNeutral (c : Lists) (nodes : ℕ) (p : ℕ × Transformer) : Type 0 where
+  pub sound : IsSoundTransformer c p.1
+  pub inside : has_windings p.1.kind ≡ true → p.0 < nodes
+  pub no_bus : has_windings p.1.kind ≡ true → (p.0 < length c.substations) ⊎ (length c.substations + length c.buses ≤ p.0)
+  pub own : is_some p.1.neutral ≡ true → length c.substations + length c.buses ≤ p.0
+
+own_neutral : (c : Lists) (nodes own : ℕ) (t : Transformer) → length c.substations + length c.buses ≤ own → own < nodes → IsSoundTransformer c t → IsNeutral c nodes (own, t)
+own_neutral c nodes own t past fits h = record {
+  sound = h;
+  inside = λ windings. fits;
+  no_bus = λ windings. inr past;
+  own = λ device. past;
+}
+
+shared_neutral : (c : Lists) → IsSound c → (nodes : ℕ) (t : Transformer) → length c.substations ≤ nodes → is_some t.neutral ≡ false → IsSoundTransformer c t
+    → IsNeutral c nodes (grid_of c.buses t.kind, t)
+shared_neutral c sound nodes t grids none h = record {
+  sound = h;
+  inside = λ windings. omega (arith, grid_within c sound t.high_volts t.kind h.kind_sound windings);
+  no_bus = λ windings. inl (grid_within c sound t.high_volts t.kind h.kind_sound windings);
+  own = λ device. absurd (cc (none, device));
+}
+
+pub neutrals_within : (c : Lists) → IsSound c → (nodes own : ℕ) (ts : List Transformer) → length c.substations ≤ nodes → length c.substations + length c.buses ≤ own
+    → own + length (with_device ts) ≤ nodes → AllByRecursion (IsSoundTransformer c) ts → AllByRecursion (IsNeutral c nodes) (neutrals_from c.buses own ts)
+neutrals_within c sound nodes own [] grids past fits h = tt
+neutrals_within c sound nodes own (t ∷ ts) grids past fits h =
+    elim (cases_Bool (is_some t.neutral)) [
+      | inl has ↦
+          let counted : length (with_device (t ∷ ts)) ≡ length (with_device ts) + 1 = rw has (omega arith) in
+          rw has (
+            own_neutral c nodes own t past (omega arith) h.0,
+            neutrals_within c sound nodes (own + 1) ts grids (omega arith) (omega arith) h.1,
+          )
+      | inr none ↦
+          let counted : length (with_device (t ∷ ts)) ≡ length (with_device ts) = rw none refl in
+          rw none
+          (shared_neutral c sound nodes t grids none h.0, neutrals_within c sound nodes own ts grids past (omega arith) h.1)
+    ]

@@ -1,0 +1,10 @@
+pub mod Pushed
+pub mod Parts
+pub mod Neutrals
+pub mod Grids
+pub mod Within
+pub mod Counts
+pub mod Limits
+pub mod Parted
+pub mod Around
+pub mod Weighted

@@ -1,0 +1,4 @@
+pub mod ElementList
+pub mod Weights
+pub mod Order
+pub mod Terminals

@@ -1,0 +1,65 @@
+//! The weights of a transformer's windings in its effective current.
+ghost use Rattle.std.specs.Prelude.{◌≡◌, ◌+◌, ◌<◌, ◌≤◌, ◌++◌, length, slice_get, IfSome};
+ghost use Rattle.std.specs.Option.{option_to_list};
+ghost use Rattle.gic_winding.specs.ElementList.{elements_of};
+ghost use Rattle.gic_winding.specs.Weights.{low_volts_of, weights_of, weighted_windings};
+ghost use Rattle.gic_winding.specs.Order.{roles_of, weighted_from};
+
+use crate::order::first_winding;
+use crate::weights::Weights;
+use gic_base::ElementId;
+use gic_case::{Case, Kind, Transformer};
+use gic_model::Elements;
+
+/// The windings of the transformer at a place, from 0, with their weights: the voltage of the high side for a high
+/// winding, of the low side for a low or a common one, and their difference for a series one. A delta-delta unit has no
+/// winding.
+pub fn effective_weights(case: &Case, elements: &Elements, transformer: u16) -> Weights
+    requires elements { elements.now ≡ elements_of case.now }
+    requires place { transformer < length case.now.transformers }
+    ensures value { result ≡ weights_of case.now transformer }
+    ensures all { weighted_windings case.now transformer ≡ option_to_list result.first ++ option_to_list result.second }
+    ensures first_inside { IfSome result.first (λ w. w.0.0 < length elements.now.list) }
+    ensures second_inside { IfSome result.second (λ w. w.0.0 < length elements.now.list) }
+{
+    let first = first_winding(elements.list(), transformer);
+    weights_from(first, &case.transformers()[transformer as usize])
+}
+
+/// The weights of a transformer whose first winding is at this place.
+fn weights_from(first: u16, transformer: &Transformer) -> Weights
+    requires room { first ≤ 19968 }
+    requires order { low_volts_of transformer.now.kind ≤ transformer.now.high_volts }
+    ensures first { result.first ≡ slice_get (weighted_from transformer.now first) 0 }
+    ensures second { result.second ≡ slice_get (weighted_from transformer.now first) 1 }
+    ensures all { weighted_from transformer.now first ≡ option_to_list result.first ++ option_to_list result.second }
+    ensures high_volts { result.high_volts ≡ transformer.now.high_volts }
+    ensures first_inside { IfSome result.first (λ w. w.0.0 < first + length (roles_of transformer.now.kind)) }
+    ensures second_inside { IfSome result.second (λ w. w.0.0 < first + length (roles_of transformer.now.kind)) }
+{
+    let high_volts = transformer.high_volts;
+    let at = ElementId(first);
+    let next = ElementId(first + 1);
+    match transformer.kind {
+        Kind::DeltaWye { .. } => Weights {
+            first: Some((at, high_volts)),
+            second: None,
+            high_volts,
+        },
+        Kind::WyeWye { low_volts, .. } => Weights {
+            first: Some((at, high_volts)),
+            second: Some((next, low_volts)),
+            high_volts,
+        },
+        Kind::Auto { low_volts, .. } => Weights {
+            first: Some((at, high_volts - low_volts)),
+            second: Some((next, low_volts)),
+            high_volts,
+        },
+        Kind::DeltaDelta => Weights {
+            first: None,
+            second: None,
+            high_volts,
+        },
+    }
+}

@@ -1,0 +1,18 @@
+//! The elements of a case, and the weights of a transformer's windings in its effective current.
+#![tactic(auto)]
+
+mod effective;
+mod element;
+pub mod laws;
+mod list;
+mod memory;
+mod neutral;
+mod order;
+mod push;
+#[cfg(test)]
+mod tests;
+mod weights;
+
+pub use effective::effective_weights;
+pub use list::elements;
+pub use weights::Weights;

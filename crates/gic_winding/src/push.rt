@@ -1,0 +1,115 @@
+//! Elements at the end of a list.
+ghost use Rattle.std.specs.Prelude.{◌≡◌, ◌++◌, length, OnOk};
+ghost use Rattle.gic_case.specs.Lists.{IsSoundLine, IsSoundTransformer, grid_of};
+ghost use Rattle.gic_winding.specs.ElementList.{earthing_of, line_of, windings_of, resistor_of};
+
+use crate::element::{earthing, line, resistor, winding};
+use crate::memory::push;
+use crate::neutral::{bus_node, ground_grid};
+use gic_base::{NodeId, OutOfMemory};
+use gic_case::{Case, Kind, Line, Neutral, Transformer};
+use gic_model::{Element, Role};
+
+/// The earthing of a substation, if it has one.
+pub fn push_earthing(
+    list: &mut Vec<Element>,
+    place: u16,
+    ground: Option<u32>,
+) -> Result<(), OutOfMemory>
+    ensures { OnOk result (list.new.items ≡ list.old.items ++ earthing_of place ground) }
+{
+    match ground {
+        Some(micro_ohm) => push(list, earthing(place, micro_ohm)),
+        None => Ok(()),
+    }
+}
+
+/// A line, if it is not blocked.
+pub fn push_line(
+    list: &mut Vec<Element>,
+    case: &Case,
+    place: u16,
+    row: &Line,
+) -> Result<(), OutOfMemory>
+    requires { IsSoundLine case.now row.now }
+    ensures { OnOk result (list.new.items ≡ list.old.items ++ line_of (length case.now.substations) place row.now) }
+{
+    if row.blocked {
+        return Ok(());
+    }
+    let from = bus_node(case, row.from);
+    let to = bus_node(case, row.to);
+    push(list, line(place, from, to, row.resistance))
+}
+
+/// The windings of a transformer.
+pub fn push_windings(
+    list: &mut Vec<Element>,
+    case: &Case,
+    place: u16,
+    neutral: NodeId,
+    transformer: &Transformer,
+) -> Result<(), OutOfMemory>
+    requires { IsSoundTransformer case.now transformer.now }
+    ensures { OnOk result (list.new.items ≡ list.old.items ++ windings_of (length case.now.substations) place neutral.0 transformer.now.kind) }
+{
+    match transformer.kind {
+        Kind::DeltaWye {
+            high,
+            high_resistance,
+        } => {
+            let high = bus_node(case, high);
+            let only = winding(place, Role::High, high, neutral, high_resistance);
+            push(list, only)
+        }
+        Kind::WyeWye {
+            high,
+            low,
+            high_resistance,
+            low_resistance,
+            ..
+        } => {
+            let high = bus_node(case, high);
+            let low = bus_node(case, low);
+            let first = winding(place, Role::High, high, neutral, high_resistance);
+            let second = winding(place, Role::Low, low, neutral, low_resistance);
+            push(list, first)?;
+            push(list, second)
+        }
+        Kind::Auto {
+            high,
+            low,
+            series_resistance,
+            common_resistance,
+            ..
+        } => {
+            let high = bus_node(case, high);
+            let low = bus_node(case, low);
+            let first = winding(place, Role::Series, high, low, series_resistance);
+            let second = winding(place, Role::Common, low, neutral, common_resistance);
+            push(list, first)?;
+            push(list, second)
+        }
+        Kind::DeltaDelta => Ok(()),
+    }
+}
+
+/// The resistor in a transformer's neutral, if it has one.
+pub fn push_resistor(
+    list: &mut Vec<Element>,
+    case: &Case,
+    place: u16,
+    neutral: NodeId,
+    transformer: &Transformer,
+) -> Result<(), OutOfMemory>
+    requires { IsSoundTransformer case.now transformer.now }
+    ensures { OnOk result (list.new.items ≡ list.old.items ++ resistor_of place neutral.0 (grid_of case.now.buses transformer.now.kind) transformer.now.neutral) }
+{
+    match transformer.neutral {
+        Some(Neutral::Resistor(micro_ohm)) => {
+            let grid = ground_grid(case, transformer);
+            push(list, resistor(place, neutral, grid, micro_ohm))
+        }
+        Some(Neutral::Blocked) | None => Ok(()),
+    }
+}
