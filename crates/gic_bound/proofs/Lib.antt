@@ -1,0 +1,6 @@
+pub mod NodeByNode
+pub mod RowParts
+pub mod Rising
+pub mod Least
+pub mod Shares
+pub mod ShareEntries

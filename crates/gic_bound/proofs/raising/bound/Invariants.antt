@@ -1,0 +1,13 @@
+use Rattle.std.proofs.Common.{◌≡◌, ◌*◌, ◌-◌, length, slice_index, sum}
+use Rattle.gic_net.specs.Net.{standing}
+use Rattle.gic_bound.specs.Raising.{IsUnderCapped}
+use Rattle.gic_bound.proofs.raising.bound.Given as goal
+
+abbrev pub invariant-loop : goal.invariant-loop
+invariant-loop l = record {
+  count : length l.out ≡ l.net.network.nodes;
+  under : IsUnderCapped (standing l.net) (slice_index l.out);
+}
+
+abbrev pub decreases-loop : goal.decreases-loop
+decreases-loop l = l.net.network.nodes * 4097 - sum l.out

@@ -1,0 +1,6 @@
+pub mod Entries
+pub mod Raising
+pub mod Shares
+pub mod ShareLaws
+pub mod WorkedShares
+pub mod Laws

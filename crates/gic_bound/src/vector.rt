@@ -1,0 +1,63 @@
+//! One entry for each node.
+use gic_base::{NodeId, OutOfMemory};
+use std::alloc::Global;
+use std::marker::Model;
+
+/// One entry for each node, each from 0 to 4097.
+#[derive(Drop)]
+pub struct BoundVector {
+    entries: Vec<u16>,
+}
+
+impl Model for BoundVector {
+    ghost use Rattle.std.specs.Prelude.{List, ℕ, slice_index};
+    ghost use Rattle.gic_bound.specs.Entries.{AreCapped};
+
+    ghost Value = { List ℕ };
+
+    ghost view = { λ v. v.entries.items };
+
+    ghost invariant = { λ v. AreCapped (slice_index v.entries.items) };
+}
+
+impl BoundVector {
+    ghost use Rattle.std.specs.Prelude.{◌≡◌, ◌≤◌, ◌<◌, [], length, replicate, slice_index, slice_set, All, Contains, IfOk};
+    ghost use Rattle.gic_bound.specs.Entries.{AreCapped};
+
+    /// For a network of this many nodes; all entries are 0.
+    pub fn new(alloc: Global, nodes: u16) -> Result<BoundVector, OutOfMemory>
+        ensures { IfOk result (λ vector. vector ≡ replicate nodes 0) }
+    {
+        match vec![in alloc; 0; nodes as usize] {
+            Ok(entries) => Ok(BoundVector { entries }),
+            Err(_) => Err(OutOfMemory),
+        }
+    }
+
+    /// The entry at a node. The answer also tells that no entry is above 4097.
+    pub fn entry(&self, node: NodeId) -> u16
+        requires { node.0 < length self.now }
+        ensures value { result ≡ slice_index self.now node.0 }
+        ensures capped { AreCapped (slice_index self.now) }
+    {
+        self.entries[node.0 as usize]
+    }
+
+    /// Changes the entry at this node alone.
+    pub fn set(&mut self, node: NodeId, value: u16)
+        requires node { node.0 < length self.old }
+        requires capped { value ≤ 4097 }
+        ensures { self.new ≡ slice_set self.old node.0 value }
+    {
+        self.entries[node.0 as usize] = value;
+    }
+
+    /// The greatest entry, 0 if there is none.
+    pub fn walk(&self) -> u16
+        ensures none_above { All (λ entry. entry ≤ result) self.now }
+        ensures reached { 0 < length self.now → Contains self.now result }
+        ensures none { self.now ≡ [] → result ≡ 0 }
+    {
+        self.entries.iter().copied().max().unwrap_or(0)
+    }
+}
