@@ -1,0 +1,12 @@
+pub mod Links
+pub mod LinkSweeps
+pub mod LinkSums
+pub mod LinkRows
+pub mod Cuts
+pub mod OneSweep
+pub mod Closer
+pub mod Stages
+pub mod Settling
+pub mod LinksOfElements
+pub mod RowsOfNetwork
+pub mod Near

@@ -1,0 +1,4 @@
+//! Why sweeps settle the guesses, whatever they were before.
+#![tactic(auto)]
+
+pub mod laws;
