@@ -1,0 +1,22 @@
+use Rattle.std.proofs.Common.{◌≡◌, ◌^◌, arith, sym, subst, ⊎_elim}
+use Rattle.std.proofs.lemmas.Int.{ints}
+use Rattle.std.proofs.lemmas.Bool.{cases_lt}
+use Rattle.std.proofs.lemmas.List.{get_or_past}
+use Rattle.gic_enclose.specs.Ends.{no_ends, ends_at}
+use Rattle.gic_enclose.specs.Certain.{IsNarrow}
+use Rattle.gic_enclose.proofs.enclosing.enclose.Goals as goal
+
+pub returns-clause-narrow : goal.returns-clause-narrow
+returns-clause-narrow c settled k =
+    let net = c.args.net.now in
+    let out = c.loop-node.out in
+    let i = c.loop-node.invariant in
+    let close = c.reach-reach.ensures.close (2 ^ 29) settled in
+    let end = c.nodes-node-end.ensures.value in
+    ⊎_elim
+    (λ inside. i.narrow (omega (arith, close)) k (omega (arith, inside, end, c.loop-node-test.false, c.loop-node.auto.node-end)))
+    (λ past.
+    let none : ends_at out k ≡ no_ends = get_or_past out k no_ends (omega (arith, past, i.same_length, c.requires.room)) in
+    let narrow : IsNarrow no_ends = omega (arith, ints) in
+    subst IsNarrow (sym none) narrow)
+    (cases_lt k net.network.nodes)

@@ -1,0 +1,60 @@
+use Rattle.std.proofs.Common.{◌≡◌, ℕ, ◌-◌, ◌*◌, ◌^◌, slice_index, subst, arith, ap}
+use Rattle.gic_model.specs.Voltages.{number_at}
+use Rattle.gic_net.specs.Net.{standing, stands}
+use Rattle.gic_converge.specs.Near.{IsNear}
+use Rattle.gic_enclose.proofs.Turns.{left, room, less, phase_done}
+use Rattle.gic_enclose.proofs.settling.settle.Goals as goal
+
+pub loop-phase-init : goal.loop-phase-init
+loop-phase-init g c =
+    let net = c.args.net.now in
+    let x = number_at c.args.solver.now in
+    record {
+      near = (x, c.sweeps_converge_law.ensures.first net.network (stands net) (number_at c.args.volts.now) x (number_at c.sweep.new.solver) (slice_index c.args.bound.now) c.nodes-nodes.ensures.limits c.requires.bound c.count-voltages.ensures.limit c.count-guesses.ensures.cut c.sweep.ensures.sweep);
+      same_length = c.sweep.ensures.same_length;
+      ticks = omega (arith, c.sweep.ensures.tick);
+    }
+
+pub loop-turn-preserved : goal.loop-turn-preserved
+loop-turn-preserved g c =
+    let net = c.args.net.now in
+    let v = slice_index c.args.bound.now in
+    let volts = number_at c.args.volts.now in
+    let y = number_at c.loop-turn.solver in
+    let z = number_at c.sweep-in-loop-turn.new.solver in
+    let phase = c.loop-phase.phase in
+    let turn = c.loop-turn.turn in
+    let i = c.loop-turn.invariant in
+    let next = c.sweeps_converge_law.ensures.next net.network (stands net) volts i.near.0 y z v (left phase turn) (2 ^ (97 - phase)) c.nodes-nodes.ensures.limits c.requires.bound c.count-voltages.ensures.limit
+    (room phase turn c.loop-phase-test.true c.loop-turn-test.true) i.near.1 c.sweep-in-loop-turn.ensures.sweep in
+    record {
+      near = (y, subst (λ (n : ℕ). IsNear (standing net) volts v n y z) (less phase turn c.loop-phase-test.true c.loop-turn-test.true) next);
+      same_length = omega (arith, c.sweep-in-loop-turn.ensures.same_length, i.same_length);
+      ticks = omega (arith, c.sweep-in-loop-turn.ensures.tick, i.ticks);
+    }
+
+pub loop-phase-preserved : goal.loop-phase-preserved
+loop-phase-preserved g c =
+    let net = c.args.net.now in
+    let v = slice_index c.args.bound.now in
+    let volts = number_at c.args.volts.now in
+    let i = c.loop-turn.invariant in
+    let end : c.loop-turn.turn ≡ 8192 = omega (arith, c.loop-turn-test.false, c.loop-turn.auto.turn-end) in
+    let done = phase_done c.loop-phase.phase c.loop-turn.turn c.loop-phase-test.true end in
+    record {
+      near = (i.near.0, subst (λ (n : ℕ). IsNear (standing net) volts v n i.near.0 (number_at c.loop-turn.solver)) done i.near.1);
+      same_length = i.same_length;
+      ticks = omega (arith, i.ticks, end);
+    }
+
+pub returns-clause-settled : goal.returns-clause-settled
+returns-clause-settled g c =
+    let net = c.args.net.now in
+    let v = slice_index c.args.bound.now in
+    let volts = number_at c.args.volts.now in
+    let i = c.loop-phase.invariant in
+    let y = number_at c.loop-phase.solver in
+    let last : c.loop-phase.phase ≡ 98 = omega (arith, c.loop-phase-test.false, c.loop-phase.auto.phase-end) in
+    let one : 8192 * 2 ^ (98 - c.loop-phase.phase) ≡ 8192 = ap (λ n. 8192 * 2 ^ (98 - n)) last in
+    let near : IsNear (standing net) volts v 8192 i.near.0 y = subst (λ (n : ℕ). IsNear (standing net) volts v n i.near.0 y) one i.near.1 in
+    c.sweeps_converge_law.ensures.last net.network (stands net) volts i.near.0 y v c.nodes-nodes.ensures.limits c.requires.bound c.count-voltages.ensures.limit near

@@ -1,0 +1,20 @@
+-- What intervals say of every solution, and how narrow they are.
+use Rattle.std.specs.Prelude.{ℕ, ◌≡◌, ◌^◌, List, IsFalse, ℤ, pos, ◌-ℤ◌, ◌*ℤ◌, ◌≤ℤ◌}
+use Rattle.gic_model.specs.Standing.{IsLive, is_live}
+use Rattle.gic_model.specs.Solution.{Solution, IsSolution}
+use Rattle.gic_model.specs.Encloses.{Encloses}
+use Rattle.gic_model.specs.Sums.{Placed}
+use Rattle.gic_enclose.specs.Ends.{Ends, no_ends, ends_at}
+
+-- the interval holds the potential of the node k in every solution, where k is live, and is the point 0 where it is dead
+pub record IsCertainAt (standing : List Placed) (volts : ℕ → ℤ) (k : ℕ) (ends : Ends) : Type 0 where
+  pub live : IsLive standing k → (s : Solution) → IsSolution standing volts s → Encloses ends.low ends.high (pos (2 ^ 36) *ℤ s.potential k) s.denominator
+  pub dead : IsFalse (is_live standing k) → ends ≡ no_ends
+
+-- so does each node's interval
+abbrev pub AreCertain : List Placed → (ℕ → ℤ) → List Ends → Type 0
+AreCertain standing volts potentials = (k : ℕ) → IsCertainAt standing volts k (ends_at potentials k)
+
+-- at most 2^43 grains wide
+abbrev pub IsNarrow : Ends → Type 0
+IsNarrow ends = (ends.high -ℤ ends.low) ≤ℤ pos (2 ^ 43)

@@ -1,0 +1,4 @@
+pub mod Ends
+pub mod Certain
+pub mod Reach
+pub mod Laws

@@ -1,0 +1,119 @@
+//! Intervals that hold every solution, round any guesses.
+ghost use Rattle.std.specs.Prelude.{◌≡◌, ℕ, ◌*◌, ◌^◌, ◌<◌, ◌≤◌, length, slice_index, pos, ◌-ℤ◌, ◌+ℤ◌, ◌≤ℤ◌, unsigned_abs};
+ghost use Rattle.gic_fixed.specs.Encloses.{IsWithin};
+ghost use Rattle.gic_model.specs.Voltages.{number_at};
+ghost use Rattle.gic_model.specs.Guess.{IsSettledWithin};
+ghost use Rattle.gic_net.specs.Net.{standing};
+ghost use Rattle.gic_sweep.specs.Sweep.{cut};
+ghost use Rattle.gic_bound.specs.Entries.{IsBoundWithin};
+ghost use Rattle.gic_enclose.specs.Ends.{ends_of, ends_at};
+ghost use Rattle.gic_enclose.specs.Certain.{AreCertain, IsCertainAt, IsNarrow};
+
+use crate::laws::potential_bound_law;
+use crate::potentials::Potentials;
+use crate::reach::reach;
+use gic_base::NodeId;
+use gic_bound::BoundVector;
+use gic_fixed::Interval;
+use gic_model::Volts;
+use gic_model::laws::certificate_law;
+use gic_net::Net;
+use gic_sweep::Solver;
+
+/// How far a solution can lie from the guess at a node with this entry.
+fn radius(entry: u16, reach: u128) -> i128
+    requires entry { entry ≤ 4096 }
+    requires reach { reach ≤ 2 ^ 99 }
+    ensures value { result ≡ pos (entry * reach) }
+    ensures small { entry * reach ≤ 2 ^ 111 }
+{
+    (entry as u128 * reach) as i128
+}
+
+fn below(guess: i128, radius: i128) -> i128
+    requires guess { unsigned_abs guess ≤ 2 ^ 96 }
+    requires radius { unsigned_abs radius ≤ 2 ^ 111 }
+    ensures { result ≡ guess -ℤ radius }
+{
+    guess - radius
+}
+
+fn above(guess: i128, radius: i128) -> i128
+    requires guess { unsigned_abs guess ≤ 2 ^ 96 }
+    requires radius { unsigned_abs radius ≤ 2 ^ 111 }
+    ensures { result ≡ guess +ℤ radius }
+{
+    guess + radius
+}
+
+/// An end, cut to the limit of guesses.
+fn cut_end(end: i128) -> i128
+    ensures { result ≡ cut end }
+{
+    end.min(1 << 96).max(-(1 << 96))
+}
+
+/// The interval round a guess. No solution is beyond the limit to which its ends are cut.
+fn around(guess: i128, radius: i128) -> Interval
+    requires guess { unsigned_abs guess ≤ 2 ^ 96 }
+    requires some { pos 0 ≤ℤ radius }
+    requires most { radius ≤ℤ pos (2 ^ 111) }
+    ensures low { result.lo ≡ cut (guess -ℤ radius) }
+    ensures high { result.hi ≡ cut (guess +ℤ radius) }
+{
+    Interval::new(cut_end(below(guess, radius)), cut_end(above(guess, radius)))
+}
+
+/// The interval at a node.
+fn interval_at(
+    net: &Net,
+    volts: &Volts,
+    solver: &Solver,
+    bound: &BoundVector,
+    reach: u128,
+    node: NodeId,
+) -> Interval
+    requires nodes { length solver.now ≡ net.now.network.nodes }
+    requires entries { length bound.now ≡ net.now.network.nodes }
+    requires node { node.0 < net.now.network.nodes }
+    requires bound { IsBoundWithin (standing net.now) 4096 (slice_index bound.now) }
+    requires reach { reach ≤ 2 ^ 99 }
+    requires settled { IsSettledWithin (standing net.now) (number_at volts.now) (number_at solver.now) reach }
+    ensures certain { IsCertainAt (standing net.now) (number_at volts.now) node.0 (ends_of result) }
+    ensures small { IsWithin (2 ^ 96) result.lo result.hi }
+    ensures narrow { reach ≤ 2 ^ 30 → IsNarrow (ends_of result) }
+{
+    certificate_law();
+    potential_bound_law();
+    let _count = volts.count();
+    let _nodes = net.nodes();
+    if net.live(node) {
+        around(solver.guess(node), radius(bound.entry(node), reach))
+    } else {
+        Interval::point(0)
+    }
+}
+
+/// The certificate: makes the interval at each live node one that holds the node's potential in every solution,
+/// whatever the guesses are, and that at each dead node the point 0. The vector is a bound vector of the net without an
+/// entry above 4096, as `rows_positive` tests it; voltages, guesses, vector and potentials are those of the net's
+/// elements and nodes. The nearer the guesses are to being settled, the narrower are the intervals.
+pub fn enclose(net: &Net, volts: &Volts, solver: &Solver, bound: &BoundVector, out: &mut Potentials)
+    requires volts { length volts.now ≡ length net.now.network.list }
+    requires nodes { length solver.now ≡ net.now.network.nodes }
+    requires entries { length bound.now ≡ net.now.network.nodes }
+    requires room { length out.old ≡ net.now.network.nodes }
+    requires bound { IsBoundWithin (standing net.now) 4096 (slice_index bound.now) }
+    ensures certain { AreCertain (standing net.now) (number_at volts.now) out.new }
+
+    // Where the guesses are settled within 2^29 grains, no interval is wider than 2^43 grains, which are 128 nanovolts.
+    ensures narrow { IsSettledWithin (standing net.now) (number_at volts.now) (number_at solver.now) (2 ^ 29) → (k : ℕ) → IsNarrow (ends_at out.new k) }
+
+    ensures same_length { length out.new ≡ length out.old }
+{
+    let reach = reach(net, volts, solver);
+    for node in 0..net.nodes() {
+        let node = NodeId(node);
+        out.set(node, interval_at(net, volts, solver, bound, reach, node));
+    }
+}

@@ -1,0 +1,12 @@
+//! Laws over the definitions, each the contract of a function that does nothing: a function whose proof rests on a
+//! law calls it.
+ghost use Rattle.gic_model.specs.SolutionLaws.{PotentialsAreBounded};
+ghost use Rattle.gic_enclose.specs.Laws.{SolutionsAreBelow, SettledGuessesAreBelow};
+
+/// In a network that is earthed within 4096, every solution's potential at a live node is at most 4096 times the
+/// greatest voltage, which is below 2^94 grains, and settled guesses are below them too.
+pub fn potential_bound_law()
+    ensures solutions { PotentialsAreBounded }
+    ensures grains { SolutionsAreBelow }
+    ensures guesses { SettledGuessesAreBelow }
+{}

@@ -1,0 +1,16 @@
+//! Potentials that are certain: intervals that hold every solution, and guesses settled enough to make them narrow.
+#![tactic(auto)]
+
+mod conductance;
+mod enclosing;
+pub mod laws;
+mod potentials;
+mod reach;
+mod settling;
+mod solving;
+#[cfg(test)]
+mod tests;
+
+pub use enclosing::enclose;
+pub use potentials::Potentials;
+pub use solving::solve;
