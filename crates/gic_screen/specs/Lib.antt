@@ -1,0 +1,4 @@
+pub mod Event
+pub mod Verdict
+pub mod VerdictLaws
+pub mod Worst

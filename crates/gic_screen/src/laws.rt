@@ -1,0 +1,28 @@
+//! Laws over the definitions, each the contract of a function that does nothing: a function whose proof rests on a law
+//! calls it.
+ghost use Rattle.std.specs.Prelude.{◌≡◌, ◌+◌, ◌*◌, ◌≤◌, ℤ, ◌+ℤ◌, ◌*ℤ◌};
+ghost use Rattle.gic_screen.specs.Worst.{square_of};
+ghost use Rattle.gic_screen.specs.VerdictLaws.{BelowIsUnder, ReachesIsAtLeast, UndecidedIsAcross, WorstBelowIsUnder, WorstReachesIsAtLeast};
+
+/// In a uniform field with the parts c and s a current that is a for the one unit field and b for the other is a·c + b·s.
+/// Over all fields of one strength none gives more than the root of a² + b², times the strength; the field along a and b
+/// gives as much.
+pub fn greatest_over_all_orientations_law()
+    ensures most { (a b c s : ℤ) →
+        square_of (a *ℤ c +ℤ b *ℤ s) ≤ (square_of a + square_of b) * (square_of c + square_of s) }
+    ensures reached { (a b : ℤ) →
+        square_of (a *ℤ a +ℤ b *ℤ b) ≡ (square_of a + square_of b) * (square_of a + square_of b) }
+{}
+
+/// Verdicts are true of every absolute current that the interval encloses, and undecided only across the threshold.
+pub fn verdict_law()
+    ensures below { BelowIsUnder }
+    ensures reaches { ReachesIsAtLeast }
+    ensures undecided { UndecidedIsAcross }
+{}
+
+/// Verdicts on a worst interval are true of the worst current that it encloses, squared.
+pub fn worst_verdict_law()
+    ensures below { WorstBelowIsUnder }
+    ensures reaches { WorstReachesIsAtLeast }
+{}
