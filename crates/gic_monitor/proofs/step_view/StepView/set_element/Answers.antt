@@ -1,0 +1,11 @@
+use Rattle.std.proofs.Common.{List, map, slice_set, ap, ◌∙◌}
+use Rattle.std.specs.declared.option.Option.{Option}
+use Rattle.std.proofs.lemmas.List.{map-set}
+use Rattle.gic_monitor.specs.View.{View, Ends, ends_of, optional_ends}
+use Rattle.gic_monitor.proofs.step_view.StepView.set_element.Goals as goal
+
+pub returns : goal.returns
+returns c =
+    let shown : List (Option Ends) → View = λ xs. record { number = c.self.inside.number; time = c.self.inside.time; nodes = map optional_ends c.self.inside.nodes.items; elements = xs; effective = map ends_of c.self.inside.effective.items } in
+    let changed : View → View = λ v. record v { elements = slice_set v.elements c.args.element.0 (optional_ends c.args.interval) } in
+    ap shown (map-set optional_ends c.self.inside.elements.items c.args.element.0 c.args.interval) ∙ ap changed c.self.view_is
