@@ -1,0 +1,96 @@
+-- The current of an element lies in the interval that the intervals of its ends give.
+use Rattle.std.proofs.Common.{◌≡◌, ℕ, ◌*◌, ◌^◌, ◌<◌, ◌≤◌, ℤ, pos, ◌+ℤ◌, ◌-ℤ◌, ◌*ℤ◌, ◌≤ℤ◌, neg_ℤ, unsigned_abs, arith, refl, ap, sym, subst, ◌∙◌}
+use Rattle.std.proofs.lemmas.Int.{ints, unsigned_abs-mul}
+use Rattle.std.proofs.Math.Nat.{mul-le-mul}
+use Rattle.gic_fixed.specs.Rounding.{floor_div, ceil_div}
+use Rattle.gic_fixed.specs.Encloses.{Encloses}
+use Rattle.gic_fixed.proofs.Integers.{linear, *ℤ-+ℤ, *ℤ--ℤ, *ℤ-neg_ℤ, *ℤ_assoc, *ℤ_left_comm, abs-neg_ℤ}
+use Rattle.gic_fixed.proofs.Divisions.{positive_product, floor_ge, floor_le}
+use Rattle.gic_fixed.proofs.Enclosures.{Encloses-neg, Encloses-add, Encloses-point, Encloses-times, Encloses-div_out, Encloses-cancel}
+use Rattle.gic_model.specs.Voltages.{most_volts}
+use Rattle.gic_effective.specs.Ohm.{OhmsLaw, drive_of, current_low, current_high}
+use lib.IntN.{*ℤ_comm}
+
+-- g grains are a nanovolt
+module _ (g times r : ℕ) (flo fhi tlo thi p q v current : ℤ) (d : ℕ) where
+  driven : pos g *ℤ p +ℤ neg_ℤ (pos g *ℤ q) +ℤ (pos g *ℤ v) *ℤ pos d ≡ pos g *ℤ (p -ℤ q +ℤ pos d *ℤ v)
+  driven =
+      let sum = *ℤ-+ℤ (pos g) (p -ℤ q) (pos d *ℤ v) in
+      let difference = *ℤ--ℤ (pos g) p q in
+      let last : (pos g *ℤ v) *ℤ pos d ≡ pos g *ℤ (pos d *ℤ v) = *ℤ_assoc (pos g) v (pos d) ∙ ap (λ z. pos g *ℤ z) (*ℤ_comm v (pos d)) in
+      omega (arith, linear)
+
+  numerator : OhmsLaw times r p q v current d → pos (times * 1000000) *ℤ (pos g *ℤ p +ℤ neg_ℤ (pos g *ℤ q) +ℤ (pos g *ℤ v) *ℤ pos d) ≡ pos (r * g) *ℤ current
+  numerator ohm =
+      ap (λ z. pos (times * 1000000) *ℤ z) driven ∙
+      *ℤ_left_comm (pos (times * 1000000)) (pos g) (p -ℤ q +ℤ pos d *ℤ v) ∙
+      ap (λ z. pos g *ℤ z) (sym ohm) ∙
+      *ℤ_left_comm (pos g) (pos r) current ∙
+      sym (*ℤ_assoc (pos r) (pos g) current)
+
+  pub current_holds : 0 < r → 0 < g → Encloses flo fhi (pos g *ℤ p) d → Encloses tlo thi (pos g *ℤ q) d → OhmsLaw times r p q v current d →
+      Encloses (floor_div (pos (times * 1000000) *ℤ (flo -ℤ thi +ℤ pos g *ℤ v)) (pos (r * g))) (ceil_div (pos (times * 1000000) *ℤ (fhi -ℤ tlo +ℤ pos g *ℤ v)) (pos (r * g))) current d
+  current_holds h k from to ohm =
+      let turned = Encloses-neg tlo thi (pos g *ℤ q) d to in
+      let difference = Encloses-add flo fhi (pos g *ℤ p) (neg_ℤ thi) (neg_ℤ tlo) (neg_ℤ (pos g *ℤ q)) d from turned in
+      let push = Encloses-point (pos g *ℤ v) d in
+      let sum = Encloses-add (flo -ℤ thi) (fhi -ℤ tlo) (pos g *ℤ p +ℤ neg_ℤ (pos g *ℤ q)) (pos g *ℤ v) (pos g *ℤ v) ((pos g *ℤ v) *ℤ pos d) d difference push in
+      let raised = Encloses-times (flo -ℤ thi +ℤ pos g *ℤ v) (fhi -ℤ tlo +ℤ pos g *ℤ v) (pos g *ℤ p +ℤ neg_ℤ (pos g *ℤ q) +ℤ (pos g *ℤ v) *ℤ pos d) d (times * 1000000) sum in
+      let some = positive_product r g h k in
+      let out = Encloses-div_out _ _ _ d (r * g) some raised in
+      Encloses-cancel _ _ current d (r * g) some
+      (subst (λ (z : ℤ). Encloses (floor_div (pos (times * 1000000) *ℤ (flo -ℤ thi +ℤ pos g *ℤ v)) (pos (r * g))) (ceil_div (pos (times * 1000000) *ℤ (fhi -ℤ tlo +ℤ pos g *ℤ v)) (pos (r * g))) z (r * g * d)) (numerator ohm) out)
+
+-- an interval with equal ends
+pub Encloses-same : (lo hi lo' hi' z : ℤ) (d : ℕ) → lo ≡ lo' → hi ≡ hi' → Encloses lo' hi' z d → Encloses lo hi z d
+Encloses-same lo hi lo' hi' z d low high h = subst (λ (w : ℤ). Encloses w hi z d) (sym low) (subst (λ (w : ℤ). Encloses lo' w z d) (sym high) h)
+
+-- a potential in grains lies in its interval outward in millivolts
+pub potential_holds : (lo hi p : ℤ) (d : ℕ) → Encloses lo hi (pos (2 ^ 36) *ℤ p) d → Encloses (floor_div lo (pos (1000000 * 2 ^ 36))) (ceil_div hi (pos (1000000 * 2 ^ 36))) p (1000000 * d)
+potential_holds lo hi p d e =
+    let out = Encloses-div_out lo hi (pos (2 ^ 36) *ℤ p) d (1000000 * 2 ^ 36) (omega arith) e in
+    let same : 1000000 * 2 ^ 36 * d ≡ 2 ^ 36 * (1000000 * d) = omega arith in
+    let low = floor_div lo (pos (1000000 * 2 ^ 36)) in
+    let high = ceil_div hi (pos (1000000 * 2 ^ 36)) in
+    Encloses-cancel low high p (1000000 * d) (2 ^ 36) (omega arith) (subst (λ (m : ℕ). Encloses low high (pos (2 ^ 36) *ℤ p) m) same out)
+
+-- what is at most m times d has a quotient that is at most m
+floor_small : (z : ℤ) (d m : ℕ) → 0 < d → unsigned_abs z ≤ d * m → unsigned_abs (floor_div z (pos d)) ≤ m
+floor_small z d m h k =
+    let turned = *ℤ-neg_ℤ (pos d) (pos m) in
+    let product : pos d *ℤ pos m ≡ pos (d * m) = refl in
+    let least : neg_ℤ (pos m) ≤ℤ floor_div z (pos d) = floor_ge z d (neg_ℤ (pos m)) h (omega (arith, ints, turned)) in
+    let most : floor_div z (pos d) ≤ℤ pos m = floor_le z d (pos m) h (omega (arith, ints)) in
+    omega (arith, ints, least, most)
+
+product_small : (n r : ℕ) (z : ℤ) → n ≤ 3000000 → 1000 ≤ r → unsigned_abs z ≤ 2 ^ 98 → unsigned_abs (pos n *ℤ z) ≤ r * 2 ^ 36 * 2 ^ 80
+product_small n r z h k small =
+    let product : n * unsigned_abs z ≤ 3000000 * 2 ^ 98 = mul-le-mul h small in
+    let parts = unsigned_abs-mul (pos n) z in
+    omega arith
+
+drive_small : (from to volts : ℤ) → unsigned_abs from ≤ 2 ^ 96 → unsigned_abs to ≤ 2 ^ 96 → unsigned_abs volts ≤ most_volts → unsigned_abs (drive_of from to volts) ≤ 2 ^ 98
+drive_small from to volts h k small =
+    let push = unsigned_abs-mul (pos (2 ^ 36)) volts in
+    let most : 2 ^ 36 * unsigned_abs volts ≤ 2 ^ 82 = omega arith in
+    sum_small from to (pos (2 ^ 36) *ℤ volts) h k (omega (arith, push, most))
+  where
+    sum_small : (a b c : ℤ) → unsigned_abs a ≤ 2 ^ 96 → unsigned_abs b ≤ 2 ^ 96 → unsigned_abs c ≤ 2 ^ 82 → unsigned_abs (a -ℤ b +ℤ c) ≤ 2 ^ 98
+    sum_small a b c p q r = omega (arith, ints)
+
+-- no current is beyond 2^80 nanoamperes
+module _ (times r : ℕ) (from to volts : ℤ) (three : times ≤ 3) (thousand : 1000 ≤ r) (here : unsigned_abs from ≤ 2 ^ 96) (there : unsigned_abs to ≤ 2 ^ 96) (few : unsigned_abs volts ≤ most_volts) where
+  product : unsigned_abs (pos (times * 1000000) *ℤ drive_of from to volts) ≤ r * 2 ^ 36 * 2 ^ 80
+  product = product_small (times * 1000000) r (drive_of from to volts) (omega arith) thousand (drive_small from to volts here there few)
+
+  pub low_small : (z : ℤ) → z ≡ current_low times r (drive_of from to volts) → unsigned_abs z ≤ 2 ^ 80
+  low_small z is = subst (λ (w : ℤ). unsigned_abs w ≤ 2 ^ 80) (sym is) (floor_small (pos (times * 1000000) *ℤ drive_of from to volts) (r * 2 ^ 36) (2 ^ 80) (omega arith) product)
+
+  pub high_small : (z : ℤ) → z ≡ current_high times r (drive_of from to volts) → unsigned_abs z ≤ 2 ^ 80
+  high_small z is =
+      let x = pos (times * 1000000) *ℤ drive_of from to volts in
+      let q = floor_div (neg_ℤ x) (pos (r * 2 ^ 36)) in
+      let turned = abs-neg_ℤ x in
+      let down : unsigned_abs q ≤ 2 ^ 80 = floor_small (neg_ℤ x) (r * 2 ^ 36) (2 ^ 80) (omega arith) (omega (arith, turned, product)) in
+      let up = abs-neg_ℤ q in
+      subst (λ (w : ℤ). unsigned_abs w ≤ 2 ^ 80) (sym is) (omega (arith, up, down))

@@ -1,0 +1,6 @@
+pub mod Currents
+pub mod Held
+pub mod Weights
+pub mod Weighings
+pub mod Widths
+pub mod Filled

@@ -1,0 +1,58 @@
+use Rattle.std.proofs.Common.{◌≡◌, ◌*◌, ◌≤◌, ℕ, ℤ, pos, ◌*ℤ◌, arith, rules, get_or, ap, sym, subst, subst₂, ◌∙◌}
+use Rattle.std.proofs.lemmas.List.{get_or_default}
+use Rattle.gic_case.specs.declared.item.Transformer.{Transformer}
+use Rattle.gic_case.specs.Lists.{IsSoundTransformer}
+use Rattle.gic_fixed.specs.Encloses.{Encloses}
+use Rattle.gic_model.specs.Solution.{Solution}
+use Rattle.gic_model.specs.Sums.{sum_of}
+use Rattle.gic_model.specs.Voltages.{number_at}
+use Rattle.gic_net.specs.Net.{standing}
+use Rattle.gic_winding.specs.ElementList.{elements_of}
+use Rattle.gic_winding.specs.declared.weights.Weights.{Weights}
+use Rattle.gic_winding.specs.Weights.{low_volts_of, transformer_at, no_transformer, windings_at}
+use Rattle.gic_effective.specs.Weighted.{weighted_sum, effective_numerator}
+use Rattle.gic_effective.proofs.Weighings.{current_in, both_summed, winding_holds, winding_narrow, low_at_most, weights_most}
+use Rattle.gic_effective.proofs.view.effective_interval.Goals as goal
+
+row_is : (c : goal.After-signed_effective) → transformer_at c.args.case.now c.args.transformer ≡ c.index-transformers-transformer.result
+row_is c =
+    let row = c.index-transformers-transformer.result in
+    let at = c.index-transformers-transformer.is ∙ ap (λ ts. get_or ts c.args.transformer row) c.transformers.ensures.value in
+    get_or_default c.args.case.now.transformers c.args.transformer no_transformer row c.requires.place ∙ sym at
+
+order : (c : goal.After-signed_effective) → low_volts_of (transformer_at c.args.case.now c.args.transformer).kind ≤ (transformer_at c.args.case.now c.args.transformer).high_volts
+order c =
+    let row = c.index-transformers-transformer.result in
+    let sound : IsSoundTransformer c.args.case.now row = search rules in
+    subst (λ (t : Transformer). low_volts_of t.kind ≤ t.high_volts) (sym (row_is c)) (low_at_most c.args.case.now row.high_volts row.kind sound.kind_sound)
+
+volts_are : (c : goal.After-signed_effective) → c.effective_weights-weights.result.high_volts ≡ (transformer_at c.args.case.now c.args.transformer).high_volts
+volts_are c = ap (λ (w : Weights). w.high_volts) c.effective_weights-weights.ensures.value
+
+sum_is : (c : goal.After-signed_effective) → (s : Solution) →
+    weighted_sum c.effective_weights-weights.result (current_in s c.effective_weights-weights.result.first) (current_in s c.effective_weights-weights.result.second) ≡ effective_numerator c.args.case.now s c.args.transformer
+sum_is c s =
+    let w = c.effective_weights-weights.result in
+    both_summed s w.first w.second ∙ sym (ap (sum_of (λ w. pos w.1 *ℤ s.current w.0.0)) c.effective_weights-weights.ensures.all)
+
+pub returns : goal.returns
+returns c =
+    let stand = standing c.args.net.now in
+    let volts = number_at c.args.volts.now in
+    let xs = c.args.potentials.now in
+    let w = c.effective_weights-weights.result in
+    let one = c.winding_current-first in
+    let other = c.winding_current-second in
+    let result = c.signed_effective.result in
+    record {
+      right = λ holds s solves.
+          let first = winding_holds stand volts xs w.first one.result.lo one.result.hi s one.ensures.shown solves (holds s solves) in
+          let second = winding_holds stand volts xs w.second other.result.lo other.result.hi s other.ensures.shown solves (holds s solves) in
+          let exact = c.signed_effective.ensures.holds (current_in s w.first) (current_in s w.second) s.denominator first second in
+          subst₂ (λ (n : ℤ) (v : ℕ). Encloses result.lo result.hi n (3000000 * v * s.denominator)) (sum_is c s) (volts_are c) exact;
+      narrow = λ width least sharp.
+          let most = weights_most (transformer_at c.args.case.now c.args.transformer) (windings_at (elements_of c.args.case.now) c.args.transformer) w.first w.second (order c) c.effective_weights-weights.ensures.all in
+          c.signed_effective.ensures.narrow width (omega (arith, least)) (omega (arith, most, volts_are c))
+          (winding_narrow stand volts xs w.first one.result.lo one.result.hi width one.ensures.shown sharp)
+          (winding_narrow stand volts xs w.second other.result.lo other.result.hi width other.ensures.shown sharp);
+    }

@@ -1,0 +1,6 @@
+pub mod Ohm
+pub mod Weighted
+pub mod Narrow
+pub mod Holds
+pub mod RightView
+pub mod Shown

@@ -1,0 +1,43 @@
+-- What intervals show where the potentials that they are made of hold every solution, and where these are sharp.
+use Rattle.std.specs.Prelude.{ℕ, ◌≡◌, ◌≤◌, Option, None, Some, List, ℤ, pos}
+use Rattle.gic_base.specs.declared.id.ElementId.{ElementId}
+use Rattle.gic_case.specs.Lists.{Lists}
+use Rattle.gic_enclose.specs.Ends as grains
+use Rattle.gic_fixed.specs.Encloses.{Encloses}
+use Rattle.gic_fixed.specs.Rounding.{floor_div, ceil_div}
+use Rattle.gic_model.specs.Sharp.{IsSharp}
+use Rattle.gic_model.specs.Solution.{Solution, IsSolution}
+use Rattle.gic_model.specs.Sums.{Placed}
+use Rattle.gic_monitor.specs.View.{Ends}
+use Rattle.gic_effective.specs.Holds.{HoldsSolution, HoldsSolutions}
+use Rattle.gic_effective.specs.Narrow.{IsAtMostWide, IsNoWider}
+use Rattle.gic_effective.specs.RightView.{IsRightNode, IsRightElement, IsRightEffective}
+
+-- the potentials are sharp for this width
+abbrev pub AreSharp : List Placed → (ℕ → ℤ) → List grains.Ends → ℕ → Type 0
+AreSharp standing volts potentials width = IsSharp standing volts (grains.low_at potentials) (grains.high_at potentials) width
+
+-- an element's current in nA, and how wide it is in mA
+pub record IsShownCurrent (standing : List Placed) (volts : ℕ → ℤ) (potentials : List grains.Ends) (place : ℕ) (lo hi : ℤ) : Type 0 where
+  pub holds : (s : Solution) → IsSolution standing volts s → HoldsSolution standing potentials s → Encloses lo hi (s.current place) s.denominator
+  pub narrow : (width : ℕ) → AreSharp standing volts potentials width → IsAtMostWide width (floor_div lo (pos 1000000)) (ceil_div hi (pos 1000000))
+
+-- the same of a winding, and the point 0 where there is none
+abbrev pub IsShownWinding : List Placed → (ℕ → ℤ) → List grains.Ends → Option (ElementId × ℕ) → ℤ → ℤ → Type 0
+IsShownWinding standing volts potentials None lo hi = (lo ≡ pos 0) × (hi ≡ pos 0)
+IsShownWinding standing volts potentials (Some winding) lo hi = IsShownCurrent standing volts potentials winding.0.0 lo hi
+
+-- the interval of a node in a view
+pub record IsShownNode (standing : List Placed) (volts : ℕ → ℤ) (potentials : List grains.Ends) (k : ℕ) (interval : Option Ends) : Type 0 where
+  pub right : HoldsSolutions standing volts potentials → IsRightNode standing volts k interval
+  pub narrow : (width : ℕ) → AreSharp standing volts potentials width → IsNoWider width interval
+
+-- that of an element
+pub record IsShownElement (standing : List Placed) (volts : ℕ → ℤ) (potentials : List grains.Ends) (place : ℕ) (interval : Option Ends) : Type 0 where
+  pub right : HoldsSolutions standing volts potentials → IsRightElement standing volts place interval
+  pub narrow : (width : ℕ) → AreSharp standing volts potentials width → IsNoWider width interval
+
+-- that of a transformer
+pub record IsShownEffective (c : Lists) (standing : List Placed) (volts : ℕ → ℤ) (potentials : List grains.Ends) (t : ℕ) (ends : Ends) : Type 0 where
+  pub right : HoldsSolutions standing volts potentials → IsRightEffective c standing volts t ends
+  pub narrow : (width : ℕ) → 5 ≤ width → AreSharp standing volts potentials width → IsAtMostWide width ends.low ends.high

@@ -1,0 +1,76 @@
+//! The current of an element.
+ghost use Rattle.std.specs.Prelude.{◌≡◌, ℕ, ◌*◌, ◌^◌, ◌<◌, length, ℤ, pos, IsTrue, unsigned_abs, ◌≤◌};
+ghost use Rattle.gic_fixed.specs.Rounding.{floor_div, ceil_div};
+ghost use Rattle.gic_fixed.specs.Encloses.{Encloses, IsWithin};
+ghost use Rattle.gic_model.specs.Network.{IsEndWithin};
+ghost use Rattle.gic_model.specs.Standing.{value_at, is_standing};
+ghost use Rattle.gic_model.specs.Solution.{Solution, IsSolution};
+ghost use Rattle.gic_model.specs.Sharp.{IsSharp};
+ghost use Rattle.gic_model.specs.Voltages.{number_at};
+ghost use Rattle.gic_net.specs.Net.{standing, element_of};
+ghost use Rattle.gic_enclose.specs.Ends.{low_at, high_at};
+ghost use Rattle.gic_effective.specs.Holds.{HoldsSolution};
+ghost use Rattle.gic_effective.specs.Ohm.{least_nano, most_nano};
+ghost use Rattle.gic_effective.specs.Narrow.{IsAtMostWide};
+
+use crate::ohm::ohms_law;
+use gic_base::ElementId;
+use gic_enclose::Potentials;
+use gic_fixed::Interval;
+use gic_model::{Elements, End, Volts};
+use gic_net::Net;
+
+/// The interval of the potential at an end, in grains; 0 at earth.
+fn at_end(potentials: &Potentials, end: End) -> Interval
+    requires { IsEndWithin (length potentials.now) end }
+    ensures low { result.lo ≡ value_at (low_at potentials.now) end }
+    ensures high { result.hi ≡ value_at (high_at potentials.now) end }
+    ensures small { IsWithin (2 ^ 96) result.lo result.hi }
+{
+    match end {
+        End::Node(node) => potentials.get(node),
+        End::Earth => Interval::point(0),
+    }
+}
+
+/// The current of a standing element in nanoamperes, by Ohm's law over the intervals of the potentials at its ends and
+/// its voltage, rounded outward. It holds the element's current in every solution whose potentials the intervals hold.
+/// The net was built from the elements, and voltages and potentials are those of its elements and nodes.
+pub fn current_na(
+    net: &Net,
+    volts: &Volts,
+    potentials: &Potentials,
+    elements: &Elements,
+    element: ElementId,
+) -> Interval
+    requires net { net.now.network ≡ elements.now }
+    requires volts { length volts.now ≡ length elements.now.list }
+    requires potentials { length potentials.now ≡ elements.now.nodes }
+    requires element { element.0 < length elements.now.list }
+    requires stands { IsTrue (is_standing (standing net.now) element.0) }
+    ensures low { result.lo ≡ least_nano (number_at volts.now) (low_at potentials.now) (high_at potentials.now) (element.0, element_of elements.now element.0) }
+    ensures high { result.hi ≡ most_nano (number_at volts.now) (low_at potentials.now) (high_at potentials.now) (element.0, element_of elements.now element.0) }
+    ensures holds { (s : Solution) → IsSolution (standing net.now) (number_at volts.now) s → HoldsSolution (standing net.now) potentials.now s →
+        Encloses result.lo result.hi (s.current element.0) s.denominator }
+    ensures small { IsWithin (2 ^ 80) result.lo result.hi }
+
+    // Where the potentials are sharp for a width, the current in milliamperes is at most so wide.
+    ensures narrow { (width : ℕ) → IsSharp (standing net.now) (number_at volts.now) (low_at potentials.now) (high_at potentials.now) width →
+        IsAtMostWide width (floor_div result.lo (pos 1000000)) (ceil_div result.hi (pos 1000000)) }
+{
+    let _stands = net.stands(element);
+    let row = net.element(element);
+    let from = potentials.get(row.from);
+    let to = at_end(potentials, row.to);
+    ohms_law(row.times, row.micro_ohm, from, to, volts.get(element))
+}
+
+/// Nanoamperes to milliamperes, rounded outward.
+pub fn milli(interval: Interval) -> Interval
+    ensures low { result.lo ≡ floor_div interval.lo (pos 1000000) }
+    ensures high { result.hi ≡ ceil_div interval.hi (pos 1000000) }
+    ensures holds { (n : ℤ) (denominator : ℕ) → Encloses interval.lo interval.hi n denominator →
+        Encloses result.lo result.hi n (1000000 * denominator) }
+{
+    interval.div_out(1_000_000)
+}

@@ -1,0 +1,49 @@
+//! The effective current of a transformer from the currents of its windings.
+ghost use Rattle.std.specs.Prelude.{◌≡◌, ℕ, ◌+◌, ◌*◌, ◌^◌, ◌≤◌, ℤ, pos, ◌+ℤ◌};
+ghost use Rattle.gic_fixed.specs.Rounding.{floor_div, ceil_div};
+ghost use Rattle.gic_fixed.specs.Encloses.{Encloses, IsWithin};
+ghost use Rattle.gic_effective.specs.Weighted.{weighted, weighted_sum, weight_in};
+ghost use Rattle.gic_effective.specs.Narrow.{IsAtMostWide};
+
+use gic_base::ElementId;
+use gic_fixed::Interval;
+use gic_winding::Weights;
+
+/// A winding's current with its weight.
+fn part(winding: Option<(ElementId, u32)>, current: Interval) -> Interval
+    requires small { IsWithin (2 ^ 80) current.lo current.hi }
+    ensures low { result.lo ≡ weighted winding current.lo }
+    ensures high { result.hi ≡ weighted winding current.hi }
+    ensures small { IsWithin (2 ^ 112) result.lo result.hi }
+{
+    match winding {
+        Some((_, weight)) => current.scale(weight as i128),
+        None => Interval::point(0),
+    }
+}
+
+/// The signed effective current of a transformer in milliamperes per phase, from the currents of its two windings in
+/// nanoamperes of all three phases: their weighted sum over three times the voltage of the high side, rounded outward
+/// once. A winding that is `None` isn't used. No end is beyond 2^80 either way, and `high_volts` is at least 1.
+pub fn signed_effective(weights: &Weights, first: Interval, second: Interval) -> Interval
+    requires volts { 1 ≤ weights.now.high_volts }
+    requires first { IsWithin (2 ^ 80) first.lo first.hi }
+    requires second { IsWithin (2 ^ 80) second.lo second.hi }
+    ensures low { result.lo ≡ floor_div (weighted_sum weights.now first.lo second.lo) (pos (3000000 * weights.now.high_volts)) }
+    ensures high { result.hi ≡ ceil_div (weighted_sum weights.now first.hi second.hi) (pos (3000000 * weights.now.high_volts)) }
+    ensures holds { (one other : ℤ) (denominator : ℕ) →
+        Encloses first.lo first.hi one denominator →
+        Encloses second.lo second.hi other denominator →
+        Encloses result.lo result.hi (weighted_sum weights.now one other) (3000000 * weights.now.high_volts * denominator) }
+
+    // From currents at most so many milliamperes wide it is at most as wide, from 3 on.
+    ensures narrow { (width : ℕ) → 3 ≤ width →
+        weight_in weights.now.first + weight_in weights.now.second ≤ 2 * weights.now.high_volts →
+        IsAtMostWide width (floor_div first.lo (pos 1000000)) (ceil_div first.hi (pos 1000000)) →
+        IsAtMostWide width (floor_div second.lo (pos 1000000)) (ceil_div second.hi (pos 1000000)) →
+        IsAtMostWide width result.lo result.hi }
+{
+    part(weights.first, first)
+        .add(part(weights.second, second))
+        .div_out(3_000_000 * weights.high_volts as i128)
+}

@@ -1,0 +1,16 @@
+//! Currents of elements and effective currents of transformers, as intervals that hold those of every solution.
+#![tactic(auto)]
+
+mod current;
+mod effective;
+mod ohm;
+mod potential;
+#[cfg(test)]
+mod tests;
+mod view;
+mod winding;
+
+pub use current::{current_na, milli};
+pub use effective::signed_effective;
+pub use potential::potential_mv;
+pub use view::fill_view;
