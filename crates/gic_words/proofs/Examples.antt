@@ -1,13 +1,13 @@
 -- What the definition gives at words that are written out.
 use Rattle.std.proofs.Common.{◌≡◌, refl, [], ◌∷◌, codes}
-use Rattle.std.specs.Prelude.{Ok, Err, negsuc, pos}
+use Rattle.std.specs.Prelude.{Ok, Err, Some, None, negsuc, pos}
 use Rattle.clap.proofs.OnLiterals.{clap_on_literals}
 use Rattle.gic_text.specs.Decimal.{read_decimal, whole_of}
 use Rattle.gic_words.specs.Command.{command_of_words, faults_of, matches_of_words}
 use Rattle.gic_words.specs.Table.{is_among, mode_of, use_of}
 use Rattle.gic_words.specs.Options.{options_of}
-use Rattle.gic_words.specs.declared.option.Opt.TheVariants.{Case, North}
-use Rattle.gic_words.specs.declared.options.Options.TheVariants.{Volts}
+use Rattle.gic_words.specs.declared.option.Opt.TheVariants.{Case, Switch, North}
+use Rattle.gic_words.specs.declared.options.Options.TheVariants as options
 use Rattle.gic_words.specs.declared.fault.Usage.TheVariants as usage
 
 pub no_words : options_of [] ≡ Err usage.Words
@@ -22,7 +22,7 @@ pub option_twice : options_of (codes "volts" ∷ codes "--case=p" ∷ codes "--c
 unfolding clap_on_literals command_of_words faults_of options_of
 option_twice = refl
 
-pub unknown_option : options_of (codes "volts" ∷ codes "--case=p" ∷ codes "--width=5" ∷ []) ≡ Err usage.Words
+pub unknown_option : options_of (codes "volts" ∷ codes "--case=p" ∷ codes "--wind=5" ∷ []) ≡ Err usage.Words
 unfolding clap_on_literals command_of_words faults_of options_of
 unknown_option = refl
 
@@ -50,7 +50,7 @@ pub unknown_mode : options_of (codes "fly" ∷ []) ≡ Err usage.Mode
 unfolding clap_on_literals command_of_words faults_of matches_of_words options_of mode_of
 unknown_mode = refl
 
-pub mode_before_options : options_of (codes "list" ∷ codes "--north=x" ∷ []) ≡ Err usage.Mode
+pub mode_before_options : options_of (codes "fly" ∷ codes "--north=x" ∷ []) ≡ Err usage.Mode
 unfolding clap_on_literals command_of_words faults_of matches_of_words options_of mode_of
 mode_before_options = refl
 
@@ -66,18 +66,58 @@ pub north_too_far : options_of (codes "volts" ∷ codes "--case=p" ∷ codes "--
 unfolding clap_on_literals command_of_words faults_of matches_of_words options_of is_among mode_of use_of read_decimal whole_of
 north_too_far = refl
 
+pub missing_case_of_list : options_of (codes "list" ∷ codes "--north=0" ∷ []) ≡ Err (usage.Missing Case)
+unfolding clap_on_literals command_of_words faults_of matches_of_words options_of is_among mode_of use_of
+missing_case_of_list = refl
+
+pub field_in_list : options_of (codes "list" ∷ codes "--case=p" ∷ codes "--east=x" ∷ codes "--north=x" ∷ []) ≡ Err (usage.Extra North)
+unfolding clap_on_literals command_of_words faults_of matches_of_words options_of is_among mode_of use_of
+field_in_list = refl
+
+pub missing_case_of_check : options_of (codes "check" ∷ codes "--switch=s" ∷ []) ≡ Err (usage.Missing Case)
+unfolding clap_on_literals command_of_words faults_of matches_of_words options_of is_among mode_of use_of
+missing_case_of_check = refl
+
+pub switch_in_list : options_of (codes "list" ∷ codes "--case=p" ∷ codes "--switch=s" ∷ []) ≡ Err (usage.Extra Switch)
+unfolding clap_on_literals command_of_words faults_of matches_of_words options_of is_among mode_of use_of
+switch_in_list = refl
+
+pub switch_before_north : options_of (codes "volts" ∷ codes "--case=p" ∷ codes "--north=x" ∷ codes "--switch=s" ∷ []) ≡ Err (usage.Extra Switch)
+unfolding clap_on_literals command_of_words faults_of matches_of_words options_of is_among mode_of use_of
+switch_before_north = refl
+
+pub field_in_check : options_of (codes "check" ∷ codes "--case=p" ∷ codes "--east=0" ∷ codes "--north=0" ∷ []) ≡ Err (usage.Extra North)
+unfolding clap_on_literals command_of_words faults_of matches_of_words options_of is_among mode_of use_of
+field_in_check = refl
+
 pub north_before_east : options_of (codes "volts" ∷ codes "--east=x" ∷ codes "--north=x" ∷ codes "--case=p" ∷ []) ≡ Err (usage.Number North)
 unfolding clap_on_literals command_of_words faults_of matches_of_words options_of is_among mode_of use_of read_decimal whole_of
 north_before_east = refl
 
-pub both_fields : options_of (codes "volts" ∷ codes "--case=p" ∷ codes "--north=-500" ∷ codes "--east" ∷ codes "7" ∷ []) ≡ Ok (Volts (codes "p") (negsuc 499) (pos 7))
+pub both_fields : options_of (codes "volts" ∷ codes "--case=p" ∷ codes "--north=-500" ∷ codes "--east" ∷ codes "7" ∷ []) ≡ Ok (options.Volts (codes "p") (negsuc 499) (pos 7))
 unfolding clap_on_literals command_of_words faults_of matches_of_words options_of is_among mode_of use_of read_decimal whole_of
 both_fields = refl
 
-pub mode_last : options_of (codes "--case=p" ∷ codes "volts" ∷ []) ≡ Ok (Volts (codes "p") (pos 0) (pos 0))
+pub mode_last : options_of (codes "--case=p" ∷ codes "volts" ∷ []) ≡ Ok (options.Volts (codes "p") (pos 0) (pos 0))
 unfolding clap_on_literals command_of_words faults_of matches_of_words options_of is_among mode_of use_of
 mode_last = refl
 
-pub empty_case : options_of (codes "volts" ∷ codes "--case=" ∷ []) ≡ Ok (Volts [] (pos 0) (pos 0))
+pub empty_case : options_of (codes "volts" ∷ codes "--case=" ∷ []) ≡ Ok (options.Volts [] (pos 0) (pos 0))
 unfolding clap_on_literals command_of_words faults_of matches_of_words options_of is_among mode_of use_of
 empty_case = refl
+
+pub list : options_of (codes "list" ∷ codes "--case=p" ∷ []) ≡ Ok (options.List (codes "p"))
+unfolding clap_on_literals command_of_words faults_of matches_of_words options_of is_among mode_of use_of
+list = refl
+
+pub check : options_of (codes "check" ∷ codes "--case=p" ∷ []) ≡ Ok (options.Check (codes "p") None)
+unfolding clap_on_literals command_of_words faults_of matches_of_words options_of is_among mode_of use_of
+check = refl
+
+pub switched : options_of (codes "check" ∷ codes "--case=p" ∷ codes "--switch=s" ∷ []) ≡ Ok (options.Check (codes "p") (Some (codes "s")))
+unfolding clap_on_literals command_of_words faults_of matches_of_words options_of is_among mode_of use_of
+switched = refl
+
+pub empty_switch : options_of (codes "check" ∷ codes "--switch=" ∷ codes "--case=p" ∷ []) ≡ Ok (options.Check (codes "p") (Some []))
+unfolding clap_on_literals command_of_words faults_of matches_of_words options_of is_among mode_of use_of
+empty_switch = refl

@@ -6,7 +6,7 @@ use Rattle.gic_words.specs.Command.{given}
 use Rattle.gic_words.specs.Table.{all_options, place_of, use_of}
 use Rattle.gic_words.specs.Options.{first_fault, option_fault, or_next, text_of, use_fault}
 use Rattle.gic_words.specs.declared.option.Opt.{Opt}
-use Rattle.gic_words.specs.declared.option.Opt.TheVariants.{Case, North, East}
+use Rattle.gic_words.specs.declared.option.Opt.TheVariants.{Case, Switch, North, East}
 use Rattle.gic_words.specs.declared.mode.Mode.{Mode}
 use Rattle.gic_words.specs.declared.mode.Use.{Use}
 use Rattle.gic_words.specs.declared.mode.Use.TheVariants.{Required}
@@ -35,11 +35,13 @@ fault_at m rows (o ∷ os) (suc i) within h =
 -- each option stands at its place in the table
 at_place : (o : Opt) → get_or all_options (place_of o) Case ≡ o
 at_place Case = refl
+at_place Switch = refl
 at_place North = refl
 at_place East = refl
 
 place_within : (o : Opt) → place_of o < length all_options
 place_within Case = omega arith
+place_within Switch = omega arith
 place_within North = omega arith
 place_within East = omega arith
 

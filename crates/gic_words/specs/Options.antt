@@ -6,7 +6,7 @@ use Rattle.gic_words.specs.Table.{all_options, form_of, mode_of, use_of}
 use Rattle.gic_words.specs.Command.{given, given_mode, faults_of, matches_of_words, is_taken}
 use Rattle.gic_words.specs.Values.{number_in}
 use Rattle.gic_words.specs.declared.option.Opt.{Opt}
-use Rattle.gic_words.specs.declared.option.Opt.TheVariants.{Case, North, East}
+use Rattle.gic_words.specs.declared.option.Opt.TheVariants.{Case, Switch, North, East}
 use Rattle.gic_words.specs.declared.option.Form.{Form}
 use Rattle.gic_words.specs.declared.option.Form.TheVariants as form
 use Rattle.gic_words.specs.declared.mode.Mode.{Mode}
@@ -68,10 +68,14 @@ field_of rows o = unwrap_or (number_of rows o) (pos 0)
 -- the options of a mode
 abbrev pub options_by : Mode → List Row → Options
 options_by mode.Volts rows = options.Volts (text_of rows Case) (field_of rows North) (field_of rows East)
+options_by mode.List rows = options.List (text_of rows Case)
+options_by mode.Check rows = options.Check (text_of rows Case) (given rows Switch)
 
--- each part of a field lies within 20000 mV/km
+-- each part of a field that is asked for lies within 20000 mV/km
 abbrev pub HasFieldsWithin : Options → Type 0
 HasFieldsWithin (options.Volts case north east) = (unsigned_abs north ≤ 20000) × (unsigned_abs east ≤ 20000)
+HasFieldsWithin (options.List case) = ⊤
+HasFieldsWithin (options.Check case switch) = ⊤
 
 -- ---- the words
 

@@ -10,31 +10,34 @@ use Rattle.gic_words.specs.declared.mode.Mode.TheVariants as mode
 use Rattle.gic_words.specs.declared.mode.Use.{Use}
 use Rattle.gic_words.specs.declared.mode.Use.TheVariants.{Required, Allowed, Unused}
 use Rattle.gic_words.specs.declared.option.Opt.{Opt}
-use Rattle.gic_words.specs.declared.option.Opt.TheVariants.{Case, North, East}
+use Rattle.gic_words.specs.declared.option.Opt.TheVariants.{Case, Switch, North, East}
 
 -- ---- the options
 
 -- the name of an option, without its hyphens
 abbrev pub name_of : Opt → List ℕ
 name_of Case = codes "case"
+name_of Switch = codes "switch"
 name_of North = codes "north"
 name_of East = codes "east"
 
 -- in the order in which their faults are found
 abbrev pub all_options : List Opt
-all_options = Case ∷ North ∷ East ∷ []
+all_options = Case ∷ Switch ∷ North ∷ East ∷ []
 
 -- the form of the values of an option; fields are from -20000 to 20000 mV/km
 abbrev pub form_of : Opt → Form
 form_of Case = form.Name
+form_of Switch = form.Name
 form_of North = form.Number (negsuc 19999) (pos 20000)
 form_of East = form.Number (negsuc 19999) (pos 20000)
 
 -- the place of an option in the table
 abbrev pub place_of : Opt → ℕ
 place_of Case = 0
-place_of North = 1
-place_of East = 2
+place_of Switch = 1
+place_of North = 2
+place_of East = 3
 
 -- whether an option is one of these
 unfoldable pub is_among : Opt → List Opt → Bool
@@ -45,9 +48,11 @@ is_among o options = list_any (λ other. place_of other == place_of o) options
 -- the word that asks for a mode
 abbrev pub word_of : Mode → List ℕ
 word_of mode.Volts = codes "volts"
+word_of mode.List = codes "list"
+word_of mode.Check = codes "check"
 
 abbrev pub all_modes : List Mode
-all_modes = mode.Volts ∷ []
+all_modes = mode.Volts ∷ mode.List ∷ mode.Check ∷ []
 
 -- the mode that a word names
 unfoldable pub mode_of : List ℕ → Option Mode
@@ -56,10 +61,14 @@ mode_of word = find (λ m. bytes_eq (word_of m) word) all_modes
 -- the options that a mode requires
 abbrev pub required_by : Mode → List Opt
 required_by mode.Volts = Case ∷ []
+required_by mode.List = Case ∷ []
+required_by mode.Check = Case ∷ []
 
 -- the further options that it may have
 abbrev pub allowed_by : Mode → List Opt
 allowed_by mode.Volts = North ∷ East ∷ []
+allowed_by mode.List = []
+allowed_by mode.Check = Switch ∷ []
 
 -- what use a mode has for an option
 unfoldable pub use_of : Mode → Opt → Use

@@ -9,6 +9,10 @@ use crate::option::Opt;
 pub(crate) enum Mode {
     /// The voltage of each line in one field.
     Volts,
+    /// The elements of the direct-current network.
+    List,
+    /// The live and the dead nodes, where each live one is earthed.
+    Check,
 }
 
 /// Whether a mode has a use for an option.
@@ -22,7 +26,7 @@ pub(crate) enum Use {
     Unused,
 }
 
-static ALL: [Mode; 1] = [Mode::Volts];
+static ALL: [Mode; 3] = [Mode::Volts, Mode::List, Mode::Check];
 
 impl Mode {
     /// The word that asks for it.
@@ -31,6 +35,8 @@ impl Mode {
     {
         match self {
             Mode::Volts => "volts",
+            Mode::List => "list",
+            Mode::Check => "check",
         }
     }
 
@@ -54,7 +60,7 @@ impl Mode {
         ensures { result.now ≡ required_by self }
     {
         match self {
-            Mode::Volts => &[Opt::Case],
+            Mode::Volts | Mode::List | Mode::Check => &[Opt::Case],
         }
     }
 
@@ -64,6 +70,8 @@ impl Mode {
     {
         match self {
             Mode::Volts => &[Opt::North, Opt::East],
+            Mode::List => &[],
+            Mode::Check => &[Opt::Switch],
         }
     }
 

@@ -7,6 +7,8 @@ ghost use Rattle.gic_words.specs.Table.{name_of, all_options, form_of, is_among}
 pub enum Opt {
     /// The name of the case's file.
     Case,
+    /// The name of the switchings' file.
+    Switch,
     /// The field to the north, in mV/km.
     North,
     /// The field to the east, in mV/km.
@@ -22,7 +24,7 @@ pub(crate) enum Form {
     Number { least: i64, most: i64 },
 }
 
-static ALL: [Opt; 3] = [Opt::Case, Opt::North, Opt::East];
+static ALL: [Opt; 4] = [Opt::Case, Opt::Switch, Opt::North, Opt::East];
 
 impl Opt {
     /// The options, in the order in which their faults are found.
@@ -38,6 +40,7 @@ impl Opt {
     {
         match self {
             Opt::Case => "case",
+            Opt::Switch => "switch",
             Opt::North => "north",
             Opt::East => "east",
         }
@@ -48,7 +51,7 @@ impl Opt {
         ensures { result ≡ form_of self }
     {
         match self {
-            Opt::Case => Form::Name,
+            Opt::Case | Opt::Switch => Form::Name,
             Opt::North | Opt::East => Form::Number {
                 least: -20000,
                 most: 20000,

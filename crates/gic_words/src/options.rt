@@ -1,6 +1,7 @@
 //! The options of the modes.
 ghost use Rattle.std.specs.Prelude.{◌≡◌, ◌≤◌, IfOk, IfSome, map, string_bytes, unsigned_abs};
 ghost use Rattle.clap.specs.Words.{rows_of, found_of};
+ghost use Rattle.gic_words.specs.Command.{given};
 ghost use Rattle.gic_words.specs.Values.{IsWithin};
 ghost use Rattle.gic_words.specs.Options.{text_of, number_of, field_of, options_by, mode_in};
 ghost use Rattle.gic_words.specs.Options.{options_of, options_of_rows, ReadsWords, KeepsTaken, HasFieldsWithin};
@@ -24,6 +25,15 @@ pub enum Options {
         north: i32,
         east: i32,
     },
+    /// The elements of the network of a case.
+    List {
+        case: FileName,
+    },
+    /// The live and the dead nodes of a case after the switchings of a file, or without any.
+    Check {
+        case: FileName,
+        switch: Option<FileName>,
+    },
 }
 
 /// A name that is required.
@@ -31,6 +41,23 @@ fn file(alloc: Global, matches: &ArgMatches<'_>, option: Opt) -> Result<FileName
     ensures { IfOk result (λ name. name ≡ text_of (rows_of (found_of matches.now)) option) }
 {
     FileName::copy(alloc, value_of(matches, option).unwrap_or(""))
+}
+
+/// A name that may be given.
+fn optional_file(
+    alloc: Global,
+    matches: &ArgMatches<'_>,
+    option: Opt,
+) -> Result<Option<FileName>, AllocError>
+    ensures { IfOk result (λ name. name ≡ given (rows_of (found_of matches.now)) option) }
+{
+    match value_of(matches, option) {
+        Some(text) => {
+            let name = FileName::copy(alloc, text)?;
+            Ok(Some(name))
+        }
+        None => Ok(None),
+    }
 }
 
 /// A number that may be given.
@@ -75,6 +102,23 @@ fn volts(alloc: Global, matches: &ArgMatches<'_>) -> Result<Options, AllocError>
     })
 }
 
+fn list(alloc: Global, matches: &ArgMatches<'_>) -> Result<Options, AllocError>
+    ensures value { IfOk result (λ o. o ≡ options_by Mode.List (rows_of (found_of matches.now))) }
+    ensures fields { IfOk result HasFieldsWithin }
+{
+    let case = file(alloc, matches, Opt::Case)?;
+    Ok(Options::List { case })
+}
+
+fn check(alloc: Global, matches: &ArgMatches<'_>) -> Result<Options, AllocError>
+    ensures value { IfOk result (λ o. o ≡ options_by Mode.Check (rows_of (found_of matches.now))) }
+    ensures fields { IfOk result HasFieldsWithin }
+{
+    let case = file(alloc, matches, Opt::Case)?;
+    let switch = optional_file(alloc, matches, Opt::Switch)?;
+    Ok(Options::Check { case, switch })
+}
+
 /// The options that a mode takes from the matches.
 fn options_by(alloc: Global, mode: Mode, matches: &ArgMatches<'_>) -> Result<Options, AllocError>
     ensures value { IfOk result (λ o. o ≡ options_by mode (rows_of (found_of matches.now))) }
@@ -82,6 +126,8 @@ fn options_by(alloc: Global, mode: Mode, matches: &ArgMatches<'_>) -> Result<Opt
 {
     match mode {
         Mode::Volts => volts(alloc, matches),
+        Mode::List => list(alloc, matches),
+        Mode::Check => check(alloc, matches),
     }
 }
 

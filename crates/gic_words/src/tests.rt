@@ -1,40 +1,107 @@
-use crate::{Opt, Options, Usage, WordsRefusal, read_words};
+use crate::{FileName, Opt, Options, Usage, WordsRefusal, read_words};
 use std::alloc::{AllocError, Global};
 use std::test::Fail;
 
-/// A volts mode that is read: the case, the north and the east.
-type Volts = (&'static str, i32, i32);
+/// What words give.
+#[derive(Clone, Copy)]
+enum Wanted {
+    Volts {
+        case: &'static str,
+        north: i32,
+        east: i32,
+    },
+    List {
+        case: &'static str,
+    },
+    Check {
+        case: &'static str,
+        switch: Option<&'static str>,
+    },
+    Fault(Usage),
+}
 
 /// Words, and what they give.
-type Row = (&'static [&'static str], Result<Volts, Usage>);
+type Row = (&'static [&'static str], Wanted);
 
-static TABLE: [Row; 15] = [
-    (&["volts"], Err(Usage::Missing { option: Opt::Case })),
+static TABLE: [Row; 20] = [
+    (
+        &["volts"],
+        Wanted::Fault(Usage::Missing { option: Opt::Case }),
+    ),
     (
         &["volts", "--case=p", "--north=20001"],
-        Err(Usage::Number { option: Opt::North }),
+        Wanted::Fault(Usage::Number { option: Opt::North }),
     ),
     (
         &["volts", "--case=p", "--east=-20001"],
-        Err(Usage::Number { option: Opt::East }),
+        Wanted::Fault(Usage::Number { option: Opt::East }),
     ),
-    (&["fly"], Err(Usage::Mode)),
-    (&["list", "--case=p"], Err(Usage::Mode)),
-    (&["volts", "--case=p", "--case=p"], Err(Usage::Words)),
-    (&["volts", "--case=p", "--width=5"], Err(Usage::Words)),
-    (&["volts", "--case=p", "--north", "-5"], Err(Usage::Words)),
-    (&[], Err(Usage::Words)),
-    (&["--help"], Err(Usage::Words)),
-    (&["-h"], Err(Usage::Words)),
-    (&["--version"], Err(Usage::Words)),
+    (&["fly"], Wanted::Fault(Usage::Mode)),
+    (
+        &["list", "--case=p", "--east=0"],
+        Wanted::Fault(Usage::Extra { option: Opt::East }),
+    ),
+    (
+        &["volts", "--case=p", "--case=p"],
+        Wanted::Fault(Usage::Words),
+    ),
+    (
+        &["volts", "--case=p", "--wind=5"],
+        Wanted::Fault(Usage::Words),
+    ),
+    (
+        &["volts", "--case=p", "--north", "-5"],
+        Wanted::Fault(Usage::Words),
+    ),
+    (&[], Wanted::Fault(Usage::Words)),
+    (&["--help"], Wanted::Fault(Usage::Words)),
+    (&["-h"], Wanted::Fault(Usage::Words)),
+    (&["--version"], Wanted::Fault(Usage::Words)),
     (
         &["volts", "--case=p", "--north=-500", "--east", "7"],
-        Ok(("p", -500, 7)),
+        Wanted::Volts {
+            case: "p",
+            north: -500,
+            east: 7,
+        },
     ),
-    (&["--case=p", "volts"], Ok(("p", 0, 0))),
+    (
+        &["--case=p", "volts"],
+        Wanted::Volts {
+            case: "p",
+            north: 0,
+            east: 0,
+        },
+    ),
     (
         &["volts", "--north=-20000", "--east=+020000", "--case=p.toml"],
-        Ok(("p.toml", -20000, 20000)),
+        Wanted::Volts {
+            case: "p.toml",
+            north: -20000,
+            east: 20000,
+        },
+    ),
+    (&["list", "--case", "p"], Wanted::List { case: "p" }),
+    (&["--case=q.toml", "list"], Wanted::List { case: "q.toml" }),
+    (
+        &["list", "--case=p", "--switch=s"],
+        Wanted::Fault(Usage::Extra {
+            option: Opt::Switch,
+        }),
+    ),
+    (
+        &["check", "--case=p", "--switch=s"],
+        Wanted::Check {
+            case: "p",
+            switch: Some("s"),
+        },
+    ),
+    (
+        &["check", "--case=p"],
+        Wanted::Check {
+            case: "p",
+            switch: None,
+        },
     ),
 ];
 
@@ -46,23 +113,46 @@ fn list_of(alloc: Global, words: &[&str]) -> Result<Vec<String>, AllocError> {
     Ok(list)
 }
 
+/// Whether a name is given where it is wanted.
+fn is_named(name: &Option<FileName>, wanted: Option<&str>) -> bool {
+    match (name, wanted) {
+        (Some(name), Some(text)) => name.as_str() == text,
+        (None, None) => true,
+        (_name, _wanted) => false,
+    }
+}
+
+/// Whether the answer is what is wanted.
+fn is_wanted(answer: &Result<Options, WordsRefusal>, wanted: Wanted) -> bool {
+    match (answer, wanted) {
+        (
+            Ok(Options::Volts { case, north, east }),
+            Wanted::Volts {
+                case: name,
+                north: to_north,
+                east: to_east,
+            },
+        ) => case.as_str() == name && *north == to_north && *east == to_east,
+        (Ok(Options::List { case }), Wanted::List { case: name }) => case.as_str() == name,
+        (
+            Ok(Options::Check { case, switch }),
+            Wanted::Check {
+                case: name,
+                switch: other,
+            },
+        ) => case.as_str() == name && is_named(switch, other),
+        (Err(WordsRefusal::Usage(usage)), Wanted::Fault(fault)) => *usage == fault,
+        (_answer, _wanted) => false,
+    }
+}
+
 #[test]
 fn reads_words(rt: HostRuntime) -> Result<(), Fail> {
     let alloc = rt.alloc();
     for (i, row) in TABLE.iter().enumerate() {
         let words = list_of(alloc, row.0)?;
-        match (read_words(alloc, &words), row.1) {
-            (Ok(Options::Volts { case, north, east }), Ok(volts)) => {
-                assert!(rt; case.as_str() == volts.0, "case of row {i}");
-                assert!(rt; north == volts.1, "north of row {i}");
-                assert!(rt; east == volts.2, "east of row {i}");
-            }
-            (Err(WordsRefusal::Usage(usage)), Err(wanted)) => {
-                assert!(rt; usage == wanted, "fault of row {i}")
-            }
-            (Ok(_options), Err(_wanted)) => assert!(rt; false, "row {i} is accepted"),
-            (Err(_refusal), _wanted) => assert!(rt; false, "row {i} is refused"),
-        }
+        let answer = read_words(alloc, &words);
+        assert!(rt; is_wanted(&answer, row.1), "row {i}");
     }
     Ok(())
 }

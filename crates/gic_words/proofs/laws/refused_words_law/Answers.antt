@@ -43,5 +43,23 @@ returns-clause-case_before_north c = example.case_before_north
 pub returns-clause-north_too_far : goal.returns-clause-north_too_far
 returns-clause-north_too_far c = example.north_too_far
 
+pub returns-clause-missing_case_of_list : goal.returns-clause-missing_case_of_list
+returns-clause-missing_case_of_list c = example.missing_case_of_list
+
+pub returns-clause-field_in_list : goal.returns-clause-field_in_list
+returns-clause-field_in_list c = example.field_in_list
+
 pub returns-clause-north_before_east : goal.returns-clause-north_before_east
 returns-clause-north_before_east c = example.north_before_east
+
+pub returns-clause-missing_case_of_check : goal.returns-clause-missing_case_of_check
+returns-clause-missing_case_of_check c = example.missing_case_of_check
+
+pub returns-clause-switch_in_list : goal.returns-clause-switch_in_list
+returns-clause-switch_in_list c = example.switch_in_list
+
+pub returns-clause-switch_before_north : goal.returns-clause-switch_before_north
+returns-clause-switch_before_north c = example.switch_before_north
+
+pub returns-clause-field_in_check : goal.returns-clause-field_in_check
+returns-clause-field_in_check c = example.field_in_check
