@@ -1,3 +1,9 @@
 pub mod Written
-pub mod Names
+pub mod Framed
+pub mod CaseNames
 pub mod VoltsDetermined
+pub mod CheckDetermined
+pub mod StateLines
+pub mod ListParts
+pub mod NeutralNames
+pub mod ElementNames

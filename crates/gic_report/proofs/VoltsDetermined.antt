@@ -7,7 +7,8 @@ use Rattle.gic_text.specs.Lines.{IsWord, IsLine, lines_text}
 use Rattle.gic_text.proofs.Injective.{lines_injective}
 use Rattle.gic_text.proofs.Words.{word_from_test, word_signed, signed_decimal_injective_wide}
 use Rattle.gic_case.specs.declared.item.Line.{Line}
-use Rattle.gic_report.specs.Text.{word_line, field_line, volts_line, volts_lines, volts_report}
+use Rattle.gic_report.specs.SharedLines.{word_line, field_line}
+use Rattle.gic_report.specs.VoltsText.{volts_line, volts_lines, volts_report}
 
 word_of_32 : (z : ℤ) → FitsSigned w32 z → IsWord (signed_decimal z)
 word_of_32 z h = word_signed z (omega (arith, h.sfits))

@@ -4,7 +4,7 @@ ghost use Rattle.std.specs.Io.KnownBytes.{Appends};
 ghost use Rattle.gic_base.specs.Causes.{HasCause};
 ghost use Rattle.gic_base.specs.Pieces.{AppendsPart};
 ghost use Rattle.gic_text.specs.Lines.{line_text, lines_text};
-ghost use Rattle.gic_report.specs.Text.{volts_line, volts_lines, volts_report};
+ghost use Rattle.gic_report.specs.VoltsText.{volts_line, volts_lines, volts_report};
 
 use crate::write::{write_field, write_word};
 use gic_base::{Name, Sink, WriteFailed, write_all};

@@ -4,7 +4,7 @@ ghost use Rattle.std.specs.Io.KnownBytes.{Appends};
 ghost use Rattle.gic_base.specs.Causes.{HasCause};
 ghost use Rattle.gic_base.specs.Pieces.{AppendsPart};
 ghost use Rattle.gic_text.specs.Lines.{line_text};
-ghost use Rattle.gic_report.specs.Text.{word_line, field_line};
+ghost use Rattle.gic_report.specs.SharedLines.{word_line, field_line};
 
 use gic_base::{Sink, WriteFailed, write_all};
 use gic_text::LineBuilder;

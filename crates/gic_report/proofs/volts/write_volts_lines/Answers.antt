@@ -5,7 +5,7 @@ use Rattle.std.proofs.lemmas.Int.{to_z-of_z}
 use Rattle.std.proofs.lemmas.Slice.Zip.{Zip-more, either_empty_from_Zip}
 use Rattle.gic_text.specs.Lines.{line_text, lines_text}
 use Rattle.gic_case.specs.declared.item.Line.{Line}
-use Rattle.gic_report.specs.Text.{volts_line, volts_lines}
+use Rattle.gic_report.specs.VoltsText.{volts_line, volts_lines}
 use Rattle.gic_report.proofs.Written.{begins, goes_on, same_left, stops, ends}
 use Rattle.gic_report.proofs.volts.write_volts_lines.Goals as goal
 

@@ -2,7 +2,7 @@ use Rattle.std.proofs.Common.{◌≤◌}
 use Rattle.std.specs.Iterator.Adapters.{zip_first, zip_second}
 use Rattle.std.specs.Slice.Iter.{iter_rest}
 use Rattle.gic_text.specs.Lines.{lines_text}
-use Rattle.gic_report.specs.Text.{volts_lines}
+use Rattle.gic_report.specs.VoltsText.{volts_lines}
 use Rattle.gic_report.proofs.Written.{Written}
 use Rattle.gic_report.proofs.volts.write_volts_lines.Given as goal
 
