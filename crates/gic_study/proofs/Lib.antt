@@ -1,2 +1,5 @@
 pub mod Spaced
 pub mod LineVolts
+pub mod Explained
+pub mod Passed
+pub mod CaseNodes

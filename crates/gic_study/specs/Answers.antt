@@ -7,16 +7,19 @@ use Rattle.gic_base.specs.Pieces.{AppendsPart}
 use Rattle.gic_case.specs.Lists.{Lists}
 use Rattle.gic_case.specs.declared.refusal.CaseRefusal.{CaseRefusal}
 use Rattle.gic_case.specs.declared.refusal.CaseRefusal.TheVariants.{Memory as CaseMemory}
+use Rattle.gic_switch.specs.declared.refusal.SwitchRefusal.{SwitchRefusal}
+use Rattle.gic_switch.specs.declared.refusal.SwitchRefusal.TheVariants.{Memory as SwitchMemory}
 use Rattle.gic_report.specs.declared.report.Report.{Report}
+use Rattle.gic_winding.specs.ElementList.{elements_of}
 use Rattle.gic_report.specs.Text.{FitsCase, report_text}
 use Rattle.gic_study.specs.Faults.{status_of_fault, line_of_fault}
-use Rattle.gic_study.specs.Outcome.{Outcome, Refuses, Accepts, Unknown, Lacks, MayRefuse, MayAccept}
+use Rattle.gic_study.specs.Outcome.{Outcome, Refuses, Accepts, Unknown, Lacks, MayRefuse, MayAccept, IsNetworkEarthed, IsUnearthedAt}
 use Rattle.gic_study.specs.Reasons.{CouldNotRead, HasReason}
 use Rattle.gic_study.specs.Right.{IsRight, case_in}
 use Rattle.gic_study.specs.declared.accept.Accepted.{Accepted}
 use Rattle.gic_study.specs.declared.fault.File.{File}
 use Rattle.gic_study.specs.declared.fault.Fault.{Fault}
-use Rattle.gic_study.specs.declared.fault.Fault.TheVariants.{Usage, CannotRead, CannotWrite, Case as CaseFault, TooLong, Memory}
+use Rattle.gic_study.specs.declared.fault.Fault.TheVariants.{Usage, CannotRead, CannotWrite, Case as CaseFault, Switch as SwitchFault, Unearthed, TooLong, Memory}
 
 -- all of a report, or the fault that ended the call
 abbrev pub Answer : Type 0
@@ -34,17 +37,23 @@ pub record Shown : Type 0 where
 abbrev pub shown : {S : Type 0} → (S → Option (List ℕ)) → (S → ℕ) → S → Shown
 shown bytes faults sink = record { bytes = bytes sink; faults = faults sink }
 
+-- the text of a report of a case over the elements of the case
+abbrev pub text_of : Lists → Report → List ℕ
+text_of case report = report_text case (elements_of case) report
+
 -- how the writing of a report of a case ends: all of its text was written, or a front of it up to a failed write, or none for want of memory
 pub record WritesPart (case : Lists) (report : Report) (before now : Shown) : Type 0 where
-  pub written : AppendsPart before.bytes now.bytes (report_text case report)
+  pub written : AppendsPart before.bytes now.bytes (text_of case report)
   pub cause : Rose before.faults now.faults
 
 abbrev pub Writes : Lists → Report → Shown → Shown → Answer → Type 0
-Writes case report before now (Ok done) = Appends before.bytes now.bytes (report_text case report)
+Writes case report before now (Ok done) = Appends before.bytes now.bytes (text_of case report)
 Writes case report before now (Err (Usage u)) = ⊥
 Writes case report before now (Err (CannotRead file)) = ⊥
 Writes case report before now (Err CannotWrite) = WritesPart case report before now
 Writes case report before now (Err (CaseFault e)) = ⊥
+Writes case report before now (Err (SwitchFault e)) = ⊥
+Writes case report before now (Err (Unearthed step node)) = ⊥
 Writes case report before now (Err (TooLong file)) = ⊥
 Writes case report before now (Err Memory) = Keeps before.bytes now.bytes
 
@@ -55,7 +64,7 @@ pub record Reports (o : Outcome) (before now : Shown) : Type 0 where
   pub report : Report
   pub fits : FitsCase (case_in asked) report
   pub right : IsRight asked report
-  pub written : Appends before.bytes now.bytes (report_text (case_in asked) report)
+  pub written : Appends before.bytes now.bytes (text_of (case_in asked) report)
 
 -- a front part of it, up to a failed write
 pub record ReportsPart (o : Outcome) (before now : Shown) : Type 0 where
@@ -86,6 +95,8 @@ Explains words o before now (Err (Usage u)) = HasNone words o before now (Usage 
 Explains words o before now (Err (CannotRead file)) = HasNone words o before now (CannotRead file)
 Explains words o before now (Err CannotWrite) = ReportsPart o before.out now.out
 Explains words o before now (Err (CaseFault e)) = HasNone words o before now (CaseFault e)
+Explains words o before now (Err (SwitchFault e)) = HasNone words o before now (SwitchFault e)
+Explains words o before now (Err (Unearthed step node)) = HasNone words o before now (Unearthed step node)
 Explains words o before now (Err (TooLong file)) = HasNone words o before now (TooLong file)
 Explains words o before now (Err Memory) = HasNone words o before now Memory
 
@@ -110,20 +121,32 @@ pub record Ends (words : List (List ℕ)) (o : Outcome) (before now : Moment) (t
 abbrev pub CanRead : List (List ℕ) → List (List ℕ) → List (List ℕ) → Type 0
 CanRead words before now = (file : File) → ¬ CouldNotRead words file before now
 
--- a refusal has its status, want of memory aside
+-- a refusal has its status, want of memory aside; 8 is that of a network in which a live node is not earthed
 abbrev pub IsRefused : Outcome → ℕ → Type 0
 IsRefused (Refuses fault) status = (status ≡ status_of_fault fault) ⊎ (status ≡ 11)
-IsRefused (Accepts a) status = ⊤
+IsRefused (Accepts a) status = (name : List ℕ) → IsUnearthedAt a name → (status ≡ 8) ⊎ (status ≡ 11)
 IsRefused Unknown status = ⊤
 IsRefused (Lacks file) status = status ≡ 11
 
 -- what is accepted has status 0, want of memory aside
 abbrev pub IsReported : Outcome → ℕ → Type 0
 IsReported (Refuses fault) status = ⊤
-IsReported (Accepts a) status = (status ≡ 0) ⊎ (status ≡ 11)
+IsReported (Accepts a) status = IsNetworkEarthed a → (status ≡ 0) ⊎ (status ≡ 11)
 IsReported Unknown status = ⊤
 IsReported (Lacks file) status = ⊤
 
 -- the outcome is a refusal of the case, where it is known
 abbrev pub MayRefuseCase : Outcome → Type 0
 MayRefuseCase o = (e : CaseRefusal) × ((e ≢ CaseMemory) × MayRefuse o (CaseFault e))
+
+-- the outcome is a refusal of the switchings, where it is known
+abbrev pub MayRefuseSwitchings : Outcome → Type 0
+MayRefuseSwitchings o = (e : SwitchRefusal) × ((e ≢ SwitchMemory) × MayRefuse o (SwitchFault e))
+
+-- the outcome is that a live node is not earthed, where it is known
+abbrev pub MayBeUnearthed : Outcome → Type 0
+MayBeUnearthed o = (name : List ℕ) × MayRefuse o (Unearthed 1 name)
+
+-- the outcome is that a file is too long, where it is known
+abbrev pub MayHaveLongFile : Outcome → Type 0
+MayHaveLongFile o = (file : File) × MayRefuse o (TooLong file)

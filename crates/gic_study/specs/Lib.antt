@@ -1,5 +1,6 @@
 pub mod Faults
 pub mod Told
+pub mod Standing
 pub mod Outcome
 pub mod Reasons
 pub mod Right

@@ -1,17 +1,22 @@
 -- Why a report is not begun.
-use Rattle.std.specs.Prelude.{◌≡◌, ◌≢◌, ℕ, List, Some, Ok, Err, Result, IsOkAnd, IsSomeAnd, ⊤}
+use Rattle.std.specs.Prelude.{◌≡◌, ◌≢◌, ℕ, List, Some, None, Ok, Err, Result, IsOkAnd, IsSomeAnd, ⊤}
 use Rattle.std.specs.declared.option.Option.{Option}
-use Rattle.gic_base.specs.Files.{HasFailed}
+use Rattle.gic_base.specs.Files.{Files, HasFailed}
+use Rattle.gic_case.specs.Lists.{Lists}
 use Rattle.gic_case.specs.declared.refusal.CaseRefusal.TheVariants.{Memory as CaseMemory}
+use Rattle.gic_switch.specs.declared.refusal.SwitchRefusal.TheVariants.{Memory as SwitchMemory}
 use Rattle.gic_words.specs.Options.{options_of}
 use Rattle.gic_words.specs.declared.options.Options.{Options}
 use Rattle.gic_words.specs.declared.options.Options.TheVariants as options
-use Rattle.gic_study.specs.Told.{Told, MayBeLong}
-use Rattle.gic_study.specs.Outcome.{Outcome, Refuses, MayRefuse, MayBeRefused, Reaches}
+use Rattle.gic_study.specs.Told.{Told, told, MayBeLong}
+use Rattle.gic_study.specs.Outcome.{Outcome, Refuses, RefusesNetwork, MayRefuse, MayBeRefused, MayBeRefusedSwitchings, Reaches}
+use Rattle.gic_model.specs.Sums.{Placed}
+use Rattle.gic_study.specs.Standing.{IsNameOfUnearthed}
+use Rattle.gic_study.specs.declared.accept.Accepted.{Accepted}
 use Rattle.gic_study.specs.declared.fault.File.{File}
-use Rattle.gic_study.specs.declared.fault.File.TheVariants.{Case}
+use Rattle.gic_study.specs.declared.fault.File.TheVariants.{Case, Switch}
 use Rattle.gic_study.specs.declared.fault.Fault.{Fault}
-use Rattle.gic_study.specs.declared.fault.Fault.TheVariants.{Usage, CannotRead, CannotWrite, Case as CaseFault, TooLong, Memory}
+use Rattle.gic_study.specs.declared.fault.Fault.TheVariants.{Usage, CannotRead, CannotWrite, Case as CaseFault, Switch as SwitchFault, Unearthed, TooLong, Memory}
 
 -- the options that the words give, or their first fault, want of memory aside
 abbrev pub ReadsOptions : List (List ℕ) → Result Options Fault → Type 0
@@ -20,6 +25,8 @@ ReadsOptions words (Err (Usage u)) = options_of words ≡ Err u
 ReadsOptions words (Err (CannotRead file)) = ⊥
 ReadsOptions words (Err CannotWrite) = ⊥
 ReadsOptions words (Err (CaseFault e)) = ⊥
+ReadsOptions words (Err (SwitchFault e)) = ⊥
+ReadsOptions words (Err (Unearthed step node)) = ⊥
 ReadsOptions words (Err (TooLong file)) = ⊥
 ReadsOptions words (Err Memory) = ⊤
 
@@ -29,6 +36,8 @@ FetchFails t before now name file (Usage u) = ⊥
 FetchFails t before now name file (CannotRead other) = (other ≡ file) × HasFailed before now name
 FetchFails t before now name file CannotWrite = ⊥
 FetchFails t before now name file (CaseFault e) = ⊥
+FetchFails t before now name file (SwitchFault e) = ⊥
+FetchFails t before now name file (Unearthed step node) = ⊥
 FetchFails t before now name file (TooLong other) = (other ≡ file) × MayBeLong t
 FetchFails t before now name file Memory = ⊤
 
@@ -38,16 +47,65 @@ ReadFails t before now name (Usage u) = ⊥
 ReadFails t before now name (CannotRead file) = (file ≡ Case) × HasFailed before now name
 ReadFails t before now name CannotWrite = ⊥
 ReadFails t before now name (CaseFault e) = (e ≢ CaseMemory) × MayBeRefused t e
+ReadFails t before now name (SwitchFault e) = ⊥
+ReadFails t before now name (Unearthed step node) = ⊥
 ReadFails t before now name (TooLong file) = (file ≡ Case) × MayBeLong t
 ReadFails t before now name Memory = ⊤
+
+-- why switchings over a case were not read
+abbrev pub ReadSwitchingsFails : Told → Lists → List (List ℕ) → List (List ℕ) → List ℕ → Fault → Type 0
+ReadSwitchingsFails t case before now name (Usage u) = ⊥
+ReadSwitchingsFails t case before now name (CannotRead file) = (file ≡ Switch) × HasFailed before now name
+ReadSwitchingsFails t case before now name CannotWrite = ⊥
+ReadSwitchingsFails t case before now name (CaseFault e) = ⊥
+ReadSwitchingsFails t case before now name (SwitchFault e) = (e ≢ SwitchMemory) × MayBeRefusedSwitchings t case e
+ReadSwitchingsFails t case before now name (Unearthed step node) = ⊥
+ReadSwitchingsFails t case before now name (TooLong file) = (file ≡ Switch) × MayBeLong t
+ReadSwitchingsFails t case before now name Memory = ⊤
+
+-- the same of switchings that the words may name
+abbrev pub ReadNamedSwitchingsFails : Option Files → Option (List ℕ) → Lists → List (List ℕ) → List (List ℕ) → Fault → Type 0
+ReadNamedSwitchingsFails files None case before now fault = ⊥
+ReadNamedSwitchingsFails files (Some name) case before now fault = ReadSwitchingsFails (told files name) case before now name fault
+
+-- why a network of a case is refused: a node is not earthed at its one step, or for want of memory
+abbrev pub NetworkFails : Lists → List Placed → Fault → Type 0
+NetworkFails case standing (Usage u) = ⊥
+NetworkFails case standing (CannotRead file) = ⊥
+NetworkFails case standing CannotWrite = ⊥
+NetworkFails case standing (CaseFault e) = ⊥
+NetworkFails case standing (SwitchFault e) = ⊥
+NetworkFails case standing (Unearthed step node) = (step ≡ 1) × IsNameOfUnearthed case standing node
+NetworkFails case standing (TooLong file) = ⊥
+NetworkFails case standing Memory = ⊤
+
+-- why what is asked for gets no report: its network is refused, or memory is wanting
+abbrev pub ReportFails : Accepted → Fault → Type 0
+ReportFails a (Usage u) = ⊥
+ReportFails a (CannotRead file) = ⊥
+ReportFails a CannotWrite = ⊥
+ReportFails a (CaseFault e) = ⊥
+ReportFails a (SwitchFault e) = ⊥
+ReportFails a (Unearthed step node) = RefusesNetwork a (Unearthed step node)
+ReportFails a (TooLong file) = ⊥
+ReportFails a Memory = ⊤
 
 -- the name that options give for a file
 abbrev pub name_of_file : File → Options → Option (List ℕ)
 name_of_file Case (options.Volts name north east) = Some name
+name_of_file Case (options.List name) = Some name
+name_of_file Case (options.Check name switch) = Some name
+name_of_file Switch (options.Volts name north east) = None
+name_of_file Switch (options.List name) = None
+name_of_file Switch (options.Check name switch) = switch
 
 -- a fetch of the file that the words name failed between these moments
 abbrev pub CouldNotRead : List (List ℕ) → File → List (List ℕ) → List (List ℕ) → Type 0
 CouldNotRead words file before now = IsOkAnd (options_of words) (λ o. IsSomeAnd (name_of_file file o) (HasFailed before now))
+
+-- a fetch of a file that the words name failed between these moments
+abbrev pub CouldNotReadAFile : List (List ℕ) → List (List ℕ) → List (List ℕ) → Type 0
+CouldNotReadAFile words before now = (file : File) × CouldNotRead words file before now
 
 -- why no report is begun, between these moments of the library
 abbrev pub HasReason : List (List ℕ) → Outcome → List (List ℕ) → List (List ℕ) → Fault → Type 0
@@ -55,5 +113,7 @@ HasReason words o before now (Usage u) = o ≡ Refuses (Usage u)
 HasReason words o before now (CannotRead file) = CouldNotRead words file before now × Reaches o file
 HasReason words o before now CannotWrite = ⊥
 HasReason words o before now (CaseFault e) = (e ≢ CaseMemory) × MayRefuse o (CaseFault e)
+HasReason words o before now (SwitchFault e) = (e ≢ SwitchMemory) × MayRefuse o (SwitchFault e)
+HasReason words o before now (Unearthed step node) = MayRefuse o (Unearthed step node)
 HasReason words o before now (TooLong file) = MayRefuse o (TooLong file)
 HasReason words o before now Memory = ⊤

@@ -1,10 +1,12 @@
 -- What a report has to say.
-use Rattle.std.specs.Prelude.{◌≡◌, ℕ, ℤ, List, [], map, slice_index_or}
+use Rattle.std.specs.Prelude.{◌≡◌, ℕ, ℤ, List, [], map, slice_index_or, Option}
 use Rattle.gic_scale.specs.ZoneView.{ZoneView}
 use Rattle.gic_case.specs.Lists.{Lists}
+use Rattle.gic_model.specs.declared.parts.Switching.{Switching}
 use Rattle.gic_induce.specs.Voltage.{line_nanovolts}
 use Rattle.gic_report.specs.declared.report.Report.{Report}
 use Rattle.gic_report.specs.declared.report.Report.TheVariants as report
+use Rattle.gic_study.specs.Standing.{standing_of, live_nodes}
 use Rattle.gic_study.specs.declared.accept.Accepted.{Accepted}
 use Rattle.gic_study.specs.declared.accept.Accepted.TheVariants as accepted
 
@@ -28,10 +30,22 @@ pub record IsRightVolts (case : Lists) (north east north' east' : ℤ) (lines : 
 -- the case of what is accepted
 abbrev pub case_in : Accepted → Lists
 case_in (accepted.Volts case north east) = case
+case_in (accepted.List case) = case
+case_in (accepted.Check case switchings) = case
 
 abbrev pub IsRightReportOfVolts : Lists → ℤ → ℤ → Report → Type 0
 IsRightReportOfVolts case north east (report.Volts north' east' lines) = IsRightVolts case north east north' east' lines
+IsRightReportOfVolts case north east report.List = ⊥
+IsRightReportOfVolts case north east (report.Check live) = ⊥
+
+-- a report of a check: it says of each node whether it is live, with all switchings in force
+abbrev pub IsRightReportOfCheck : Lists → Option (List Switching) → Report → Type 0
+IsRightReportOfCheck case switchings (report.Volts north east lines) = ⊥
+IsRightReportOfCheck case switchings report.List = ⊥
+IsRightReportOfCheck case switchings (report.Check live) = live ≡ live_nodes case (standing_of case switchings)
 
 -- the report is right for what is accepted
 abbrev pub IsRight : Accepted → Report → Type 0
-IsRight (accepted.Volts case north east) report = IsRightReportOfVolts case north east report
+IsRight (accepted.Volts case north east) written = IsRightReportOfVolts case north east written
+IsRight (accepted.List case) written = written ≡ report.List
+IsRight (accepted.Check case switchings) written = IsRightReportOfCheck case switchings written

@@ -2,8 +2,9 @@
 ghost use Rattle.std.specs.Prelude.{◌≡◌};
 ghost use Rattle.gic_study.specs.Faults.{status_of_fault};
 
-use gic_base::OutOfMemory;
+use gic_base::{Name, OutOfMemory};
 use gic_case::CaseRefusal;
+use gic_switch::SwitchRefusal;
 use gic_words::Usage;
 use std::alloc::AllocError;
 
@@ -11,6 +12,7 @@ use std::alloc::AllocError;
 #[derive(Clone, Copy, Debug, PartialEq, Eq)]
 pub enum File {
     Case,
+    Switch,
 }
 
 /// Why there is no report, or not the whole of it.
@@ -24,6 +26,10 @@ pub enum Fault {
     CannotWrite,
     /// The case breaks a rule.
     Case(CaseRefusal),
+    /// The switchings break a rule.
+    Switch(SwitchRefusal),
+    /// At this step this live node is the first that no chain of standing elements joins to earth.
+    Unearthed { step: u32, node: Name },
     /// A file is longer than 16777216 bytes.
     TooLong(File),
     /// Want of memory.
@@ -31,7 +37,7 @@ pub enum Fault {
 }
 
 impl Fault {
-    /// The status of a call that ends with the fault: 2, 3, 4, 5, 10 or 11.
+    /// The status of a call that ends with the fault: 2 to 5, 7, 8, 10 or 11.
     pub fn status(&self) -> u8
         ensures { result ≡ status_of_fault self.now }
     {
@@ -40,6 +46,8 @@ impl Fault {
             Fault::CannotRead(_) => 3,
             Fault::CannotWrite => 4,
             Fault::Case(_) => 5,
+            Fault::Switch(_) => 7,
+            Fault::Unearthed { .. } => 8,
             Fault::TooLong(_) => 10,
             Fault::Memory => 11,
         }

@@ -1,14 +1,15 @@
 //! The line that tells a fault.
-ghost use Rattle.std.specs.Prelude.{◌≡◌, ◌∷◌, ◌++◌, OnOk, map};
+ghost use Rattle.std.specs.Prelude.{◌≡◌, ◌∷◌, ◌++◌, [], OnOk, map};
 ghost use Rattle.std.specs.Io.KnownBytes.{Appends};
 ghost use Rattle.gic_base.specs.Causes.{HasCause};
 ghost use Rattle.gic_base.specs.Pieces.{AppendsPart};
 ghost use Rattle.gic_text.specs.Lines.{spaced};
-ghost use Rattle.gic_study.specs.Faults.{flag, file_word, part_word, row_words, field_words, told_line, line_of_fault};
+ghost use Rattle.gic_study.specs.Faults.{flag, file_word, part_word, row_words, field_words, switch_row_words, told_line, line_of_fault};
 
 use crate::fault::{Fault, File};
 use gic_base::{Name, Sink, WriteFailed, write_all};
 use gic_case::{CaseRefusal, Field, Part};
+use gic_switch::SwitchRefusal;
 use gic_words::{Opt, Usage};
 
 /// Writes a space and a word.
@@ -62,6 +63,7 @@ fn flag(option: Opt) -> &'static str
         Opt::Case => "--case",
         Opt::North => "--north",
         Opt::East => "--east",
+        Opt::Switch => "--switch",
     }
 }
 
@@ -71,6 +73,7 @@ fn file_word(file: File) -> &'static str
 {
     match file {
         File::Case => "case",
+        File::Switch => "switch",
     }
 }
 
@@ -84,6 +87,7 @@ fn part_word(list: Part) -> &'static str
         Part::Substation => "substation",
         Part::Bus => "bus",
         Part::Line => "line",
+        Part::Transformer => "transformer",
     }
 }
 
@@ -135,14 +139,25 @@ fn write_field<E: Sink>(
     write_joined(words, &place, err)
 }
 
-/// Writes the line of a node at which too many elements end.
-fn write_degree<E: Sink>(node: Name, err: &mut E) -> Result<(), WriteFailed>
-    ensures all { OnOk result (Appends (E.written err.old) (E.written err.new) (line_of_fault (Fault.Case (CaseRefusal.Degree node)))) }
-    ensures part { AppendsPart (E.written err.old) (E.written err.new) (line_of_fault (Fault.Case (CaseRefusal.Degree node))) }
+/// Writes a space and a name.
+fn write_name<E: Sink>(name: Name, err: &mut E) -> Result<(), WriteFailed>
+    ensures all { OnOk result (Appends (E.written err.old) (E.written err.new) (32 ∷ name)) }
+    ensures part { AppendsPart (E.written err.old) (E.written err.new) (32 ∷ name) }
     ensures cause { HasCause (E.faults err.old) (E.faults err.new) result }
 {
-    write_all(err, b"gicstudy: case: degree at node ")?;
-    write_all(err, node.as_bytes())?;
+    write_all(err, b" ")?;
+    write_all(err, name.as_bytes())
+}
+
+/// Writes the line of the program's name, words and the name of a node.
+fn write_named<E: Sink>(words: &[&str], name: Name, err: &mut E) -> Result<(), WriteFailed>
+    ensures all { OnOk result (Appends (E.written err.old) (E.written err.new) (told_line (map (λ w. w.now) words.entry.now ++ name ∷ []))) }
+    ensures part { AppendsPart (E.written err.old) (E.written err.new) (told_line (map (λ w. w.now) words.entry.now ++ name ∷ [])) }
+    ensures cause { HasCause (E.faults err.old) (E.faults err.new) result }
+{
+    write_all(err, b"gicstudy:")?;
+    write_spaced(words, err)?;
+    write_name(name, err)?;
     write_all(err, b"\n")
 }
 
@@ -170,9 +185,63 @@ fn write_case<E: Sink>(refusal: CaseRefusal, err: &mut E) -> Result<(), WriteFai
         CaseRefusal::SameEnds { list, row } => {
             write_row(&["case:", "same", "ends", "in"], list, row, err)
         }
-        CaseRefusal::Degree { node } => write_degree(node, err),
+        CaseRefusal::Apart { row } => {
+            write_row(&["case:", "apart", "in"], Part::Transformer, row, err)
+        }
+        CaseRefusal::VoltageOrder { row } => {
+            write_row(
+                &["case:", "voltage", "order", "in"],
+                Part::Transformer,
+                row,
+                err,
+            )
+        }
+        CaseRefusal::Degree { node } => {
+            write_named(&["case:", "degree", "at", "node"], node, err)
+        }
         CaseRefusal::Memory => write_line(&["out", "of", "memory"], err),
     }
+}
+
+/// Writes the line of what a row of the switchings breaks.
+fn write_switch_row<E: Sink>(what: &str, row: u32, err: &mut E) -> Result<(), WriteFailed>
+    ensures all { OnOk result (Appends (E.written err.old) (E.written err.new) (told_line (switch_row_words what.now row))) }
+    ensures part { AppendsPart (E.written err.old) (E.written err.new) (told_line (switch_row_words what.now row)) }
+    ensures cause { HasCause (E.faults err.old) (E.faults err.new) result }
+{
+    let mut buffer = itoa::Buffer::new();
+    write_line(&["switch:", what, "in", "row", buffer.format(row)], err)
+}
+
+/// Writes the line of refused switchings.
+fn write_switchings<E: Sink>(refusal: SwitchRefusal, err: &mut E) -> Result<(), WriteFailed>
+    ensures all { OnOk result (Appends (E.written err.old) (E.written err.new) (line_of_fault (Fault.Switch refusal))) }
+    ensures part { AppendsPart (E.written err.old) (E.written err.new) (line_of_fault (Fault.Switch refusal)) }
+    ensures cause { HasCause (E.faults err.old) (E.faults err.new) result }
+{
+    match refusal {
+        SwitchRefusal::Shape { row } => write_switch_row("shape", row, err),
+        SwitchRefusal::Number { row } => write_switch_row("number", row, err),
+        SwitchRefusal::Order { row } => write_switch_row("order", row, err),
+        SwitchRefusal::Action { row } => write_switch_row("action", row, err),
+        SwitchRefusal::Item { row } => write_switch_row("item", row, err),
+        SwitchRefusal::TooMany => write_line(&["switch:", "too", "many"], err),
+        SwitchRefusal::Memory => write_line(&["out", "of", "memory"], err),
+    }
+}
+
+/// Writes the line of a live node that is not earthed.
+fn write_unearthed<E: Sink>(step: u32, node: Name, err: &mut E) -> Result<(), WriteFailed>
+    ensures all { OnOk result (Appends (E.written err.old) (E.written err.new) (line_of_fault (Fault.Unearthed step node))) }
+    ensures part { AppendsPart (E.written err.old) (E.written err.new) (line_of_fault (Fault.Unearthed step node)) }
+    ensures cause { HasCause (E.faults err.old) (E.faults err.new) result }
+{
+    let mut buffer = itoa::Buffer::new();
+    write_named(
+        &["unearthed:", "step", buffer.format(step), "node"],
+        node,
+        err,
+    )
 }
 
 /// Writes the line that tells a fault. Takes no memory.
@@ -186,6 +255,8 @@ pub(crate) fn write_fault<E: Sink>(fault: &Fault, err: &mut E) -> Result<(), Wri
         Fault::CannotRead(file) => write_line(&["cannot", "read", file_word(*file)], err),
         Fault::CannotWrite => write_line(&["cannot", "write"], err),
         Fault::Case(refusal) => write_case(*refusal, err),
+        Fault::Switch(refusal) => write_switchings(*refusal, err),
+        Fault::Unearthed { step, node } => write_unearthed(*step, *node, err),
         Fault::TooLong(file) => write_line(&["too", "long:", file_word(*file)], err),
         Fault::Memory => write_line(&["out", "of", "memory"], err),
     }

@@ -1,14 +1,19 @@
 //! The report of what is accepted.
-ghost use Rattle.std.specs.Prelude.{IfOk};
+ghost use Rattle.std.specs.Prelude.{◌≡◌, IfOk, IfErr, OnOk};
 ghost use Rattle.gic_case.specs.Lists.{Lists};
 ghost use Rattle.gic_induce.specs.Voltage.{IsFieldWithin};
 ghost use Rattle.gic_report.specs.Text.{FitsCase};
-ghost use Rattle.gic_study.specs.Outcome.{AsksFieldsWithin};
+ghost use Rattle.gic_study.specs.Outcome.{AsksFieldsWithin, IsNetworkEarthed};
+ghost use Rattle.gic_winding.specs.ElementList.{elements_of};
+ghost use Rattle.gic_study.specs.Reasons.{ReportFails};
 ghost use Rattle.gic_study.specs.Right.{IsRight, IsRightReportOfVolts, case_in};
 
 use crate::accept::Accepted;
+use crate::fault::Fault;
+use crate::network::check;
 use crate::volts::line_volts;
 use gic_case::Case;
+use gic_model::Elements;
 use gic_report::Report;
 use std::alloc::{AllocError, Global};
 
@@ -25,12 +30,24 @@ fn volts(alloc: Global, case: &Case, north: i32, east: i32) -> Result<Report, Al
 }
 
 /// The report of what is accepted.
-pub(crate) fn report_of(alloc: Global, asked: &Accepted) -> Result<Report, AllocError>
-    requires { AsksFieldsWithin asked.now }
+pub(crate) fn report_of(
+    alloc: Global,
+    elements: &Elements,
+    asked: &Accepted,
+) -> Result<Report, Fault>
+    requires elements { elements.now ≡ elements_of (case_in asked.now) }
+    requires fields { AsksFieldsWithin asked.now }
     ensures right { IfOk result (IsRight asked.now) }
     ensures fits { IfOk result (FitsCase (case_in asked.now)) }
+    ensures earthed { OnOk result (IsNetworkEarthed asked.now) }
+    ensures err { IfErr result (ReportFails asked.now) }
 {
     match asked {
-        Accepted::Volts { case, north, east } => volts(alloc, case, *north, *east),
+        Accepted::Volts { case, north, east } => Ok(volts(alloc, case, *north, *east)?),
+        Accepted::List { .. } => Ok(Report::List),
+        Accepted::Check { case, switchings } => {
+            let live = check(alloc, case, elements, switchings)?;
+            Ok(Report::Check { live })
+        }
     }
 }
