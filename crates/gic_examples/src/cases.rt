@@ -1,10 +1,12 @@
 //! Cases that are refused, and why.
-use crate::runs::{CASE_P, expect_run, run};
+use crate::runs::{CASE_P, CASE_P_WITHOUT_TRANSFORMERS, expect_run, run};
 use std::alloc::{AllocError, Global};
 use std::process::Abort;
 use std::test::Fail;
 
 const VOLTS: [&str; 2] = ["volts", "--case=p"];
+
+const LIST: [&str; 2] = ["list", "--case=p"];
 
 const ZONE: &str = "zone = [{ name = \"Z\", latitude = 6000, beta = 100 }]\n";
 
@@ -12,6 +14,10 @@ const SUBSTATION: &str = "substation = [{ name = \"A\", ground = 1000000 }, { na
 
 const BUS: &str =
     "bus = [{ name = \"a\", substation = \"A\" }, { name = \"b\", substation = \"B\" }]\n";
+
+/// Three buses, of which two are in one substation.
+const THREE_BUSES: &str =
+    "bus = [{ name = \"a\", substation = \"A\" }, { name = \"b\", substation = \"B\" }, { name = \"c\", substation = \"A\" }]\n";
 
 /// A case of these lists, in format 1.
 fn case_of(alloc: Global, lists: &[&str]) -> Result<String, AllocError> {
@@ -41,7 +47,8 @@ fn tells_the_first_fault_of_a_form(rt: HostRuntime) -> Result<(), Fail> {
     let table = [
         ("format = 1\n", "not toml"),
         ("zone = [{ name = ", "not toml"),
-        ("transformer = []\n", "key in case row 0"),
+        ("transformers = []\n", "key in case row 0"),
+        ("transformer = 3\n", "key in transformer row 0"),
         ("zone = 3\n", "key in zone row 0"),
         ("zone = [5]\n", "key in zone row 1"),
         (
@@ -125,6 +132,107 @@ fn tells_the_first_fault_of_a_line(rt: HostRuntime) -> Result<(), Fail> {
     Ok(())
 }
 
+/// The fields of a unit, and the first rule that they break in format 1.
+const UNITS: [(&str, &str); 12] = [
+    ("high_volts = 345000", "key in transformer row 1"),
+    (
+        "kind = \"wye\", high_volts = 5, neutral = 5",
+        "value in transformer row 1 field kind",
+    ),
+    (
+        "kind = \"delta-delta\", high_volts = 345000, high = \"a\"",
+        "key in transformer row 1",
+    ),
+    (
+        "kind = \"delta-wye\", high_volts = 345000, high = \"a\", high_resistance = 300000, neutral = 1800000",
+        "key in transformer row 1",
+    ),
+    (
+        "kind = \"delta-wye\", high_volts = 999, high = \"a\", high_resistance = 999",
+        "value in transformer row 1 field high_volts",
+    ),
+    (
+        "kind = \"wye-wye\", high_volts = 345000, high = \"a\", low = \"c\", low_volts = 2000001, high_resistance = 1, low_resistance = 1",
+        "value in transformer row 1 field low_volts",
+    ),
+    (
+        "kind = \"auto\", high_volts = 345000, high = \"a\", low = \"c\", low_volts = 138000, series_resistance = 1000, common_resistance = 1000000001",
+        "value in transformer row 1 field common_resistance",
+    ),
+    (
+        "kind = \"auto\", high_volts = 345000, high = \"A\", low = \"B\", low_volts = 138000, series_resistance = 1000, common_resistance = 1000",
+        "unknown name in transformer row 1 field high",
+    ),
+    (
+        "kind = \"auto\", high_volts = 345000, high = \"a\", low = \"d\", low_volts = 138000, series_resistance = 1000, common_resistance = 1000",
+        "unknown name in transformer row 1 field low",
+    ),
+    (
+        "kind = \"auto\", high_volts = 345000, high = \"b\", low = \"b\", low_volts = 500000, series_resistance = 1000, common_resistance = 1000",
+        "same ends in transformer row 1",
+    ),
+    (
+        "kind = \"wye-wye\", high_volts = 345000, high = \"b\", low = \"c\", low_volts = 500000, high_resistance = 1000, low_resistance = 1000",
+        "apart in transformer row 1",
+    ),
+    (
+        "kind = \"auto\", high_volts = 345000, high = \"a\", low = \"c\", low_volts = 500000, series_resistance = 1000, common_resistance = 1000",
+        "voltage order in transformer row 1",
+    ),
+];
+
+#[test]
+fn tells_the_first_fault_of_a_transformer(rt: HostRuntime) -> Result<(), Fail> {
+    let alloc = rt.alloc();
+    for (fields, told) in UNITS {
+        let unit = format!(in alloc; "transformer = [{{ name = \"T\", {fields} }}]\n")?;
+        expect_refusal(&rt, alloc, &[SUBSTATION, THREE_BUSES, unit.as_str()], told)?;
+    }
+    Ok(())
+}
+
+#[test]
+fn tells_the_first_fault_of_a_neutral(rt: HostRuntime) -> Result<(), Fail> {
+    let alloc = rt.alloc();
+    let delta_wye =
+        "kind = \"delta-wye\", high_volts = 345000, high = \"a\", high_resistance = 300000";
+    let table = [
+        ("neutral = 5", "value in transformer row 1 field neutral"),
+        (
+            "neutral = \"open\"",
+            "value in transformer row 1 field neutral",
+        ),
+        ("neutral = 1000, low = \"a\"", "key in transformer row 1"),
+    ];
+    for (neutral, told) in table {
+        let text = format!(in alloc;
+            "format = 2\n{SUBSTATION}{BUS}transformer = [{{ name = \"T\", {delta_wye}, {neutral} }}]\n"
+        )?;
+        let line = format!(in alloc; "gicstudy: case: {told}\n")?;
+        let run = run(alloc, &VOLTS, text.as_str().as_bytes())?;
+        expect_run(&rt, &run, 5, "", line.as_str(), told);
+    }
+    Ok(())
+}
+
+#[test]
+fn accepts_equal_voltages(rt: HostRuntime) -> Result<(), Fail> {
+    let alloc = rt.alloc();
+    let unit =
+        "transformer = [{ name = \"T\", kind = \"auto\", high_volts = 345000, high = \"a\", low = \"c\", low_volts = 345000, series_resistance = 1000, common_resistance = 1000 }]\n";
+    let text = case_of(alloc, &[SUBSTATION, THREE_BUSES, unit])?;
+    let run = run(alloc, &VOLTS, text.as_str().as_bytes())?;
+    expect_run(
+        &rt,
+        &run,
+        0,
+        "volts\nnorth 0 east 0\nend\n",
+        "",
+        "equal voltages",
+    );
+    Ok(())
+}
+
 #[test]
 fn refuses_bytes_that_are_no_document(rt: HostRuntime) -> Result<(), Fail> {
     let alloc = rt.alloc();
@@ -147,7 +255,7 @@ fn refuses_bytes_that_are_no_document(rt: HostRuntime) -> Result<(), Fail> {
     Ok(())
 }
 
-/// Each prefix of case P: those that end with one of its five entries, or with the line feed behind one, are accepted.
+/// Each prefix of case P: those that end with one of its six entries, or with the line feed behind one, are accepted.
 #[test]
 fn accepts_the_prefixes_that_are_cases(rt: HostRuntime) -> Result<(), Fail> {
     let alloc = rt.alloc();
@@ -156,7 +264,11 @@ fn accepts_the_prefixes_that_are_cases(rt: HostRuntime) -> Result<(), Fail> {
     for end in 0..=bytes.len() {
         let front = &bytes[..end];
         let run = run(alloc, &VOLTS, front)?;
-        let whole = front.ends_with(b"\n") || (end < bytes.len() && bytes[end] == b'\n');
+        let whole = if end <= CASE_P_WITHOUT_TRANSFORMERS.len() {
+            front.ends_with(b"\n") || (end < bytes.len() && bytes[end] == b'\n')
+        } else {
+            end + 1 >= bytes.len()
+        };
         if end > 0 && whole {
             accepted = accepted.saturating_add(1);
             assert_eq!(rt; run.status, 0, "prefix of {end} bytes");
@@ -170,7 +282,7 @@ fn accepts_the_prefixes_that_are_cases(rt: HostRuntime) -> Result<(), Fail> {
             assert!(rt; run.err.bytes() == told.as_bytes(), "prefix of {end} bytes");
         }
     }
-    assert_eq!(rt; accepted, 10);
+    assert_eq!(rt; accepted, 12);
     Ok(())
 }
 
@@ -190,10 +302,10 @@ fn parallel_lines(alloc: Global, lines: u32) -> Result<String, AllocError> {
 fn counts_the_elements_at_a_node(rt: HostRuntime) -> Result<(), Fail> {
     let alloc = rt.alloc();
     let most = parallel_lines(alloc, 256)?;
-    let run_at_limit = run(alloc, &VOLTS, most.as_str().as_bytes())?;
+    let run_at_limit = run(alloc, &LIST, most.as_str().as_bytes())?;
     assert_eq!(rt; run_at_limit.status, 0);
     let more = parallel_lines(alloc, 257)?;
-    let run_over_limit = run(alloc, &VOLTS, more.as_str().as_bytes())?;
+    let run_over_limit = run(alloc, &LIST, more.as_str().as_bytes())?;
     expect_run(
         &rt,
         &run_over_limit,

@@ -4,9 +4,15 @@
 #[cfg(test)]
 mod cases;
 #[cfg(test)]
+mod checks;
+#[cfg(test)]
+mod lists;
+#[cfg(test)]
 mod numbers;
 #[cfg(test)]
 mod outside;
+#[cfg(test)]
+mod realistic;
 #[cfg(test)]
 mod runs;
 #[cfg(test)]

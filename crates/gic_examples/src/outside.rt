@@ -141,6 +141,7 @@ fn finds_ample_memory(rt: HostRuntime) -> Result<(), Fail> {
                 assert_eq!(rt; case.substations().len(), 2);
                 assert_eq!(rt; case.buses().len(), 2);
                 assert_eq!(rt; case.lines().len(), 1);
+                assert_eq!(rt; case.transformers().len(), 2);
             }
             Err(_refusal) => assert!(rt; false, "the case"),
         },

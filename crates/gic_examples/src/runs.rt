@@ -4,12 +4,36 @@ use gic_study::gicstudy;
 use std::alloc::{AllocError, Global};
 use std::process::Abort;
 
-/// Case P without transformers: two substations, and a line of 100 km towards the north.
+/// Case P: two substations with a transformer each, and a line of 100 km towards the north between them.
 pub(crate) const CASE_P: &str = "format = 1
 zone = [{ name = \"Z\", latitude = 6000, beta = 100 }]
 substation = [{ name = \"A\", ground = 1000000 }, { name = \"B\", ground = 1000000 }]
 bus = [{ name = \"a\", substation = \"A\" }, { name = \"b\", substation = \"B\" }]
 line = [{ name = \"L\", from = \"a\", to = \"b\", zone = \"Z\", resistance = 3000000, north = 100000, east = 0 }]
+transformer = [
+  { name = \"TA\", kind = \"delta-wye\", high_volts = 345000, high = \"a\", high_resistance = 300000 },
+  { name = \"TB\", kind = \"delta-wye\", high_volts = 345000, high = \"b\", high_resistance = 300000 },
+]
+";
+
+/// Case P without its transformers.
+pub(crate) const CASE_P_WITHOUT_TRANSFORMERS: &str = "format = 1
+zone = [{ name = \"Z\", latitude = 6000, beta = 100 }]
+substation = [{ name = \"A\", ground = 1000000 }, { name = \"B\", ground = 1000000 }]
+bus = [{ name = \"a\", substation = \"A\" }, { name = \"b\", substation = \"B\" }]
+line = [{ name = \"L\", from = \"a\", to = \"b\", zone = \"Z\", resistance = 3000000, north = 100000, east = 0 }]
+";
+
+/// Case P in format 2, with a resistor of 1.8 ohm in the neutral of TA.
+pub(crate) const CASE_PN: &str = "format = 2
+zone = [{ name = \"Z\", latitude = 6000, beta = 100 }]
+substation = [{ name = \"A\", ground = 1000000 }, { name = \"B\", ground = 1000000 }]
+bus = [{ name = \"a\", substation = \"A\" }, { name = \"b\", substation = \"B\" }]
+line = [{ name = \"L\", from = \"a\", to = \"b\", zone = \"Z\", resistance = 3000000, north = 100000, east = 0 }]
+transformer = [
+  { name = \"TA\", kind = \"delta-wye\", high_volts = 345000, high = \"a\", high_resistance = 300000, neutral = 1800000 },
+  { name = \"TB\", kind = \"delta-wye\", high_volts = 345000, high = \"b\", high_resistance = 300000 },
+]
 ";
 
 /// What a run left.
@@ -53,6 +77,27 @@ pub(crate) fn run_failing(
     let mut library = library_of(alloc, case, fetches)?;
     let mut out = MemorySink::new(alloc, Vec::from_slice(alloc, writes)?);
     let mut err = MemorySink::new(alloc, Vec::from_slice(alloc, tellings)?);
+    let status = gicstudy(alloc, &words, &mut library, &mut out, &mut err);
+    Ok(Ended { status, out, err })
+}
+
+/// Runs the words over the files `p`, a case, and `s`, its switchings.
+pub(crate) fn run_switched(
+    alloc: Global,
+    words: &[&str],
+    case: &[u8],
+    switchings: &[u8],
+) -> Result<Ended, AllocError> {
+    let words = words_of(alloc, words)?;
+    let mut files = Vec::new(alloc);
+    files.push((String::from_str(alloc, "p")?, Vec::from_slice(alloc, case)?))?;
+    files.push((
+        String::from_str(alloc, "s")?,
+        Vec::from_slice(alloc, switchings)?,
+    ))?;
+    let mut library = MemoryLibrary::new(alloc, files, Vec::new(alloc));
+    let mut out = MemorySink::new(alloc, Vec::new(alloc));
+    let mut err = MemorySink::new(alloc, Vec::new(alloc));
     let status = gicstudy(alloc, &words, &mut library, &mut out, &mut err);
     Ok(Ended { status, out, err })
 }

@@ -1,5 +1,5 @@
 //! The text of a report.
-use crate::runs::{CASE_P, expect_run, run};
+use crate::runs::{CASE_P, CASE_P_WITHOUT_TRANSFORMERS, expect_run, run};
 use std::test::Fail;
 
 /// Three lines in two zones, one of them blocked, with spans both ways.
@@ -55,11 +55,17 @@ fn prints_the_voltages(rt: HostRuntime) -> Result<(), Fail> {
     let alloc = rt.alloc();
     let p = CASE_P.as_bytes();
     let three = THREE_LINES.as_bytes();
-    let table: [(&str, &[&str], &[u8], &str); 6] = [
+    let table: [(&str, &[&str], &[u8], &str); 7] = [
         (
             "case P",
             &["volts", "--case=p", "--north=1000"],
             p,
+            "volts\nnorth 1000 east 0\nline L 100000000000\nend\n",
+        ),
+        (
+            "case P without transformers",
+            &["volts", "--case=p", "--north=1000"],
+            CASE_P_WITHOUT_TRANSFORMERS.as_bytes(),
             "volts\nnorth 1000 east 0\nline L 100000000000\nend\n",
         ),
         (

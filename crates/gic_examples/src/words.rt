@@ -5,7 +5,7 @@ use std::test::Fail;
 #[test]
 fn tells_the_first_usage_fault(rt: HostRuntime) -> Result<(), Fail> {
     let alloc = rt.alloc();
-    let table: [(&[&str], &str); 16] = [
+    let table: [(&[&str], &str); 22] = [
         (&[], "words"),
         (&["volts", "--case=p", "--case=p"], "words"),
         (&["volts", "volts", "--case=p"], "words"),
@@ -15,7 +15,13 @@ fn tells_the_first_usage_fault(rt: HostRuntime) -> Result<(), Fail> {
         (&["--help"], "words"),
         (&["fly"], "mode"),
         (&["VOLTS", "--case=p"], "mode"),
-        (&["list", "--case=p"], "mode"),
+        (&["study", "--case=p"], "mode"),
+        (&["check", "--switch=s"], "missing --case"),
+        (&["check", "--case=p", "--north=0"], "extra --north"),
+        (&["list", "--case=p", "--switch=s"], "extra --switch"),
+        (&["list"], "missing --case"),
+        (&["list", "--case=p", "--north=100"], "extra --north"),
+        (&["list", "--north=x", "--east=0"], "missing --case"),
         (&["volts"], "missing --case"),
         (&["volts", "--north=x"], "missing --case"),
         (&["volts", "--case=p", "--north=20001"], "number --north"),
