@@ -21,7 +21,7 @@ impl Model for Fields {
 }
 
 impl Fields {
-    ghost use Rattle.std.specs.Prelude.{◌≡◌, ◌<◌, length, replicate, slice_set, IfOk};
+    ghost use Rattle.std.specs.Prelude.{◌≡◌, ◌<◌, length, replicate, slice_set, All, IfOk};
     ghost use Rattle.gic_induce.specs.Fields.{IsField, no_field, field_at};
     ghost use Rattle.gic_induce.specs.Voltage.{IsFieldWithin};
 
@@ -40,6 +40,13 @@ impl Fields {
         ensures { result ≡ length self.now }
     {
         self.list.len() as u16
+    }
+
+    /// Tells that all fields are within their limits.
+    pub fn within(&self)
+        ensures { All IsField self.now }
+    {
+        let _ = &self.list;
     }
 
     /// The field of a zone, north and east in mV/km.

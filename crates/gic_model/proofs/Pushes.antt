@@ -30,7 +30,7 @@ no_guess-at (Node m) = refl
 no_guess-at Earth = refl
 
 -- either way, a product is at most that of the bounds
-product_within : (w b : ℕ) (u : ℤ) → unsigned_abs u ≤ b → ((pos w *ℤ u) ≤ℤ (pos b *ℤ pos w)) × (neg_ℤ (pos w *ℤ u) ≤ℤ (pos b *ℤ pos w))
+pub product_within : (w b : ℕ) (u : ℤ) → unsigned_abs u ≤ b → ((pos w *ℤ u) ≤ℤ (pos b *ℤ pos w)) × (neg_ℤ (pos w *ℤ u) ≤ℤ (pos b *ℤ pos w))
 product_within w b u h =
     let above = *ℤ-≤ℤ w u (pos b) (omega (arith, ints)) in
     let below = *ℤ-≤ℤ w (neg_ℤ u) (pos b) (omega (arith, ints)) in
@@ -38,12 +38,31 @@ product_within w b u h =
     let swapped = *ℤ_comm (pos b) (pos w) in
     (omega (arith, linear), omega (arith, linear))
 
-leaving_within : (k : ℕ) (e : Element) (z b : ℤ) → z ≤ℤ b → neg_ℤ z ≤ℤ b → (leaving k e z ≤ℤ b) × (neg_ℤ (leaving k e z) ≤ℤ b)
+pub leaving_within : (k : ℕ) (e : Element) (z b : ℤ) → z ≤ℤ b → neg_ℤ z ≤ℤ b → (leaving k e z ≤ℤ b) × (neg_ℤ (leaving k e z) ≤ℤ b)
 leaving_within k e z b h g = by (e.from.0 == k)
   where
     by : (t : Bool) → (cond t z (neg_ℤ z) ≤ℤ b) × (neg_ℤ (cond t z (neg_ℤ z)) ≤ℤ b)
     by true = (h, g)
     by false = (g, omega (arith, ints))
+
+-- parts that are at most what b carries, either way, add up to at most what the conductance carries at b
+pub carried_within : (f : Placed → ℤ) (b : ℕ) (ps : List Placed) → AllByRecursion (λ p. f p ≤ℤ (pos b *ℤ weight p)) ps → AllByRecursion (λ p. neg_ℤ (f p) ≤ℤ (pos b *ℤ weight p)) ps →
+    unsigned_abs (sum_over_ohms f ps) ≤ b * unsigned_abs (sum_over_ohms weight ps)
+carried_within f b ps high low =
+    let above = sum_over_ohms-≤ℤ f (λ p. pos b *ℤ weight p) ps high in
+    let below = sum_over_ohms-≤ℤ (λ p. neg_ℤ (f p)) (λ p. pos b *ℤ weight p) ps low in
+    let turned = sum_over_ohms-neg_ℤ f ps in
+    let scaled = sum_over_ohms-*ℤ (pos b) weight ps in
+    within (natural ps) (sum_over_ohms f ps) (omega (arith, linear)) (omega (arith, linear))
+  where
+    within : (g : ℕ) × (sum_over_ohms weight ps ≡ pos g) → (r : ℤ) → r ≤ℤ (pos b *ℤ sum_over_ohms weight ps) → neg_ℤ r ≤ℤ (pos b *ℤ sum_over_ohms weight ps) →
+        unsigned_abs r ≤ b * unsigned_abs (sum_over_ohms weight ps)
+    within (g, total) r high low =
+        let size = ap (λ z. b * unsigned_abs z) total in
+        let scaled = ap (λ z. pos b *ℤ z) total in
+        let product : pos b *ℤ pos g ≡ pos (b * g) = refl in
+        let plain : unsigned_abs r ≤ b * g = omega (arith, ints) in
+        omega arith
 
 module _ (volts : ℕ → ℤ) (limit : AreVolts volts) where
   -- what one element pushes
@@ -71,21 +90,7 @@ module _ (volts : ℕ → ℤ) (limit : AreVolts volts) where
   pub settled_at_0 : (standing : List Placed) → IsSettledWithin standing volts no_guess (2 ^ 36 * most_volts)
   settled_at_0 standing k live =
       let ps = elements_at standing k in
-      let f = λ (p : Placed). leaving k p.1 (guessed_current volts no_guess p) in
-      let above = sum_over_ohms-≤ℤ f (λ p. pos (2 ^ 36 * most_volts) *ℤ weight p) ps (pushes k ps) in
-      let below = sum_over_ohms-≤ℤ (λ p. neg_ℤ (f p)) (λ p. pos (2 ^ 36 * most_volts) *ℤ weight p) ps (pushes_back k ps) in
-      let turned = sum_over_ohms-neg_ℤ f ps in
-      let scaled = sum_over_ohms-*ℤ (pos (2 ^ 36 * most_volts)) weight ps in
-      within (natural ps) (sum_over_ohms f ps) (2 ^ 36 * most_volts) (omega (arith, linear)) (omega (arith, linear))
-    where
-      within : (g : ℕ) × (sum_over_ohms weight (elements_at standing k) ≡ pos g) → (r : ℤ) (b : ℕ) → r ≤ℤ (pos b *ℤ sum_over_ohms weight (elements_at standing k)) →
-          neg_ℤ r ≤ℤ (pos b *ℤ sum_over_ohms weight (elements_at standing k)) → unsigned_abs r ≤ b * unsigned_abs (conductance standing k)
-      within (g, total) r b high low =
-          let size = ap (λ z. b * unsigned_abs z) total in
-          let scaled = ap (λ z. pos b *ℤ z) total in
-          let product : pos b *ℤ pos g ≡ pos (b * g) = refl in
-          let plain : unsigned_abs r ≤ b * g = omega (arith, ints) in
-          omega arith
+      carried_within (λ p. leaving k p.1 (guessed_current volts no_guess p)) (2 ^ 36 * most_volts) ps (pushes k ps) (pushes_back k ps)
 
 -- over plain numbers: the grains are cancelled
 cancel : (g a v m d b : ℕ) → 0 < g → g * a ≤ v * (d * (g * b)) → v ≤ m → a ≤ m * b * d

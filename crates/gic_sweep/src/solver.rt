@@ -91,7 +91,7 @@ impl Solver {
     }
 
     /// The guesses, by their nodes.
-    fn guesses(&self) -> &[i128]
+    pub fn guesses(&self) -> &[i128]
         ensures value { result.now ≡ self.now }
         ensures cut { AreCut (number_at self.now) }
     {
