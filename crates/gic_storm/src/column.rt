@@ -12,9 +12,9 @@ use gic_records::{is_word, text_at};
 use gic_scale::Zone;
 use gic_text::read_decimal;
 
-/// The time of a record.
+/// The time of a record in seconds: its first field, from 0 to 4294967295. None where that is no such number.
 #[tactic(auto, unfolding(crate::specs::Columns::time_in))]
-pub(crate) fn time_in(columns: &ByteRecord) -> Option<u32>
+pub fn time_in(columns: &ByteRecord) -> Option<u32>
     ensures { result ≡ time_in (fields_of columns.now) }
 {
     let time = read_decimal(text_at(columns, 0), 0, 4294967295)?;

@@ -1,12 +1,10 @@
-//! The fields of one record read as a time and an action.
+//! The fields of one record read as an action.
 ghost use Rattle.std.specs.Prelude.{◌≡◌};
 ghost use Rattle.csv.specs.Records.{fields_of};
-ghost use Rattle.gic_storm.specs.Columns.{time_in};
 ghost use Rattle.gic_switch.specs.Columns.{is_head, action_in, opens, follows};
 
 use csv::ByteRecord;
 use gic_records::{is_word, text_at};
-use gic_text::read_decimal;
 
 /// What a row does to its item.
 #[derive(Clone, Copy, Debug, PartialEq, Eq)]
@@ -29,15 +27,6 @@ pub(crate) fn is_head(columns: &ByteRecord) -> bool
         && is_word(columns, 0, b"time")
         && is_word(columns, 1, b"item")
         && is_word(columns, 2, b"action")
-}
-
-/// The time of a record, in seconds.
-#[tactic(auto, unfolding(gic_storm::specs::Columns::time_in))]
-pub(crate) fn time_in(columns: &ByteRecord) -> Option<u32>
-    ensures { result ≡ time_in (fields_of columns.now) }
-{
-    let time = read_decimal(text_at(columns, 0), 0, 4294967295)?;
-    Some(time as u32)
 }
 
 /// Whether a time may follow the one before.

@@ -9,7 +9,7 @@ ghost use Rattle.gic_switch.specs.declared.refusal.SwitchRefusal.TheVariants.{Me
 ghost use Rattle.gic_switch.specs.Items.{FindsNamed, IsItemOf, AreItemsOf};
 ghost use Rattle.gic_switch.specs.Pass.{row_in, rows_in};
 
-use crate::action::{action_in, follows, time_in};
+use crate::action::{action_in, follows};
 use crate::item::item_in;
 use crate::refusal::SwitchRefusal;
 use csv::ByteRecord;
@@ -17,6 +17,7 @@ use gic_base::Name;
 use gic_case::Case;
 use gic_model::{Item, Switching};
 use gic_records::{Records, text_at};
+use gic_storm::time_in;
 use std::alloc::Global;
 use std::collections::HashMap;
 
