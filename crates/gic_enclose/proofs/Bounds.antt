@@ -1,22 +1,25 @@
 -- The potential bound: solutions and settled guesses are less than 2^94 grains from 0.
-use Rattle.std.proofs.Common.{◌≡◌, ℕ, ◌+◌, ◌*◌, ◌^◌, ◌<◌, ◌≤◌, Bool, true, false, cond, ◌==◌, List, [], ◌∷◌, ℤ, pos, ◌+ℤ◌, ◌-ℤ◌, ◌*ℤ◌, neg_ℤ, unsigned_abs, arith, refl, ap, mul-le-mul_right}
+use Rattle.std.proofs.Common.{◌∙◌, ◌≡◌, ℕ, ◌+◌, ◌*◌, ◌^◌, ◌<◌, ◌≤◌, Bool, true, false, cond, ◌==◌, List, [], ◌∷◌, ℤ, pos, ◌+ℤ◌, ◌-ℤ◌, ◌*ℤ◌, neg_ℤ, unsigned_abs, arith, refl, ap, mul-le-mul_right}
 use lib.IntN.{*ℤ-zero}
 use Rattle.std.specs.List.{AllByRecursion}
 use Rattle.std.proofs.lemmas.Int.{ints}
 use Rattle.std.proofs.lemmas.List.Elements.{All-from_recursion}
-use Rattle.gic_fixed.proofs.Integers.{linear, *ℤ-+ℤ}
+use Rattle.gic_fixed.proofs.Integers.{linear}
 use Rattle.gic_model.specs.declared.parts.Element.{Element}
+use Rattle.gic_model.specs.declared.parts.Item.{Item}
+use Rattle.gic_model.specs.Bound.{IsEarthedWithin}
+use Rattle.gic_model.specs.Network.{Network, IsWithinLimits}
 use Rattle.gic_model.specs.Voltages.{most_volts, AreVolts}
-use Rattle.gic_model.specs.Standing.{elements_at, value_at, leaving, standing_elements}
+use Rattle.gic_model.specs.Standing.{IsLive, elements_at, value_at, leaving, standing_elements}
 use Rattle.gic_model.specs.Sums.{Placed, sum_of}
 use Rattle.gic_model.specs.Solution.{Solution, IsSolution, IsOhm}
-use Rattle.gic_model.specs.Guess.{residual, conductance, guessed_current, IsSettled, IsSettledWithin}
-use Rattle.gic_model.proofs.SumLaws.{sum_over_ohms-same, sum_over_ohms-+ℤ}
+use Rattle.gic_model.specs.Guess.{residual, conductance, IsSettledWithin}
 use Rattle.gic_model.proofs.Row.{weight}
 use Rattle.gic_model.proofs.Residual.{error}
 use Rattle.gic_model.proofs.Ends.{standing_within}
 use Rattle.gic_model.proofs.Certificate.{error_bound}
 use Rattle.gic_model.proofs.Pushes.{no_guess, no_guess-at, settled_at_0, potentials_bounded}
+use Rattle.gic_enclose.proofs.LinearResidual.{no_volts, residual_sum, residual_same}
 use Rattle.gic_enclose.specs.Laws.{SolutionsAreBelow, SettledGuessesAreBelow}
 
 -- over plain numbers: the limit in grains
@@ -29,9 +32,6 @@ solutions_below network stands volts s k limits earthed volt solves live =
     below_limit (unsigned_abs (s.potential k)) s.denominator solves.denominator_above_0 most
 
 -- without voltages nothing flows where every potential is 0
-abbrev pub no_volts : ℕ → ℤ
-no_volts place = pos 0
-
 abbrev pub no_potential : Solution
 no_potential = record { potential = no_guess; current = no_volts; denominator = 1 }
 
@@ -68,58 +68,33 @@ no_potential_solves standing = record {
     none k (p ∷ ps) = omega (arith, linear, leaves k p.1, none k ps)
 
 -- what guesses carry, without the voltages and by the voltages alone
-one_current : (volts x : ℕ → ℤ) (p : Placed) → guessed_current volts x p ≡ guessed_current no_volts x p +ℤ guessed_current volts no_guess p
-one_current volts x p =
-    let there = no_guess-at p.1.to in
-    let nothing = *ℤ-zero (pos (2 ^ 36)) in
-    let drop = x p.1.from.0 -ℤ value_at x p.1.to in
-    let push = pos (2 ^ 36) *ℤ volts p.0 in
-    let whole = *ℤ-+ℤ (weight p) drop push in
-    let first : drop +ℤ pos (2 ^ 36) *ℤ pos 0 ≡ drop = omega (arith, linear) in
-    let second : pos 0 -ℤ value_at no_guess p.1.to +ℤ push ≡ push = omega (arith, linear) in
-    let one = ap (λ z. weight p *ℤ z) first in
-    let other = ap (λ z. weight p *ℤ z) second in
-    omega (arith, linear)
-
-leaving_sum : (k : ℕ) (e : Element) (z a b : ℤ) → z ≡ a +ℤ b → leaving k e z ≡ leaving k e a +ℤ leaving k e b
-leaving_sum k e z a b h = by (e.from.0 == k)
-  where
-    by : (t : Bool) → cond t z (neg_ℤ z) ≡ cond t a (neg_ℤ a) +ℤ cond t b (neg_ℤ b)
-    by true = h
-    by false = omega (arith, linear, h)
-
-each_split : (volts x : ℕ → ℤ) (k : ℕ) (ps : List Placed) →
-    AllByRecursion (λ p. leaving k p.1 (guessed_current volts x p) ≡ leaving k p.1 (guessed_current no_volts x p) +ℤ leaving k p.1 (guessed_current volts no_guess p)) ps
-each_split volts x k [] = tt
-each_split volts x k (p ∷ ps) =
-    (leaving_sum k p.1 (guessed_current volts x p) (guessed_current no_volts x p) (guessed_current volts no_guess p) (one_current volts x p), each_split volts x k ps)
-
 residual_splits : (standing : List Placed) (volts x : ℕ → ℤ) (k : ℕ) → residual standing volts x k ≡ residual standing no_volts x k +ℤ residual standing volts no_guess k
 residual_splits standing volts x k =
-    let ps = elements_at standing k in
-    let f = λ (p : Placed). leaving k p.1 (guessed_current no_volts x p) in
-    let g = λ (p : Placed). leaving k p.1 (guessed_current volts no_guess p) in
-    let same = sum_over_ohms-same (λ p. leaving k p.1 (guessed_current volts x p)) (λ p. f p +ℤ g p) ps (each_split volts x k ps) in
-    let sum = sum_over_ohms-+ℤ f g ps in
-    omega (arith, linear)
+    residual_same standing k volts (λ i. no_volts i +ℤ volts i) x (λ m. x m +ℤ no_guess m) (λ i. omega (arith, linear)) (λ m live. omega (arith, linear)) ∙
+    residual_sum standing k no_volts volts x no_guess
 
 -- over plain numbers
 two_parts : (r a b : ℤ) (t u g : ℕ) → r ≡ a +ℤ b → unsigned_abs r ≤ t * g → unsigned_abs b ≤ u * g → unsigned_abs a ≤ (t + u) * g
 two_parts r a b t u g is h k = omega (arith, ints, is, h, k)
 
 -- so settled guesses are settled without the voltages too, within the greatest voltage more
-settled_without : (standing : List Placed) (volts x : ℕ → ℤ) → AreVolts volts → IsSettled standing volts x → IsSettledWithin standing no_volts x (2 ^ 18 + 2 ^ 36 * most_volts)
-settled_without standing volts x volt settled k live =
-    two_parts (residual standing volts x k) (residual standing no_volts x k) (residual standing volts no_guess k) (2 ^ 18) (2 ^ 36 * most_volts) (unsigned_abs (conductance standing k))
+settled_without : (standing : List Placed) (volts x : ℕ → ℤ) (t : ℕ) → AreVolts volts → IsSettledWithin standing volts x t → IsSettledWithin standing no_volts x (t + 2 ^ 36 * most_volts)
+settled_without standing volts x t volt settled k live =
+    two_parts (residual standing volts x k) (residual standing no_volts x k) (residual standing volts no_guess k) t (2 ^ 36 * most_volts) (unsigned_abs (conductance standing k))
     (residual_splits standing volts x k) (settled k live) (settled_at_0 volts volt standing k live)
 
-pub settled_below : SettledGuessesAreBelow
-settled_below network stands volts x k limits earthed volt settled live =
+pub settled_below_within : (network : Network) (stands : Item → Bool) (volts x : ℕ → ℤ) (k t : ℕ) → t ≤ 2 ^ 29 →
+    IsWithinLimits network → IsEarthedWithin (standing_elements network stands) 4096 → AreVolts volts → IsSettledWithin (standing_elements network stands) volts x t → IsLive (standing_elements network stands) k →
+    unsigned_abs (x k) < 2 ^ 94
+settled_below_within network stands volts x k t few limits earthed volt settled live =
     let standing = standing_elements network stands in
-    let t = 2 ^ 18 + 2 ^ 36 * most_volts in
-    let bound = error_bound network.nodes standing (standing_within network stands limits) no_volts x no_potential earthed.entries t (no_potential_solves standing) earthed.bound
-    (settled_without standing volts x volt settled) k live in
+    let u = t + 2 ^ 36 * most_volts in
+    let bound = error_bound network.nodes standing (standing_within network stands limits) no_volts x no_potential earthed.entries u (no_potential_solves standing) earthed.bound
+    (settled_without standing volts x t volt settled) k live in
     let nothing = *ℤ-zero (pos (2 ^ 36)) in
     let size : unsigned_abs (error no_potential x k) ≡ unsigned_abs (x k) = omega (arith, ints) in
-    let most : earthed.entries k * (1 * t) ≤ 4096 * (1 * t) = mul-le-mul_right (1 * t) (earthed.none_above k) in
-    omega (arith, size, bound, most)
+    let most : earthed.entries k * (1 * u) ≤ 4096 * (1 * u) = mul-le-mul_right (1 * u) (earthed.none_above k) in
+    omega (arith, size, bound, most, few)
+
+pub settled_below : SettledGuessesAreBelow
+settled_below network stands volts x k limits earthed volt settled live = settled_below_within network stands volts x k (2 ^ 18) (omega arith) limits earthed volt settled live

@@ -51,3 +51,12 @@ cut_narrow x lo hi v t r small step e le he =
   where
     plain : (x lo hi : ℤ) (r : ℕ) → r ≤ 2 ^ 42 → lo ≡ cut (x -ℤ pos r) → hi ≡ cut (x +ℤ pos r) → (hi -ℤ lo) ≤ℤ pos (2 ^ 43)
     plain x lo hi r b le he = omega (arith, ints, clamps)
+
+pub cut_middle : (x lo hi : ℤ) (v t r : ℕ) → v ≤ 4096 → t ≤ 2 ^ 30 → r ≡ v * t → unsigned_abs x ≤ 2 ^ 95 → lo ≡ cut (x -ℤ pos r) → hi ≡ cut (x +ℤ pos r) → lo +ℤ hi ≡ pos 2 *ℤ x
+cut_middle x lo hi v t r small step e near le he =
+    let a : v * t ≤ 4096 * t = mul-le-mul_right t small in
+    let b : r ≤ 2 ^ 42 = omega (arith, e, a, step) in
+    plain x lo hi r b near le he
+  where
+    plain : (x lo hi : ℤ) (r : ℕ) → r ≤ 2 ^ 42 → unsigned_abs x ≤ 2 ^ 95 → lo ≡ cut (x -ℤ pos r) → hi ≡ cut (x +ℤ pos r) → lo +ℤ hi ≡ pos 2 *ℤ x
+    plain x lo hi r b near le he = omega (arith, ints, clamps)

@@ -5,4 +5,10 @@ pub mod Closeness
 pub mod Cuts
 pub mod Turns
 pub mod Widths
+pub mod LinearResidual
 pub mod Bounds
+pub mod SumsBelow
+pub mod Combined
+pub mod BaseVolts
+pub mod Kept
+pub mod StepGuesses

@@ -1,4 +1,5 @@
 pub mod Ends
 pub mod Certain
 pub mod Reach
+pub mod Bases
 pub mod Laws

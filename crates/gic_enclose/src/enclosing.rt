@@ -1,12 +1,13 @@
 //! Intervals that hold every solution, round any guesses.
-ghost use Rattle.std.specs.Prelude.{◌≡◌, ℕ, ◌*◌, ◌^◌, ◌<◌, ◌≤◌, length, slice_index, pos, ◌-ℤ◌, ◌+ℤ◌, ◌≤ℤ◌, unsigned_abs};
+ghost use Rattle.std.specs.Prelude.{◌≡◌, ℕ, ◌*◌, ◌^◌, ◌<◌, ◌≤◌, length, slice_index, pos, ◌-ℤ◌, ◌+ℤ◌, ◌*ℤ◌, ◌≤ℤ◌, unsigned_abs};
 ghost use Rattle.gic_fixed.specs.Encloses.{IsWithin};
+ghost use Rattle.gic_model.specs.Standing.{IsLive};
 ghost use Rattle.gic_model.specs.Voltages.{number_at};
 ghost use Rattle.gic_model.specs.Guess.{IsSettledWithin};
 ghost use Rattle.gic_net.specs.Net.{standing};
 ghost use Rattle.gic_sweep.specs.Sweep.{cut};
 ghost use Rattle.gic_bound.specs.Entries.{IsBoundWithin};
-ghost use Rattle.gic_enclose.specs.Ends.{ends_of, ends_at};
+ghost use Rattle.gic_enclose.specs.Ends.{ends_of, ends_at, low_at, high_at};
 ghost use Rattle.gic_enclose.specs.Certain.{AreCertain, IsCertainAt, IsNarrow};
 
 use crate::laws::potential_bound_law;
@@ -47,7 +48,7 @@ fn above(guess: i128, radius: i128) -> i128
 }
 
 /// An end, cut to the limit of guesses.
-fn cut_end(end: i128) -> i128
+pub fn cut_end(end: i128) -> i128
     ensures { result ≡ cut end }
 {
     end.min(1 << 96).max(-(1 << 96))
@@ -82,6 +83,7 @@ fn interval_at(
     ensures certain { IsCertainAt (standing net.now) (number_at volts.now) node.0 (ends_of result) }
     ensures small { IsWithin (2 ^ 96) result.lo result.hi }
     ensures narrow { reach ≤ 2 ^ 30 → IsNarrow (ends_of result) }
+    ensures middle { reach ≤ 2 ^ 30 → IsLive (standing net.now) node.0 → unsigned_abs (number_at solver.now node.0) ≤ 2 ^ 95 → result.lo +ℤ result.hi ≡ pos 2 *ℤ number_at solver.now node.0 }
 {
     certificate_law();
     potential_bound_law();
@@ -108,6 +110,9 @@ pub fn enclose(net: &Net, volts: &Volts, solver: &Solver, bound: &BoundVector, o
 
     // Where the guesses are settled within 2^29 grains, no interval is wider than 2^43 grains, which are 128 nanovolts.
     ensures narrow { IsSettledWithin (standing net.now) (number_at volts.now) (number_at solver.now) (2 ^ 29) → (k : ℕ) → IsNarrow (ends_at out.new k) }
+
+    // And where a guess is within 2^95 then, it is the middle of its interval.
+    ensures middle { IsSettledWithin (standing net.now) (number_at volts.now) (number_at solver.now) (2 ^ 29) → (k : ℕ) → IsLive (standing net.now) k → unsigned_abs (number_at solver.now k) ≤ 2 ^ 95 → low_at out.new k +ℤ high_at out.new k ≡ pos 2 *ℤ number_at solver.now k }
 
     ensures same_length { length out.new ≡ length out.old }
 {

@@ -2,6 +2,8 @@ use Rattle.std.proofs.Common.{◌≡◌, ◌^◌, arith, sym, subst, ⊎_elim}
 use Rattle.std.proofs.lemmas.Int.{ints}
 use Rattle.std.proofs.lemmas.Bool.{cases_lt}
 use Rattle.std.proofs.lemmas.List.{get_or_past}
+use Rattle.gic_model.proofs.Ends.{live_within, standing_within}
+use Rattle.gic_net.specs.Net.{standing, stands}
 use Rattle.gic_enclose.specs.Ends.{no_ends, ends_at}
 use Rattle.gic_enclose.specs.Certain.{IsNarrow}
 use Rattle.gic_enclose.proofs.enclosing.enclose.Goals as goal
@@ -20,3 +22,10 @@ returns-clause-narrow c settled k =
     let narrow : IsNarrow no_ends = omega (arith, ints) in
     subst IsNarrow (sym none) narrow)
     (cases_lt k net.network.nodes)
+
+pub returns-clause-middle : goal.returns-clause-middle
+returns-clause-middle c settled k live small =
+    let net = c.args.net.now in
+    let within = standing_within net.network (stands net) c.nodes-node-end.ensures.limits in
+    c.loop-node.invariant.middle (omega (arith, c.reach-reach.ensures.close (2 ^ 29) settled)) k
+    (omega (arith, live_within net.network.nodes (standing net) k within live, c.nodes-node-end.ensures.value, c.loop-node-test.false, c.loop-node.auto.node-end)) live small
