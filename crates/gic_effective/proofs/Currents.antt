@@ -3,7 +3,7 @@ use Rattle.std.proofs.Common.{◌≡◌, ℕ, ◌*◌, ◌^◌, ◌<◌, ◌≤�
 use Rattle.std.proofs.lemmas.Int.{ints, unsigned_abs-mul}
 use Rattle.std.proofs.Math.Nat.{mul-le-mul}
 use Rattle.gic_fixed.specs.Rounding.{floor_div, ceil_div}
-use Rattle.gic_fixed.specs.Encloses.{Encloses}
+use Rattle.gic_fixed.specs.Encloses.{Encloses, IsWithin}
 use Rattle.gic_fixed.proofs.Integers.{linear, *ℤ-+ℤ, *ℤ--ℤ, *ℤ-neg_ℤ, *ℤ_assoc, *ℤ_left_comm, abs-neg_ℤ}
 use Rattle.gic_fixed.proofs.Divisions.{positive_product, floor_ge, floor_le}
 use Rattle.gic_fixed.proofs.Enclosures.{Encloses-neg, Encloses-add, Encloses-point, Encloses-times, Encloses-div_out, Encloses-cancel}
@@ -62,6 +62,27 @@ floor_small z d m h k =
     let least : neg_ℤ (pos m) ≤ℤ floor_div z (pos d) = floor_ge z d (neg_ℤ (pos m)) h (omega (arith, ints, turned)) in
     let most : floor_div z (pos d) ≤ℤ pos m = floor_le z d (pos m) h (omega (arith, ints)) in
     omega (arith, ints, least, most)
+
+-- so has what is rounded up
+ceil_small : (z : ℤ) (d m : ℕ) → 0 < d → unsigned_abs z ≤ d * m → unsigned_abs (ceil_div z (pos d)) ≤ m
+ceil_small z d m h k =
+    let q = floor_div (neg_ℤ z) (pos d) in
+    let turned = abs-neg_ℤ z in
+    let down : unsigned_abs q ≤ m = floor_small (neg_ℤ z) d m h (omega (arith, turned, k)) in
+    let up = abs-neg_ℤ q in
+    omega (arith, up, down)
+
+-- the quotient of a sum of two numbers that are within 2^112 each
+sum_within : (a b : ℤ) (d : ℕ) → 0 < d → unsigned_abs a ≤ 2 ^ 112 → unsigned_abs b ≤ 2 ^ 112 → unsigned_abs (a +ℤ b) ≤ d * 2 ^ 113
+sum_within a b d some h k =
+    let sum : unsigned_abs (a +ℤ b) ≤ 2 ^ 113 = omega (arith, ints) in
+    omega arith
+
+pub quotient_within : (a b a' b' lo hi : ℤ) (d : ℕ) → 0 < d → IsWithin (2 ^ 112) a a' → IsWithin (2 ^ 112) b b' → lo ≡ floor_div (a +ℤ b) (pos d) → hi ≡ ceil_div (a' +ℤ b') (pos d) → IsWithin (2 ^ 113) lo hi
+quotient_within a b a' b' lo hi d some first second low high = record {
+  low = subst (λ (w : ℤ). unsigned_abs w ≤ 2 ^ 113) (sym low) (floor_small (a +ℤ b) d (2 ^ 113) some (sum_within a b d some first.low second.low));
+  high = subst (λ (w : ℤ). unsigned_abs w ≤ 2 ^ 113) (sym high) (ceil_small (a' +ℤ b') d (2 ^ 113) some (sum_within a' b' d some first.high second.high));
+}
 
 product_small : (n r : ℕ) (z : ℤ) → n ≤ 3000000 → 1000 ≤ r → unsigned_abs z ≤ 2 ^ 98 → unsigned_abs (pos n *ℤ z) ≤ r * 2 ^ 36 * 2 ^ 80
 product_small n r z h k small =

@@ -4,3 +4,4 @@ pub mod Weights
 pub mod Weighings
 pub mod Widths
 pub mod Filled
+pub mod Lines

@@ -4,3 +4,4 @@ pub mod Narrow
 pub mod Holds
 pub mod RightView
 pub mod Shown
+pub mod LineItems

@@ -1,9 +1,9 @@
 -- What intervals show where the potentials that they are made of hold every solution, and where these are sharp.
-use Rattle.std.specs.Prelude.{ℕ, ◌≡◌, ◌≤◌, Option, None, Some, List, ℤ, pos}
+use Rattle.std.specs.Prelude.{ℕ, ◌≡◌, ◌≤◌, ◌^◌, Option, None, Some, List, ℤ, pos}
 use Rattle.gic_base.specs.declared.id.ElementId.{ElementId}
 use Rattle.gic_case.specs.Lists.{Lists}
 use Rattle.gic_enclose.specs.Ends as grains
-use Rattle.gic_fixed.specs.Encloses.{Encloses}
+use Rattle.gic_fixed.specs.Encloses.{Encloses, IsWithin}
 use Rattle.gic_fixed.specs.Rounding.{floor_div, ceil_div}
 use Rattle.gic_model.specs.Sharp.{IsSharp}
 use Rattle.gic_model.specs.Solution.{Solution, IsSolution}
@@ -41,3 +41,4 @@ pub record IsShownElement (standing : List Placed) (volts : ℕ → ℤ) (potent
 pub record IsShownEffective (c : Lists) (standing : List Placed) (volts : ℕ → ℤ) (potentials : List grains.Ends) (t : ℕ) (ends : Ends) : Type 0 where
   pub right : HoldsSolutions standing volts potentials → IsRightEffective c standing volts t ends
   pub narrow : (width : ℕ) → 5 ≤ width → AreSharp standing volts potentials width → IsAtMostWide width ends.low ends.high
+  pub small : IsWithin (2 ^ 113) ends.low ends.high

@@ -24,7 +24,8 @@ fn part(winding: Option<(ElementId, u32)>, current: Interval) -> Interval
 
 /// The signed effective current of a transformer in milliamperes per phase, from the currents of its two windings in
 /// nanoamperes of all three phases: their weighted sum over three times the voltage of the high side, rounded outward
-/// once. A winding that is `None` isn't used. No end is beyond 2^80 either way, and `high_volts` is at least 1.
+/// once. A winding that is `None` isn't used. No end that is given is beyond 2^80 either way, and `high_volts` is at least
+/// 1; no end of the result is beyond 2^113.
 pub fn signed_effective(weights: &Weights, first: Interval, second: Interval) -> Interval
     requires volts { 1 ≤ weights.now.high_volts }
     requires first { IsWithin (2 ^ 80) first.lo first.hi }
@@ -35,6 +36,7 @@ pub fn signed_effective(weights: &Weights, first: Interval, second: Interval) ->
         Encloses first.lo first.hi one denominator →
         Encloses second.lo second.hi other denominator →
         Encloses result.lo result.hi (weighted_sum weights.now one other) (3000000 * weights.now.high_volts * denominator) }
+    ensures small { IsWithin (2 ^ 113) result.lo result.hi }
 
     // From currents at most so many milliamperes wide it is at most as wide, from 3 on.
     ensures narrow { (width : ℕ) → 3 ≤ width →

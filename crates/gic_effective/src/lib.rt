@@ -3,6 +3,7 @@
 
 mod current;
 mod effective;
+pub mod laws;
 mod ohm;
 mod potential;
 #[cfg(test)]

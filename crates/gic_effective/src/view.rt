@@ -1,5 +1,6 @@
 //! The view of a step.
-ghost use Rattle.std.specs.Prelude.{◌≡◌, ℕ, ◌<◌, ◌≤◌, length, ℤ};
+ghost use Rattle.std.specs.Prelude.{◌≡◌, ℕ, ◌^◌, ◌<◌, ◌≤◌, length, ℤ};
+ghost use Rattle.gic_fixed.specs.Encloses.{IsWithin};
 ghost use Rattle.gic_model.specs.Sharp.{IsSharp};
 ghost use Rattle.gic_model.specs.Voltages.{number_at};
 ghost use Rattle.gic_net.specs.Net.{standing};
@@ -26,8 +27,9 @@ use gic_winding::effective_weights;
 
 /// Sets all intervals of a view: the potential of each node in millivolts, `None` where it is dead; the current of each
 /// element in milliamperes, `None` where it doesn't stand; the signed effective current of each transformer in
-/// milliamperes per phase, in which an open winding counts as 0. Number and time stay. The elements are the case's, the
-/// net was built from them, and voltages, potentials and view are those of its elements, nodes and transformers.
+/// milliamperes per phase, in which an open winding counts as 0, with no end beyond 2^113 either way. Number and time
+/// stay. The elements are the case's, the net was built from them, and voltages, potentials and view are those of its
+/// elements, nodes and transformers.
 pub fn fill_view(
     case: &Case,
     elements: &Elements,
@@ -46,6 +48,7 @@ pub fn fill_view(
     ensures right { HoldsSolutions (standing net.now) (number_at volts.now) potentials.now → IsRightView case.now (standing net.now) (number_at volts.now) out.new }
     ensures narrow { (width : ℕ) → 5 ≤ width → IsSharp (standing net.now) (number_at volts.now) (low_at potentials.now) (high_at potentials.now) width →
         IsNarrowView width out.new }
+    ensures small { (t : ℕ) → t < length out.new.effective → IsWithin (2 ^ 113) (effective_at out.new t).low (effective_at out.new t).high }
     ensures number_stays { out.new.number ≡ out.old.number }
     ensures time_stays { out.new.time ≡ out.old.time }
     ensures node_count { length out.new.nodes ≡ length out.old.nodes }

@@ -1,6 +1,7 @@
 //! The current of a transformer's winding.
-ghost use Rattle.std.specs.Prelude.{◌≡◌, ℕ, ◌^◌, ◌<◌, length, ℤ, pos, IfSome, true};
+ghost use Rattle.std.specs.Prelude.{◌≡◌, ℕ, ◌^◌, ◌<◌, length, ℤ, pos, IfSome, IsFalse, true};
 ghost use Rattle.gic_fixed.specs.Encloses.{IsWithin};
+ghost use Rattle.gic_model.specs.Standing.{is_standing};
 ghost use Rattle.gic_model.specs.Voltages.{number_at};
 ghost use Rattle.gic_net.specs.Net.{standing};
 ghost use Rattle.gic_effective.specs.Shown.{IsShownCurrent, IsShownWinding};
@@ -25,6 +26,7 @@ fn current_or_nought(
     requires potentials { length potentials.now ≡ elements.now.nodes }
     requires element { element.0 < length elements.now.list }
     ensures shown { IsShownCurrent (standing net.now) (number_at volts.now) potentials.now element.0 result.lo result.hi }
+    ensures opened { IsFalse (is_standing (standing net.now) element.0) → result.hi ≡ pos 0 }
     ensures small { IsWithin (2 ^ 80) result.lo result.hi }
 {
     if net.stands(element) {

@@ -1,7 +1,7 @@
-use Rattle.std.proofs.Common.{◌≡◌, ◌*◌, pos, ◌+ℤ◌, rules}
+use Rattle.std.proofs.Common.{◌≡◌, ◌*◌, pos, ◌+ℤ◌, arith, rules}
 use Rattle.gic_fixed.specs.Rounding.{floor_div, ceil_div}
 use Rattle.gic_effective.specs.Weighted.{weighted}
-use Rattle.gic_effective.proofs.Currents.{Encloses-same}
+use Rattle.gic_effective.proofs.Currents.{Encloses-same, quotient_within}
 use Rattle.gic_effective.proofs.Weights.{effective_holds}
 use Rattle.gic_effective.proofs.Widths.{effective_width, same_width}
 use Rattle.gic_effective.proofs.effective.signed_effective.Goals as goal
@@ -19,3 +19,12 @@ returns-clause-narrow c width least sum one other =
     let low : c.div_out.result.lo ≡ floor_div (weighted w.first c.args.first.lo +ℤ weighted w.second c.args.second.lo) (pos (3000000 * w.high_volts)) = search rules in
     let high : c.div_out.result.hi ≡ ceil_div (weighted w.first c.args.first.hi +ℤ weighted w.second c.args.second.hi) (pos (3000000 * w.high_volts)) = search rules in
     same_width c.div_out.result.lo c.div_out.result.hi (floor_div (weighted w.first c.args.first.lo +ℤ weighted w.second c.args.second.lo) (pos (3000000 * w.high_volts))) (ceil_div (weighted w.first c.args.first.hi +ℤ weighted w.second c.args.second.hi) (pos (3000000 * w.high_volts))) width low high (effective_width w.first w.second w.high_volts c.args.first.lo c.args.first.hi c.args.second.lo c.args.second.hi width c.requires.volts least sum one other)
+
+pub returns-clause-small : goal.returns-clause-small
+returns-clause-small c =
+    let d = 3000000 * c.args.weights.now.high_volts in
+    let one = c.part.result in
+    let other = c.part-2.result in
+    let low : c.div_out.result.lo ≡ floor_div (one.lo +ℤ other.lo) (pos d) = search rules in
+    let high : c.div_out.result.hi ≡ ceil_div (one.hi +ℤ other.hi) (pos d) = search rules in
+    quotient_within one.lo other.lo one.hi other.hi c.div_out.result.lo c.div_out.result.hi d (omega (arith, c.requires.volts)) c.part.ensures.small c.part-2.ensures.small low high

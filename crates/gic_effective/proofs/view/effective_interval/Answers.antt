@@ -55,4 +55,5 @@ returns c =
           c.signed_effective.ensures.narrow width (omega (arith, least)) (omega (arith, most, volts_are c))
           (winding_narrow stand volts xs w.first one.result.lo one.result.hi width one.ensures.shown sharp)
           (winding_narrow stand volts xs w.second other.result.lo other.result.hi width other.ensures.shown sharp);
+      small = c.signed_effective.ensures.small;
     }

@@ -30,3 +30,6 @@ returns-clause-narrow c width least sharp =
       elements = subst (λ xs. (k : ℕ) → k < length xs → IsNoWider width (slice_index_or xs k None)) (sym (elements_are c)) (λ k below. (c.fill_elements.ensures.shown k below).narrow width sharp);
       effective = λ t below. (c.fill_effective.ensures.shown t below).narrow width least sharp;
     }
+
+pub returns-clause-small : goal.returns-clause-small
+returns-clause-small c t below = (c.fill_effective.ensures.shown t below).small
