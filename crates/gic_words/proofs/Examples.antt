@@ -6,7 +6,8 @@ use Rattle.gic_text.specs.Decimal.{read_decimal, whole_of}
 use Rattle.gic_words.specs.Command.{command_of_words, faults_of, matches_of_words}
 use Rattle.gic_words.specs.Table.{is_among, mode_of, use_of}
 use Rattle.gic_words.specs.Options.{options_of}
-use Rattle.gic_words.specs.declared.option.Opt.TheVariants.{Case, Switch, North}
+use Rattle.gic_words.specs.declared.option.Opt.TheVariants.{Case, Switch, North, Width, Event}
+use Rattle.gic_screen.specs.declared.event.Event.TheVariants.{Benchmark, Supplemental}
 use Rattle.gic_words.specs.declared.options.Options.TheVariants as options
 use Rattle.gic_words.specs.declared.fault.Usage.TheVariants as usage
 
@@ -121,3 +122,39 @@ switched = refl
 pub empty_switch : options_of (codes "check" ∷ codes "--switch=" ∷ codes "--case=p" ∷ []) ≡ Ok (options.Check (codes "p") (Some []))
 unfolding clap_on_literals command_of_words faults_of matches_of_words options_of is_among mode_of use_of
 empty_switch = refl
+
+pub missing_case_of_field : options_of (codes "field" ∷ codes "--width=x" ∷ []) ≡ Err (usage.Missing Case)
+unfolding clap_on_literals command_of_words faults_of matches_of_words options_of is_among mode_of use_of
+missing_case_of_field = refl
+
+pub width_too_small : options_of (codes "field" ∷ codes "--case=p" ∷ codes "--width=9" ∷ []) ≡ Err (usage.Number Width)
+unfolding clap_on_literals command_of_words faults_of matches_of_words options_of is_among mode_of use_of read_decimal whole_of
+width_too_small = refl
+
+pub no_such_event : options_of (codes "field" ∷ codes "--case=p" ∷ codes "--event=storm" ∷ []) ≡ Err (usage.Value Event)
+unfolding clap_on_literals command_of_words faults_of matches_of_words options_of is_among mode_of use_of
+no_such_event = refl
+
+pub width_before_event : options_of (codes "field" ∷ codes "--event=" ∷ codes "--width=10001" ∷ codes "--case=p" ∷ []) ≡ Err (usage.Number Width)
+unfolding clap_on_literals command_of_words faults_of matches_of_words options_of is_among mode_of use_of read_decimal whole_of
+width_before_event = refl
+
+pub event_in_check : options_of (codes "check" ∷ codes "--case=p" ∷ codes "--event=storm" ∷ []) ≡ Err (usage.Extra Event)
+unfolding clap_on_literals command_of_words faults_of matches_of_words options_of is_among mode_of use_of
+event_in_check = refl
+
+pub width_in_volts : options_of (codes "volts" ∷ codes "--case=p" ∷ codes "--width=100" ∷ []) ≡ Err (usage.Extra Width)
+unfolding clap_on_literals command_of_words faults_of matches_of_words options_of is_among mode_of use_of
+width_in_volts = refl
+
+pub field_by_default : options_of (codes "field" ∷ codes "--case=p" ∷ []) ≡ Ok (options.Field (codes "p") (pos 0) (pos 0) None 100 Benchmark)
+unfolding clap_on_literals command_of_words faults_of matches_of_words options_of is_among mode_of use_of
+field_by_default = refl
+
+pub whole_field : options_of (codes "field" ∷ codes "--case=p" ∷ codes "--north=8000" ∷ codes "--east=-1" ∷ codes "--switch=s" ∷ codes "--width=10" ∷ codes "--event=supplemental" ∷ []) ≡ Ok (options.Field (codes "p") (pos 8000) (negsuc 0) (Some (codes "s")) 10 Supplemental)
+unfolding clap_on_literals command_of_words faults_of matches_of_words options_of is_among mode_of use_of read_decimal whole_of
+whole_field = refl
+
+pub benchmark : options_of (codes "field" ∷ codes "--case=p" ∷ codes "--event=benchmark" ∷ []) ≡ Ok (options.Field (codes "p") (pos 0) (pos 0) None 100 Benchmark)
+unfolding clap_on_literals command_of_words faults_of matches_of_words options_of is_among mode_of use_of
+benchmark = refl

@@ -1,12 +1,14 @@
 -- The options that words give, or their first fault.
-use Rattle.std.specs.Prelude.{◌≡◌, ◌≢◌, ◌≤◌, ℕ, true, List, [], ◌∷◌, ℤ, pos, unsigned_abs, Some, None, Ok, Err, Result, is_some, unwrap_or, option_and_then, if◌then◌else◌, ⊤}
+use Rattle.std.specs.Prelude.{◌≡◌, ◌≢◌, ◌≤◌, ℕ, true, List, [], ◌∷◌, ℤ, pos, unsigned_abs, Some, None, Ok, Err, Result, is_some, unwrap_or, option_map, option_and_then, if◌then◌else◌, ⊤}
 use Rattle.std.specs.declared.option.Option.{Option}
 use Rattle.clap.specs.Words.{Kinds, Row}
 use Rattle.gic_words.specs.Table.{all_options, form_of, mode_of, use_of}
 use Rattle.gic_words.specs.Command.{given, given_mode, faults_of, matches_of_words, is_taken}
-use Rattle.gic_words.specs.Values.{number_in}
+use Rattle.gic_screen.specs.declared.event.Event.{Event as NamedEvent}
+use Rattle.gic_screen.specs.declared.event.Event.TheVariants.{Benchmark}
+use Rattle.gic_words.specs.Values.{event_of, number_in}
 use Rattle.gic_words.specs.declared.option.Opt.{Opt}
-use Rattle.gic_words.specs.declared.option.Opt.TheVariants.{Case, Switch, North, East}
+use Rattle.gic_words.specs.declared.option.Opt.TheVariants.{Case, Switch, North, East, Width, Event}
 use Rattle.gic_words.specs.declared.option.Form.{Form}
 use Rattle.gic_words.specs.declared.option.Form.TheVariants as form
 use Rattle.gic_words.specs.declared.mode.Mode.{Mode}
@@ -24,6 +26,7 @@ use Rattle.gic_words.specs.declared.fault.Usage.TheVariants as usage
 abbrev pub form_fault : Form → Opt → List ℕ → Option Usage
 form_fault form.Name o text = None
 form_fault (form.Number least most) o text = if is_some (number_in o text) then None else Some (usage.Number o)
+form_fault form.Event o text = if is_some (event_of text) then None else Some (usage.Value o)
 
 -- the fault of the value of an option that the mode uses
 abbrev pub value_fault : Opt → List ℕ → Option Usage
@@ -65,17 +68,27 @@ number_of rows o = option_and_then (number_in o) (given rows o)
 abbrev pub field_of : List Row → Opt → ℤ
 field_of rows o = unwrap_or (number_of rows o) (pos 0)
 
+-- the width, 100 where it is not given
+abbrev pub width_of : List Row → ℕ
+width_of rows = unwrap_or (option_map unsigned_abs (number_of rows Width)) 100
+
+-- the event, the benchmark one where none is given
+abbrev pub named_event : List Row → NamedEvent
+named_event rows = unwrap_or (option_and_then event_of (given rows Event)) Benchmark
+
 -- the options of a mode
 abbrev pub options_by : Mode → List Row → Options
 options_by mode.Volts rows = options.Volts (text_of rows Case) (field_of rows North) (field_of rows East)
 options_by mode.List rows = options.List (text_of rows Case)
 options_by mode.Check rows = options.Check (text_of rows Case) (given rows Switch)
+options_by mode.Field rows = options.Field (text_of rows Case) (field_of rows North) (field_of rows East) (given rows Switch) (width_of rows) (named_event rows)
 
--- each part of a field that is asked for lies within 20000 mV/km
+-- each part of a field that is asked for lies within 20000 mV/km, and a width is from 10 to 10000 mV or mA
 abbrev pub HasFieldsWithin : Options → Type 0
 HasFieldsWithin (options.Volts case north east) = (unsigned_abs north ≤ 20000) × (unsigned_abs east ≤ 20000)
 HasFieldsWithin (options.List case) = ⊤
 HasFieldsWithin (options.Check case switch) = ⊤
+HasFieldsWithin (options.Field case north east switch width event) = (unsigned_abs north ≤ 20000) × (unsigned_abs east ≤ 20000) × (10 ≤ width) × (width ≤ 10000)
 
 -- ---- the words
 

@@ -4,7 +4,8 @@ ghost use Rattle.clap.specs.Words.{Row};
 ghost use Rattle.gic_words.specs.declared.mode.Mode.{Mode};
 ghost use Rattle.gic_words.specs.declared.mode.Use.TheVariants.{Required};
 ghost use Rattle.gic_words.specs.declared.option.Opt.{Opt};
-ghost use Rattle.gic_words.specs.declared.option.Opt.TheVariants.{Case, Switch, North};
+ghost use Rattle.gic_words.specs.declared.option.Opt.TheVariants.{Case, Switch, North, Width, Event};
+ghost use Rattle.gic_screen.specs.declared.event.Event.TheVariants.{Benchmark, Supplemental};
 ghost use Rattle.gic_words.specs.declared.options.Options.TheVariants as options;
 ghost use Rattle.gic_words.specs.declared.fault.Usage.TheVariants as usage;
 ghost use Rattle.gic_words.specs.Command.{given};
@@ -39,6 +40,12 @@ pub fn refused_words_law()
     ensures switch_in_list { options_of (codes "list" ∷ codes "--case=p" ∷ codes "--switch=s" ∷ []) ≡ Err (usage.Extra Switch) }
     ensures switch_before_north { options_of (codes "volts" ∷ codes "--case=p" ∷ codes "--north=x" ∷ codes "--switch=s" ∷ []) ≡ Err (usage.Extra Switch) }
     ensures field_in_check { options_of (codes "check" ∷ codes "--case=p" ∷ codes "--east=0" ∷ codes "--north=0" ∷ []) ≡ Err (usage.Extra North) }
+    ensures missing_case_of_field { options_of (codes "field" ∷ codes "--width=x" ∷ []) ≡ Err (usage.Missing Case) }
+    ensures width_too_small { options_of (codes "field" ∷ codes "--case=p" ∷ codes "--width=9" ∷ []) ≡ Err (usage.Number Width) }
+    ensures no_such_event { options_of (codes "field" ∷ codes "--case=p" ∷ codes "--event=storm" ∷ []) ≡ Err (usage.Value Event) }
+    ensures width_before_event { options_of (codes "field" ∷ codes "--event=" ∷ codes "--width=10001" ∷ codes "--case=p" ∷ []) ≡ Err (usage.Number Width) }
+    ensures event_in_check { options_of (codes "check" ∷ codes "--case=p" ∷ codes "--event=storm" ∷ []) ≡ Err (usage.Extra Event) }
+    ensures width_in_volts { options_of (codes "volts" ∷ codes "--case=p" ∷ codes "--width=100" ∷ []) ≡ Err (usage.Extra Width) }
     ensures north_before_east { options_of (codes "volts" ∷ codes "--east=x" ∷ codes "--north=x" ∷ codes "--case=p" ∷ []) ≡ Err (usage.Number North) }
 {}
 
@@ -52,4 +59,10 @@ pub fn accepted_words_law()
     ensures check { options_of (codes "check" ∷ codes "--case=p" ∷ []) ≡ Ok (options.Check (codes "p") None) }
     ensures switched { options_of (codes "check" ∷ codes "--case=p" ∷ codes "--switch=s" ∷ []) ≡ Ok (options.Check (codes "p") (Some (codes "s"))) }
     ensures empty_switch { options_of (codes "check" ∷ codes "--switch=" ∷ codes "--case=p" ∷ []) ≡ Ok (options.Check (codes "p") (Some [])) }
+    ensures field_by_default { options_of (codes "field" ∷ codes "--case=p" ∷ [])
+        ≡ Ok (options.Field (codes "p") (pos 0) (pos 0) None 100 Benchmark) }
+    ensures whole_field { options_of (codes "field" ∷ codes "--case=p" ∷ codes "--north=8000" ∷ codes "--east=-1" ∷ codes "--switch=s" ∷ codes "--width=10" ∷ codes "--event=supplemental" ∷ [])
+        ≡ Ok (options.Field (codes "p") (pos 8000) (negsuc 0) (Some (codes "s")) 10 Supplemental) }
+    ensures benchmark { options_of (codes "field" ∷ codes "--case=p" ∷ codes "--event=benchmark" ∷ [])
+        ≡ Ok (options.Field (codes "p") (pos 0) (pos 0) None 100 Benchmark) }
 {}

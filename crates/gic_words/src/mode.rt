@@ -13,6 +13,8 @@ pub(crate) enum Mode {
     List,
     /// The live and the dead nodes, where each live one is earthed.
     Check,
+    /// Potentials and currents in one field, with verdicts.
+    Field,
 }
 
 /// Whether a mode has a use for an option.
@@ -26,7 +28,7 @@ pub(crate) enum Use {
     Unused,
 }
 
-static ALL: [Mode; 3] = [Mode::Volts, Mode::List, Mode::Check];
+static ALL: [Mode; 4] = [Mode::Volts, Mode::List, Mode::Check, Mode::Field];
 
 impl Mode {
     /// The word that asks for it.
@@ -37,6 +39,7 @@ impl Mode {
             Mode::Volts => "volts",
             Mode::List => "list",
             Mode::Check => "check",
+            Mode::Field => "field",
         }
     }
 
@@ -60,7 +63,7 @@ impl Mode {
         ensures { result.now ≡ required_by self }
     {
         match self {
-            Mode::Volts | Mode::List | Mode::Check => &[Opt::Case],
+            Mode::Volts | Mode::List | Mode::Check | Mode::Field => &[Opt::Case],
         }
     }
 
@@ -72,6 +75,7 @@ impl Mode {
             Mode::Volts => &[Opt::North, Opt::East],
             Mode::List => &[],
             Mode::Check => &[Opt::Switch],
+            Mode::Field => &[Opt::North, Opt::East, Opt::Switch, Opt::Width, Opt::Event],
         }
     }
 

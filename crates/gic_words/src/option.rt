@@ -13,6 +13,10 @@ pub enum Opt {
     North,
     /// The field to the east, in mV/km.
     East,
+    /// The width of an interval of a potential or a current, in mV or mA.
+    Width,
+    /// The event that transformers are screened for.
+    Event,
 }
 
 /// The form of the values of an option.
@@ -22,9 +26,18 @@ pub(crate) enum Form {
     Name,
     /// A decimal number from `least` to `most`.
     Number { least: i64, most: i64 },
+    /// The name of an event.
+    Event,
 }
 
-static ALL: [Opt; 4] = [Opt::Case, Opt::Switch, Opt::North, Opt::East];
+static ALL: [Opt; 6] = [
+    Opt::Case,
+    Opt::Switch,
+    Opt::North,
+    Opt::East,
+    Opt::Width,
+    Opt::Event,
+];
 
 impl Opt {
     /// The options, in the order in which their faults are found.
@@ -43,6 +56,8 @@ impl Opt {
             Opt::Switch => "switch",
             Opt::North => "north",
             Opt::East => "east",
+            Opt::Width => "width",
+            Opt::Event => "event",
         }
     }
 
@@ -56,6 +71,11 @@ impl Opt {
                 least: -20000,
                 most: 20000,
             },
+            Opt::Width => Form::Number {
+                least: 10,
+                most: 10000,
+            },
+            Opt::Event => Form::Event,
         }
     }
 

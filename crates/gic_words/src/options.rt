@@ -3,7 +3,7 @@ ghost use Rattle.std.specs.Prelude.{◌≡◌, ◌≤◌, IfOk, IfSome, map, str
 ghost use Rattle.clap.specs.Words.{rows_of, found_of};
 ghost use Rattle.gic_words.specs.Command.{given};
 ghost use Rattle.gic_words.specs.Values.{IsWithin};
-ghost use Rattle.gic_words.specs.Options.{text_of, number_of, field_of, options_by, mode_in};
+ghost use Rattle.gic_words.specs.Options.{text_of, number_of, field_of, width_of, named_event, options_by, mode_in};
 ghost use Rattle.gic_words.specs.Options.{options_of, options_of_rows, ReadsWords, KeepsTaken, HasFieldsWithin};
 
 use crate::command::{ParseRefusal, mode_word, parse, value_of};
@@ -11,8 +11,9 @@ use crate::fault::{Usage, WordsRefusal, first_fault};
 use crate::mode::Mode;
 use crate::name::FileName;
 use crate::option::Opt;
-use crate::value::read_number;
+use crate::value::{read_event, read_number};
 use clap::ArgMatches;
+use gic_screen::Event;
 use std::alloc::{AllocError, Global};
 
 /// What words ask for: a mode with its options.
@@ -33,6 +34,17 @@ pub enum Options {
     Check {
         case: FileName,
         switch: Option<FileName>,
+    },
+    /// Potentials and currents in a field of so many mV/km to the north and to the east, each from -20000 to 20000, and 0
+    /// where it is not given; after the switchings of a file, or without any. Intervals are no wider than `width`, from 10
+    /// to 10000 mV or mA, and 100 where it is not given. The event is the benchmark one where none is given.
+    Field {
+        case: FileName,
+        north: i32,
+        east: i32,
+        switch: Option<FileName>,
+        width: u32,
+        event: Event,
     },
 }
 
@@ -90,6 +102,31 @@ fn east(matches: &ArgMatches<'_>) -> i32
     }
 }
 
+/// The width of an interval, in mV or mA.
+fn width(matches: &ArgMatches<'_>) -> u32
+    ensures value { result ≡ width_of (rows_of (found_of matches.now)) }
+    ensures least { 10 ≤ result }
+    ensures most { result ≤ 10000 }
+{
+    match number(matches, Opt::Width) {
+        Some(value) => value as u32,
+        None => 100,
+    }
+}
+
+/// The event that transformers are screened for.
+fn event(matches: &ArgMatches<'_>) -> Event
+    ensures { result ≡ named_event (rows_of (found_of matches.now)) }
+{
+    match value_of(matches, Opt::Event) {
+        Some(text) => match read_event(text) {
+            Some(event) => event,
+            None => Event::Benchmark,
+        },
+        None => Event::Benchmark,
+    }
+}
+
 fn volts(alloc: Global, matches: &ArgMatches<'_>) -> Result<Options, AllocError>
     ensures value { IfOk result (λ o. o ≡ options_by Mode.Volts (rows_of (found_of matches.now))) }
     ensures fields { IfOk result HasFieldsWithin }
@@ -119,6 +156,22 @@ fn check(alloc: Global, matches: &ArgMatches<'_>) -> Result<Options, AllocError>
     Ok(Options::Check { case, switch })
 }
 
+fn field(alloc: Global, matches: &ArgMatches<'_>) -> Result<Options, AllocError>
+    ensures value { IfOk result (λ o. o ≡ options_by Mode.Field (rows_of (found_of matches.now))) }
+    ensures fields { IfOk result HasFieldsWithin }
+{
+    let case = file(alloc, matches, Opt::Case)?;
+    let switch = optional_file(alloc, matches, Opt::Switch)?;
+    Ok(Options::Field {
+        case,
+        north: north(matches),
+        east: east(matches),
+        switch,
+        width: width(matches),
+        event: event(matches),
+    })
+}
+
 /// The options that a mode takes from the matches.
 fn options_by(alloc: Global, mode: Mode, matches: &ArgMatches<'_>) -> Result<Options, AllocError>
     ensures value { IfOk result (λ o. o ≡ options_by mode (rows_of (found_of matches.now))) }
@@ -128,6 +181,7 @@ fn options_by(alloc: Global, mode: Mode, matches: &ArgMatches<'_>) -> Result<Opt
         Mode::Volts => volts(alloc, matches),
         Mode::List => list(alloc, matches),
         Mode::Check => check(alloc, matches),
+        Mode::Field => field(alloc, matches),
     }
 }
 

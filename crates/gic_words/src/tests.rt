@@ -1,4 +1,5 @@
 use crate::{FileName, Opt, Options, Usage, WordsRefusal, read_words};
+use gic_screen::Event;
 use std::alloc::{AllocError, Global};
 use std::test::Fail;
 
@@ -17,13 +18,20 @@ enum Wanted {
         case: &'static str,
         switch: Option<&'static str>,
     },
+    Field {
+        case: &'static str,
+        north: i32,
+        switch: Option<&'static str>,
+        width: u32,
+        event: Event,
+    },
     Fault(Usage),
 }
 
 /// Words, and what they give.
 type Row = (&'static [&'static str], Wanted);
 
-static TABLE: [Row; 20] = [
+static TABLE: [Row; 23] = [
     (
         &["volts"],
         Wanted::Fault(Usage::Missing { option: Opt::Case }),
@@ -103,6 +111,37 @@ static TABLE: [Row; 20] = [
             switch: None,
         },
     ),
+    (
+        &["field", "--case=p", "--event=Benchmark"],
+        Wanted::Fault(Usage::Value { option: Opt::Event }),
+    ),
+    (
+        &["field", "--case=p"],
+        Wanted::Field {
+            case: "p",
+            north: 0,
+            switch: None,
+            width: 100,
+            event: Event::Benchmark,
+        },
+    ),
+    (
+        &[
+            "field",
+            "--north=8000",
+            "--case=p",
+            "--switch=s",
+            "--width=10000",
+            "--event=supplemental",
+        ],
+        Wanted::Field {
+            case: "p",
+            north: 8000,
+            switch: Some("s"),
+            width: 10000,
+            event: Event::Supplemental,
+        },
+    ),
 ];
 
 fn list_of(alloc: Global, words: &[&str]) -> Result<Vec<String>, AllocError> {
@@ -141,6 +180,29 @@ fn is_wanted(answer: &Result<Options, WordsRefusal>, wanted: Wanted) -> bool {
                 switch: other,
             },
         ) => case.as_str() == name && is_named(switch, other),
+        (
+            Ok(
+                Options::Field {
+                    case,
+                    north,
+                    east,
+                    switch,
+                    width,
+                    event,
+                },
+            ),
+            Wanted::Field {
+                case: name,
+                north: to_north,
+                switch: other,
+                width: wide,
+                event: named,
+            },
+        ) => {
+            case.as_str() == name
+                && (*north, *east, *width, *event) == (to_north, 0, wide, named)
+                && is_named(switch, other)
+        }
         (Err(WordsRefusal::Usage(usage)), Wanted::Fault(fault)) => *usage == fault,
         (_answer, _wanted) => false,
     }
