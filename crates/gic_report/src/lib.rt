@@ -1,7 +1,10 @@
 //! Reports and their texts, written line by line.
 #![tactic(auto)]
 
+mod cells;
 mod check;
+mod field;
+mod items;
 pub mod laws;
 mod list;
 mod names;

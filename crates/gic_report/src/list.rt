@@ -15,7 +15,7 @@ use gic_model::{Element, End, Role};
 use gic_text::LineBuilder;
 
 /// How the report names what an element is.
-fn role_word(role: Role) -> &'static str
+pub(crate) fn role_word(role: Role) -> &'static str
     ensures word { result.now ≡ role_word role }
     ensures size { length result.now ≤ 7 }
 {

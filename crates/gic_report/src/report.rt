@@ -7,11 +7,13 @@ ghost use Rattle.gic_winding.specs.ElementList.{elements_of};
 ghost use Rattle.gic_report.specs.Text.{FitsCase, report_text};
 
 use crate::check::write_check;
+use crate::field::{Setting, write_field};
 use crate::list::write_list;
 use crate::volts::write_volts;
 use gic_base::{Sink, WriteFailed};
 use gic_case::Case;
 use gic_model::Elements;
+use gic_monitor::StepView;
 use gic_text::LineBuilder;
 use std::marker::Model;
 
@@ -80,7 +82,7 @@ impl LiveNodes {
 }
 
 /// What a run found.
-#[derive(Debug, Drop)]
+#[derive(Drop)]
 pub enum Report {
     /// The voltage along each line under one uniform field; north and east are its parts in mV/km.
     Volts {
@@ -94,6 +96,15 @@ pub enum Report {
     Check {
         live: LiveNodes,
     },
+    /// Potentials and currents in one uniform field, whose parts are in mV/km; the intervals are no wider than `width`, in
+    /// mV and mA, and the threshold of the verdicts is in mA per phase.
+    Field {
+        north: i32,
+        east: i32,
+        width: u32,
+        threshold: u32,
+        view: StepView,
+    },
 }
 
 /// Writes the text of a report on a case and its elements, with one `write_all` per line. Where a write fails, the text's front is
@@ -106,7 +117,7 @@ pub fn write_report<S: Sink>(
     out: &mut S,
 ) -> Result<(), WriteFailed>
     requires elements { elements.now ≡ elements_of case.now }
-    requires lines { FitsCase case.now report.now }
+    requires fits { FitsCase case.now report.now }
     ensures all { OnOk result (Appends (S.written out.old) (S.written out.new)
         (report_text case.now elements.now report.now)) }
     ensures part { AppendsPart (S.written out.old) (S.written out.new)
@@ -119,5 +130,20 @@ pub fn write_report<S: Sink>(
         }
         Report::List => write_list(case, elements.nodes(), elements.list(), line, out),
         Report::Check { live } => write_check(case, live.as_slice(), line, out),
+        Report::Field {
+            north,
+            east,
+            width,
+            threshold,
+            view,
+        } => {
+            let setting = Setting {
+                north: *north,
+                east: *east,
+                width: *width,
+                threshold: *threshold,
+            };
+            write_field(case, &setting, view, line, out)
+        }
     }
 }

@@ -6,7 +6,7 @@ ghost use Rattle.gic_base.specs.Pieces.{AppendsPart};
 ghost use Rattle.gic_text.specs.Lines.{line_text, lines_text};
 ghost use Rattle.gic_report.specs.VoltsText.{volts_line, volts_lines, volts_report};
 
-use crate::write::{write_field, write_word};
+use crate::write::{write_field_line, write_word};
 use gic_base::{Name, Sink, WriteFailed, write_all};
 use gic_case::Line;
 use gic_text::LineBuilder;
@@ -67,7 +67,7 @@ pub fn write_volts<S: Sink>(
     ensures cause { HasCause (S.faults out.old) (S.faults out.new) result }
 {
     write_word(b"volts", line, out)?;
-    write_field(north, east, line, out)?;
+    write_field_line(north, east, line, out)?;
     write_volts_lines(lines, nanovolts, line, out)?;
     write_word(b"end", line, out)
 }

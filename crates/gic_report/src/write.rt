@@ -29,7 +29,7 @@ pub fn write_word<S: Sink>(
 
 /// Writes the line of a uniform field, in mV/km.
 #[tactic(auto, using(gic_text::proofs::Sizes::line_room))]
-pub fn write_field<S: Sink>(
+pub fn write_field_line<S: Sink>(
     north: i32,
     east: i32,
     line: &mut LineBuilder,

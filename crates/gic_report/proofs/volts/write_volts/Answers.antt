@@ -32,26 +32,26 @@ returns-in_err-write_word-clause-part g c =
     (part_first (word_line (codes "volts")) (passed_line c.args.north c.args.east) (volts_lines c.args.lines.now c.args.nanovolts.now) (word_line (codes "end"))
     _ _ c.write_word.ensures.part)
 
-pub returns-in_err-write_field-clause-part : goal.returns-in_err-write_field-clause-part
+pub returns-in_err-write_field_line-clause-part : goal.returns-in_err-write_field_line-clause-part
 unfolding passed_line
-returns-in_err-write_field-clause-part g c =
+returns-in_err-write_field_line-clause-part g c =
     subst (AppendsPart _ _) (same_report c.args.lines.now c.args.north c.args.east c.args.nanovolts.now c.ranges.north c.ranges.east)
     (part_second (word_line (codes "volts")) (passed_line c.args.north c.args.east) (volts_lines c.args.lines.now c.args.nanovolts.now) (word_line (codes "end"))
-    _ _ _ c.in_ok-write_word.ensures.all c.write_field.ensures.part)
+    _ _ _ c.in_ok-write_word.ensures.all c.write_field_line.ensures.part)
 
 pub returns-in_err-write_volts_lines-clause-part : goal.returns-in_err-write_volts_lines-clause-part
 unfolding passed_line
 returns-in_err-write_volts_lines-clause-part g c =
     subst (AppendsPart _ _) (same_report c.args.lines.now c.args.north c.args.east c.args.nanovolts.now c.ranges.north c.ranges.east)
     (part_body (word_line (codes "volts")) (passed_line c.args.north c.args.east) (volts_lines c.args.lines.now c.args.nanovolts.now) (word_line (codes "end"))
-    _ _ _ _ c.in_ok-write_word.ensures.all c.in_ok-write_field.ensures.all c.write_volts_lines.ensures.part)
+    _ _ _ _ c.in_ok-write_word.ensures.all c.in_ok-write_field_line.ensures.all c.write_volts_lines.ensures.part)
 
 pub returns-clause-part : goal.returns-clause-part
 unfolding passed_line
 returns-clause-part g c =
     subst (AppendsPart _ _) (same_report c.args.lines.now c.args.north c.args.east c.args.nanovolts.now c.ranges.north c.ranges.east)
     (part_last (word_line (codes "volts")) (passed_line c.args.north c.args.east) (volts_lines c.args.lines.now c.args.nanovolts.now) (word_line (codes "end"))
-    _ _ _ _ _ c.in_ok-write_word.ensures.all c.in_ok-write_field.ensures.all c.in_ok-write_volts_lines.ensures.all c.write_word-2.ensures.part)
+    _ _ _ _ _ c.in_ok-write_word.ensures.all c.in_ok-write_field_line.ensures.all c.in_ok-write_volts_lines.ensures.all c.write_word-2.ensures.part)
 
 pub returns-clause-all : goal.returns-clause-all
 unfolding passed_line
@@ -59,5 +59,5 @@ returns-clause-all g c =
     on_ok_weaker c.write_word-2.result (λ p.
     subst (Appends _ _) (same_report c.args.lines.now c.args.north c.args.east c.args.nanovolts.now c.ranges.north c.ranges.east)
     (all_written (word_line (codes "volts")) (passed_line c.args.north c.args.east) (volts_lines c.args.lines.now c.args.nanovolts.now) (word_line (codes "end"))
-    _ _ _ _ _ c.in_ok-write_word.ensures.all c.in_ok-write_field.ensures.all c.in_ok-write_volts_lines.ensures.all p))
+    _ _ _ _ _ c.in_ok-write_word.ensures.all c.in_ok-write_field_line.ensures.all c.in_ok-write_volts_lines.ensures.all p))
     c.write_word-2.ensures.all

@@ -1,0 +1,15 @@
+use Rattle.std.proofs.Common.{◌≤◌, All, drop}
+use Rattle.gic_text.specs.Lines.{lines_text}
+use Rattle.gic_report.specs.Fits.{HasAbsolute}
+use Rattle.gic_report.specs.FieldText.{transformer_lines}
+use Rattle.gic_report.proofs.Written.{Written}
+use Rattle.gic_report.proofs.field.write_transformers.Given as goal
+
+-- all is written but the lines of the transformers that are left, and their intervals have absolute values
+abbrev pub invariant-loop-transformer : goal.invariant-loop-transformer
+invariant-loop-transformer g l = record {
+  written : Written (g.S.Sink.written l.fn.out) (g.S.Sink.written l.out) (lines_text (transformer_lines l.threshold l.transformers l.view.effective))
+      (lines_text (transformer_lines l.threshold (drop l.transformer-index l.transformers) l.cells));
+  absolutes : All HasAbsolute l.cells;
+  kept : g.S.Sink.faults l.fn.out ≤ g.S.Sink.faults l.out;
+}
