@@ -1,5 +1,10 @@
 pub mod Spaced
 pub mod LineVolts
+pub mod Rooms
+pub mod Fits
+pub mod UniformFields
+pub mod Resolved
+pub mod TrueVerdicts
 pub mod Explained
 pub mod Passed
 pub mod CaseNodes

@@ -13,13 +13,13 @@ use Rattle.gic_report.specs.declared.report.Report.{Report}
 use Rattle.gic_winding.specs.ElementList.{elements_of}
 use Rattle.gic_report.specs.Text.{FitsCase, report_text}
 use Rattle.gic_study.specs.Faults.{status_of_fault, line_of_fault}
-use Rattle.gic_study.specs.Outcome.{Outcome, Refuses, Accepts, Unknown, Lacks, MayRefuse, MayAccept, IsNetworkEarthed, IsUnearthedAt}
+use Rattle.gic_study.specs.Outcome.{Outcome, Refuses, Accepts, Unknown, Lacks, MayRefuse, MayAccept, IsNetworkSolvable, IsUnearthedAt, IsUnresolvedAt}
 use Rattle.gic_study.specs.Reasons.{CouldNotRead, HasReason}
 use Rattle.gic_study.specs.Right.{IsRight, case_in}
 use Rattle.gic_study.specs.declared.accept.Accepted.{Accepted}
 use Rattle.gic_study.specs.declared.fault.File.{File}
 use Rattle.gic_study.specs.declared.fault.Fault.{Fault}
-use Rattle.gic_study.specs.declared.fault.Fault.TheVariants.{Usage, CannotRead, CannotWrite, Case as CaseFault, Switch as SwitchFault, Unearthed, TooLong, Memory}
+use Rattle.gic_study.specs.declared.fault.Fault.TheVariants.{Usage, CannotRead, CannotWrite, Case as CaseFault, Switch as SwitchFault, Unearthed, Unresolved, TooLong, Memory}
 
 -- all of a report, or the fault that ended the call
 abbrev pub Answer : Type 0
@@ -54,6 +54,7 @@ Writes case report before now (Err CannotWrite) = WritesPart case report before 
 Writes case report before now (Err (CaseFault e)) = ⊥
 Writes case report before now (Err (SwitchFault e)) = ⊥
 Writes case report before now (Err (Unearthed step node)) = ⊥
+Writes case report before now (Err (Unresolved step node)) = ⊥
 Writes case report before now (Err (TooLong file)) = ⊥
 Writes case report before now (Err Memory) = Keeps before.bytes now.bytes
 
@@ -97,6 +98,7 @@ Explains words o before now (Err CannotWrite) = ReportsPart o before.out now.out
 Explains words o before now (Err (CaseFault e)) = HasNone words o before now (CaseFault e)
 Explains words o before now (Err (SwitchFault e)) = HasNone words o before now (SwitchFault e)
 Explains words o before now (Err (Unearthed step node)) = HasNone words o before now (Unearthed step node)
+Explains words o before now (Err (Unresolved step node)) = HasNone words o before now (Unresolved step node)
 Explains words o before now (Err (TooLong file)) = HasNone words o before now (TooLong file)
 Explains words o before now (Err Memory) = HasNone words o before now Memory
 
@@ -121,17 +123,22 @@ pub record Ends (words : List (List ℕ)) (o : Outcome) (before now : Moment) (t
 abbrev pub CanRead : List (List ℕ) → List (List ℕ) → List (List ℕ) → Type 0
 CanRead words before now = (file : File) → ¬ CouldNotRead words file before now
 
--- a refusal has its status, want of memory aside; 8 is that of a network in which a live node is not earthed
+-- the network that is asked for is refused with its status, want of memory aside: 8 where a live node is not earthed, and 9 where one is not earthed within 4096
+pub record IsNetworkRefused (a : Accepted) (status : ℕ) : Type 0 where
+  pub unearthed : (name : List ℕ) → IsUnearthedAt a name → (status ≡ 8) ⊎ (status ≡ 11)
+  pub unresolved : (name : List ℕ) → IsUnresolvedAt a name → (status ≡ 9) ⊎ (status ≡ 11)
+
+-- a refusal has its status, want of memory aside
 abbrev pub IsRefused : Outcome → ℕ → Type 0
 IsRefused (Refuses fault) status = (status ≡ status_of_fault fault) ⊎ (status ≡ 11)
-IsRefused (Accepts a) status = (name : List ℕ) → IsUnearthedAt a name → (status ≡ 8) ⊎ (status ≡ 11)
+IsRefused (Accepts a) status = IsNetworkRefused a status
 IsRefused Unknown status = ⊤
 IsRefused (Lacks file) status = status ≡ 11
 
 -- what is accepted has status 0, want of memory aside
 abbrev pub IsReported : Outcome → ℕ → Type 0
 IsReported (Refuses fault) status = ⊤
-IsReported (Accepts a) status = IsNetworkEarthed a → (status ≡ 0) ⊎ (status ≡ 11)
+IsReported (Accepts a) status = IsNetworkSolvable a → (status ≡ 0) ⊎ (status ≡ 11)
 IsReported Unknown status = ⊤
 IsReported (Lacks file) status = ⊤
 
@@ -146,6 +153,10 @@ MayRefuseSwitchings o = (e : SwitchRefusal) × ((e ≢ SwitchMemory) × MayRefus
 -- the outcome is that a live node is not earthed, where it is known
 abbrev pub MayBeUnearthed : Outcome → Type 0
 MayBeUnearthed o = (name : List ℕ) × MayRefuse o (Unearthed 1 name)
+
+-- the outcome is that a node is not earthed within 4096, where it is known
+abbrev pub MayBeUnresolved : Outcome → Type 0
+MayBeUnresolved o = (name : List ℕ) × MayRefuse o (Unresolved 1 name)
 
 -- the outcome is that a file is too long, where it is known
 abbrev pub MayHaveLongFile : Outcome → Type 0

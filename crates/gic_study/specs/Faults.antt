@@ -12,11 +12,11 @@ use Rattle.gic_switch.specs.declared.refusal.SwitchRefusal.TheVariants as switch
 use Rattle.gic_words.specs.Table.{name_of}
 use Rattle.gic_words.specs.declared.option.Opt.{Opt}
 use Rattle.gic_words.specs.declared.fault.Usage.{Usage}
-use Rattle.gic_words.specs.declared.fault.Usage.TheVariants.{Words, Mode, Extra, Missing, Number}
+use Rattle.gic_words.specs.declared.fault.Usage.TheVariants.{Words, Mode, Extra, Missing, Number, Value}
 use Rattle.gic_study.specs.declared.fault.File.{File}
 use Rattle.gic_study.specs.declared.fault.File.TheVariants.{Case, Switch}
 use Rattle.gic_study.specs.declared.fault.Fault.{Fault}
-use Rattle.gic_study.specs.declared.fault.Fault.TheVariants.{Usage as UsageFault, CannotRead, CannotWrite, Case as CaseFault, Switch as SwitchFault, Unearthed, TooLong, Memory}
+use Rattle.gic_study.specs.declared.fault.Fault.TheVariants.{Usage as UsageFault, CannotRead, CannotWrite, Case as CaseFault, Switch as SwitchFault, Unearthed, Unresolved, TooLong, Memory}
 
 abbrev pub status_of_fault : Fault → ℕ
 status_of_fault (UsageFault u) = 2
@@ -25,6 +25,7 @@ status_of_fault CannotWrite = 4
 status_of_fault (CaseFault e) = 5
 status_of_fault (SwitchFault e) = 7
 status_of_fault (Unearthed step node) = 8
+status_of_fault (Unresolved step node) = 9
 status_of_fault (TooLong file) = 10
 status_of_fault Memory = 11
 
@@ -42,6 +43,7 @@ usage_words Mode = codes "mode" ∷ []
 usage_words (Extra option) = codes "extra" ∷ flag option ∷ []
 usage_words (Missing option) = codes "missing" ∷ flag option ∷ []
 usage_words (Number option) = codes "number" ∷ flag option ∷ []
+usage_words (Value option) = codes "value" ∷ flag option ∷ []
 
 abbrev pub memory_words : List (List ℕ)
 memory_words = codes "out" ∷ codes "of" ∷ codes "memory" ∷ []
@@ -89,9 +91,9 @@ switch_words (switches.Item row) = switch_row_words (codes "item") row
 switch_words switches.TooMany = codes "switch:" ∷ codes "too" ∷ codes "many" ∷ []
 switch_words switches.Memory = memory_words
 
--- a live node that is not earthed, at a step
-abbrev pub unearthed_words : (step : ℕ) → (node : List ℕ) → List (List ℕ)
-unearthed_words step node = codes "unearthed:" ∷ codes "step" ∷ decimal step ∷ codes "node" ∷ node ∷ []
+-- what is wrong with the network at a step, and the first node that shows it
+abbrev pub node_words : List ℕ → (step : ℕ) → (node : List ℕ) → List (List ℕ)
+node_words what step node = what ∷ codes "step" ∷ decimal step ∷ codes "node" ∷ node ∷ []
 
 abbrev pub fault_words : Fault → List (List ℕ)
 fault_words (UsageFault u) = codes "usage:" ∷ usage_words u
@@ -99,7 +101,8 @@ fault_words (CannotRead file) = codes "cannot" ∷ codes "read" ∷ file_word fi
 fault_words CannotWrite = codes "cannot" ∷ codes "write" ∷ []
 fault_words (CaseFault e) = case_words e
 fault_words (SwitchFault e) = switch_words e
-fault_words (Unearthed step node) = unearthed_words step node
+fault_words (Unearthed step node) = node_words (codes "unearthed:") step node
+fault_words (Unresolved step node) = node_words (codes "unresolved:") step node
 fault_words (TooLong file) = codes "too" ∷ codes "long:" ∷ file_word file ∷ []
 fault_words Memory = memory_words
 

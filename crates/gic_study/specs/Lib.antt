@@ -3,5 +3,6 @@ pub mod Told
 pub mod Standing
 pub mod Outcome
 pub mod Reasons
+pub mod RightField
 pub mod Right
 pub mod Answers

@@ -18,26 +18,36 @@ use Rattle.gic_study.specs.declared.accept.Accepted.TheVariants as accepted
 use Rattle.gic_study.specs.declared.fault.File.{File}
 use Rattle.gic_study.specs.declared.fault.File.TheVariants.{Case, Switch}
 use Rattle.gic_study.specs.declared.fault.Fault.{Fault}
-use Rattle.gic_study.specs.declared.fault.Fault.TheVariants.{Usage as UsageFault, CannotRead, CannotWrite, Case as CaseFault, Switch as SwitchFault, Unearthed, TooLong, Memory}
-use Rattle.gic_study.specs.Standing.{standing_of, AreEarthed, IsNameOfUnearthed}
+use Rattle.gic_study.specs.declared.fault.Fault.TheVariants.{Usage as UsageFault, CannotRead, CannotWrite, Case as CaseFault, Switch as SwitchFault, Unearthed, Unresolved, TooLong, Memory}
+use Rattle.gic_study.specs.Standing.{standing_of, AreEarthed, IsSolvable, IsNameOfUnearthed, IsNameOfUnresolved}
 
--- each part of the field that is asked for lies within 20000 mV/km
-abbrev pub AsksFieldsWithin : Accepted → Type 0
-AsksFieldsWithin (accepted.Volts case north east) = (unsigned_abs north ≤ 20000) × (unsigned_abs east ≤ 20000)
-AsksFieldsWithin (accepted.List case) = ⊤
-AsksFieldsWithin (accepted.Check case switchings) = ⊤
+-- each part of the field that is asked for lies within 20000 mV/km, and the width is from 10 to 10000 mV or mA
+abbrev pub AsksWithinRanges : Accepted → Type 0
+AsksWithinRanges (accepted.Volts case north east) = (unsigned_abs north ≤ 20000) × (unsigned_abs east ≤ 20000)
+AsksWithinRanges (accepted.List case) = ⊤
+AsksWithinRanges (accepted.Check case switchings) = ⊤
+AsksWithinRanges (accepted.Field case north east switchings width event) = (unsigned_abs north ≤ 20000) × (unsigned_abs east ≤ 20000) × (10 ≤ width) × (width ≤ 10000)
 
--- the network that is asked for is earthed: in a check each live node is, and the other modes ask for no network
-abbrev pub IsNetworkEarthed : Accepted → Type 0
-IsNetworkEarthed (accepted.Volts case north east) = ⊤
-IsNetworkEarthed (accepted.List case) = ⊤
-IsNetworkEarthed (accepted.Check case switchings) = AreEarthed (standing_of case switchings)
+-- the network serves what is asked for: in a check each live node is earthed, a field is solved, and the other modes ask for no network
+abbrev pub IsNetworkSolvable : Accepted → Type 0
+IsNetworkSolvable (accepted.Volts case north east) = ⊤
+IsNetworkSolvable (accepted.List case) = ⊤
+IsNetworkSolvable (accepted.Check case switchings) = AreEarthed (standing_of case switchings)
+IsNetworkSolvable (accepted.Field case north east switchings width event) = IsSolvable (standing_of case switchings)
 
 -- the first live node of the network that is asked for which is not earthed has this name
 abbrev pub IsUnearthedAt : Accepted → (name : List ℕ) → Type 0
 IsUnearthedAt (accepted.Volts case north east) name = ⊥
 IsUnearthedAt (accepted.List case) name = ⊥
 IsUnearthedAt (accepted.Check case switchings) name = IsNameOfUnearthed case (standing_of case switchings) name
+IsUnearthedAt (accepted.Field case north east switchings width event) name = IsNameOfUnearthed case (standing_of case switchings) name
+
+-- each live node of the network that is to be solved is earthed, and its first node that is not earthed within 4096 has this name
+abbrev pub IsUnresolvedAt : Accepted → (name : List ℕ) → Type 0
+IsUnresolvedAt (accepted.Volts case north east) name = ⊥
+IsUnresolvedAt (accepted.List case) name = ⊥
+IsUnresolvedAt (accepted.Check case switchings) name = ⊥
+IsUnresolvedAt (accepted.Field case north east switchings width event) name = IsNameOfUnresolved case (standing_of case switchings) name
 
 -- the first refusal, what is accepted, or nothing more, where the library doesn't tell of a file or lacks it
 pub data Outcome : Type 0 where
@@ -81,6 +91,8 @@ after_words (Ok (options.Volts name north east)) files = with_case (told files n
 after_words (Ok (options.List name)) files = with_case (told files name) (λ case. Accepts (accepted.List case))
 after_words (Ok (options.Check name switch)) files =
     with_case (told files name) (λ case. with_switchings_if_named files switch case (λ switchings. Accepts (accepted.Check case switchings)))
+after_words (Ok (options.Field name north east switch width event)) files =
+    with_case (told files name) (λ case. with_switchings_if_named files switch case (λ switchings. Accepts (accepted.Field case north east switchings width event)))
 
 -- of the words and of what the library tells: the words, and then the files that they name, each fetched and then read
 abbrev pub outcome : List (List ℕ) → Option Files → Outcome
@@ -98,8 +110,9 @@ place_of_fault (CaseFault e) = place_of_file Case
 place_of_fault (SwitchFault e) = place_of_file Switch
 place_of_fault (TooLong file) = place_of_file file
 place_of_fault (Unearthed step node) = 3
-place_of_fault CannotWrite = 4
-place_of_fault Memory = 4
+place_of_fault (Unresolved step node) = 4
+place_of_fault CannotWrite = 5
+place_of_fault Memory = 5
 
 -- no refusal stands before the file's place, where that is known
 abbrev pub Reaches : Outcome → File → Type 0
@@ -108,9 +121,10 @@ Reaches (Accepts a) file = ⊤
 Reaches Unknown file = ⊤
 Reaches (Lacks other) file = place_of_file file ≤ place_of_file other
 
--- a network that is asked for is refused for this fault: it has one step, at which a node is not earthed
+-- a network that is asked for is refused for this fault: it has one step, at which a node is not earthed, or not within 4096
 abbrev pub RefusesNetwork : Accepted → Fault → Type 0
 RefusesNetwork a (Unearthed step node) = (step ≡ 1) × IsUnearthedAt a node
+RefusesNetwork a (Unresolved step node) = (step ≡ 1) × IsUnresolvedAt a node
 RefusesNetwork a (UsageFault u) = ⊥
 RefusesNetwork a (CannotRead file) = ⊥
 RefusesNetwork a CannotWrite = ⊥
@@ -133,10 +147,10 @@ MayAsk (Accepts b) a = b ≡ a
 MayAsk Unknown a = ⊤
 MayAsk (Lacks file) a = ⊥
 
--- this is accepted, where that is known: it is what is asked for, and its network is earthed
+-- this is accepted, where that is known: it is what is asked for, and its network serves it
 pub record MayAccept (o : Outcome) (a : Accepted) : Type 0 where
   pub asked : MayAsk o a
-  pub earthed : IsNetworkEarthed a
+  pub solvable : IsNetworkSolvable a
 
 -- the file is a case of these lists, where it is told
 abbrev pub MayRead : Told → Lists → Type 0

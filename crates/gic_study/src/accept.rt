@@ -2,12 +2,13 @@
 ghost use Rattle.std.specs.Prelude.{◌≡◌, ◌≤◌, IfOk, IfErr, OnOk, map, string_bytes, length};
 ghost use Rattle.gic_words.specs.Options.{HasFieldsWithin};
 ghost use Rattle.gic_study.specs.Told.{told, MayBeWhole};
-ghost use Rattle.gic_study.specs.Outcome.{outcome, MayAsk, MayRead, MayReadSwitchings, MayHaveSwitchings, AsksFieldsWithin};
+ghost use Rattle.gic_study.specs.Outcome.{outcome, MayAsk, MayRead, MayReadSwitchings, MayHaveSwitchings, AsksWithinRanges};
 ghost use Rattle.gic_study.specs.Reasons.{ReadsOptions, FetchFails, ReadFails, ReadSwitchingsFails, ReadNamedSwitchingsFails, HasReason};
 
 use crate::fault::{Fault, File};
 use gic_base::{FetchRefusal, Library, read_whole};
 use gic_case::{Case, CaseRefusal, read_case};
+use gic_screen::Event;
 use gic_switch::{SwitchRefusal, Switchings, read_switchings};
 use gic_words::{FileName, Options, WordsRefusal, read_words};
 use std::alloc::Global;
@@ -30,6 +31,16 @@ pub enum Accepted {
         case: Case,
         switchings: Option<Switchings>,
     },
+    /// Potentials and currents of a case in a uniform field, in mV/km, with all rows of the switchings in force where
+    /// there are switchings: in intervals no wider than `width`, from 10 to 10000 mV or mA, with verdicts by the event.
+    Field {
+        case: Case,
+        north: i32,
+        east: i32,
+        switchings: Option<Switchings>,
+        width: u32,
+        event: Event,
+    },
 }
 
 impl Accepted {
@@ -41,8 +52,10 @@ impl Accepted {
         ensures { result.now ≡ case_in self.now }
     {
         match self {
-            Accepted::Volts { case, .. } | Accepted::List { case } | Accepted::Check { case, .. } =>
-                case,
+            Accepted::Volts { case, .. }
+            | Accepted::List { case }
+            | Accepted::Check { case, .. }
+            | Accepted::Field { case, .. } => case,
         }
     }
 }
@@ -146,7 +159,7 @@ pub(crate) fn accept<L: Library>(
     library: &mut L,
 ) -> Result<Accepted, Fault>
     ensures ok { IfOk result (MayAsk (outcome (map string_bytes words.now) (L.content library.old))) }
-    ensures fields { IfOk result AsksFieldsWithin }
+    ensures ranges { IfOk result AsksWithinRanges }
     ensures err { IfErr result (HasReason (map string_bytes words.now)
         (outcome (map string_bytes words.now) (L.content library.old))
         (L.failures library.old) (L.failures library.new)) }
@@ -168,6 +181,25 @@ pub(crate) fn accept<L: Library>(
             let case = case(alloc, library, name.as_str())?;
             let switchings = named_switchings(alloc, library, &switch, &case)?;
             Ok(Accepted::Check { case, switchings })
+        }
+        Options::Field {
+            case: name,
+            north,
+            east,
+            switch,
+            width,
+            event,
+        } => {
+            let case = case(alloc, library, name.as_str())?;
+            let switchings = named_switchings(alloc, library, &switch, &case)?;
+            Ok(Accepted::Field {
+                case,
+                north,
+                east,
+                switchings,
+                width,
+                event,
+            })
         }
     }
 }

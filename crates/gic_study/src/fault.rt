@@ -30,6 +30,8 @@ pub enum Fault {
     Switch(SwitchRefusal),
     /// At this step this live node is the first that no chain of standing elements joins to earth.
     Unearthed { step: u32, node: Name },
+    /// At this step each live node is earthed, and this node is the first that isn't earthed within 4096.
+    Unresolved { step: u32, node: Name },
     /// A file is longer than 16777216 bytes.
     TooLong(File),
     /// Want of memory.
@@ -37,7 +39,7 @@ pub enum Fault {
 }
 
 impl Fault {
-    /// The status of a call that ends with the fault: 2 to 5, 7, 8, 10 or 11.
+    /// The status of a call that ends with the fault: 2 to 5 or 7 to 11.
     pub fn status(&self) -> u8
         ensures { result ≡ status_of_fault self.now }
     {
@@ -48,6 +50,7 @@ impl Fault {
             Fault::Case(_) => 5,
             Fault::Switch(_) => 7,
             Fault::Unearthed { .. } => 8,
+            Fault::Unresolved { .. } => 9,
             Fault::TooLong(_) => 10,
             Fault::Memory => 11,
         }

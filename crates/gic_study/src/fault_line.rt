@@ -4,7 +4,7 @@ ghost use Rattle.std.specs.Io.KnownBytes.{Appends};
 ghost use Rattle.gic_base.specs.Causes.{HasCause};
 ghost use Rattle.gic_base.specs.Pieces.{AppendsPart};
 ghost use Rattle.gic_text.specs.Lines.{spaced};
-ghost use Rattle.gic_study.specs.Faults.{flag, file_word, part_word, row_words, field_words, switch_row_words, told_line, line_of_fault};
+ghost use Rattle.gic_study.specs.Faults.{flag, file_word, part_word, row_words, field_words, switch_row_words, node_words, told_line, line_of_fault};
 
 use crate::fault::{Fault, File};
 use gic_base::{Name, Sink, WriteFailed, write_all};
@@ -64,6 +64,8 @@ fn flag(option: Opt) -> &'static str
         Opt::North => "--north",
         Opt::East => "--east",
         Opt::Switch => "--switch",
+        Opt::Width => "--width",
+        Opt::Event => "--event",
     }
 }
 
@@ -103,6 +105,7 @@ fn write_usage<E: Sink>(usage: Usage, err: &mut E) -> Result<(), WriteFailed>
         Usage::Extra { option } => write_line(&["usage:", "extra", flag(option)], err),
         Usage::Missing { option } => write_line(&["usage:", "missing", flag(option)], err),
         Usage::Number { option } => write_line(&["usage:", "number", flag(option)], err),
+        Usage::Value { option } => write_line(&["usage:", "value", flag(option)], err),
     }
 }
 
@@ -230,18 +233,14 @@ fn write_switchings<E: Sink>(refusal: SwitchRefusal, err: &mut E) -> Result<(), 
     }
 }
 
-/// Writes the line of a live node that is not earthed.
-fn write_unearthed<E: Sink>(step: u32, node: Name, err: &mut E) -> Result<(), WriteFailed>
-    ensures all { OnOk result (Appends (E.written err.old) (E.written err.new) (line_of_fault (Fault.Unearthed step node))) }
-    ensures part { AppendsPart (E.written err.old) (E.written err.new) (line_of_fault (Fault.Unearthed step node)) }
+/// Writes the line of what is wrong with the network at a step, and of the first node that shows it.
+fn write_node<E: Sink>(what: &str, step: u32, node: Name, err: &mut E) -> Result<(), WriteFailed>
+    ensures all { OnOk result (Appends (E.written err.old) (E.written err.new) (told_line (node_words what.now step node))) }
+    ensures part { AppendsPart (E.written err.old) (E.written err.new) (told_line (node_words what.now step node)) }
     ensures cause { HasCause (E.faults err.old) (E.faults err.new) result }
 {
     let mut buffer = itoa::Buffer::new();
-    write_named(
-        &["unearthed:", "step", buffer.format(step), "node"],
-        node,
-        err,
-    )
+    write_named(&[what, "step", buffer.format(step), "node"], node, err)
 }
 
 /// Writes the line that tells a fault. Takes no memory.
@@ -256,7 +255,8 @@ pub(crate) fn write_fault<E: Sink>(fault: &Fault, err: &mut E) -> Result<(), Wri
         Fault::CannotWrite => write_line(&["cannot", "write"], err),
         Fault::Case(refusal) => write_case(*refusal, err),
         Fault::Switch(refusal) => write_switchings(*refusal, err),
-        Fault::Unearthed { step, node } => write_unearthed(*step, *node, err),
+        Fault::Unearthed { step, node } => write_node("unearthed:", *step, *node, err),
+        Fault::Unresolved { step, node } => write_node("unresolved:", *step, *node, err),
         Fault::TooLong(file) => write_line(&["too", "long:", file_word(*file)], err),
         Fault::Memory => write_line(&["out", "of", "memory"], err),
     }

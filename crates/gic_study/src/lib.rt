@@ -4,6 +4,7 @@
 mod accept;
 mod fault;
 mod fault_line;
+mod field;
 mod network;
 mod report;
 mod study;

@@ -6,7 +6,7 @@ ghost use Rattle.gic_model.specs.Standing.{standing_elements, stands_after, is_l
 ghost use Rattle.gic_net.specs.Net.{standing, net_after};
 ghost use Rattle.gic_winding.specs.ElementList.{elements_of};
 ghost use Rattle.gic_study.specs.Standing.{rows_in, standing_of, AreEarthed, live_nodes};
-ghost use Rattle.gic_study.specs.Reasons.{NetworkFails};
+ghost use Rattle.gic_study.specs.Reasons.{EarthingFails};
 
 use crate::fault::Fault;
 use gic_base::{Name, NodeId};
@@ -39,7 +39,7 @@ fn switch_by(net: &mut Net, switchings: &Option<Switchings>)
 }
 
 /// The network of these elements with all rows of the switchings in force.
-fn standing_net(
+pub(crate) fn standing_net(
     alloc: Global,
     elements: &Elements,
     switchings: &Option<Switchings>,
@@ -55,7 +55,7 @@ fn standing_net(
 }
 
 /// The name of a node, where there is such a node.
-fn node_name(case: &Case, node: NodeId) -> Option<Name>
+pub(crate) fn node_name(case: &Case, node: NodeId) -> Option<Name>
     ensures { result ≡ slice_get (node_names case.now) node.0 }
 {
     let mut names = NodeNames::of(case);
@@ -66,11 +66,12 @@ fn node_name(case: &Case, node: NodeId) -> Option<Name>
 }
 
 /// Whether each live node is earthed.
-fn expect_earthed(case: &Case, net: &Net, scratch: &mut Scratch) -> Result<(), Fault>
+pub(crate) fn expect_earthed(case: &Case, net: &Net, scratch: &mut Scratch) -> Result<(), Fault>
     requires network { net.now.network ≡ elements_of case.now }
     requires scratch { scratch.old.nodes ≡ net.now.network.nodes }
     ensures earthed { OnOk result (AreEarthed (standing net.now)) }
-    ensures err { IfErr result (NetworkFails case.now (standing net.now)) }
+    ensures err { IfErr result (EarthingFails case.now (standing net.now)) }
+    ensures scratch { scratch.new.nodes ≡ scratch.old.nodes }
 {
     match earthed(net, scratch) {
         Ok(()) => Ok(()),
@@ -103,7 +104,7 @@ pub(crate) fn check(
     ensures live { IfOk result (λ live. live ≡ live_nodes case.now (standing_of case.now switchings.now)) }
     ensures count { IfOk result (λ live. length live ≡ length (node_names case.now)) }
     ensures earthed { OnOk result (AreEarthed (standing_of case.now switchings.now)) }
-    ensures err { IfErr result (NetworkFails case.now (standing_of case.now switchings.now)) }
+    ensures err { IfErr result (EarthingFails case.now (standing_of case.now switchings.now)) }
 {
     let net = standing_net(alloc, elements, switchings)?;
     let mut scratch = Scratch::new(alloc, net.nodes())?;

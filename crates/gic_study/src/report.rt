@@ -3,13 +3,14 @@ ghost use Rattle.std.specs.Prelude.{◌≡◌, IfOk, IfErr, OnOk};
 ghost use Rattle.gic_case.specs.Lists.{Lists};
 ghost use Rattle.gic_induce.specs.Voltage.{IsFieldWithin};
 ghost use Rattle.gic_report.specs.Text.{FitsCase};
-ghost use Rattle.gic_study.specs.Outcome.{AsksFieldsWithin, IsNetworkEarthed};
+ghost use Rattle.gic_study.specs.Outcome.{AsksWithinRanges, IsNetworkSolvable};
 ghost use Rattle.gic_winding.specs.ElementList.{elements_of};
 ghost use Rattle.gic_study.specs.Reasons.{ReportFails};
 ghost use Rattle.gic_study.specs.Right.{IsRight, IsRightReportOfVolts, case_in};
 
 use crate::accept::Accepted;
 use crate::fault::Fault;
+use crate::field::field;
 use crate::network::check;
 use crate::volts::line_volts;
 use gic_case::Case;
@@ -36,10 +37,10 @@ pub(crate) fn report_of(
     asked: &Accepted,
 ) -> Result<Report, Fault>
     requires elements { elements.now ≡ elements_of (case_in asked.now) }
-    requires fields { AsksFieldsWithin asked.now }
+    requires ranges { AsksWithinRanges asked.now }
     ensures right { IfOk result (IsRight asked.now) }
     ensures fits { IfOk result (FitsCase (case_in asked.now)) }
-    ensures earthed { OnOk result (IsNetworkEarthed asked.now) }
+    ensures solvable { OnOk result (IsNetworkSolvable asked.now) }
     ensures err { IfErr result (ReportFails asked.now) }
 {
     match asked {
@@ -48,6 +49,19 @@ pub(crate) fn report_of(
         Accepted::Check { case, switchings } => {
             let live = check(alloc, case, elements, switchings)?;
             Ok(Report::Check { live })
+        }
+        Accepted::Field {
+            case,
+            north,
+            east,
+            switchings,
+            width,
+            event,
+        } => {
+            let report = field(
+                alloc, case, elements, *north, *east, switchings, *width, *event,
+            )?;
+            Ok(report)
         }
     }
 }

@@ -8,7 +8,7 @@ ghost use Rattle.gic_report.specs.Text.{FitsCase};
 ghost use Rattle.gic_study.specs.Faults.{line_of_fault};
 ghost use Rattle.gic_study.specs.Outcome.{outcome};
 ghost use Rattle.gic_study.specs.Reasons.{CouldNotReadAFile};
-ghost use Rattle.gic_study.specs.Answers.{Writes, Explains, TellsLine, Ends, CanRead, IsRefused, IsReported, Reports, ReportsPart, MayRefuseCase, MayRefuseSwitchings, MayBeUnearthed, MayHaveLongFile, moment, shown};
+ghost use Rattle.gic_study.specs.Answers.{Writes, Explains, TellsLine, Ends, CanRead, IsRefused, IsReported, Reports, ReportsPart, MayRefuseCase, MayRefuseSwitchings, MayBeUnearthed, MayBeUnresolved, MayHaveLongFile, moment, shown};
 
 use crate::accept::accept;
 use crate::fault::Fault;
@@ -70,8 +70,8 @@ fn tell<E: Sink>(fault: &Fault, err: &mut E)
 ///
 /// The words are those after the program's name; files are fetched from `library`. The report goes to `out`, and with every
 /// status but 0 one line goes to `err`. The statuses are 0 (done), 2 (usage), 3 (a file can't be read), 4 (the output can't
-/// be written), 5 (the case is refused), 7 (the switchings are refused), 8 (a live node is not earthed), 10 (a file is too
-/// long) and 11 (want of memory). All that takes memory is done before the first write.
+/// be written), 5 (the case is refused), 7 (the switchings are refused), 8 (a live node is not earthed), 9 (a node is not earthed
+/// within 4096), 10 (a file is too long) and 11 (want of memory). All that takes memory is done before the first write.
 pub fn gicstudy<L: Library, S: Sink, E: Sink>(
     alloc: Global,
     words: &[String],
@@ -107,6 +107,7 @@ pub fn gicstudy<L: Library, S: Sink, E: Sink>(
     ensures case_refused { result ≡ 5 → MayRefuseCase (outcome (map string_bytes words.now) (L.content library.old)) }
     ensures switch_refused { result ≡ 7 → MayRefuseSwitchings (outcome (map string_bytes words.now) (L.content library.old)) }
     ensures unearthed { result ≡ 8 → MayBeUnearthed (outcome (map string_bytes words.now) (L.content library.old)) }
+    ensures unresolved { result ≡ 9 → MayBeUnresolved (outcome (map string_bytes words.now) (L.content library.old)) }
     ensures too_long { result ≡ 10 → MayHaveLongFile (outcome (map string_bytes words.now) (L.content library.old)) }
     ensures nothing { result ≢ 0 → result ≢ 4 → Keeps (S.written out.old) (S.written out.new) }
 {

@@ -1,7 +1,8 @@
 //! The voltages of the lines of a case.
 ghost use Rattle.std.specs.Prelude.{◌≡◌, ◌<◌, IfOk, length};
 ghost use Rattle.gic_induce.specs.Voltage.{line_nanovolts, IsFieldWithin, IsSpanWithin};
-ghost use Rattle.gic_study.specs.Right.{zone_among, line_volts};
+ghost use Rattle.gic_induce.specs.LineVolts.{zone_among};
+ghost use Rattle.gic_study.specs.Right.{line_volts};
 
 use gic_case::{Case, Line};
 use gic_induce::line_nanovolts;

@@ -8,7 +8,7 @@ use Rattle.gic_study.proofs.study.study.Goals as goal
 
 pub returns : goal.returns
 returns g c =
-    explained_by_writing _ _ _ _ c.in_ok-asked.asked c.in_ok-report.report c.write.result (record { asked = c.in_ok-asked.ensures.ok; earthed = c.in_ok-report.ensures.earthed }) c.in_ok-report.ensures.fits c.in_ok-report.ensures.right
+    explained_by_writing _ _ _ _ c.in_ok-asked.asked c.in_ok-report.report c.write.result (record { asked = c.in_ok-asked.ensures.ok; solvable = c.in_ok-report.ensures.solvable }) c.in_ok-report.ensures.fits c.in_ok-report.ensures.right
     (subst (λ (case : Lists). Writes case c.in_ok-report.report (shown g.S.Sink.written g.S.Sink.faults c.args.out.now) (shown g.S.Sink.written g.S.Sink.faults c.write.new.out) c.write.result) c.case-2.ensures c.write.ensures)
 
 pub returns-in_err-report : goal.returns-in_err-report

@@ -2,7 +2,7 @@ use Rattle.std.proofs.Common.{◌≡◌, ◌<◌, ◌+◌, ◌++◌, [], ◌∷�
 use Rattle.std.proofs.lemmas.List.{map_more, take_all}
 use Rattle.gic_case.specs.declared.item.Line.{Line}
 use Rattle.gic_induce.specs.Voltage.{line_nanovolts}
-use Rattle.gic_study.specs.Right.{zone_among}
+use Rattle.gic_induce.specs.LineVolts.{zone_among}
 use Rattle.gic_study.proofs.volts.line_volts.Goals as goal
 
 pub loop-line-preserved : goal.loop-line-preserved

@@ -1,6 +1,6 @@
 use Rattle.std.proofs.Common.{◌≡◌, map, take}
 use Rattle.gic_induce.specs.Voltage.{line_nanovolts}
-use Rattle.gic_study.specs.Right.{zone_among}
+use Rattle.gic_induce.specs.LineVolts.{zone_among}
 use Rattle.gic_study.proofs.volts.line_volts.Given as goal
 
 -- the voltages of the lines so far
