@@ -2,9 +2,13 @@
 #![tactic(auto)]
 
 #[cfg(test)]
+mod bases;
+#[cfg(test)]
 mod cases;
 #[cfg(test)]
 mod checks;
+#[cfg(test)]
+mod field;
 #[cfg(test)]
 mod lists;
 #[cfg(test)]
@@ -14,7 +18,11 @@ mod outside;
 #[cfg(test)]
 mod realistic;
 #[cfg(test)]
+mod report;
+#[cfg(test)]
 mod runs;
+#[cfg(test)]
+mod solver;
 #[cfg(test)]
 mod texts;
 #[cfg(test)]

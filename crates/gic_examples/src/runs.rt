@@ -44,6 +44,19 @@ pub(crate) struct Ended {
     pub(crate) err: MemorySink,
 }
 
+/// A case with some of its text changed, everywhere, one change after the other.
+pub(crate) fn changed(
+    alloc: Global,
+    case: &str,
+    changes: &[(&str, &str)],
+) -> Result<String, AllocError> {
+    let mut text = String::from_str(alloc, case)?;
+    for (from, to) in changes {
+        text = text.as_str().replace(alloc, *from, to)?;
+    }
+    Ok(text)
+}
+
 /// Words as a program gets them.
 pub(crate) fn words_of(alloc: Global, words: &[&str]) -> Result<Vec<String>, AllocError> {
     let mut list = Vec::new(alloc);
@@ -81,12 +94,13 @@ pub(crate) fn run_failing(
     Ok(Ended { status, out, err })
 }
 
-/// Runs the words over the files `p`, a case, and `s`, its switchings.
-pub(crate) fn run_switched(
+/// Runs the words over the files `p`, a case, and `s`, its switchings, where these writes to the error sink fail.
+pub(crate) fn run_told(
     alloc: Global,
     words: &[&str],
     case: &[u8],
     switchings: &[u8],
+    tellings: &[u64],
 ) -> Result<Ended, AllocError> {
     let words = words_of(alloc, words)?;
     let mut files = Vec::new(alloc);
@@ -97,9 +111,19 @@ pub(crate) fn run_switched(
     ))?;
     let mut library = MemoryLibrary::new(alloc, files, Vec::new(alloc));
     let mut out = MemorySink::new(alloc, Vec::new(alloc));
-    let mut err = MemorySink::new(alloc, Vec::new(alloc));
+    let mut err = MemorySink::new(alloc, Vec::from_slice(alloc, tellings)?);
     let status = gicstudy(alloc, &words, &mut library, &mut out, &mut err);
     Ok(Ended { status, out, err })
+}
+
+/// Runs the words over the files `p`, a case, and `s`, its switchings.
+pub(crate) fn run_switched(
+    alloc: Global,
+    words: &[&str],
+    case: &[u8],
+    switchings: &[u8],
+) -> Result<Ended, AllocError> {
+    run_told(alloc, words, case, switchings, &[])
 }
 
 /// Runs the words over the file `p`.
