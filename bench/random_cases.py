@@ -1,0 +1,146 @@
+#!/usr/bin/env python3
+"""Writes folders of random networks for `field`, one network a folder, to be checked by a solver of another make.
+
+    python3 bench/random_cases.py DIR [COUNT] [SEED] [NODES]
+
+Each folder of DIR has the case `p`, often a list of switchings `s`, and the file `words` with the words of one run, one
+word a line. COUNT networks are written (100), the same ones for the same SEED (1), each of at most NODES nodes (200).
+Transformers are of all four kinds, with and without neutral resistors and blocking devices; some lines are blocked, some
+substations have no ground, and some networks are not earthed, or not well enough to be solved: then the answer is a
+refusal. Three networks in four are made so that each bus has a way to earth before anything is switched.
+"""
+
+import os
+import random
+import sys
+
+KINDS = ["delta-wye", "wye-wye", "auto", "delta-delta"]
+
+
+def resistance(draw, least=1000, most=1000000000):
+    """Spread over the powers of ten between the limits."""
+    return min(most, max(least, int(10 ** draw.uniform(len(str(least)) - 1, len(str(most)) - 1))))
+
+
+def usual(draw, least, most):
+    """Mostly in a usual range, and at times anywhere within the limits."""
+    return resistance(draw) if draw.random() < 0.04 else draw.randint(least, most)
+
+
+def neutral(draw):
+    choice = draw.random()
+    if choice < 0.6:
+        return []
+    if choice < 0.85:
+        return [f"neutral = {usual(draw, 100000, 10000000)}"]
+    return ['neutral = "blocked"']
+
+
+def transformer(draw, place, buses):
+    """A unit between two buses of one substation, or at one, and how many nodes it adds."""
+    name, high_volts = f"T{place}", draw.choice([115000, 138000, 200000, 200001, 230000, 345000, 500000, 765000])
+    kind = draw.choice(KINDS if len(buses) > 1 else ["delta-wye", "delta-wye", "delta-delta"])
+    rows = [f'name = "{name}"', f'kind = "{kind}"', f"high_volts = {high_volts}"]
+    if kind == "delta-delta":
+        return rows, 0
+    high, low = draw.sample(buses, 2) if len(buses) > 1 else (buses[0], None)
+    rows.append(f'high = "{high}"')
+    if kind == "delta-wye":
+        rows.append(f"high_resistance = {usual(draw, 50000, 1000000)}")
+    else:
+        rows += [f'low = "{low}"', f"low_volts = {draw.randint(1000, high_volts)}"]
+        first, second = ("series", "common") if kind == "auto" else ("high", "low")
+        rows += [f"{first}_resistance = {usual(draw, 20000, 500000)}", f"{second}_resistance = {usual(draw, 20000, 500000)}"]
+    device = neutral(draw)
+    return rows + device, len(device)
+
+
+def plain_unit(draw, place, bus):
+    """A unit that earths the windings of a bus."""
+    return [
+        f'name = "T{place}"',
+        'kind = "delta-wye"',
+        "high_volts = 345000",
+        f'high = "{bus}"',
+        f"high_resistance = {usual(draw, 50000, 1000000)}",
+    ]
+
+
+def network(draw, nodes):
+    """The text of a case, and the names that switchings can have: of items, and of transformers with a resistor."""
+    earthed = draw.random() < 0.75
+    zones = [f"Z{place}" for place in range(draw.randint(1, 5))]
+    tables, items, resistors = ["format = 2"], [], []
+    for zone in zones:
+        tables.append(f'[[zone]]\nname = "{zone}"\nlatitude = {draw.randint(0, 9000)}\nbeta = {draw.randint(1, 150)}')
+    stations, all_buses, units, count = [], [], [], 0
+    while not stations or (count + 8 <= nodes and draw.random() < 0.98):
+        station, buses = f"S{len(stations)}", [f"B{len(stations)}-{level}" for level in range(draw.randint(1, 3))]
+        stations.append(station)
+        count += 1 + len(buses)
+        grounded = earthed or draw.random() < 0.85
+        ground = f"\nground = {usual(draw, 100000, 3000000)}" if grounded else ""
+        tables.append(f'[[substation]]\nname = "{station}"{ground}')
+        items += [station] if grounded else []
+        all_buses += [(bus, station) for bus in buses]
+        for bus in buses if earthed else []:
+            units.append(plain_unit(draw, len(units), bus))
+            items.append(f"T{len(units) - 1}")
+        for _ in range(draw.randint(0, 2)):
+            rows, added = transformer(draw, len(units), buses)
+            units.append(rows)
+            items.append(f"T{len(units) - 1}")
+            count += added
+            if rows[-1].startswith("neutral") and "blocked" not in rows[-1]:
+                resistors.append(f"T{len(units) - 1}")
+    tables += [f'[[bus]]\nname = "{bus}"\nsubstation = "{station}"' for bus, station in all_buses]
+    for place in range(draw.randint(0, 2 * len(all_buses)) if len(all_buses) > 1 else 0):
+        start = draw.randrange(len(all_buses) - 1)
+        end = draw.randint(start + 1, min(len(all_buses) - 1, start + draw.choice([1, 2, 4, 200])))
+        blocked = "\nblocked = true" if draw.random() < 0.06 else ""
+        tables.append(
+            f'[[line]]\nname = "L{place}"\nfrom = "{all_buses[start][0]}"\nto = "{all_buses[end][0]}"\n'
+            f'zone = "{draw.choice(zones)}"\nresistance = {usual(draw, 500000, 20000000)}\n'
+            f"north = {draw.randint(-300000, 300000)}\neast = {draw.randint(-300000, 300000)}{blocked}"
+        )
+        items.append(f"L{place}")
+    tables += ["[[transformer]]\n" + "\n".join(rows) for rows in units]
+    return "\n".join(tables) + "\n", items, resistors
+
+
+def switchings(draw, items, resistors):
+    lines, time = ["time,item,action"], 0
+    for _ in range(draw.randint(0, 6)):
+        time += draw.randint(0, 60)
+        if resistors and draw.random() < 0.3:
+            lines.append(f"{time},{draw.choice(resistors)},{draw.choice(['block', 'unblock'])}")
+        else:
+            lines.append(f"{time},{draw.choice(items)},{draw.choice(['open', 'open', 'close'])}")
+    return "\n".join(lines) + "\n"
+
+
+def main():
+    folder = sys.argv[1]
+    count, seed, nodes = [int(word) for word in sys.argv[2:5]] + [100, 1, 200][len(sys.argv[2:5]):]
+    for place in range(count):
+        draw = random.Random(seed * 1000003 + place)
+        text, items, resistors = network(draw, draw.randint(2, nodes))
+        words = ["field", "--case=p", f"--north={draw.randint(-20000, 20000)}", f"--east={draw.randint(-20000, 20000)}"]
+        files = {"p": text}
+        if items and draw.random() < 0.4:
+            files["s"] = switchings(draw, items, resistors)
+            words.append("--switch=s")
+        if draw.random() < 0.5:
+            words.append(f"--width={draw.choice([10, 11, 50, 1000, 10000])}")
+        if draw.random() < 0.3:
+            words.append("--event=supplemental")
+        files["words"] = "\n".join(words) + "\n"
+        where = os.path.join(folder, f"network_{place:04}")
+        os.makedirs(where, exist_ok=True)
+        for name, content in files.items():
+            with open(os.path.join(where, name), "w") as file:
+                file.write(content)
+
+
+if __name__ == "__main__":
+    main()

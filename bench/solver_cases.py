@@ -1,0 +1,68 @@
+#!/usr/bin/env python3
+"""Writes the four cases that solver.sh times into a folder: p.toml, realistic.toml, ps.toml and chain.toml.
+
+    python3 solver_cases.py ../crates/gic_examples/src/realistic.rt FOLDER
+
+The realistic case is taken from the examples of the repository. The numbers of all four belong to no real network.
+"""
+
+import pathlib
+import sys
+
+ZONE = 'format = 1\nzone = [{ name = "Z", latitude = 6000, beta = 100 }]\n'
+
+
+def substation(name, ground):
+    return f'[[substation]]\nname = "{name}"\nground = {ground}\n'
+
+
+def bus(name, station):
+    return f'[[bus]]\nname = "{name}"\nsubstation = "{station}"\n'
+
+
+def line(name, start, end, resistance):
+    ends = f'[[line]]\nname = "{name}"\nfrom = "{start}"\nto = "{end}"\nzone = "Z"\n'
+    return ends + f"resistance = {resistance}\nnorth = 100000\neast = 0\n"
+
+
+def transformer(name, at, resistance):
+    kind = f'[[transformer]]\nname = "{name}"\nkind = "delta-wye"\nhigh_volts = 345000\n'
+    return kind + f'high = "{at}"\nhigh_resistance = {resistance}\n'
+
+
+def loop(number, ground, resistance, winding):
+    """Two grounds, a transformer at each, and a line between them."""
+    parts = [substation(end + number, ground) for end in "AB"]
+    parts += [bus(end.lower() + number, end + number) for end in "AB"]
+    parts += [line("L" + number, "a" + number, "b" + number, resistance)]
+    parts += [transformer("T" + end + number, end.lower() + number, winding) for end in "AB"]
+    return "".join(parts)
+
+
+def chain(buses):
+    """A ground of 1 ohm at one end, and 240 siemens from each node to the next: the walk of 8 buses is 3905."""
+    parts = [substation("S", 1000000), transformer("T", "b0", 12500), bus("b0", "S")]
+    for place in range(1, buses):
+        parts += [bus(f"b{place}", "S"), line(f"L{place}", f"b{place - 1}", f"b{place}", 12500)]
+    return "".join(parts)
+
+
+def realistic(path):
+    source = pathlib.Path(path).read_text()
+    return source.split('REALISTIC_CASE: &str = "')[1].split('";')[0].replace('\\"', '"')
+
+
+def main():
+    source, folder = sys.argv[1], pathlib.Path(sys.argv[2])
+    cases = {
+        "p": ZONE + loop("", 1000000, 3000000, 300000),
+        "realistic": realistic(source),
+        "ps": ZONE + "".join(loop(str(i), 5000000, 269970000, 15000) for i in range(20)),
+        "chain": ZONE + chain(8),
+    }
+    for name, text in cases.items():
+        (folder / f"{name}.toml").write_text(text)
+
+
+if __name__ == "__main__":
+    main()
