@@ -5,3 +5,4 @@ pub mod Kept
 pub mod Places
 pub mod Stored
 pub mod Runs
+pub mod Conductors

@@ -4,3 +4,4 @@ pub mod ItemIndex
 pub mod Rows
 pub mod OpenSet
 pub mod SwitchingLaws
+pub mod Conductor

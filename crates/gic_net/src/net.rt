@@ -1,10 +1,12 @@
 //! The standing network.
 ghost use Rattle.std.specs.Prelude.{◌≡◌, replicate, false, IfOk};
 
+use crate::conductor::{Conductor, conductors};
 use crate::item_index::{ItemIndex, has_element, index_items};
 use crate::row::{Row, number_of};
 use crate::rows::{full_rows, gather_item};
 use gic_base::{ElementId, NodeId, OutOfMemory};
+use gic_divide::Divisor;
 use gic_model::{Element, Elements, Item};
 use std::alloc::Global;
 use std::marker::Model;
@@ -18,6 +20,7 @@ pub struct Net {
     opened: Vec<bool>,
     index: ItemIndex,
     rows: Vec<Row>,
+    conductors: Vec<Conductor>,
 }
 
 impl Model for Net {
@@ -27,6 +30,8 @@ impl Model for Net {
     ghost use Rattle.gic_net.specs.Net.{NetView};
     ghost use Rattle.gic_net.specs.Rows.{IsStored};
     ghost use Rattle.gic_net.specs.OpenSet.{open_set};
+    ghost use Rattle.gic_net.specs.Conductor.{conductor_of};
+    ghost use Rattle.std.specs.Prelude.{◌≡◌, map};
 
     ghost Value = { NetView };
 
@@ -39,7 +44,8 @@ impl Model for Net {
         } };
 
     ghost invariant = { λ a.
-        IsStored (record { nodes = a.nodes; list = a.list.items }) a.opened.items a.index.first.items a.index.next.items a.rows.items };
+        IsStored (record { nodes = a.nodes; list = a.list.items }) a.opened.items a.index.first.items a.index.next.items a.rows.items
+        × (a.conductors.items ≡ map conductor_of a.list.items) };
 }
 
 impl Net {
@@ -47,6 +53,7 @@ impl Net {
     ghost use Rattle.std.specs.List.{Contains};
     ghost use Rattle.gic_model.specs.Network.{IsWithinLimits, IsElementWithin, ends_at};
     ghost use Rattle.gic_model.specs.Standing.{is_live, is_standing};
+    ghost use Rattle.gic_net.specs.Conductor.{conductor_of, conductance_down, conductance_up};
     ghost use Rattle.gic_net.specs.Net.{NetView, stands, standing, element_of, row_at, placed_at, closed_net, switched_net};
 
     /// All elements stand.
@@ -58,12 +65,14 @@ impl Net {
         let rows = full_rows(alloc, nodes, list.as_slice())?;
         let index = index_items(alloc, list.as_slice())?;
         let opened = all_closed(alloc, index.first.len())?;
+        let conductors = conductors(alloc, elements)?;
         Ok(Net {
             nodes,
             list,
             opened,
             index,
             rows,
+            conductors,
         })
     }
 
@@ -92,6 +101,14 @@ impl Net {
         self.nodes
     }
 
+    /// How many elements there are.
+    pub fn count(&self) -> u16
+        ensures value { result ≡ length self.now.network.list }
+        ensures limits { IsWithinLimits self.now.network }
+    {
+        self.list.len() as u16
+    }
+
     /// The element that the net was built with.
     pub fn element(&self, element: ElementId) -> Element
         requires { element.0 < length self.now.network.list }
@@ -99,6 +116,37 @@ impl Net {
         ensures within { IsElementWithin self.now.network.nodes result }
     {
         self.list[element.0 as usize]
+    }
+
+    fn conductor(&self, element: ElementId) -> Conductor
+        requires { element.0 < length self.now.network.list }
+        ensures { result ≡ conductor_of (element_of self.now.network element.0) }
+    {
+        self.conductors[element.0 as usize]
+    }
+
+    /// The resistance of an element, to divide by.
+    pub fn divisor(&self, element: ElementId) -> Divisor
+        requires { element.0 < length self.now.network.list }
+        ensures { result ≡ (element_of self.now.network element.0).micro_ohm }
+    {
+        self.conductor(element).divisor
+    }
+
+    /// The conductance of an element in units of 2^-20 siemens, rounded down.
+    pub fn conductance(&self, element: ElementId) -> u64
+        requires { element.0 < length self.now.network.list }
+        ensures { result ≡ conductance_down (element_of self.now.network element.0) }
+    {
+        self.conductor(element).down
+    }
+
+    /// The conductance of an element in units of 2^-20 siemens, rounded up.
+    pub fn conductance_up(&self, element: ElementId) -> u64
+        requires { element.0 < length self.now.network.list }
+        ensures { result ≡ conductance_up (element_of self.now.network element.0) }
+    {
+        self.conductor(element).up
     }
 
     /// Whether the element stands.

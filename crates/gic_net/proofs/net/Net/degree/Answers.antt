@@ -8,7 +8,7 @@ few : (c : goal.After-degree) → c.degree.result ≤ 256
 few c =
     let read : AreRead c.args.self.now c.self.inside.rows.items =
     subst (λ (n : NetView). AreRead n c.self.inside.rows.items) c.self.view_is
-    (read_of (record { nodes = c.self.inside.nodes; list = c.self.inside.list.items }) c.self.inside.opened.items c.self.inside.index.first.items c.self.inside.index.next.items c.self.inside.rows.items c.self.invariant) in
+    (read_of (record { nodes = c.self.inside.nodes; list = c.self.inside.list.items }) c.self.inside.opened.items c.self.inside.index.first.items c.self.inside.index.next.items c.self.inside.rows.items c.self.invariant.0) in
     let row = ap (λ (r : NodeRow). length r.standing) c.index.ensures in
     omega (arith, c.degree.ensures, row, degree_few c.args.self.now c.self.inside.rows.items read c.args.node.0 c.requires c.index.result.now)
 
@@ -19,7 +19,7 @@ pub returns-clause-value : goal.returns-clause-value
 returns-clause-value c =
     let read : AreRead c.args.self.now c.self.inside.rows.items =
     subst (λ (n : NetView). AreRead n c.self.inside.rows.items) c.self.view_is
-    (read_of (record { nodes = c.self.inside.nodes; list = c.self.inside.list.items }) c.self.inside.opened.items c.self.inside.index.first.items c.self.inside.index.next.items c.self.inside.rows.items c.self.invariant) in
+    (read_of (record { nodes = c.self.inside.nodes; list = c.self.inside.list.items }) c.self.inside.opened.items c.self.inside.index.first.items c.self.inside.index.next.items c.self.inside.rows.items c.self.invariant.0) in
     let row = ap (λ (r : NodeRow). length r.standing) c.index.ensures in
     c.degree.ensures ∙ row ∙ degree_is c.args.self.now c.self.inside.rows.items read c.args.node.0 c.requires c.index.result.now
 

@@ -14,8 +14,8 @@ value c =
     let inside : c.args.element.0 < length list = subst (λ (n : NetView). c.args.element.0 < length n.network.list) (sym c.self.view_is) c.requires in
     let element = c.index.ensures ∙ get_or_default list c.args.element.0 c.index.result.now no_element inside in
     let number = c.number_of.ensures ∙ ap (λ (e : Element). item_number e.item) element in
-    let marked = c.self.invariant.index.numbers c.args.element.0 inside in
-    let within : c.number_of.result < length opened = omega (arith, number, marked, c.self.invariant.mark_count) in
+    let marked = c.self.invariant.0.index.numbers c.args.element.0 inside in
+    let within : c.number_of.result < length opened = omega (arith, number, marked, c.self.invariant.0.mark_count) in
     let mark = c.index-2.ensures ∙ get_or_default opened c.number_of.result c.index-2.result.now false within ∙ ap (λ n. get_or opened n false) number in
     subst (λ (n : NetView). not c.index-2.result.now ≡ stands n (element_of n.network c.args.element.0).item) c.self.view_is
     (ap not mark ∙ sym (stands_unmarked opened (get_or list c.args.element.0 no_element).item))
