@@ -1,5 +1,9 @@
 pub mod Parts
 pub mod NodeSums
+pub mod Conductances
+pub mod Closeness
 pub mod Falls
 pub mod Targets
 pub mod Writes
+pub mod Shares
+pub mod Carried

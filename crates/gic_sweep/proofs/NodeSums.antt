@@ -2,7 +2,6 @@
 use Rattle.std.proofs.Common.{◌≡◌, ℕ, ◌+◌, ◌*◌, ◌^◌, ◌<◌, ◌≤◌, nat_lt, true, List, [], ◌∷◌, length, take, get_or, ℤ, ◌+ℤ◌, unsigned_abs, FitsSigned, arith, ap, ◌∙◌}
 use mir.Syntax.{w128}
 use Rattle.std.specs.List.{sum_by}
-use Rattle.std.specs.Int.{div_ceil}
 use Rattle.std.proofs.lemmas.Bool.Decides.{nat_tests}
 use Rattle.std.proofs.lemmas.Int.{ints, fits_signed_from_abs}
 use Rattle.std.proofs.lemmas.List.{take_more}
@@ -18,11 +17,8 @@ use Rattle.gic_model.proofs.Members.{weaker}
 use Rattle.gic_model.proofs.Ends.{standing_within, within_at}
 use Rattle.gic_net.specs.Net.{NetView, row_at, placed_at, no_element, standing, stands}
 use Rattle.gic_net.proofs.Places.{few_at, placed_is, some_any}
+pub use Rattle.gic_sweep.specs.Passes.{diagonal_part}
 use Rattle.gic_sweep.proofs.Parts.{one_le, part_most}
-
--- one element's part of a diagonal
-abbrev pub diagonal_part : Placed → ℕ
-diagonal_part p = div_ceil (p.1.times * 1000000 * 2 ^ 20) p.1.micro_ohm
 
 sum_of_more : (f : Placed → ℤ) (ps : List Placed) (i : ℕ) (d : Placed) → i < length ps → sum_of f (take (i + 1) ps) ≡ sum_of f (take i ps) +ℤ f (get_or ps i d)
 sum_of_more f ps i d h =

@@ -6,8 +6,11 @@ use Rattle.gic_model.specs.Voltages.{number_at}
 abbrev pub AreCut : (ℕ → ℤ) → Type 0
 AreCut x = (k : ℕ) → unsigned_abs (x k) ≤ 2 ^ 96
 
--- what a solver keeps: one guess for each of fewer than 2^16 nodes, none beyond 2^96, and as much room again
-pub record AreGuesses (guesses next : List ℤ) : Type 0 where
+-- what a solver keeps: one guess for each of fewer than 2^16 nodes, none beyond 2^96, as much room again for new guesses and for residuals, and a relaxation for as many nodes
+pub record AreGuesses (guesses next low high : List ℤ) (relaxed : ℕ) : Type 0 where
   pub cut : AreCut (number_at guesses)
   pub room : length next ≡ length guesses
+  pub low_room : length low ≡ length guesses
+  pub high_room : length high ≡ length guesses
+  pub relaxation : relaxed ≡ length guesses
   pub few : length guesses < 2 ^ 16

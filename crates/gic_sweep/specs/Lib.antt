@@ -1,2 +1,4 @@
 pub mod Guesses
 pub mod Sweep
+pub mod Passes
+pub mod Residuals

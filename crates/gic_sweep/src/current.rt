@@ -10,6 +10,7 @@ ghost use Rattle.gic_model.specs.Guess.{part_times_ohms};
 ghost use Rattle.gic_sweep.specs.Guesses.{AreCut};
 
 use gic_base::{ElementId, NodeId};
+use gic_divide::Divisor;
 use gic_fixed::Interval;
 use gic_model::{Element, End, Volts};
 
@@ -98,20 +99,24 @@ fn part(volts: &Volts, guesses: &[i128], node: NodeId, place: ElementId, element
 }
 
 /// An element's part of the residual at a node in units of 2^-44 nanoampere, rounded down and up.
+#[inline(always)]
 pub fn current(
     volts: &Volts,
     guesses: &[i128],
     node: NodeId,
     place: ElementId,
     element: &Element,
+    divisor: Divisor,
 ) -> Interval
     requires element { IsElementWithin (length guesses.now) element.now }
     requires place { place.0 < length volts.now }
     requires guesses { AreCut (number_at guesses.now) }
+    requires divisor { divisor ≡ element.now.micro_ohm }
     ensures low { result.lo ≡ floor_div (part_times_ohms (number_at volts.now) (number_at guesses.now) node.0 (place.0, element.now)) (pos element.now.micro_ohm) }
     ensures high { result.hi ≡ ceil_div (part_times_ohms (number_at volts.now) (number_at guesses.now) node.0 (place.0, element.now)) (pos element.now.micro_ohm) }
+    ensures bounded { IsWithin (2 ^ 118) result.lo result.hi }
     ensures small { IsWithin (div_ceil (element.now.times * 1000000 * 2 ^ 20) element.now.micro_ohm * 2 ^ 86) result.lo result.hi }
 {
     let times_ohms = part(volts, guesses, node, place, element);
-    Interval::point(times_ohms).div_out(element.micro_ohm as i128)
+    divisor.rounded(times_ohms)
 }

@@ -3,7 +3,7 @@ ghost use Rattle.std.specs.Prelude.{◌≡◌, ◌*◌, ◌^◌, ◌<◌, ◌≤
 ghost use Rattle.gic_fixed.specs.Encloses.{IsWithin};
 ghost use Rattle.gic_model.specs.Standing.{IsLive};
 ghost use Rattle.gic_model.specs.Voltages.{number_at};
-ghost use Rattle.gic_model.specs.Guess.{diagonal as diagonal_at, residual_down, residual_up};
+ghost use Rattle.gic_model.specs.Guess.{diagonal as diagonal_at, least_conductance, residual_down, residual_up};
 ghost use Rattle.gic_net.specs.Net.{standing};
 ghost use Rattle.gic_sweep.specs.Guesses.{AreCut};
 
@@ -28,7 +28,7 @@ pub fn rounded_residual(net: &Net, volts: &Volts, guesses: &[i128], node: NodeId
     for place in 0..net.degree(node) {
         let id = net.element_at(node, place);
         let element = net.element(id);
-        sum = sum.add(current(volts, guesses, node, id, &element));
+        sum = sum.add(current(volts, guesses, node, id, &element, net.divisor(id)));
     }
     sum
 }
@@ -43,8 +43,25 @@ pub fn diagonal(net: &Net, node: NodeId) -> u64
     let _nodes = net.nodes();
     let mut sum: u64 = 0;
     for place in 0..net.degree(node) {
-        let element = net.element(net.element_at(node, place));
-        sum += (element.times as u64 * 1000000 * 1048576).div_ceil(element.micro_ohm as u64);
+        let id = net.element_at(node, place);
+        let part = net.conductance_up(id);
+        sum += part;
+    }
+    sum
+}
+
+/// The conductance of a node in units of 2^-20 siemens, each element's part rounded down.
+pub fn conductance(net: &Net, node: NodeId) -> u64
+    requires { node.0 < net.now.network.nodes }
+    ensures value { result ≡ least_conductance (standing net.now) node.0 }
+    ensures most { result ≤ 2 ^ 40 }
+    ensures live { IsLive (standing net.now) node.0 → 0 < result }
+{
+    let _nodes = net.nodes();
+    let mut sum: u64 = 0;
+    for place in 0..net.degree(node) {
+        let id = net.element_at(node, place);
+        sum += net.conductance(id);
     }
     sum
 }

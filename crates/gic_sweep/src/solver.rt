@@ -1,5 +1,8 @@
 //! Guesses of the potentials.
+use crate::improving::propose_all;
 use crate::node_sums::rounded_residual;
+use crate::passing::residuals_into;
+use crate::settling::are_settled;
 use crate::steps::Steps;
 use crate::sweeping::sweep_into;
 use gic_base::{NodeId, OutOfMemory};
@@ -7,6 +10,7 @@ use gic_fixed::Interval;
 use gic_model::Volts;
 use gic_model::laws::rounded_residual_law;
 use gic_net::Net;
+use gic_relax::Relaxation;
 use std::alloc::Global;
 use std::marker::Model;
 use std::mem;
@@ -18,6 +22,10 @@ pub struct Solver {
     guesses: Vec<i128>,
     /// Room for the guesses of the next sweep.
     next: Vec<i128>,
+    /// Room for the residuals, rounded down and up.
+    low: Vec<i128>,
+    high: Vec<i128>,
+    relaxation: Relaxation,
 }
 
 impl Model for Solver {
@@ -28,16 +36,17 @@ impl Model for Solver {
 
     ghost view = { λ s. s.guesses.items };
 
-    ghost invariant = { λ s. AreGuesses s.guesses.items s.next.items };
+    ghost invariant = { λ s. AreGuesses s.guesses.items s.next.items s.low.items s.high.items s.relaxation };
 }
 
-ghost use Rattle.std.specs.Prelude.{◌≡◌, ℤ, ◌+◌, ◌^◌, ◌<◌, ◌≤◌, ◌*◌, length, IfOk, replicate, pos, ◌-ℤ◌, ◌≤ℤ◌, unsigned_abs};
+ghost use Rattle.std.specs.Prelude.{◌≡◌, ℕ, ℤ, ◌+◌, ◌^◌, ◌<◌, ◌≤◌, ◌*◌, length, IfOk, replicate, pos, ◌-ℤ◌, ◌≤ℤ◌, unsigned_abs, IsTrue, IfSome};
 ghost use Rattle.gic_base.specs.declared.id.NodeId.{NodeId};
 ghost use Rattle.gic_fixed.specs.Encloses.{IsWithin};
-ghost use Rattle.gic_model.specs.Guess.{HoldsResidual, diagonal};
+ghost use Rattle.gic_model.specs.Guess.{HoldsResidual, IsSettled, IsSettledWithin, diagonal};
 ghost use Rattle.gic_model.specs.Voltages.{number_at};
 ghost use Rattle.gic_net.specs.Net.{standing, row_at};
 ghost use Rattle.gic_sweep.specs.Guesses.{AreCut};
+ghost use Rattle.gic_sweep.specs.Residuals.{HoldResiduals};
 ghost use Rattle.gic_sweep.specs.Sweep.{IsSweep};
 
 impl Solver {
@@ -45,13 +54,18 @@ impl Solver {
     pub fn new(alloc: Global, nodes: u16) -> Result<Solver, OutOfMemory>
         ensures { IfOk result (λ solver. solver ≡ replicate nodes (pos 0)) }
     {
-        let Ok(guesses) = vec![in alloc; 0; nodes as usize] else {
-            return Err(OutOfMemory);
-        };
-        let Ok(next) = vec![in alloc; 0; nodes as usize] else {
-            return Err(OutOfMemory);
-        };
-        Ok(Solver { guesses, next })
+        let guesses = zeros(alloc, nodes)?;
+        let next = zeros(alloc, nodes)?;
+        let low = zeros(alloc, nodes)?;
+        let high = zeros(alloc, nodes)?;
+        let relaxation = Relaxation::new(alloc, nodes)?;
+        Ok(Solver {
+            guesses,
+            next,
+            low,
+            high,
+            relaxation,
+        })
     }
 
     /// Makes all guesses 0.
@@ -104,8 +118,57 @@ impl Solver {
         ensures sweep { IsSweep (standing net.now) (number_at volts.now) (number_at self.old) (number_at self.new) }
         ensures same_length { length self.new ≡ length self.old }
     {
-        sweep_into(net, volts, &self.guesses, &mut self.next);
+        sweep_into(
+            net,
+            volts,
+            &self.guesses,
+            &mut self.low,
+            &mut self.high,
+            &mut self.next,
+        );
         mem::swap(&mut self.guesses, &mut self.next);
+    }
+
+    /// Makes the relaxation ready for a net, whose bound vector has this greatest entry.
+    fn arrange(&mut self, net: &Net, walk: u16)
+        requires { length self.old ≡ net.now.network.nodes }
+        ensures { self.new ≡ self.old }
+    {
+        self.relaxation.arrange(net, walk);
+    }
+
+    /// Puts guesses in that are likely to be closer, and says how many passes of over-relaxation that took. Where the
+    /// residuals are small already, it does nothing.
+    fn approach(&mut self, net: &Net, volts: &Volts) -> Option<u32>
+        requires volts { length volts.now ≡ length net.now.network.list }
+        requires nodes { length self.old ≡ net.now.network.nodes }
+        ensures same_length { length self.new ≡ length self.old }
+        ensures passes { IfSome result (λ passes. passes ≤ 20000) }
+    {
+        residuals_into(net, volts, &self.guesses, &mut self.low, &mut self.high);
+        let passes = self.relaxation.correct(self.low.as_slice())?;
+        propose_all(&self.relaxation, self.guesses.as_mut_slice());
+        Some(passes)
+    }
+
+    /// Whether the residuals show that the guesses are settled.
+    fn is_settled(&mut self, net: &Net, volts: &Volts) -> bool
+        requires volts { length volts.now ≡ length net.now.network.list }
+        requires nodes { length self.old ≡ net.now.network.nodes }
+        ensures settled { IsTrue result → IsSettled (standing net.now) (number_at volts.now) (number_at self.old) }
+        ensures seen { IsSettledWithin (standing net.now) (number_at volts.now) (number_at self.old) (2 ^ 17) → IsTrue result }
+        ensures same { self.new ≡ self.old }
+    {
+        are_settled(net, volts, &self.guesses, &mut self.low, &mut self.high)
+    }
+}
+
+fn zeros(alloc: Global, nodes: u16) -> Result<Vec<i128>, OutOfMemory>
+    ensures { IfOk result (λ list. list.items ≡ replicate nodes (pos 0)) }
+{
+    match vec![in alloc; 0; nodes as usize] {
+        Ok(list) => Ok(list),
+        Err(_) => Err(OutOfMemory),
     }
 }
 
@@ -137,6 +200,46 @@ pub fn sweep<L: Ledger>(net: &Net, volts: &Volts, solver: &mut Solver, steps: &m
     steps.tick();
 }
 
+/// Brings the guesses closer to Kirchhoff's law by at most four rough corrections, each of which ticks once, and says
+/// how many passes of over-relaxation they took. Nothing is promised of the guesses: this only saves sweeps. The walk is the greatest entry of the net's bound vector; the
+/// voltages and the guesses are those of the net's elements and nodes.
+pub fn improve<L: Ledger>(
+    net: &Net,
+    volts: &Volts,
+    walk: u16,
+    solver: &mut Solver,
+    steps: &mut Steps<L>,
+) -> u32
+    requires volts { length volts.now ≡ length net.now.network.list }
+    requires nodes { length solver.old ≡ net.now.network.nodes }
+    ensures same_length { length solver.new ≡ length solver.old }
+    ensures ticks { steps.new ≤ steps.old + 4 }
+    ensures passes { result ≤ 80000 }
+{
+    solver.arrange(net, walk);
+    let mut passes: u32 = 0;
+    for _round in 0..4u8 {
+        match solver.approach(net, volts) {
+            Some(more) => passes += more,
+            None => return passes,
+        }
+        steps.tick();
+    }
+    passes
+}
+
+/// Whether the residuals show that the guesses are settled, which is within 2^18 grains, as they do where the guesses are
+/// settled within half of that. The guesses stay; the voltages and the guesses are those of the net's elements and nodes.
+pub fn is_settled(net: &Net, volts: &Volts, solver: &mut Solver) -> bool
+    requires volts { length volts.now ≡ length net.now.network.list }
+    requires nodes { length solver.old ≡ net.now.network.nodes }
+    ensures settled { IsTrue result → IsSettled (standing net.now) (number_at volts.now) (number_at solver.old) }
+    ensures seen { IsSettledWithin (standing net.now) (number_at volts.now) (number_at solver.old) (2 ^ 17) → IsTrue result }
+    ensures same { solver.new ≡ solver.old }
+{
+    solver.is_settled(net, volts)
+}
+
 /// An interval in units of 2^-44 nanoampere that holds the residual of the guesses at a node: the current that leaves
 /// it less the current that enters it. It is at most as wide as the node has standing elements. The voltages and the
 /// guesses are those of the net's elements and nodes.
@@ -151,4 +254,22 @@ pub fn residual(net: &Net, volts: &Volts, solver: &Solver, node: NodeId) -> Inte
     rounded_residual_law();
     let _nodes = net.nodes();
     rounded_residual(net, volts, solver.guesses(), node)
+}
+
+/// The ends of an interval as `residual` gives it at each node, the low ends in `low` and the high ends in `high`. The
+/// voltages and the guesses are those of the net's elements and nodes, and there is room for as many.
+pub fn residuals(net: &Net, volts: &Volts, solver: &Solver, low: &mut [i128], high: &mut [i128])
+    requires volts { length volts.now ≡ length net.now.network.list }
+    requires nodes { length solver.now ≡ net.now.network.nodes }
+    requires low_count { length low.old ≡ net.now.network.nodes }
+    requires high_count { length high.old ≡ net.now.network.nodes }
+    ensures holds { HoldResiduals (standing net.now) (number_at volts.now) (number_at solver.now) low.new high.new }
+    ensures narrow { (k : ℕ) → (number_at high.new k -ℤ number_at low.new k) ≤ℤ pos (length (row_at net.now k)) }
+    ensures small { (k : ℕ) → IsWithin (diagonal (standing net.now) k * 2 ^ 86) (number_at low.new k) (number_at high.new k) }
+    ensures low_count { length low.new ≡ net.now.network.nodes }
+    ensures high_count { length high.new ≡ net.now.network.nodes }
+{
+    rounded_residual_law();
+    let _nodes = net.nodes();
+    residuals_into(net, volts, solver.guesses(), low, high);
 }

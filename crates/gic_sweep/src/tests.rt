@@ -1,7 +1,7 @@
 ghost use Rattle.std.specs.Prelude.{◌≡◌, ◌<◌, ◌≤◌, ◌^◌, IfOk, length, unsigned_abs};
 ghost use Rattle.gic_model.specs.WorkedLoop.{loop, node};
 
-use crate::{Solver, Steps, residual, sweep};
+use crate::{Solver, Steps, improve, residual, residuals, sweep};
 use gic_base::{ElementId, NodeId};
 use gic_model::laws::worked_loop_law;
 use gic_model::{Element, Elements, End, Item, Role, Volts};
@@ -71,6 +71,18 @@ fn swept<L: Ledger>(net: &Net, volts: &Volts, solver: &mut Solver, blank: Blank)
     sweep(net, volts, solver, &mut steps);
 }
 
+fn improved<L: Ledger>(net: &Net, volts: &Volts, solver: &mut Solver, blank: Blank)
+    requires name { blank.name ≡ L.name }
+    requires parts { blank.parts ≡ L.parts }
+    requires some { 0 < blank.parts }
+    requires volts { length volts.now ≡ length net.now.network.list }
+    requires nodes { length solver.old ≡ net.now.network.nodes }
+    ensures { length solver.new ≡ length solver.old }
+{
+    let mut steps: Steps<L> = Steps::new(blank);
+    improve(net, volts, 33, solver, &mut steps);
+}
+
 fn filled<L: Ledger>(solver: &mut Solver, blank: Blank)
     requires name { blank.name ≡ L.name }
     requires parts { blank.parts ≡ L.parts }
@@ -100,6 +112,23 @@ fn residuals_of_the_loop_at_no_guesses(rt: HostRuntime) -> Result<(), Fail> {
     Ok(())
 }
 
+/// The same at all nodes at once.
+#[test]
+fn residuals_of_the_loop_together(rt: HostRuntime) -> Result<(), Fail> {
+    let elements = loop_elements(rt.alloc())?;
+    let net = Net::build(rt.alloc(), &elements)?;
+    let mut volts = Volts::new(rt.alloc(), &elements)?;
+    volts.set(ElementId(2), 100_000_000_000);
+    let solver = Solver::new(rt.alloc(), 4)?;
+    let mut low: [i128; 4] = [7; 4];
+    let mut high: [i128; 4] = [7; 4];
+    residuals(&net, &volts, &solver, &mut low, &mut high);
+    let current = 100_000_000_000 * (1 << 44);
+    assert_eq!(rt; low, [0, 0, current, -current]);
+    assert_eq!(rt; high, [0, 0, current, -current]);
+    Ok(())
+}
+
 /// The 100 amperes over the 11 siemens at the bus b are 9 and 1/11 volts.
 #[test]
 fn guesses_of_the_loop_swept_filled_and_cleared(rt: HostRuntime) -> Result<(), Fail> {
@@ -115,5 +144,20 @@ fn guesses_of_the_loop_swept_filled_and_cleared(rt: HostRuntime) -> Result<(), F
     assert_eq!(rt; solver.guess(NodeId(3)), 3000);
     solver.clear();
     assert_eq!(rt; solver.guess(NodeId(3)), 0);
+    Ok(())
+}
+
+/// With 100 volts in the line the loop's 31.25 amperes lift the ground at B by 31.25 volts. The greatest entry of the
+/// loop's bound vector is 33.
+#[test]
+fn guesses_of_the_loop_improved(rt: HostRuntime) -> Result<(), Fail> {
+    let elements = loop_elements(rt.alloc())?;
+    let net = Net::build(rt.alloc(), &elements)?;
+    let mut volts = Volts::new(rt.alloc(), &elements)?;
+    volts.set(ElementId(2), 100_000_000_000);
+    let mut solver = Solver::new(rt.alloc(), 4)?;
+    improved::<Brand>(&net, &volts, &mut solver, Blank::new(1));
+    let missed = solver.guess(NodeId(1)) - 31_250_000_000 * (1 << 36);
+    assert!(rt; -(1 << 24) < missed && missed < (1 << 24));
     Ok(())
 }

@@ -1,9 +1,8 @@
-use Rattle.std.proofs.Common.{◌≡◌, ◌<◌, length, pos, arith, ap, sym, ◌∙◌, ℕ, take}
+use Rattle.std.proofs.Common.{◌≡◌, ◌<◌, length, pos, arith, ap, ◌∙◌, ℕ, take}
 use Rattle.std.specs.List.{sum_by}
 use Rattle.std.proofs.Math.Seq.{take-length}
-use Rattle.gic_model.specs.declared.parts.Element.{Element}
 use Rattle.gic_model.specs.Guess.{diagonal}
-use Rattle.gic_net.specs.Net.{row_at, placed_at, standing}
+use Rattle.gic_net.specs.Net.{row_at, element_of, standing}
 use Rattle.gic_sweep.proofs.NodeSums.{diagonal_part, diagonal_step, diagonal_most, diagonal_some}
 use Rattle.gic_sweep.proofs.node_sums.diagonal.Goals as goal
 
@@ -12,19 +11,19 @@ overflow_add-sum c =
     let net = c.args.net.now in
     let k = c.args.node.0 in
     let h : c.loop-place.place < length (row_at net k) = omega (arith, c.loop-place-test.true, c.degree-place-end.ensures.value) in
-    let is : placed_at net k c.loop-place.place ≡ (c.element_at.result.0, c.element-element.result) = c.element_at.ensures.value ∙ ap (λ (e : Element). (c.element_at.result.0, e)) (sym c.element-element.ensures.value) in
-    let d = diagonal_step (λ p. pos 0) net k c.loop-place.place h c.element_at.result.0 c.element-element.result is in
+    let id = c.element_at-id.result.0 in
+    let d = diagonal_step (λ p. pos 0) net k c.loop-place.place h id (element_of net.network id) c.element_at-id.ensures.value in
     let most = diagonal_most net k c.nodes-nodes.ensures.limits c.requires.node in
-    record { fits = omega (arith, d.1, most, c.loop-place.invariant, c.div_ceil-sum.ensures) }
+    record { fits = omega (arith, d.1, most, c.loop-place.invariant, c.conductance_up-part.ensures) }
 
 pub loop-place-preserved : goal.loop-place-preserved
 loop-place-preserved c =
     let net = c.args.net.now in
     let k = c.args.node.0 in
     let h : c.loop-place.place < length (row_at net k) = omega (arith, c.loop-place-test.true, c.degree-place-end.ensures.value) in
-    let is : placed_at net k c.loop-place.place ≡ (c.element_at.result.0, c.element-element.result) = c.element_at.ensures.value ∙ ap (λ (e : Element). (c.element_at.result.0, e)) (sym c.element-element.ensures.value) in
-    let d = diagonal_step (λ p. pos 0) net k c.loop-place.place h c.element_at.result.0 c.element-element.result is in
-    omega (arith, d.0, c.loop-place.invariant, c.div_ceil-sum.ensures)
+    let id = c.element_at-id.result.0 in
+    let d = diagonal_step (λ p. pos 0) net k c.loop-place.place h id (element_of net.network id) c.element_at-id.ensures.value in
+    omega (arith, d.0, c.loop-place.invariant, c.conductance_up-part.ensures)
 
 pub returns : goal.returns
 returns c =

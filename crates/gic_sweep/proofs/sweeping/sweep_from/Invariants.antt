@@ -2,7 +2,7 @@ use Rattle.std.proofs.Common.{ℕ, ◌<◌, ◌≤◌, ◌^◌, unsigned_abs}
 use Rattle.gic_model.specs.Voltages.{number_at}
 use Rattle.gic_net.specs.Net.{standing}
 use Rattle.gic_sweep.specs.Sweep.{IsSweptTo}
-use Rattle.gic_sweep.proofs.sweeping.sweep_into.Given as goal
+use Rattle.gic_sweep.proofs.sweeping.sweep_from.Given as goal
 
 abbrev pub invariant-loop-node : goal.invariant-loop-node
 invariant-loop-node l = record {
