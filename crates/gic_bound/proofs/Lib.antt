@@ -1,5 +1,6 @@
 pub mod NodeByNode
 pub mod RowParts
+pub mod Spans
 pub mod Rising
 pub mod Least
 pub mod Shares

@@ -5,6 +5,7 @@ mod checking;
 pub mod laws;
 mod raising;
 mod row;
+mod span;
 #[cfg(test)]
 mod tests;
 mod vector;
