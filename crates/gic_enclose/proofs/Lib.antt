@@ -1,7 +1,5 @@
 pub mod Intervals
-pub mod Conductances
 pub mod Quotients
-pub mod Closeness
 pub mod Cuts
 pub mod Turns
 pub mod Widths

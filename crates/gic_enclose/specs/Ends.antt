@@ -1,5 +1,5 @@
 -- The ends of the nodes' intervals, in grains.
-use Rattle.std.specs.Prelude.{ℕ, ◌^◌, List, ℤ, pos, slice_index_or}
+use Rattle.std.specs.Prelude.{ℕ, ◌≡◌, ◌^◌, List, length, ℤ, pos, slice_index_or}
 use Rattle.std.specs.List.{All}
 use Rattle.gic_fixed.specs.Encloses.{IsWithin}
 use Rattle.gic_fixed.specs.declared.interval.Interval.{Interval}
@@ -30,3 +30,9 @@ high_at potentials k = (ends_at potentials k).high
 -- all ends are within 2^96, either way
 abbrev pub AreSmall : List Interval → Type 0
 AreSmall intervals = All (λ interval. IsWithin (2 ^ 96) interval.lo interval.hi) intervals
+
+-- what potentials keep: small intervals, and room for as many residuals
+pub record AreIntervals (intervals : List Interval) (low high : List ℤ) : Type 0 where
+  pub small : AreSmall intervals
+  pub low_room : length low ≡ length intervals
+  pub high_room : length high ≡ length intervals

@@ -1,5 +1,4 @@
 pub mod Ends
 pub mod Certain
-pub mod Reach
 pub mod Bases
 pub mod Laws

@@ -12,7 +12,6 @@ ghost use Rattle.gic_enclose.specs.Certain.{AreCertain, IsCertainAt, IsNarrow};
 
 use crate::laws::potential_bound_law;
 use crate::potentials::Potentials;
-use crate::reach::reach;
 use gic_base::NodeId;
 use gic_bound::BoundVector;
 use gic_fixed::Interval;
@@ -116,7 +115,7 @@ pub fn enclose(net: &Net, volts: &Volts, solver: &Solver, bound: &BoundVector, o
 
     ensures same_length { length out.new ≡ length out.old }
 {
-    let reach = reach(net, volts, solver);
+    let reach = out.reach(net, volts, solver);
     for node in 0..net.nodes() {
         let node = NodeId(node);
         out.set(node, interval_at(net, volts, solver, bound, reach, node));

@@ -2,7 +2,6 @@
 #![tactic(auto)]
 
 mod bases;
-mod conductance;
 mod enclosing;
 pub mod laws;
 mod potentials;

@@ -1,6 +1,10 @@
 //! One interval for each node.
+use crate::reach::reach;
 use gic_base::{NodeId, OutOfMemory};
 use gic_fixed::Interval;
+use gic_model::Volts;
+use gic_net::Net;
+use gic_sweep::Solver;
 use std::alloc::Global;
 use std::marker::Model;
 
@@ -8,30 +12,43 @@ use std::marker::Model;
 #[derive(Drop)]
 pub struct Potentials {
     intervals: Vec<Interval>,
+    /// Room for the residuals, rounded down and up.
+    low: Vec<i128>,
+    high: Vec<i128>,
 }
 
 impl Model for Potentials {
     ghost use Rattle.std.specs.Prelude.{List, map};
-    ghost use Rattle.gic_enclose.specs.Ends.{Ends, ends_of, AreSmall};
+    ghost use Rattle.gic_enclose.specs.Ends.{Ends, ends_of, AreIntervals};
 
     ghost Value = { List Ends };
 
     ghost view = { λ p. map ends_of p.intervals.items };
 
-    ghost invariant = { λ p. AreSmall p.intervals.items };
+    ghost invariant = { λ p. AreIntervals p.intervals.items p.low.items p.high.items };
 }
 
 impl Potentials {
-    ghost use Rattle.std.specs.Prelude.{◌≡◌, ◌^◌, ◌<◌, length, replicate, slice_set, IfOk};
+    ghost use Rattle.std.specs.Prelude.{ℕ, ◌≡◌, ◌^◌, ◌<◌, ◌≤◌, length, replicate, slice_set, IfOk};
     ghost use Rattle.gic_fixed.specs.Encloses.{IsWithin};
+    ghost use Rattle.gic_model.specs.Voltages.{number_at};
+    ghost use Rattle.gic_model.specs.Guess.{IsSettledWithin};
+    ghost use Rattle.gic_net.specs.Net.{standing};
+    ghost use Rattle.gic_sweep.specs.Residuals.{most_reach};
     ghost use Rattle.gic_enclose.specs.Ends.{ends_of, no_ends, low_at, high_at};
 
     /// For a network of this many nodes; each interval is the point 0.
     pub fn new(alloc: Global, nodes: u16) -> Result<Potentials, OutOfMemory>
         ensures { IfOk result (λ potentials. potentials ≡ replicate nodes no_ends) }
     {
+        let low = zeros(alloc, nodes)?;
+        let high = zeros(alloc, nodes)?;
         match vec![in alloc; Interval::point(0); nodes as usize] {
-            Ok(intervals) => Ok(Potentials { intervals }),
+            Ok(intervals) => Ok(Potentials {
+                intervals,
+                low,
+                high,
+            }),
             Err(_) => Err(OutOfMemory),
         }
     }
@@ -53,5 +70,30 @@ impl Potentials {
         ensures { self.new ≡ slice_set self.old node.0 (ends_of interval) }
     {
         self.intervals[node.0 as usize] = interval;
+    }
+
+    /// The grains within which the guesses are settled, as their residuals show, and hardly more than those within
+    /// which they are settled indeed.
+    pub(crate) fn reach(&mut self, net: &Net, volts: &Volts, solver: &Solver) -> u128
+        requires volts { length volts.now ≡ length net.now.network.list }
+        requires nodes { length solver.now ≡ net.now.network.nodes }
+        requires room { length self.old ≡ net.now.network.nodes }
+        ensures same { self.new ≡ self.old }
+        ensures settled { IsSettledWithin (standing net.now) (number_at volts.now) (number_at solver.now) result }
+        ensures small { result ≤ 2 ^ 99 }
+        ensures close { (t : ℕ) → IsSettledWithin (standing net.now) (number_at volts.now) (number_at solver.now) t → result ≤ most_reach t }
+    {
+        reach(net, volts, solver, &mut self.low, &mut self.high)
+    }
+}
+
+ghost use Rattle.std.specs.Prelude.{◌≡◌, pos, replicate, IfOk};
+
+fn zeros(alloc: Global, nodes: u16) -> Result<Vec<i128>, OutOfMemory>
+    ensures { IfOk result (λ list. list.items ≡ replicate nodes (pos 0)) }
+{
+    match vec![in alloc; 0; nodes as usize] {
+        Ok(list) => Ok(list),
+        Err(_) => Err(OutOfMemory),
     }
 }

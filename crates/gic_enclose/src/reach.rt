@@ -1,27 +1,17 @@
 //! How far solutions can be from the guesses.
-ghost use Rattle.std.specs.Prelude.{◌≡◌, ℕ, ◌+◌, ◌*◌, ◌/◌, ◌^◌, ◌<◌, ◌≤◌, ◌⊎◌, length, unsigned_abs};
+ghost use Rattle.std.specs.Prelude.{◌≡◌, ℕ, ℤ, ◌+◌, ◌*◌, ◌/◌, ◌^◌, ◌<◌, ◌≤◌, length, pos, ◌-ℤ◌, ◌≤ℤ◌, unsigned_abs};
+ghost use Rattle.gic_fixed.specs.Encloses.{IsWithin};
 ghost use Rattle.gic_model.specs.Standing.{IsLive};
 ghost use Rattle.gic_model.specs.Voltages.{number_at};
-ghost use Rattle.gic_model.specs.Guess.{IsSettledWithin, IsSettledAt};
-ghost use Rattle.gic_net.specs.Net.{standing};
-ghost use Rattle.gic_enclose.specs.Reach.{most_reach};
+ghost use Rattle.gic_model.specs.Guess.{IsSettledWithin, IsSettledAt, HoldsResidual, diagonal};
+ghost use Rattle.gic_net.specs.Net.{standing, row_at};
+ghost use Rattle.gic_sweep.specs.Residuals.{HoldResiduals, most_reach};
 
-use crate::conductance::conductance;
 use gic_base::NodeId;
-use gic_fixed::Interval;
 use gic_model::Volts;
 use gic_model::laws::{diagonal_law, settled_law};
 use gic_net::Net;
-use gic_sweep::{Solver, residual};
-
-/// The greater absolute value of the two ends.
-pub fn greatest_end(interval: Interval) -> u128
-    ensures either { (result ≡ unsigned_abs interval.lo) ⊎ (result ≡ unsigned_abs interval.hi) }
-    ensures low { unsigned_abs interval.lo ≤ result }
-    ensures high { unsigned_abs interval.hi ≤ result }
-{
-    interval.lo.unsigned_abs().max(interval.hi.unsigned_abs())
-}
+use gic_sweep::{Solver, conductance, greatest_at, residuals};
 
 /// `4096 * most / conductance`, rounded up, with no product that could leave the type.
 fn quotient_up(most: u128, conductance: u64) -> u128
@@ -37,55 +27,77 @@ fn quotient_up(most: u128, conductance: u64) -> u128
     4096 * whole + (4096 * rest).div_ceil(conductance as u128)
 }
 
-/// The grains within which the guess at a live node is settled, as its residual shows.
-fn reach_at(net: &Net, volts: &Volts, solver: &Solver, node: NodeId) -> u128
-    requires volts { length volts.now ≡ length net.now.network.list }
-    requires nodes { length solver.now ≡ net.now.network.nodes }
+/// The grains within which guesses are settled at a live node, whose residual lies between these ends.
+fn reach_at(net: &Net, low: &[i128], high: &[i128], node: NodeId) -> u128
+    requires low_count { length low.now ≡ net.now.network.nodes }
+    requires high_count { length high.now ≡ net.now.network.nodes }
     requires node { node.0 < net.now.network.nodes }
     requires live { IsLive (standing net.now) node.0 }
-    ensures settled { IsSettledAt (standing net.now) (number_at volts.now) (number_at solver.now) result node.0 }
+    requires narrow { (number_at high.now node.0 -ℤ number_at low.now node.0) ≤ℤ pos (length (row_at net.now node.0)) }
+    requires ends { IsWithin (diagonal (standing net.now) node.0 * 2 ^ 86) (number_at low.now node.0) (number_at high.now node.0) }
+    ensures settled { (volts x : ℕ → ℤ) → HoldsResidual (standing net.now) volts x node.0 (number_at low.now node.0) (number_at high.now node.0) → IsSettledAt (standing net.now) volts x result node.0 }
     ensures small { result ≤ 2 ^ 99 }
-    ensures close { (t : ℕ) → IsSettledAt (standing net.now) (number_at volts.now) (number_at solver.now) t node.0 → result ≤ most_reach t }
+    ensures close { (volts x : ℕ → ℤ) (t : ℕ) → HoldsResidual (standing net.now) volts x node.0 (number_at low.now node.0) (number_at high.now node.0) → IsSettledAt (standing net.now) volts x t node.0 → result ≤ most_reach t }
 {
     settled_law();
     diagonal_law();
     let _nodes = net.nodes();
-    let most = greatest_end(residual(net, volts, solver, node));
+    let most = greatest_at(low, high, node);
     quotient_up(most, conductance(net, node))
 }
 
-/// The greater of a number of grains and those within which the guess at the node is settled.
-fn greater_reach(net: &Net, volts: &Volts, solver: &Solver, node: NodeId, most: u128) -> u128
-    requires volts { length volts.now ≡ length net.now.network.list }
-    requires nodes { length solver.now ≡ net.now.network.nodes }
+/// The greater of a number of grains and those within which guesses are settled at the node.
+fn greater_reach(net: &Net, low: &[i128], high: &[i128], node: NodeId, most: u128) -> u128
+    requires low_count { length low.now ≡ net.now.network.nodes }
+    requires high_count { length high.now ≡ net.now.network.nodes }
     requires node { node.0 < net.now.network.nodes }
+    requires narrow { (number_at high.now node.0 -ℤ number_at low.now node.0) ≤ℤ pos (length (row_at net.now node.0)) }
+    requires ends { IsWithin (diagonal (standing net.now) node.0 * 2 ^ 86) (number_at low.now node.0) (number_at high.now node.0) }
     requires small { most ≤ 2 ^ 99 }
     ensures grows { most ≤ result }
-    ensures settled { IsLive (standing net.now) node.0 → IsSettledAt (standing net.now) (number_at volts.now) (number_at solver.now) result node.0 }
+    ensures settled { (volts x : ℕ → ℤ) → HoldsResidual (standing net.now) volts x node.0 (number_at low.now node.0) (number_at high.now node.0) → IsLive (standing net.now) node.0 → IsSettledAt (standing net.now) volts x result node.0 }
     ensures small { result ≤ 2 ^ 99 }
-    ensures close { (t : ℕ) → IsSettledWithin (standing net.now) (number_at volts.now) (number_at solver.now) t → most ≤ most_reach t → result ≤ most_reach t }
+    ensures close { (volts x : ℕ → ℤ) (t : ℕ) → HoldsResidual (standing net.now) volts x node.0 (number_at low.now node.0) (number_at high.now node.0) → IsSettledWithin (standing net.now) volts x t → most ≤ most_reach t → result ≤ most_reach t }
 {
     if net.live(node) {
-        let here = reach_at(net, volts, solver, node);
+        let here = reach_at(net, low, high, node);
         if here < most { most } else { here }
     } else {
         most
     }
 }
 
+/// The grains within which guesses are settled, whose residuals lie between the ends in `low` and `high`.
+fn reach_between(net: &Net, low: &[i128], high: &[i128]) -> u128
+    requires low_count { length low.now ≡ net.now.network.nodes }
+    requires high_count { length high.now ≡ net.now.network.nodes }
+    requires narrow { (k : ℕ) → (number_at high.now k -ℤ number_at low.now k) ≤ℤ pos (length (row_at net.now k)) }
+    requires ends { (k : ℕ) → IsWithin (diagonal (standing net.now) k * 2 ^ 86) (number_at low.now k) (number_at high.now k) }
+    ensures settled { (volts x : ℕ → ℤ) → HoldResiduals (standing net.now) volts x low.now high.now → IsSettledWithin (standing net.now) volts x result }
+    ensures small { result ≤ 2 ^ 99 }
+    ensures close { (volts x : ℕ → ℤ) (t : ℕ) → HoldResiduals (standing net.now) volts x low.now high.now → IsSettledWithin (standing net.now) volts x t → result ≤ most_reach t }
+{
+    let mut most: u128 = 0;
+    for node in 0..net.nodes() {
+        most = greater_reach(net, low, high, NodeId(node), most);
+    }
+    most
+}
+
 /// The grains within which the guesses are settled, as their residuals show: for each unit of a bound vector no
 /// solution is further from the guess at a node. They are hardly more than those within which the guesses are settled
-/// indeed.
-pub fn reach(net: &Net, volts: &Volts, solver: &Solver) -> u128
+/// indeed. The residuals go into `low` and `high`.
+pub fn reach(net: &Net, volts: &Volts, solver: &Solver, low: &mut [i128], high: &mut [i128]) -> u128
     requires volts { length volts.now ≡ length net.now.network.list }
     requires nodes { length solver.now ≡ net.now.network.nodes }
+    requires low_count { length low.old ≡ net.now.network.nodes }
+    requires high_count { length high.old ≡ net.now.network.nodes }
+    ensures low_count { length low.new ≡ length low.old }
+    ensures high_count { length high.new ≡ length high.old }
     ensures settled { IsSettledWithin (standing net.now) (number_at volts.now) (number_at solver.now) result }
     ensures small { result ≤ 2 ^ 99 }
     ensures close { (t : ℕ) → IsSettledWithin (standing net.now) (number_at volts.now) (number_at solver.now) t → result ≤ most_reach t }
 {
-    let mut most: u128 = 0;
-    for node in 0..net.nodes() {
-        most = greater_reach(net, volts, solver, NodeId(node), most);
-    }
-    most
+    residuals(net, volts, solver, low, high);
+    reach_between(net, low, high)
 }

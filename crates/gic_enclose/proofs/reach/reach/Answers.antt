@@ -1,35 +1,8 @@
-use Rattle.std.proofs.Common.{ℕ, arith, subst, sym, ⊎_elim}
-use Rattle.std.proofs.lemmas.Bool.{cases_eq}
-use Rattle.gic_model.specs.Standing.{IsLive}
 use Rattle.gic_model.specs.Voltages.{number_at}
-use Rattle.gic_model.specs.Guess.{IsSettledAt}
-use Rattle.gic_model.proofs.Ends.{live_within, standing_within}
-use Rattle.gic_net.specs.Net.{standing, stands}
-use Rattle.gic_enclose.proofs.Closeness.{settled_more}
 use Rattle.gic_enclose.proofs.reach.reach.Goals as goal
 
-pub loop-node-preserved : goal.loop-node-preserved
-loop-node-preserved c =
-    let net = standing c.args.net.now in
-    let v = number_at c.args.volts.now in
-    let x = number_at c.args.solver.now in
-    let i = c.loop-node.invariant in
-    let n = c.loop-node.node in
-    record {
-      settled = λ k h live. ⊎_elim
-          (λ e. subst (λ (j : ℕ). IsSettledAt net v x c.greater_reach-most.result j) (sym e) (c.greater_reach-most.ensures.settled (subst (IsLive net) e live)))
-          (λ d. settled_more net v x k c.loop-node.most c.greater_reach-most.result c.greater_reach-most.ensures.grows (i.settled k (omega (arith, h, d)) live))
-          (cases_eq k n);
-      small = c.greater_reach-most.ensures.small;
-      close = λ t h. c.greater_reach-most.ensures.close t h (i.close t h);
-    }
+pub returns-clause-settled : goal.returns-clause-settled
+returns-clause-settled c = c.reach_between.ensures.settled (number_at c.args.volts.now) (number_at c.args.solver.now) c.residuals.ensures.holds
 
-pub returns : goal.returns
-returns c =
-    let net = c.args.net.now in
-    let i = c.loop-node.invariant in
-    record {
-      settled = λ k live. i.settled k (omega (arith, c.loop-node-test.false, c.loop-node.auto.node-end, c.nodes-node-end.ensures.value, live_within net.network.nodes (standing net) k (standing_within net.network (stands net) c.nodes-node-end.ensures.limits) live)) live;
-      small = i.small;
-      close = i.close;
-    }
+pub returns-clause-close : goal.returns-clause-close
+returns-clause-close c = λ t h. c.reach_between.ensures.close (number_at c.args.volts.now) (number_at c.args.solver.now) t c.residuals.ensures.holds h

@@ -1,5 +1,7 @@
-use Rattle.std.proofs.Common.{◌≡◌, ℕ, ◌-◌, ◌*◌, ◌^◌, slice_index, subst, arith, ap}
+use Rattle.std.proofs.Common.{◌≡◌, ℕ, ℤ, List, length, ◌-◌, ◌*◌, ◌^◌, slice_index, subst, sym, arith, ap}
+use Rattle.gic_sweep.specs.Sweep.{IsSweep}
 use Rattle.gic_model.specs.Voltages.{number_at}
+use Rattle.gic_model.specs.Guess.{IsSettled}
 use Rattle.gic_net.specs.Net.{standing, stands}
 use Rattle.gic_converge.specs.Near.{IsNear}
 use Rattle.gic_enclose.proofs.Turns.{left, room, less, phase_done}
@@ -8,11 +10,11 @@ use Rattle.gic_enclose.proofs.settling.settle.Goals as goal
 pub loop-phase-init : goal.loop-phase-init
 loop-phase-init g c =
     let net = c.args.net.now in
-    let x = number_at c.args.solver.now in
+    let x = number_at c.improve.new.solver in
     record {
       near = (x, c.sweeps_converge_law.ensures.first net.network (stands net) (number_at c.args.volts.now) x (number_at c.sweep.new.solver) (slice_index c.args.bound.now) c.nodes-nodes.ensures.limits c.requires.bound c.count-voltages.ensures.limit c.count-guesses.ensures.cut c.sweep.ensures.sweep);
-      same_length = c.sweep.ensures.same_length;
-      ticks = omega (arith, c.sweep.ensures.tick);
+      same_length = omega (arith, c.sweep.ensures.same_length, c.improve.ensures.same_length);
+      ticks = omega (arith, c.sweep.ensures.tick, c.improve.ensures.ticks);
     }
 
 pub loop-turn-preserved : goal.loop-turn-preserved
@@ -25,11 +27,12 @@ loop-turn-preserved g c =
     let phase = c.loop-phase.phase in
     let turn = c.loop-turn.turn in
     let i = c.loop-turn.invariant in
+    let swept : IsSweep (standing net) volts y z = subst (λ (g : List ℤ). IsSweep (standing net) volts (number_at g) z) c.is_seen_settled.ensures.same c.sweep-in-loop-turn.ensures.sweep in
     let next = c.sweeps_converge_law.ensures.next net.network (stands net) volts i.near.0 y z v (left phase turn) (2 ^ (97 - phase)) c.nodes-nodes.ensures.limits c.requires.bound c.count-voltages.ensures.limit
-    (room phase turn c.loop-phase-test.true c.loop-turn-test.true) i.near.1 c.sweep-in-loop-turn.ensures.sweep in
+    (room phase turn c.loop-phase-test.true c.loop-turn-test.true) i.near.1 swept in
     record {
       near = (y, subst (λ (n : ℕ). IsNear (standing net) volts v n y z) (less phase turn c.loop-phase-test.true c.loop-turn-test.true) next);
-      same_length = omega (arith, c.sweep-in-loop-turn.ensures.same_length, i.same_length);
+      same_length = omega (arith, c.sweep-in-loop-turn.ensures.same_length, ap length c.is_seen_settled.ensures.same, i.same_length);
       ticks = omega (arith, c.sweep-in-loop-turn.ensures.tick, i.ticks);
     }
 
@@ -58,3 +61,7 @@ returns-clause-settled g c =
     let one : 8192 * 2 ^ (98 - c.loop-phase.phase) ≡ 8192 = ap (λ n. 8192 * 2 ^ (98 - n)) last in
     let near : IsNear (standing net) volts v 8192 i.near.0 y = subst (λ (n : ℕ). IsNear (standing net) volts v n i.near.0 y) one i.near.1 in
     c.sweeps_converge_law.ensures.last net.network (stands net) volts i.near.0 y v c.nodes-nodes.ensures.limits c.requires.bound c.count-voltages.ensures.limit near
+
+pub returns-then-is_seen_settled-clause-settled : goal.returns-then-is_seen_settled-clause-settled
+returns-then-is_seen_settled-clause-settled g c =
+    subst (λ (xs : List ℤ). IsSettled (standing c.args.net.now) (number_at c.args.volts.now) (number_at xs)) (sym c.is_seen_settled.ensures.same) (c.is_seen_settled.ensures.settled c.if-is_seen_settled.true)

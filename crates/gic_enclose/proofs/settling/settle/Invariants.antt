@@ -8,12 +8,12 @@ abbrev pub invariant-loop-phase : goal.invariant-loop-phase
 invariant-loop-phase g l = record {
   near : (x : ℕ → ℤ) × IsNear (standing l.net) (number_at l.volts) (slice_index l.bound) (8192 * 2 ^ (98 - l.phase)) x (number_at l.solver);
   same_length : length l.solver ≡ length l.fn.solver;
-  ticks : l.steps ≤ l.fn.steps + 1 + 8192 * l.phase;
+  ticks : l.steps ≤ l.fn.steps + 5 + 8192 * l.phase;
 }
 
 abbrev pub invariant-loop-turn : goal.invariant-loop-turn
 invariant-loop-turn g l = record {
   near : (x : ℕ → ℤ) × IsNear (standing l.net) (number_at l.volts) (slice_index l.bound) (8192 * 2 ^ (98 - l.phase) - l.turn * 2 ^ (97 - l.phase)) x (number_at l.solver);
   same_length : length l.solver ≡ length l.fn.solver;
-  ticks : l.steps ≤ l.fn.steps + 1 + 8192 * l.phase + l.turn;
+  ticks : l.steps ≤ l.fn.steps + 5 + 8192 * l.phase + l.turn;
 }

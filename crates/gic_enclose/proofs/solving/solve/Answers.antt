@@ -3,7 +3,7 @@ use Rattle.gic_model.specs.Voltages.{number_at}
 use Rattle.gic_model.proofs.Ends.{standing_within}
 use Rattle.gic_net.specs.Net.{standing, stands}
 use Rattle.gic_enclose.specs.Ends.{low_at, high_at}
-use Rattle.gic_enclose.proofs.Closeness.{settled_more}
+use Rattle.gic_sweep.proofs.Closeness.{settled_more}
 use Rattle.gic_enclose.proofs.Widths.{narrow_is_sharp}
 use Rattle.gic_enclose.proofs.solving.solve.Goals as goal
 

@@ -8,7 +8,7 @@ use Rattle.gic_net.specs.Net.{standing, stands}
 use Rattle.gic_sweep.specs.Sweep.{cut}
 use Rattle.gic_enclose.specs.Ends.{low_at, high_at}
 use Rattle.gic_enclose.specs.Bases.{combined_guess}
-use Rattle.gic_enclose.proofs.Closeness.{settled_more}
+use Rattle.gic_sweep.proofs.Closeness.{settled_more}
 use Rattle.gic_enclose.proofs.StepGuesses.{step_settled, guess_is, guess_small}
 use Rattle.gic_enclose.proofs.Widths.{narrow_is_sharp}
 use Rattle.gic_enclose.proofs.stepping.step_from_bases.Goals as goal
