@@ -62,7 +62,13 @@ pub fn current_na(
     let row = net.element(element);
     let from = potentials.get(row.from);
     let to = at_end(potentials, row.to);
-    ohms_law(row.times, row.micro_ohm, from, to, volts.get(element))
+    ohms_law(
+        row.times,
+        net.divisor(element),
+        from,
+        to,
+        volts.get(element),
+    )
 }
 
 /// Nanoamperes to milliamperes, rounded outward.

@@ -1,9 +1,11 @@
 //! Ohm's law over intervals.
-ghost use Rattle.std.specs.Prelude.{◌≡◌, ℕ, ◌*◌, ◌^◌, ◌≤◌, ℤ, pos, ◌+ℤ◌, ◌-ℤ◌, ◌*ℤ◌, ◌≤ℤ◌, unsigned_abs};
+ghost use Rattle.std.specs.Prelude.{◌≡◌, ℕ, ◌*◌, ◌^◌, ◌<◌, ◌≤◌, ℤ, pos, ◌+ℤ◌, ◌-ℤ◌, ◌*ℤ◌, ◌≤ℤ◌, unsigned_abs};
 ghost use Rattle.gic_fixed.specs.Encloses.{Encloses, IsWithin};
+ghost use Rattle.gic_fixed.specs.Rounding.{floor_div, ceil_div};
 ghost use Rattle.gic_model.specs.Voltages.{most_volts};
 ghost use Rattle.gic_effective.specs.Ohm.{OhmsLaw, drive_of, current_low, current_high};
 
+use gic_divide::Divisor;
 use gic_fixed::Interval;
 
 /// Grains in a nanovolt.
@@ -49,13 +51,6 @@ fn factor(times: u8) -> i128
     times as i128 * 1_000_000
 }
 
-/// A resistance in micro-ohm, times the grains in a nanovolt.
-fn divisor(micro_ohm: u32) -> i128
-    ensures { result ≡ pos (micro_ohm * 2 ^ 36) }
-{
-    micro_ohm as i128 * GRAINS
-}
-
 /// The products with a factor that is not below 0.
 fn raised(drive: Interval, factor: i128) -> Interval
     requires small { IsWithin (2 ^ 98) drive.lo drive.hi }
@@ -66,28 +61,42 @@ fn raised(drive: Interval, factor: i128) -> Interval
     drive.scale(factor)
 }
 
+/// The quotients by a resistance, rounded outward.
+fn over_ohms(product: Interval, divisor: Divisor) -> Interval
+    requires { 0 < divisor }
+    ensures low { result.lo ≡ floor_div product.lo (pos divisor) }
+    ensures high { result.hi ≡ ceil_div product.hi (pos divisor) }
+{
+    let low = divisor.floor(product.lo);
+    let high = divisor.rounded(product.hi);
+    Interval {
+        lo: low,
+        hi: high.hi,
+    }
+}
+
 /// The current in nanoamperes, rounded outward, of an element with this many parallel paths of this resistance, from the
 /// potentials of its ends in grains and its voltage in nanovolts.
 pub(crate) fn ohms_law(
     times: u8,
-    micro_ohm: u32,
+    divisor: Divisor,
     from: Interval,
     to: Interval,
     volts: i64,
 ) -> Interval
     requires times { times ≤ 3 }
-    requires resistance { 1000 ≤ micro_ohm }
+    requires resistance { 1000 ≤ divisor }
     requires from { IsWithin (2 ^ 96) from.lo from.hi }
     requires to { IsWithin (2 ^ 96) to.lo to.hi }
     requires volts { unsigned_abs volts ≤ most_volts }
-    ensures low { result.lo ≡ current_low times micro_ohm (drive_of from.lo to.hi volts) }
-    ensures high { result.hi ≡ current_high times micro_ohm (drive_of from.hi to.lo volts) }
+    ensures low { result.lo ≡ current_low times divisor (drive_of from.lo to.hi volts) }
+    ensures high { result.hi ≡ current_high times divisor (drive_of from.hi to.lo volts) }
     ensures holds { (p q current : ℤ) (denominator : ℕ) →
         Encloses from.lo from.hi (pos (2 ^ 36) *ℤ p) denominator →
         Encloses to.lo to.hi (pos (2 ^ 36) *ℤ q) denominator →
-        OhmsLaw times micro_ohm p q volts current denominator →
+        OhmsLaw times divisor p q volts current denominator →
         Encloses result.lo result.hi current denominator }
     ensures small { IsWithin (2 ^ 80) result.lo result.hi }
 {
-    raised(drive(from, to, push(volts)), factor(times)).div_out(divisor(micro_ohm))
+    over_ohms(raised(drive(from, to, push(volts)), factor(times)), divisor).div_out(GRAINS)
 }
