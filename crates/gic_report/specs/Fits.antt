@@ -17,9 +17,7 @@ pub record HasViewLengths (case : Lists) (view : View) : Type 0 where
 
 -- they are, and each transformer's interval has an absolute value
 pub record IsViewOf (case : Lists) (view : View) : Type 0 where
-  pub nodes : length view.nodes ≡ length (node_names case)
-  pub elements : length view.elements ≡ length (elements_of case).list
-  pub transformers : length view.effective ≡ length case.transformers
+  pub lengths : HasViewLengths case view
   pub ends_above : All HasAbsolute view.effective
 
 -- the ends are numbers of 128 bits

@@ -34,8 +34,8 @@ returns-clause-right c =
       threshold_is = c.threshold.ensures;
       view = right;
       narrow = c.in_ok-view.ensures.narrow;
-      absolutes = right_absolutes case all volts c.args.width shown c.in_ok-view.ensures.fits.transformers right c.in_ok-view.ensures.narrow;
+      absolutes = right_absolutes case all volts c.args.width shown c.in_ok-view.ensures.fits.lengths.transformers right c.in_ok-view.ensures.narrow;
       verdicts = true_verdicts case all volts c.threshold.result shown
           c.verdict_law.ensures.below c.verdict_law.ensures.reaches c.verdict_law.ensures.undecided
-          c.transformers-transformers.ensures.sound c.in_ok-view.ensures.fits.transformers right;
+          c.transformers-transformers.ensures.sound c.in_ok-view.ensures.fits.lengths.transformers right;
     }
