@@ -40,6 +40,12 @@ def rows(size, draws):
     return stations + buses + lines + units
 
 
-size, seed = [int(word) for word in sys.argv[1:3]] + [1000, 7][len(sys.argv[1:3]):]
-print('format = 1\n[[zone]]\nname = "Z"\nlatitude = 6000\nbeta = 100')
-print("\n".join(rows(size, Draws(seed))))
+def lines(size, seed):
+    """The lines of the text."""
+    yield 'format = 1\n[[zone]]\nname = "Z"\nlatitude = 6000\nbeta = 100'
+    yield from rows(size, Draws(seed))
+
+
+if __name__ == "__main__":
+    size, seed = [int(word) for word in sys.argv[1:3]] + [1000, 7][len(sys.argv[1:3]):]
+    print("\n".join(lines(size, seed)))

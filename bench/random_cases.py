@@ -1,19 +1,21 @@
 #!/usr/bin/env python3
 """Writes folders of random networks for `field`, one network a folder, to be checked by a solver of another make.
 
-    python3 bench/random_cases.py DIR [COUNT] [SEED] [NODES]
+    python3 bench/random_cases.py DIR [COUNT] [SEED] [NODES] [--limits]
 
 Each folder of DIR has the case `p`, often a list of switchings `s`, and the file `words` with the words of one run, one
 word a line. COUNT networks are written (100), the same ones for the same SEED (1), each of at most NODES nodes (200).
 Transformers are of all four kinds, with and without neutral resistors and blocking devices; some lines are blocked, some
 substations have no ground, and some networks are not earthed, or not well enough to be solved: then the answer is a
-refusal. Three networks in four are made so that each bus has a way to earth before anything is switched.
+refusal. Three networks in four are made so that each bus has a way to earth before anything is switched. With --limits
+all resistances are near one of the two ends of their range.
 """
 
 import os
 import random
 import sys
 
+AT_LIMITS = "--limits" in sys.argv
 KINDS = ["delta-wye", "wye-wye", "auto", "delta-delta"]
 
 
@@ -23,7 +25,9 @@ def resistance(draw, least=1000, most=1000000000):
 
 
 def usual(draw, least, most):
-    """Mostly in a usual range, and at times anywhere within the limits."""
+    """Mostly in a usual range, and at times anywhere within the limits; or at both ends of the limits."""
+    if AT_LIMITS:
+        return draw.choice([1000, 1000, 1001, 2000, 999999999, 1000000000])
     return resistance(draw) if draw.random() < 0.04 else draw.randint(least, most)
 
 
@@ -121,7 +125,8 @@ def switchings(draw, items, resistors):
 
 def main():
     folder = sys.argv[1]
-    count, seed, nodes = [int(word) for word in sys.argv[2:5]] + [100, 1, 200][len(sys.argv[2:5]):]
+    numbers = [int(word) for word in sys.argv[2:] if word != "--limits"]
+    count, seed, nodes = numbers + [100, 1, 200][len(numbers):]
     for place in range(count):
         draw = random.Random(seed * 1000003 + place)
         text, items, resistors = network(draw, draw.randint(2, nodes))

@@ -1,42 +1,46 @@
 #!/bin/sh
-# Builds bench/solver.txt as a program over the crates of this repository, in a scratch copy, and runs it on four cases.
-# It needs the commands `rt` and `python3`, and some minutes, since it proves what it builds.
+# Builds the programs of bench/solver over the crates of this repository, in a scratch copy, runs them on ten cases, and
+# prints a table. Beside them it runs the solvers of bench/baselines for which the tools are installed.
+#
+#     bench/solver.sh [FOLDER]
+#
+# FOLDER is the scratch copy; where it is not given, one is made and taken away. It needs the commands `rt` and
+# `python3`, and some minutes, since it proves what it builds. The machine should have nothing else to do.
 set -eu
 top=$(cd "$(dirname "$0")/.." && pwd)
-scratch=$(mktemp -d)
-trap 'rm -rf "$scratch"' EXIT
-crate=$scratch/crates/gic_bench
+bench=$top/bench
+if [ $# -gt 0 ]; then
+	scratch=$1
+	mkdir -p "$scratch"
+else
+	scratch=$(mktemp -d)
+	trap 'rm -rf "$scratch"' EXIT
+fi
+binary=$scratch/crates/gic_bench/out/gic_bench
 
-tar -C "$top" --exclude=out -cf - crates crates.txt HANDLES | tar -C "$scratch" -xf -
-mkdir -p "$crate/src"
-cp "$top/bench/solver.txt" "$crate/src/main.rt"
-echo 'gic_bench: gic_base gic_fixed gic_case gic_model gic_winding gic_net gic_induce gic_sweep gic_bound gic_enclose gic_effective' >>"$scratch/crates.txt"
-python3 "$top/bench/solver_cases.py" "$top/crates/gic_examples/src/realistic.rt" "$scratch"
+if [ ! -x "$binary" ]; then
+	tar -C "$top" --exclude=out -cf - crates crates.txt HANDLES | tar -C "$scratch" -xf -
+	python3 "$bench/solver/make_crate.py" "$scratch"
+	(cd "$scratch/crates/gic_bench" && rt run >/dev/null)
+fi
+python3 "$bench/solver_cases.py" "$top/crates/gic_examples/src/realistic.rt" "$scratch"
 
-# What the proofs need: what two loops keep, and the name of a counter.
-proof() {
-	mkdir -p "$crate/proofs/$1"
-	{
-		echo 'use Rattle.std.proofs.Common.{◌≡◌, length}'
-		echo "use Rattle.gic_bench.proofs.$1.Given as goal"
-		cat
-	} >"$crate/proofs/$1/Invariants.antt"
+# A baseline that can't be built or run has no figure.
+cc -O2 "$bench/baselines/direct.c" -o "$scratch/direct" -lcholmod -lm 2>/dev/null || true
+cc -O2 "$bench/baselines/ball.c" -o "$scratch/ball" -lflint-arb -lflint 2>/dev/null || true
+baseline() {
+	figure=$("$@" 2>/dev/null | grep -E '^[0-9]+$') || figure=-
+	echo "$figure"
 }
-proof north_fields <<'end'
-abbrev pub invariant-loop-zone : goal.invariant-loop-zone
-invariant-loop-zone l = length l.fields ≡ l.zones
-end
-proof sweeps_to_settled <<'end'
-abbrev pub invariant-loop-sweeps : goal.invariant-loop-sweeps
-invariant-loop-sweeps g l = length l.solver ≡ length l.fn.solver
-end
-proof measured <<'end'
-abbrev pub ghosts-settle : goal.ghosts-settle
-ghosts-settle a = record { name = a.blank.name; parts = a.blank.parts }
 
-abbrev pub ghosts-sweeps_to_settled : goal.ghosts-sweeps_to_settled
-ghosts-sweeps_to_settled a = record { name = a.blank.name; parts = a.blank.parts }
-end
-
-cd "$crate"
-rt run -- "$scratch/p.toml" "$scratch/realistic.toml" "$scratch/ps.toml" "$scratch/chain.toml"
+for name in p realistic ps made-20 made-200 made-2000 row chain limit far-small far; do
+	measures=$("$binary" "$scratch/$name.toml")
+	"$binary" network "$scratch/$name.toml" >"$scratch/$name.net"
+	direct=$(baseline "$scratch/direct" "$scratch/$name.net")
+	ball=- interval=-
+	if [ "$(head -n 1 "$scratch/$name.net")" -le 200 ]; then
+		ball=$(baseline "$scratch/ball" "$scratch/$name.net")
+		interval=$(baseline octave --no-gui --quiet "$bench/baselines/interval.m" "$scratch/$name.net")
+	fi
+	echo "case $name $measures direct $direct ball $ball interval $interval"
+done | tee "$scratch/figures.txt" | python3 "$bench/table.py"

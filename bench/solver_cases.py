@@ -1,13 +1,16 @@
 #!/usr/bin/env python3
-"""Writes the four cases that solver.sh times into a folder: p.toml, realistic.toml, ps.toml and chain.toml.
+"""Writes the cases that solver.sh times into a folder, each as NAME.toml.
 
     python3 solver_cases.py ../crates/gic_examples/src/realistic.rt FOLDER
 
-The realistic case is taken from the examples of the repository. The numbers of all four belong to no real network.
+The realistic case is taken from the examples of the repository. The numbers of all cases belong to no real network.
 """
 
 import pathlib
 import sys
+
+import limit_case
+import made_case
 
 ZONE = 'format = 1\nzone = [{ name = "Z", latitude = 6000, beta = 100 }]\n'
 
@@ -39,11 +42,21 @@ def loop(number, ground, resistance, winding):
     return "".join(parts)
 
 
-def chain(buses):
+def row(buses):
     """A ground of 1 ohm at one end, and 240 siemens from each node to the next: the walk of 8 buses is 3905."""
     parts = [substation("S", 1000000), transformer("T", "b0", 12500), bus("b0", "S")]
     for place in range(1, buses):
         parts += [bus(f"b{place}", "S"), line(f"L{place}", f"b{place - 1}", f"b{place}", 12500)]
+    return "".join(parts)
+
+
+def chain(stations, ground):
+    """Substations in a row, each with a weak ground and a transformer, and strong lines from each to the next."""
+    parts = []
+    for place in range(stations):
+        parts += [substation(f"S{place}", ground), bus(f"b{place}", f"S{place}"), transformer(f"T{place}", f"b{place}", 150000)]
+        if place:
+            parts.append(line(f"L{place}", f"b{place - 1}", f"b{place}", 100000))
     return "".join(parts)
 
 
@@ -52,15 +65,22 @@ def realistic(path):
     return source.split('REALISTIC_CASE: &str = "')[1].split('";')[0].replace('\\"', '"')
 
 
+def cases(source):
+    yield "p", ZONE + loop("", 1000000, 3000000, 300000)
+    yield "realistic", realistic(source)
+    yield "ps", ZONE + "".join(loop(str(i), 5000000, 269970000, 15000) for i in range(20))
+    for stations in 10, 100, 1000:
+        yield f"made-{2 * stations}", "\n".join(made_case.lines(stations, 7))
+    yield "row", ZONE + row(8)
+    yield "chain", ZONE + chain(1000, 38000000)
+    yield "limit", "\n".join(limit_case.rows())
+    yield "far-small", "\n".join(limit_case.rows(128, 4165000))
+    yield "far", "\n".join(limit_case.rows(1024, 3900000))
+
+
 def main():
     source, folder = sys.argv[1], pathlib.Path(sys.argv[2])
-    cases = {
-        "p": ZONE + loop("", 1000000, 3000000, 300000),
-        "realistic": realistic(source),
-        "ps": ZONE + "".join(loop(str(i), 5000000, 269970000, 15000) for i in range(20)),
-        "chain": ZONE + chain(8),
-    }
-    for name, text in cases.items():
+    for name, text in cases(source):
         (folder / f"{name}.toml").write_text(text)
 
 
