@@ -1,5 +1,5 @@
 #!/bin/sh
-# Builds the programs of bench/solver over the crates of this repository, in a scratch copy, runs them on ten cases, and
+# Builds the program of bench/solver over the crates of this repository, in a scratch copy, runs it on eleven cases, and
 # prints a table. Beside them it runs the solvers of bench/baselines for which the tools are installed.
 #
 #     bench/solver.sh [FOLDER]
