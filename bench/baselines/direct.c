@@ -5,35 +5,17 @@
  * It reads what the benchmark's word `network` prints, and prints the least time of some turns in nanoseconds: putting
  * the matrix together, ordering, factoring, solving, and the currents of all elements.
  */
-#include <stdint.h>
-#include <stdio.h>
-#include <stdlib.h>
+#include "network.h"
 #include <suitesparse/cholmod.h>
-#include <time.h>
 
-enum { EARTH = 65535, MOST = 20000 };
-
-static int nodes, count, from[MOST], to[MOST], live[EARTH + 1];
 static double siemens[MOST], volts[MOST];
 
-static void read_network(const char *path) {
-    FILE *file = fopen(path, "r");
-    long times, micro_ohm, nanovolts;
-    if (!file || fscanf(file, "%d", &nodes) != 1) exit(2);
-    while (count < MOST
-           && fscanf(file, "%d %d %ld %ld %ld", &from[count], &to[count], &times, &micro_ohm, &nanovolts) == 5) {
-        siemens[count] = times * 1e6 / micro_ohm;
-        volts[count] = nanovolts * 1e-9;
-        live[from[count]] = live[to[count]] = 1;
-        count++;
+/* The conductances and the voltages of the elements in doubles. */
+static void take_doubles(void) {
+    for (int e = 0; e < count; e++) {
+        siemens[e] = times[e] * 1e6 / micro_ohm[e];
+        volts[e] = nanovolts[e] * 1e-9;
     }
-    fclose(file);
-}
-
-static int64_t now(void) {
-    struct timespec time;
-    clock_gettime(CLOCK_MONOTONIC, &time);
-    return time.tv_sec * (int64_t)1000000000 + time.tv_nsec;
 }
 
 /* The currents of all elements, added up. */
@@ -82,6 +64,7 @@ int main(int argc, char **argv) {
     volatile double sum = 0;
     if (argc < 2) return 2;
     read_network(argv[1]);
+    take_doubles();
     cholmod_start(&common);
     for (int turn = argc > 2 ? atoi(argv[2]) : 15; turn > 0; turn--) {
         int64_t start = now();
