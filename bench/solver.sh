@@ -5,7 +5,7 @@
 #     bench/solver.sh [FOLDER]
 #
 # FOLDER is the scratch copy; where it is not given, one is made and taken away. It needs the commands `rt` and
-# `python3`, and some minutes, since it proves what it builds. The machine should have nothing else to do.
+# `python3`, and a quarter of an hour, since it proves what it builds. The machine should have nothing else to do.
 set -eu
 top=$(cd "$(dirname "$0")/.." && pwd)
 bench=$top/bench
