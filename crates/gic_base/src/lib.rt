@@ -4,13 +4,15 @@
 
 mod id;
 mod library;
+pub mod limits;
 mod memory_library;
 mod memory_sink;
 mod name;
 mod sink;
 
 pub use id::{ElementId, NodeId};
-pub use library::{FetchRefusal, LIMIT, Library, OutOfMemory, read_whole};
+pub use library::{FetchRefusal, Library, OutOfMemory, read_whole};
+pub use limits::LIMIT;
 pub use memory_library::{MemoryLibrary, failed_fetch};
 pub use memory_sink::{MemorySink, NullSink};
 pub use name::Name;

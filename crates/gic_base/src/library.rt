@@ -6,7 +6,8 @@ ghost use Rattle.std.specs.Io.{StartsWith};
 ghost use Rattle.gic_base.specs.Files.{Files};
 ghost use Rattle.gic_base.specs.Fetches.{failures_after};
 
-use std::alloc::Global;
+use crate::limits::LIMIT;
+use std::alloc::{AllocError, AllocFailed, Global};
 
 /// Why a fetch gave nothing.
 #[derive(Clone, Copy, Debug, PartialEq, Eq)]
@@ -22,6 +23,18 @@ pub enum FetchRefusal {
 /// Want of memory, where nothing else can be refused.
 #[derive(Clone, Copy, Debug, PartialEq, Eq)]
 pub struct OutOfMemory;
+
+impl From<AllocError> for OutOfMemory {
+    fn from(_refusal: AllocError) -> OutOfMemory {
+        OutOfMemory
+    }
+}
+
+impl<T: Drop> From<AllocFailed<T>> for OutOfMemory {
+    fn from(_refusal: AllocFailed<T>) -> OutOfMemory {
+        OutOfMemory
+    }
+}
 
 /// Files by name. A library that tells its content lets a contract say what was read.
 pub trait Library {
@@ -45,9 +58,6 @@ pub trait Library {
         ensures front { IsErrOf result FetchRefusal.TooLong → IfSome (content self.old) (λ files.
             IsSomeAnd (get files name.now) (λ bytes. StartsWith bytes into.new.items)) };
 }
-
-/// The longest input that is read, in bytes.
-pub const LIMIT: usize = 16777216;
 
 /// One fetch of a whole file, of at most [`LIMIT`] bytes. A refused call hands nothing out.
 pub fn read_whole<L: Library>(

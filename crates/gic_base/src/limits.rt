@@ -1,0 +1,47 @@
+//! The limits of the program, each once, with where it comes from.
+
+/// The longest input that is read, in bytes: 16 MiB.
+pub const LIMIT: usize = 16777216;
+
+/// The zones of a case, by the case format.
+pub const MOST_ZONES: usize = 256;
+
+/// The substations of a case, by the case format.
+pub const MOST_SUBSTATIONS: usize = 1024;
+
+/// The buses of a case, by the case format: three a substation.
+pub const MOST_BUSES: usize = 3072;
+
+/// The lines of a case, by the case format.
+pub const MOST_LINES: usize = 8192;
+
+/// The transformers of a case, by the case format.
+pub const MOST_TRANSFORMERS: usize = 3584;
+
+/// The nodes of a network: a substation, a bus and a transformer's neutral each make at most one.
+pub const MOST_NODES: usize = MOST_SUBSTATIONS + MOST_BUSES + MOST_TRANSFORMERS;
+
+/// The elements of a network: a substation makes one earthing, a line one element, a transformer two windings and a
+/// neutral resistor at most.
+pub const MOST_ELEMENTS: usize = MOST_SUBSTATIONS
+    + MOST_LINES
+    + 2 * MOST_TRANSFORMERS
+    + MOST_TRANSFORMERS;
+
+/// The elements that end at a node, by the case format.
+pub const MOST_AT_A_NODE: usize = 256;
+
+/// The greatest entry of a bound vector over which a network is solved: how far a node may lie from earth.
+pub const MOST_WALK: u16 = 4096;
+
+/// The entry of a capped vector that says *further than [`MOST_WALK`]*: one more.
+pub const FULL_WALK: u16 = MOST_WALK + 1;
+
+/// The greatest part of a field to the north or to the east, either way, in mV/km.
+pub const MOST_FIELD: u32 = 20000;
+
+/// The rows of a storm, by the storm format.
+pub const MOST_ROWS: usize = 20000;
+
+/// The rows of a switching list, by the switching format.
+pub const MOST_SWITCHINGS: usize = 4096;
