@@ -1,11 +1,11 @@
 //! Square roots rounded down or up.
-ghost use Rattle.std.specs.Prelude.{ℕ, ◌+◌, ◌*◌, ◌^◌, ◌<◌, ◌≤◌};
+ghost use Rattle.std.specs.Prelude.{◌^◌, ◌<◌};
+ghost use Rattle.gic_fixed.specs.Roots.{IsFloorRoot, IsCeilRoot};
 
 /// The square root of `a`, rounded down: the greatest whole number whose square is not above `a`.
 pub fn isqrt_floor(a: u128) -> u128
     requires { a < 2 ^ 126 }
-    ensures square { result * result ≤ a }
-    ensures next { a < (result + 1) * (result + 1) }
+    ensures { IsFloorRoot a result }
 {
     a.isqrt()
 }
@@ -13,8 +13,7 @@ pub fn isqrt_floor(a: u128) -> u128
 /// The square root of `a`, rounded up: the least whole number whose square is not below `a`.
 pub fn isqrt_ceil(a: u128) -> u128
     requires { a < 2 ^ 126 }
-    ensures square { a ≤ result * result }
-    ensures least { (k : ℕ) → a ≤ k * k → result ≤ k }
+    ensures { IsCeilRoot a result }
 {
     let down = a.isqrt();
     if down * down == a { down } else { down + 1 }

@@ -4,6 +4,7 @@ use Rattle.std.specs.List.{AllByRecursion, count_by}
 use Rattle.gic_model.specs.declared.parts.End.{End}
 use Rattle.gic_model.specs.declared.parts.End.TheVariants.{Node, Earth}
 use Rattle.gic_model.specs.declared.parts.Element.{Element}
+use Rattle.gic_base.specs.declared.limits.TheConstants.{MOST_NODES, MOST_ELEMENTS, MOST_AT_A_NODE}
 
 -- how many nodes there are, and the elements in the order of their places
 pub record Network : Type 0 where
@@ -33,9 +34,9 @@ pub record IsElementWithin (nodes : ℕ) (e : Element) : Type 0 where
   pub least_ohm : 1000 ≤ e.micro_ohm
   pub most_ohm : e.micro_ohm ≤ 1000000000
 
--- the network is within the limits, and no node has more than 256 elements
+-- the network is within the limits, also in how many elements end at a node
 pub record IsWithinLimits (n : Network) : Type 0 where
-  pub few_nodes : n.nodes ≤ 7680
-  pub few_elements : length n.list ≤ 19968
+  pub few_nodes : n.nodes ≤ MOST_NODES
+  pub few_elements : length n.list ≤ MOST_ELEMENTS
   pub each_element : AllByRecursion (IsElementWithin n.nodes) n.list
-  pub few_at_a_node : (k : ℕ) → k < n.nodes → count_by (λ e. ends_at e k) n.list ≤ 256
+  pub few_at_a_node : (k : ℕ) → k < n.nodes → count_by (λ e. ends_at e k) n.list ≤ MOST_AT_A_NODE

@@ -1,22 +1,11 @@
 -- The view of a step, with each interval as its two ends.
-use Rattle.std.specs.Prelude.{ℕ, ◌^◌, ◌<◌, List, replicate, ℤ, pos, Option, None, Some, slice_index_or}
+use Rattle.std.specs.Prelude.{ℕ, ◌^◌, ◌<◌, List, replicate, Option, None, Some, slice_index_or}
 use Rattle.gic_fixed.specs.declared.interval.Interval.{Interval}
-
--- the two ends of an interval
-pub record Ends : Type 0 where
-  pub low : ℤ
-  pub high : ℤ
-
-abbrev pub ends_of : Interval → Ends
-ends_of interval = record { low = interval.lo; high = interval.hi }
+pub use Rattle.gic_fixed.specs.Ends.{Ends, ends_of, no_ends as nought}
 
 abbrev pub optional_ends : Option Interval → Option Ends
 optional_ends None = None
 optional_ends (Some interval) = Some (ends_of interval)
-
--- the interval that holds 0 alone
-abbrev pub nought : Ends
-nought = record { low = pos 0; high = pos 0 }
 
 -- a step's number and time, an interval for each node in mV where it is live, for each element in mA where it stands,
 -- and for each transformer, signed, in mA per phase

@@ -4,7 +4,8 @@ use Rattle.std.proofs.lemmas.Int.{ints, clamps}
 use Rattle.gic_fixed.specs.Rounding.{least_abs, greatest_abs}
 use Rattle.gic_fixed.specs.Encloses.{Encloses}
 use Rattle.gic_fixed.proofs.Enclosures.{Encloses-abs}
-use Rattle.gic_screen.specs.Worst.{square_of, IsFloorRoot, IsCeilRoot, EnclosesWorst}
+use Rattle.gic_fixed.specs.Roots.{IsFloorRoot, IsCeilRoot}
+use Rattle.gic_screen.specs.Worst.{square_of, EnclosesWorst}
 use Rattle.gic_screen.proofs.Squares.{square-le, square-le-back, square-times, sum_above, sum_below, length_grows}
 
 -- the same roots of the same numbers

@@ -5,16 +5,6 @@ use Rattle.std.specs.Prelude.{ℕ, ◌+◌, ◌*◌, ◌<◌, ◌≤◌, ℤ, po
 abbrev pub square_of : ℤ → ℕ
 square_of z = unsigned_abs z * unsigned_abs z
 
--- the square root of a, rounded down
-pub record IsFloorRoot (a root : ℕ) : Type 0 where
-  pub square : root * root ≤ a
-  pub next : a < (root + 1) * (root + 1)
-
--- the square root of a, rounded up
-pub record IsCeilRoot (a root : ℕ) : Type 0 where
-  pub square : a ≤ root * root
-  pub least : (k : ℕ) → a ≤ k * k → root ≤ k
-
 -- lo² ≤ (n/d)² + (m/e)² ≤ hi², where lo is not below 0: the interval encloses the worst current of n/d and m/e
 pub record EnclosesWorst (lo hi n : ℤ) (d : ℕ) (m : ℤ) (e : ℕ) : Type 0 where
   pub not_negative : pos 0 ≤ℤ lo

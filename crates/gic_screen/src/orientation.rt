@@ -2,7 +2,8 @@
 ghost use Rattle.std.specs.Prelude.{◌≡◌, ℕ, ◌+◌, ◌*◌, ◌^◌, ◌<◌, ◌≤◌, ℤ, pos, ◌-ℤ◌, ◌≤ℤ◌, unsigned_abs};
 ghost use Rattle.gic_fixed.specs.Rounding.{least_abs, greatest_abs};
 ghost use Rattle.gic_fixed.specs.Encloses.{Encloses, IsWithin};
-ghost use Rattle.gic_screen.specs.Worst.{square_of, IsFloorRoot, IsCeilRoot, EnclosesWorst};
+ghost use Rattle.gic_fixed.specs.Roots.{IsFloorRoot, IsCeilRoot};
+ghost use Rattle.gic_screen.specs.Worst.{square_of, EnclosesWorst};
 
 use gic_fixed::{Interval, isqrt_ceil, isqrt_floor};
 
@@ -25,13 +26,6 @@ fn floor_length(a: i128, b: i128) -> i128
     isqrt_floor(square(a) + square(b)) as i128
 }
 
-fn ceil_root(a: u128) -> u128
-    requires { a < 2 ^ 126 }
-    ensures { IsCeilRoot a result }
-{
-    isqrt_ceil(a)
-}
-
 /// The root of the sum of two squares, rounded up.
 fn ceil_length(a: i128, b: i128) -> i128
     requires a { unsigned_abs a ≤ 2 ^ 62 }
@@ -39,7 +33,7 @@ fn ceil_length(a: i128, b: i128) -> i128
     ensures sign { pos 0 ≤ℤ result }
     ensures root { IsCeilRoot (square_of a + square_of b) (unsigned_abs result) }
 {
-    ceil_root(square(a) + square(b)) as i128
+    isqrt_ceil(square(a) + square(b)) as i128
 }
 
 /// The absolute current for the worst orientation of a uniform field, from the signed currents for the field to the

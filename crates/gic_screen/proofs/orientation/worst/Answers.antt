@@ -1,6 +1,7 @@
 use Rattle.std.proofs.Common.{◌≡◌, ◌+◌, ◌≤ℤ◌, pos, unsigned_abs, arith, rules, subst, sym}
 use Rattle.std.proofs.lemmas.Int.{ints, clamps}
-use Rattle.gic_screen.specs.Worst.{square_of, IsFloorRoot, IsCeilRoot}
+use Rattle.gic_fixed.specs.Roots.{IsFloorRoot, IsCeilRoot}
+use Rattle.gic_screen.specs.Worst.{square_of}
 use Rattle.gic_screen.proofs.Worsts.{floor_root_same, ceil_root_same, lengths_in_order, least_not_negative, worst_holds, worst_narrow}
 use Rattle.gic_screen.proofs.orientation.worst.Goals as goal
 
