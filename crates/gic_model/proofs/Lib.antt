@@ -12,4 +12,6 @@ pub mod Certificate
 pub mod Pushes
 pub mod Superposition
 pub mod Agreement
+pub mod Items
+pub mod LastRow
 pub mod Switched

@@ -1,12 +1,12 @@
 -- Open items that rows change one by one.
-use Rattle.std.proofs.Common.{◌≡◌, ℕ, Bool, true, false, cond, not, ◌&&◌, ◌||◌, ◌==◌, List, [], ◌∷◌, ◌++◌, reverse, Option, Some, None, refl, ap, sym, ◌∙◌, eqb-true, eq-eqb}
+use Rattle.std.proofs.Common.{◌≡◌, ℕ, Bool, true, false, cond, not, ◌&&◌, ◌||◌, ◌==◌, List, [], ◌∷◌, reverse, Option, Some, None, refl, ap, sym, ◌∙◌, eqb-true, eq-eqb}
 use Rattle.std.specs.List.{find, list_any, enumerate_from, AllByRecursion}
 use Rattle.std.specs.Option.{option_map_or, option_or}
 use Rattle.std.specs.Ordering.{nat_cmp}
 use Rattle.std.specs.FinSet.{contains, insert, remove, empty, contains-insert, contains-remove, contains-empty}
 use Rattle.std.specs.Cmp.{nat_cmp_total, unsigned_tied, nat_eq_equiv}
 use Rattle.std.proofs.lemmas.List.Folds.{find-append}
-use mathlib.Core.List.{reverse-cons, reverse-append}
+use mathlib.Core.List.{reverse-cons}
 use Rattle.gic_model.specs.declared.parts.Item.{Item}
 use Rattle.gic_model.specs.declared.parts.Switching.{Switching}
 use Rattle.gic_model.specs.Network.{Network}
@@ -82,14 +82,3 @@ row_by_row network rows =
     (λ e has. items_by_row network rows e.item (has (item_number e.item) (eq-eqb (item_number e.item) (item_number e.item) refl)))
     network.list
     (for_each (λ m e. (item_number e.item == m) ≡ true → list_any (λ x. item_number x.item == m) network.list ≡ true) network.list (λ m. any_of_each (λ x. item_number x.item == m) network.list)))
-
--- the last row of all
-some_row : (row : Switching) (same : Bool) (o : Option Switching) → option_map_or (λ r. not r.opens) (option_or (cond same (Some row) None) o) true ≡ cond same (not row.opens) (option_map_or (λ r. not r.opens) o true)
-some_row row true o = refl
-some_row row false o = refl
-
-pub last_row : (rows : List Switching) (row : Switching) (item : Item) → stands_after (rows ++ row ∷ []) item ≡ cond (is_item row.item item) (not row.opens) (stands_after rows item)
-last_row rows row item =
-    ap (λ ys. option_map_or (λ r. not r.opens) (find (λ r. is_item r.item item) ys) true) (reverse-append rows (row ∷ [])) ∙
-    ap (λ o. option_map_or (λ r. not r.opens) o true) (find-append (λ r. is_item r.item item) (row ∷ []) (reverse rows)) ∙
-    some_row row (is_item row.item item) (find (λ r. is_item r.item item) (reverse rows))

@@ -1,5 +1,6 @@
 -- Bound vectors, which say how far a node can lie from earth.
 use Rattle.std.specs.Prelude.{ℕ, ◌≡◌, ◌≤◌, ◌<◌, ◌*◌, ◌^◌, List, IsFalse, ℤ, pos, ◌-ℤ◌, ◌*ℤ◌, ◌≤ℤ◌}
+use Rattle.gic_base.specs.declared.limits.TheConstants.{FULL_WALK}
 use Rattle.gic_fixed.specs.Rounding.{floor_div}
 use Rattle.gic_model.specs.Standing.{is_live, IsLive, elements_at, other_end, value_at}
 use Rattle.gic_model.specs.Sums.{Placed, sum_of}
@@ -27,12 +28,12 @@ pub record IsEarthedWithin (standing : List Placed) (m : ℕ) : Type 0 where
   pub bound : IsBoundVector standing entries
   pub none_above : (k : ℕ) → entries k ≤ m
 
--- from 1 to 4097 at each live node and 0 elsewhere, with the row rule at each live node whose entry is below 4097
+-- from 1 to `FULL_WALK` at each live node and 0 elsewhere, with the row rule at each live node whose entry is below `FULL_WALK`
 pub record IsCappedVector (standing : List Placed) (v : ℕ → ℕ) : Type 0 where
   pub live_above_0 : (k : ℕ) → IsLive standing k → 1 ≤ v k
-  pub capped : (k : ℕ) → v k ≤ 4097
+  pub capped : (k : ℕ) → v k ≤ FULL_WALK
   pub dead_0 : (k : ℕ) → IsFalse (is_live standing k) → v k ≡ 0
-  pub rows : (k : ℕ) → IsLive standing k → v k < 4097 → IsRowPositive standing v k
+  pub rows : (k : ℕ) → IsLive standing k → v k < FULL_WALK → IsRowPositive standing v k
 
 -- the capped vector that is at no node above any other capped vector
 pub record IsLeastCappedVector (standing : List Placed) (v : ℕ → ℕ) : Type 0 where

@@ -1,5 +1,5 @@
 -- A node is earthed where a chain of standing elements leads from it to earth.
-use Rattle.std.specs.Prelude.{ℕ, ◌==◌, Bool, true, false, ◌&&◌, ◌||◌, List, [], ◌∷◌, IsTrue}
+use Rattle.std.specs.Prelude.{ℕ, ◌<◌, ◌==◌, Bool, true, false, ◌&&◌, ◌||◌, List, [], ◌∷◌, IsTrue}
 use Rattle.std.specs.List.{list_any}
 use Rattle.gic_model.specs.declared.parts.End.{End}
 use Rattle.gic_model.specs.declared.parts.End.TheVariants.{Node, Earth}
@@ -35,3 +35,13 @@ pub record IsEarthed (standing : List Placed) (k : ℕ) : Type 0 where
   pub live : IsLive standing k
   pub over : List ℕ
   pub chain : IsChainToEarth standing k over
+
+-- each live node is earthed
+abbrev pub AreEarthed : List Placed → Type 0
+AreEarthed standing = (k : ℕ) → IsLive standing k → IsEarthed standing k
+
+-- the first live node, in node order, that is not earthed
+pub record IsFirstUnearthed (standing : List Placed) (k : ℕ) : Type 0 where
+  pub live : IsLive standing k
+  pub unearthed : ¬ IsEarthed standing k
+  pub first : (j : ℕ) → j < k → IsLive standing j → IsEarthed standing j

@@ -1,10 +1,18 @@
 -- Guesses of the potentials in grains of 2^-36 nanovolt, and how far Kirchhoff's law is missed over them.
-use Rattle.std.specs.Prelude.{ℕ, ◌*◌, ◌/◌, ◌^◌, ◌≤◌, List, ℤ, pos, ◌+ℤ◌, ◌-ℤ◌, ◌*ℤ◌, ◌≤ℤ◌, unsigned_abs}
+use Rattle.std.specs.Prelude.{ℕ, ◌*◌, ◌^◌, ◌≤◌, List, ℤ, pos, ◌+ℤ◌, ◌-ℤ◌, ◌*ℤ◌, ◌≤ℤ◌, unsigned_abs}
 use Rattle.std.specs.List.{sum_by}
-use Rattle.std.specs.Int.{div_ceil}
 use Rattle.gic_model.specs.Standing.{IsLive, elements_at, value_at, leaving}
 use Rattle.gic_model.specs.Sums.{Placed, sum_of, product_of_ohms, sum_over_ohms}
+use Rattle.gic_model.specs.Conductance.{conductance_down, conductance_up}
 use Rattle.gic_fixed.specs.Rounding.{floor_div, ceil_div}
+
+-- no guess is beyond this in grains, either way; the sweeps and the corrections cut it so
+abbrev pub most_guess : ℕ
+most_guess = 2 ^ 96
+
+-- no potential is beyond this in grains, either way, nor is a settled guess, where a network is earthed within `MOST_WALK`
+abbrev pub most_potential : ℕ
+most_potential = 2 ^ 94
 
 -- the product of the resistances of the standing elements at the node k
 abbrev pub ohms_at : List Placed → ℕ → ℕ
@@ -42,11 +50,11 @@ pub record HoldsResidual (standing : List Placed) (volts x : ℕ → ℤ) (k : �
 
 -- the conductance at the node k in units of 2^-20 siemens, each element's part rounded down
 abbrev pub least_conductance : List Placed → ℕ → ℕ
-least_conductance standing k = sum_by (λ p. p.1.times * 1000000 * 2 ^ 20 / p.1.micro_ohm) (elements_at standing k)
+least_conductance standing k = sum_by (λ p. conductance_down p.1) (elements_at standing k)
 
 -- the same with each part rounded up
 abbrev pub diagonal : List Placed → ℕ → ℕ
-diagonal standing k = sum_by (λ p. div_ceil (p.1.times * 1000000 * 2 ^ 20) p.1.micro_ohm) (elements_at standing k)
+diagonal standing k = sum_by (λ p. conductance_up p.1) (elements_at standing k)
 
 -- one element's part of the residual in units of 2^-44 nanoampere, times R
 abbrev pub part_times_ohms : (ℕ → ℤ) → (ℕ → ℤ) → ℕ → Placed → ℤ

@@ -5,6 +5,7 @@ pub mod Standing
 pub mod Solution
 pub mod Earthing
 pub mod Bound
+pub mod Conductance
 pub mod Guess
 pub mod Encloses
 pub mod Sharp
@@ -12,5 +13,6 @@ pub mod Switched
 pub mod SolutionLaws
 pub mod CertificateLaws
 pub mod BoundLaws
+pub mod ItemLaws
 pub mod WorkedLoop
 pub mod WorkedNeutral

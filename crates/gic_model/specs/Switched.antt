@@ -1,5 +1,5 @@
 -- The set of a network's open items, as rows change it one by one.
-use Rattle.std.specs.Prelude.{◌≡◌, Bool, not, List, [], ◌∷◌, ◌++◌, IsTrue, if◌then◌else◌}
+use Rattle.std.specs.Prelude.{◌≡◌, Bool, not, List, IsTrue, if◌then◌else◌}
 use Rattle.std.specs.List.{list_any, fold}
 use Rattle.std.specs.Ordering.{nat_cmp}
 use Rattle.std.specs.FinSet as set
@@ -40,8 +40,3 @@ RowByRowIsAllAtOnce = (network : Network) (rows : List Switching) (item : Item) 
 abbrev pub SameElementsStand : Type 0
 SameElementsStand = (network : Network) (rows : List Switching) →
     standing_elements network (stands_without (switched_by network set.empty rows)) ≡ standing_elements network (stands_after rows)
-
--- one more row at the end decides its own item and no other
-abbrev pub LastRowDecides : Type 0
-LastRowDecides = (rows : List Switching) (row : Switching) (item : Item) →
-    stands_after (rows ++ row ∷ []) item ≡ (if is_item row.item item then not row.opens else stands_after rows item)

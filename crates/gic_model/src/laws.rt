@@ -9,19 +9,28 @@ ghost use Rattle.gic_model.specs.Earthing.{IsEarthed};
 ghost use Rattle.gic_model.specs.Bound.{IsBoundVector};
 ghost use Rattle.gic_model.specs.Guess.{IsSettledWithin, diagonal};
 ghost use Rattle.gic_model.specs.Sharp.{IsSharp};
-ghost use Rattle.gic_model.specs.Switched.{RowByRowIsAllAtOnce, SameElementsStand, LastRowDecides};
+ghost use Rattle.gic_model.specs.ItemLaws.{ItemsAreOneWhereEqual, LastRowDecides};
+ghost use Rattle.gic_model.specs.Switched.{RowByRowIsAllAtOnce, SameElementsStand};
 ghost use Rattle.gic_model.specs.SolutionLaws.{SolutionsCombine, PotentialsAreBounded, PotentialsAgree};
 ghost use Rattle.gic_model.specs.CertificateLaws.{GuessesHoldPotentials, UnitsTellSettled, RoundedResidualsHold, RoundedResidualsAreNarrow, DiagonalIsEnough, DiagonalIsAtMostTwice};
 ghost use Rattle.gic_model.specs.BoundLaws.{CappedIsBound, CappedIsEarthed, SharpIsSharpWider};
 ghost use Rattle.gic_model.specs.WorkedLoop.{loop, loop_standing, loop_volts, loop_solution, loop_vector, loop_guesses};
 ghost use Rattle.gic_model.specs.WorkedNeutral.{grid, grid_rows, grid_standing, grid_volts, grid_solution, grid_vector};
 
-/// Switching row by row leaves the same items and elements standing as reading all the rows at once, and one more row
-/// decides its own item and no other.
+/// Two items are one, by their numbers, exactly where they are equal.
+pub fn item_law()
+    ensures { ItemsAreOneWhereEqual }
+{}
+
+/// One more row at the end of a switching list decides its own item and no other.
+pub fn last_row_law()
+    ensures { LastRowDecides }
+{}
+
+/// Switching row by row leaves the same items and elements standing as reading all the rows at once.
 pub fn switching_law()
     ensures items { RowByRowIsAllAtOnce }
     ensures elements { SameElementsStand }
-    ensures last { LastRowDecides }
 {}
 
 /// Solutions of one network can be added and multiplied by whole numbers (superposition).
@@ -29,7 +38,7 @@ pub fn superposition_law()
     ensures { SolutionsCombine }
 {}
 
-/// In a network that is earthed within 4096, no live node's potential is above 4096 times the greatest voltage.
+/// In a network that is earthed within `MOST_WALK`, no live node's potential is above `MOST_WALK` times the greatest voltage.
 pub fn potential_law()
     ensures { PotentialsAreBounded }
 {}
@@ -64,7 +73,7 @@ pub fn diagonal_law()
     ensures at_most { DiagonalIsAtMostTwice }
 {}
 
-/// A capped vector without an entry 4097 is a bound vector, and the network is earthed within 4096.
+/// A capped vector without an entry `FULL_WALK` is a bound vector, and the network is earthed within `MOST_WALK`.
 pub fn capped_law()
     ensures bound { CappedIsBound }
     ensures earthed { CappedIsEarthed }

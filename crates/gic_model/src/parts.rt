@@ -8,6 +8,21 @@ pub enum End {
     Earth,
 }
 
+impl End {
+    ghost use Rattle.std.specs.Prelude.{◌≡◌};
+    ghost use Rattle.gic_model.specs.Earthing.{is_earth};
+
+    /// Whether this is remote earth.
+    pub fn is_earth(self) -> bool
+        ensures { result ≡ is_earth self }
+    {
+        match self {
+            End::Node(_) => false,
+            End::Earth => true,
+        }
+    }
+}
+
 /// What an element is in the case.
 #[derive(Clone, Copy, PartialEq, Eq, Debug)]
 pub enum Role {
@@ -50,6 +65,22 @@ pub struct Element {
     pub micro_ohm: u32,
     pub item: Item,
     pub role: Role,
+}
+
+impl Element {
+    ghost use Rattle.std.specs.Prelude.{◌≡◌};
+    ghost use Rattle.gic_model.specs.Standing.{other_end};
+
+    /// The other end of an element that ends at this node.
+    pub fn other_end(&self, node: NodeId) -> End
+        ensures { result ≡ other_end node.0 self.now }
+    {
+        if self.from.0 == node.0 {
+            self.to
+        } else {
+            End::Node(self.from)
+        }
+    }
 }
 
 /// A row of a switching list: from `time` on, in seconds, the item is open (`opens`) or closed.

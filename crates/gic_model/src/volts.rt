@@ -30,10 +30,8 @@ impl Volts {
     pub fn new(alloc: Global, elements: &Elements) -> Result<Volts, OutOfMemory>
         ensures { IfOk result (λ volts. volts ≡ replicate (length elements.now.list) (pos 0)) }
     {
-        match vec![in alloc; 0; elements.list().len()] {
-            Ok(list) => Ok(Volts { list }),
-            Err(_) => Err(OutOfMemory),
-        }
+        let list = vec![in alloc; 0; elements.list().len()]?;
+        Ok(Volts { list })
     }
 
     /// How many elements there are. The answer also tells that no voltage is beyond the limit.
