@@ -14,4 +14,3 @@ pub mod Superposition
 pub mod Agreement
 pub mod Items
 pub mod LastRow
-pub mod Switched

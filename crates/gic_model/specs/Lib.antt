@@ -9,7 +9,6 @@ pub mod Conductance
 pub mod Guess
 pub mod Encloses
 pub mod Sharp
-pub mod Switched
 pub mod SolutionLaws
 pub mod CertificateLaws
 pub mod BoundLaws

@@ -10,7 +10,6 @@ ghost use Rattle.gic_model.specs.Bound.{IsBoundVector};
 ghost use Rattle.gic_model.specs.Guess.{IsSettledWithin, diagonal};
 ghost use Rattle.gic_model.specs.Sharp.{IsSharp};
 ghost use Rattle.gic_model.specs.ItemLaws.{ItemsAreOneWhereEqual, LastRowDecides};
-ghost use Rattle.gic_model.specs.Switched.{RowByRowIsAllAtOnce, SameElementsStand};
 ghost use Rattle.gic_model.specs.SolutionLaws.{SolutionsCombine, PotentialsAreBounded, PotentialsAgree};
 ghost use Rattle.gic_model.specs.CertificateLaws.{GuessesHoldPotentials, UnitsTellSettled, RoundedResidualsHold, RoundedResidualsAreNarrow, DiagonalIsEnough, DiagonalIsAtMostTwice};
 ghost use Rattle.gic_model.specs.BoundLaws.{CappedIsBound, CappedIsEarthed, SharpIsSharpWider};
@@ -25,12 +24,6 @@ pub fn item_law()
 /// One more row at the end of a switching list decides its own item and no other.
 pub fn last_row_law()
     ensures { LastRowDecides }
-{}
-
-/// Switching row by row leaves the same items and elements standing as reading all the rows at once.
-pub fn switching_law()
-    ensures items { RowByRowIsAllAtOnce }
-    ensures elements { SameElementsStand }
 {}
 
 /// Solutions of one network can be added and multiplied by whole numbers (superposition).

@@ -1,3 +1,4 @@
+pub mod Switched
 pub mod FullRows
 pub mod Marked
 pub mod OpenSet

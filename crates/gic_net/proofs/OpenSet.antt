@@ -9,7 +9,7 @@ use Rattle.std.specs.FinSet.{contains, insert, remove, empty, contains-insert, c
 use Rattle.std.specs.Cmp.{nat_cmp_total, unsigned_tied}
 use Rattle.gic_model.specs.declared.parts.Item.{Item}
 use Rattle.gic_model.specs.Standing.{item_number}
-use Rattle.gic_model.specs.Switched.{stands_without}
+use Rattle.gic_net.specs.Switched.{stands_without}
 use Rattle.gic_net.specs.OpenSet.{open_set}
 
 abbrev marked : ℕ → List Bool → List ℕ

@@ -12,7 +12,7 @@ use Rattle.gic_model.specs.declared.parts.Element.{Element}
 use Rattle.gic_model.specs.Network.{Network, IsWithinLimits, IsElementWithin, ends_at}
 use Rattle.gic_model.specs.Standing.{is_standing}
 use Rattle.gic_model.specs.Sums.{Placed}
-use Rattle.gic_model.specs.Switched.{stands_without}
+use Rattle.gic_net.specs.Switched.{stands_without}
 use Rattle.gic_model.proofs.Members.{kept, placed, both, filter_same}
 use Rattle.gic_net.specs.Net.{NetView, standing, stands, no_element, element_of, row_at, placed_at}
 use Rattle.gic_net.specs.Row.{NodeRow, full_row, stands_by}

@@ -4,8 +4,8 @@ use Rattle.gic_model.specs.declared.parts.Item.{Item}
 use Rattle.gic_model.specs.declared.parts.Switching.{Switching}
 use Rattle.gic_model.specs.Network.{Network}
 use Rattle.gic_model.specs.Standing.{standing_elements, stands_after}
-use Rattle.gic_model.specs.Switched.{has_element, switched_by}
-use Rattle.gic_model.proofs.Switched.{items_by_row, row_by_row}
+use Rattle.gic_net.specs.Switched.{has_element, switched_by}
+use Rattle.gic_net.proofs.Switched.{items_by_row, row_by_row}
 use Rattle.gic_net.specs.Net.{NetView, stands, standing, closed_net, switched_net, net_after}
 
 -- a run changes the open items alone, as the rows do one by one

@@ -11,7 +11,7 @@ use Rattle.gic_model.specs.declared.parts.Element.{Element}
 use Rattle.gic_model.specs.declared.parts.Item.{Item}
 use Rattle.gic_model.specs.Network.{Network, IsWithinLimits}
 use Rattle.gic_model.specs.Standing.{item_number}
-use Rattle.gic_model.specs.Switched.{Items, has_element, switched}
+use Rattle.gic_net.specs.Switched.{Items, has_element, switched}
 use Rattle.gic_model.proofs.Members.{weaker, filter_same}
 use Rattle.gic_net.specs.Net.{NetView, no_element, closed_net}
 use Rattle.gic_net.specs.Row.{NodeRow, item_number_at, stands_by, AreMarked, gathered}

@@ -1,3 +1,4 @@
+pub mod Switched
 pub mod Net
 pub mod Row
 pub mod ItemIndex

@@ -11,7 +11,7 @@ use Rattle.gic_model.specs.declared.parts.Switching.{Switching}
 use Rattle.gic_model.specs.Network.{Network}
 use Rattle.gic_model.specs.Standing.{standing_elements, elements_at}
 use Rattle.gic_model.specs.Sums.{Placed}
-use Rattle.gic_model.specs.Switched.{Items, stands_without, switched}
+use Rattle.gic_net.specs.Switched.{Items, stands_without, switched}
 
 -- the elements, and the items that are open, by their numbers
 pub record NetView : Type 0 where

@@ -2,7 +2,7 @@
 use Rattle.std.specs.Prelude.{Bool, List, map}
 use Rattle.std.specs.List.{filter, enumerate_from}
 use Rattle.std.specs.FinSet as set
-use Rattle.gic_model.specs.Switched.{Items}
+use Rattle.gic_net.specs.Switched.{Items}
 
 -- the numbers that are marked
 abbrev pub open_set : List Bool → Items

@@ -4,7 +4,7 @@ use Rattle.gic_model.specs.declared.parts.Item.{Item}
 use Rattle.gic_model.specs.declared.parts.Switching.{Switching}
 use Rattle.gic_model.specs.Network.{Network}
 use Rattle.gic_model.specs.Standing.{standing_elements, stands_after}
-use Rattle.gic_model.specs.Switched.{has_element}
+use Rattle.gic_net.specs.Switched.{has_element}
 use Rattle.gic_net.specs.Net.{NetView, stands, standing, closed_net, net_after}
 
 -- the elements stay

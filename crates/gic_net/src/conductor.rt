@@ -35,10 +35,7 @@ pub fn conductors(alloc: Global, elements: &Elements) -> Result<Vec<Conductor>, 
     let mut all = Vec::new(alloc);
     let list = elements.list();
     for element in list {
-        match all.push(worked_out(*element)) {
-            Ok(()) => {}
-            Err(_) => return Err(OutOfMemory),
-        }
+        all.push(worked_out(*element))?;
     }
     Ok(all)
 }

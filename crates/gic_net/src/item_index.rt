@@ -7,6 +7,7 @@ ghost use Rattle.gic_net.specs.ItemIndex.{IsItemIndex};
 
 use crate::row::number_of;
 use gic_base::OutOfMemory;
+use gic_base::limits::MOST_ELEMENTS;
 use gic_model::Element;
 use std::alloc::Global;
 
@@ -20,7 +21,7 @@ pub struct ItemIndex {
 
 /// The index of this list.
 pub fn index_items(alloc: Global, list: &[Element]) -> Result<ItemIndex, OutOfMemory>
-    requires { length list.now ≤ 19968 }
+    requires { length list.now ≤ MOST_ELEMENTS }
     ensures { IfOk result (λ index. IsItemIndex list.now index.first.items index.next.items) }
 {
     let count = list.len();
@@ -60,8 +61,6 @@ fn numbers_below(list: &[Element]) -> usize
 fn filled(alloc: Global, value: u16, count: usize) -> Result<Vec<u16>, OutOfMemory>
     ensures { IfOk result (λ list. list.items ≡ replicate count value) }
 {
-    match vec![in alloc; value; count] {
-        Ok(list) => Ok(list),
-        Err(_) => Err(OutOfMemory),
-    }
+    let list = vec![in alloc; value; count]?;
+    Ok(list)
 }

@@ -53,7 +53,8 @@ impl Net {
     ghost use Rattle.std.specs.List.{Contains};
     ghost use Rattle.gic_model.specs.Network.{IsWithinLimits, IsElementWithin, ends_at};
     ghost use Rattle.gic_model.specs.Standing.{is_live, is_standing};
-    ghost use Rattle.gic_net.specs.Conductor.{conductor_of, conductance_down, conductance_up};
+    ghost use Rattle.gic_model.specs.Conductance.{conductance_down, conductance_up};
+    ghost use Rattle.gic_net.specs.Conductor.{conductor_of};
     ghost use Rattle.gic_net.specs.Net.{NetView, stands, standing, element_of, row_at, placed_at, closed_net, switched_net};
 
     /// All elements stand.
@@ -107,6 +108,14 @@ impl Net {
         ensures limits { IsWithinLimits self.now.network }
     {
         self.list.len() as u16
+    }
+
+    /// The elements that the net was built with, by their places.
+    pub fn list(&self) -> &[Element]
+        ensures value { result.now ≡ self.now.network.list }
+        ensures limits { IsWithinLimits self.now.network }
+    {
+        self.list.as_slice()
     }
 
     /// The element that the net was built with.
@@ -192,17 +201,13 @@ impl Net {
 fn copied(alloc: Global, list: &[Element]) -> Result<Vec<Element>, OutOfMemory>
     ensures { IfOk result (λ copy. copy.items ≡ list.now) }
 {
-    match Vec::from_slice(alloc, list) {
-        Ok(copy) => Ok(copy),
-        Err(_) => Err(OutOfMemory),
-    }
+    let copy = Vec::from_slice(alloc, list)?;
+    Ok(copy)
 }
 
 fn all_closed(alloc: Global, count: usize) -> Result<Vec<bool>, OutOfMemory>
     ensures { IfOk result (λ opened. opened.items ≡ replicate count false) }
 {
-    match vec![in alloc; false; count] {
-        Ok(opened) => Ok(opened),
-        Err(_) => Err(OutOfMemory),
-    }
+    let opened = vec![in alloc; false; count]?;
+    Ok(opened)
 }

@@ -90,10 +90,8 @@ fn push_place(places: &mut Vec<u16>, place: u16) -> Result<(), OutOfMemory>
     ensures ok { OnOk result (places.new.items ≡ places.old.items ++ place ∷ []) }
     ensures err { OnErr result (places.new.items ≡ places.old.items) }
 {
-    match places.push(place) {
-        Ok(()) => Ok(()),
-        Err(_) => Err(OutOfMemory),
-    }
+    places.push(place)?;
+    Ok(())
 }
 
 /// The number of an item, which tells it from all others.

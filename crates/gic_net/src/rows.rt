@@ -9,12 +9,13 @@ ghost use Rattle.gic_net.specs.Rows.{AreFull, AreFullRows, ArePushedAt, AreGathe
 use crate::item_index::ItemIndex;
 use crate::row::Row;
 use gic_base::OutOfMemory;
+use gic_base::limits::MOST_ELEMENTS;
 use gic_model::{Element, End};
 use std::alloc::Global;
 
 /// The rows of a network in which all elements stand.
 pub fn full_rows(alloc: Global, nodes: u16, list: &[Element]) -> Result<Vec<Row>, OutOfMemory>
-    requires few { length list.now ≤ 19968 }
+    requires few { length list.now ≤ MOST_ELEMENTS }
     requires ends { All (IsElementWithin nodes) list.now }
     ensures { IfOk result (λ rows. AreFullRows nodes list.now rows.items) }
 {
@@ -30,10 +31,7 @@ fn empty_rows(alloc: Global, nodes: u16) -> Result<Vec<Row>, OutOfMemory>
 {
     let mut rows = Vec::new(alloc);
     for _node in 0..nodes {
-        match rows.push(Row::new(alloc)) {
-            Ok(()) => {}
-            Err(_) => return Err(OutOfMemory),
-        }
+        rows.push(Row::new(alloc))?;
     }
     Ok(rows)
 }

@@ -4,7 +4,7 @@ use Rattle.gic_net.specs.Net.{NetView, switched_net}
 use Rattle.std.specs.List.{list_any}
 use Rattle.gic_model.specs.Standing.{item_number}
 use Rattle.gic_model.specs.Network.{Network}
-use Rattle.gic_model.specs.Switched.{Items}
+use Rattle.gic_net.specs.Switched.{Items}
 use Rattle.gic_net.specs.Rows.{IsStored}
 use Rattle.gic_net.proofs.Stored.{marked_lent, stored_lent, switched_set}
 use Rattle.gic_net.proofs.net.Net.switch.Goals as goal

@@ -11,7 +11,7 @@ use Rattle.gic_model.specs.declared.parts.Item.{Item}
 use Rattle.gic_model.specs.declared.parts.Switching.{Switching}
 use Rattle.gic_model.specs.Network.{Network}
 use Rattle.gic_model.specs.Standing.{item_number, is_item, stands_after, standing_elements}
-use Rattle.gic_model.specs.Switched.{Items, has_element, stands_without, switched, switched_by}
+use Rattle.gic_net.specs.Switched.{Items, has_element, stands_without, switched, switched_by}
 use Rattle.gic_model.proofs.Members.{filter_same, placed, any_of_each, weaker, for_each}
 
 -- tests that agree on the items of the elements let the same elements stand

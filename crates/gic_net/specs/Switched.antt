@@ -1,12 +1,12 @@
 -- The set of a network's open items, as rows change it one by one.
-use Rattle.std.specs.Prelude.{◌≡◌, Bool, not, List, IsTrue, if◌then◌else◌}
+use Rattle.std.specs.Prelude.{Bool, not, List, if◌then◌else◌}
 use Rattle.std.specs.List.{list_any, fold}
 use Rattle.std.specs.Ordering.{nat_cmp}
 use Rattle.std.specs.FinSet as set
 use Rattle.gic_model.specs.declared.parts.Item.{Item}
 use Rattle.gic_model.specs.declared.parts.Switching.{Switching}
 use Rattle.gic_model.specs.Network.{Network}
-use Rattle.gic_model.specs.Standing.{item_number, is_item, standing_elements, stands_after}
+use Rattle.gic_model.specs.Standing.{item_number, is_item}
 
 -- items by their numbers
 abbrev pub Items : Type 0
@@ -30,13 +30,3 @@ switched network opened row =
 -- the open items after the rows, one by one
 abbrev pub switched_by : Network → Items → List Switching → Items
 switched_by network opened rows = fold (λ now row. switched network now row) opened rows
-
--- an item that has an element stands after switching row by row as it stands after reading all the rows at once
-abbrev pub RowByRowIsAllAtOnce : Type 0
-RowByRowIsAllAtOnce = (network : Network) (rows : List Switching) (item : Item) → IsTrue (has_element network item) →
-    stands_without (switched_by network set.empty rows) item ≡ stands_after rows item
-
--- so the same elements stand
-abbrev pub SameElementsStand : Type 0
-SameElementsStand = (network : Network) (rows : List Switching) →
-    standing_elements network (stands_without (switched_by network set.empty rows)) ≡ standing_elements network (stands_after rows)
