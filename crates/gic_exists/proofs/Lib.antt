@@ -8,5 +8,4 @@ pub mod Forms
 pub mod Existence
 pub mod Currents
 pub mod InNetworks
-pub mod Items
 pub mod WorkedNetworks

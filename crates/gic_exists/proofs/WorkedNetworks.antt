@@ -5,12 +5,12 @@ use Rattle.gic_model.specs.declared.parts.Item.{Item}
 use Rattle.gic_model.specs.declared.parts.Item.TheVariants.{Ground}
 use Rattle.gic_model.specs.Network.{Network, IsWithinLimits}
 use Rattle.gic_model.specs.Standing.{is_item}
-use Rattle.gic_model.specs.Earthing.{IsEarthed}
+use Rattle.gic_model.specs.Earthing.{IsEarthed, AreEarthed}
 use Rattle.gic_model.specs.Solution.{Solution, IsSolution}
 use Rattle.gic_model.specs.WorkedLoop.{loop, loop_volts, loop_solution}
 use Rattle.gic_model.proofs.Ends.{standing_within, live_within}
 use Rattle.gic_model.proofs.Ratios.{last_or_below}
-use Rattle.gic_exists.specs.Exists.{standing_without, IsAllEarthed, IsTheSolution}
+use Rattle.gic_exists.specs.Exists.{standing_without, IsTheSolution}
 use Rattle.gic_exists.specs.Worked.{one_ground_solution, no_volts, level_solution, neutral_loop, neutral_solution}
 use Rattle.gic_exists.proofs.InNetworks.{agree_in}
 
@@ -24,13 +24,13 @@ at_below P zero h k below = absurd (omega arith)
 at_below P (suc n) h k below = ⊎_elim (λ is. subst P (sym is) h.0) (λ less. at_below P n h.1 k less) (last_or_below n k below)
 
 -- what holds at each node holds at each live one
-pub all_earthed : (network : Network) (opened : List Item) → IsWithinLimits network → AllBelow (IsEarthed (standing_without network opened)) network.nodes → IsAllEarthed (standing_without network opened)
+pub all_earthed : (network : Network) (opened : List Item) → IsWithinLimits network → AllBelow (IsEarthed (standing_without network opened)) network.nodes → AreEarthed (standing_without network opened)
 all_earthed network opened limits each k live =
     at_below (IsEarthed (standing_without network opened)) network.nodes each k
     (live_within network.nodes (standing_without network opened) k (standing_within network (λ item. not (list_any (is_item item) opened)) limits) live)
 
 -- a solution is the one that each agrees with
-pub the_solution : (network : Network) (opened : List Item) (volts : ℕ → ℤ) (s : Solution) → IsWithinLimits network → IsAllEarthed (standing_without network opened) →
+pub the_solution : (network : Network) (opened : List Item) (volts : ℕ → ℤ) (s : Solution) → IsWithinLimits network → AreEarthed (standing_without network opened) →
     IsSolution (standing_without network opened) volts s → IsTheSolution (standing_without network opened) volts s
 the_solution network opened volts s limits earthed solves = record {
   solves = solves;
@@ -52,7 +52,7 @@ one_ground_solved = search rules
 pub neutral_solved : IsSolution (standing_without neutral_loop []) loop_volts neutral_solution
 neutral_solved = search rules
 
-pub loop_earthed : IsAllEarthed (standing_without loop [])
+pub loop_earthed : AreEarthed (standing_without loop [])
 loop_earthed = all_earthed loop [] loop_limits (
   record { live = refl; over = 1 ∷ []; chain = (refl, refl) },
   (
@@ -64,7 +64,7 @@ loop_earthed = all_earthed loop [] loop_limits (
   ),
 )
 
-pub one_ground_earthed : IsAllEarthed (standing_without loop (Ground 0 ∷ []))
+pub one_ground_earthed : AreEarthed (standing_without loop (Ground 0 ∷ []))
 one_ground_earthed = all_earthed loop (Ground 0 ∷ []) loop_limits (
   record { live = refl; over = 1 ∷ []; chain = (refl, refl) },
   (
@@ -76,7 +76,7 @@ one_ground_earthed = all_earthed loop (Ground 0 ∷ []) loop_limits (
   ),
 )
 
-pub neutral_earthed : IsAllEarthed (standing_without neutral_loop [])
+pub neutral_earthed : AreEarthed (standing_without neutral_loop [])
 neutral_earthed = all_earthed neutral_loop [] neutral_limits (
   record { live = refl; over = 0 ∷ []; chain = (refl, refl) },
   (
@@ -95,7 +95,7 @@ neutral_earthed = all_earthed neutral_loop [] neutral_limits (
 pub level_solved : (z : ℤ) → IsSolution (standing_without loop (Ground 0 ∷ Ground 1 ∷ [])) no_volts (level_solution z)
 level_solved z = search rules
 
-pub no_ground_not_earthed : IsAllEarthed (standing_without loop (Ground 0 ∷ Ground 1 ∷ [])) → ⊥
+pub no_ground_not_earthed : AreEarthed (standing_without loop (Ground 0 ∷ Ground 1 ∷ [])) → ⊥
 no_ground_not_earthed earthed =
     differ ((agree_in loop (λ item. not (list_any (is_item item) (Ground 0 ∷ Ground 1 ∷ []))) no_volts loop_limits earthed (level_solution (pos 0)) (level_solution (pos 1)) (level_solved (pos 0)) (level_solved (pos 1))).potentials 0 refl)
   where

@@ -1,20 +1,16 @@
 -- That a network has a solution, and that two solutions agree.
-use Rattle.std.specs.Prelude.{ℕ, ◌≡◌, Bool, not, List, IsTrue, ◌↔◌, ℤ, pos, ◌*ℤ◌}
+use Rattle.std.specs.Prelude.{ℕ, ◌≡◌, Bool, not, List, ℤ, pos, ◌*ℤ◌}
 use Rattle.std.specs.List.{list_any}
 use Rattle.gic_model.specs.declared.parts.Item.{Item}
 use Rattle.gic_model.specs.Network.{Network, IsWithinLimits}
 use Rattle.gic_model.specs.Standing.{is_item, IsLive, standing_elements}
 use Rattle.gic_model.specs.Solution.{Solution, IsSolution}
-use Rattle.gic_model.specs.Earthing.{IsEarthed}
+use Rattle.gic_model.specs.Earthing.{AreEarthed}
 use Rattle.gic_model.specs.Sums.{Placed}
 
 -- the elements that stand where these items are open
 abbrev pub standing_without : Network → List Item → List Placed
 standing_without network opened = standing_elements network (λ item. not (list_any (is_item item) opened))
-
--- from each live node a chain leads to earth
-abbrev pub IsAllEarthed : List Placed → Type 0
-IsAllEarthed standing = (k : ℕ) → IsLive standing k → IsEarthed standing k
 
 -- the network of these standing elements has a solution
 pub record HasSolution (standing : List Placed) (volts : ℕ → ℤ) : Type 0 where
@@ -39,14 +35,10 @@ pub record IsTheSolution (standing : List Placed) (volts : ℕ → ℤ) (s : Sol
 abbrev pub EarthedNetworksAreSolved : Type 0
 EarthedNetworksAreSolved = (network : Network) (stands : Item → Bool) (volts : ℕ → ℤ) →
     let standing = standing_elements network stands in
-    IsWithinLimits network → IsAllEarthed standing → HasSolution standing volts
+    IsWithinLimits network → AreEarthed standing → HasSolution standing volts
 
 -- and any two solutions agree
 abbrev pub SolutionsAgree : Type 0
 SolutionsAgree = (network : Network) (stands : Item → Bool) (volts : ℕ → ℤ) →
     let standing = standing_elements network stands in
-    IsWithinLimits network → IsAllEarthed standing → AnyTwoAgree standing volts
-
--- two items are one where they are equal
-abbrev pub ItemsAreOneWhereEqual : Type 0
-ItemsAreOneWhereEqual = (a b : Item) → IsTrue (is_item a b) ↔ (a ≡ b)
+    IsWithinLimits network → AreEarthed standing → AnyTwoAgree standing volts

@@ -3,9 +3,10 @@ ghost use Rattle.std.specs.Prelude.{[], ◌∷◌, ℤ};
 ghost use Rattle.gic_model.specs.declared.parts.Item.TheVariants.{Ground};
 ghost use Rattle.gic_model.specs.Network.{IsWithinLimits};
 ghost use Rattle.gic_model.specs.Solution.{IsSolution};
+ghost use Rattle.gic_model.specs.Earthing.{AreEarthed};
 ghost use Rattle.gic_model.specs.WorkedLoop.{loop, loop_volts, loop_solution};
 ghost use Rattle.gic_exists.specs.Linear.{FewEquationsAreSolvedOrVanish, SquareEquationsAreSolvedOrVanish};
-ghost use Rattle.gic_exists.specs.Exists.{standing_without, IsAllEarthed, IsTheSolution, ItemsAreOneWhereEqual, EarthedNetworksAreSolved, SolutionsAgree};
+ghost use Rattle.gic_exists.specs.Exists.{standing_without, IsTheSolution, EarthedNetworksAreSolved, SolutionsAgree};
 ghost use Rattle.gic_exists.specs.Worked.{one_ground_solution, no_volts, level_solution, neutral_loop, neutral_solution};
 
 /// Linear equations, no more than unknowns, have a solution in whole numbers over a denominator, or all their forms
@@ -29,34 +30,29 @@ pub fn agreement_law()
     ensures { SolutionsAgree }
 {}
 
-/// The items in a list of opened ones are those that are equal to one of it.
-pub fn item_law()
-    ensures { ItemsAreOneWhereEqual }
-{}
-
 /// A network worked by hand, a loop of two grounded substations, meets the premise; its solution is that of the hand.
 pub fn worked_loop_law()
     ensures limits { IsWithinLimits loop }
-    ensures earthed { IsAllEarthed (standing_without loop []) }
+    ensures earthed { AreEarthed (standing_without loop []) }
     ensures solution { IsTheSolution (standing_without loop []) loop_volts loop_solution }
 {}
 
 /// So it does with the ground of A open: one ground is enough.
 pub fn worked_one_ground_law()
-    ensures earthed { IsAllEarthed (standing_without loop (Ground 0 ∷ [])) }
+    ensures earthed { AreEarthed (standing_without loop (Ground 0 ∷ [])) }
     ensures solution { IsTheSolution (standing_without loop (Ground 0 ∷ [])) loop_volts one_ground_solution }
 {}
 
 /// With both grounds open it fails the premise, and then the conclusion too: where no voltage drives, every potential
 /// that is the same at all nodes is a solution.
 pub fn worked_no_ground_law()
-    ensures premise { IsAllEarthed (standing_without loop (Ground 0 ∷ Ground 1 ∷ [])) → ⊥ }
+    ensures premise { AreEarthed (standing_without loop (Ground 0 ∷ Ground 1 ∷ [])) → ⊥ }
     ensures solutions { (z : ℤ) → IsSolution (standing_without loop (Ground 0 ∷ Ground 1 ∷ [])) no_volts (level_solution z) }
 {}
 
 /// The loop with a resistor in a transformer's neutral meets it too.
 pub fn worked_neutral_law()
     ensures limits { IsWithinLimits neutral_loop }
-    ensures earthed { IsAllEarthed (standing_without neutral_loop []) }
+    ensures earthed { AreEarthed (standing_without neutral_loop []) }
     ensures solution { IsTheSolution (standing_without neutral_loop []) loop_volts neutral_solution }
 {}
