@@ -1,13 +1,12 @@
 //! How the reached nodes spread from earth.
 ghost use Rattle.std.specs.Prelude.{◌≡◌, ◌<◌, ◌↔◌, [], IsTrue};
-ghost use Rattle.gic_model.specs.Standing.{other_end as end_other_than};
 ghost use Rattle.gic_model.specs.Earthing.{LeadsToEarth};
 ghost use Rattle.gic_net.specs.Net.{standing};
 ghost use Rattle.gic_island.specs.Spread.{StartsAtEarth, IsSpread, GainsJoined};
 
 use crate::scratch::Scratch;
 use gic_base::NodeId;
-use gic_model::{Element, End};
+use gic_model::End;
 use gic_net::Net;
 
 /// Reaches the nodes from which an element leads to earth.
@@ -45,7 +44,7 @@ fn leads_to_earth(net: &Net, node: NodeId) -> bool
     ensures { IsTrue result ↔ LeadsToEarth (standing net.now) node.0 }
 {
     for place in 0..net.degree(node) {
-        if let End::Earth = net.element(net.element_at(node, place)).to {
+        if net.element(net.element_at(node, place)).to.is_earth() {
             return true;
         }
     }
@@ -61,20 +60,9 @@ fn reach_joined(net: &Net, scratch: &mut Scratch, node: NodeId)
 {
     for place in 0..net.degree(node) {
         let element = net.element(net.element_at(node, place));
-        match other_end(node, element) {
+        match element.other_end(node) {
             End::Node(other) => scratch.reach(other.0),
             End::Earth => {}
         }
-    }
-}
-
-/// The end of the element that isn't the node.
-fn other_end(node: NodeId, element: Element) -> End
-    ensures { result ≡ end_other_than node.0 element }
-{
-    if element.from.0 == node.0 {
-        element.to
-    } else {
-        End::Node(element.from)
     }
 }

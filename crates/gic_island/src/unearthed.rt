@@ -1,7 +1,6 @@
 //! The first node that is not earthed.
-ghost use Rattle.std.specs.Prelude.{◌≡◌, ℕ, ◌<◌, OnOk, IfErr};
-ghost use Rattle.gic_model.specs.Standing.{IsLive};
-ghost use Rattle.gic_model.specs.Earthing.{IsEarthed};
+ghost use Rattle.std.specs.Prelude.{◌≡◌, OnOk, IfErr};
+ghost use Rattle.gic_model.specs.Earthing.{AreEarthed, IsFirstUnearthed};
 ghost use Rattle.gic_net.specs.Net.{standing};
 
 use crate::scratch::Scratch;
@@ -19,13 +18,8 @@ pub struct Unearthed {
 /// nodes as the net has; what it had reached before doesn't matter.
 pub fn earthed(net: &Net, scratch: &mut Scratch) -> Result<(), Unearthed>
     requires { scratch.old.nodes ≡ net.now.network.nodes }
-    ensures ok { OnOk result ((k : ℕ) → IsLive (standing net.now) k → IsEarthed (standing net.now) k) }
-
-    // The named node is live, no chain leads from it to earth, and each live node before it is earthed.
-    ensures live { IfErr result (λ refusal. IsLive (standing net.now) refusal.node.0) }
-    ensures unearthed { IfErr result (λ refusal. ¬ (IsEarthed (standing net.now) refusal.node.0)) }
-    ensures first { IfErr result (λ refusal. (k : ℕ) → k < refusal.node.0 → IsLive (standing net.now) k → IsEarthed (standing net.now) k) }
-
+    ensures ok { OnOk result (AreEarthed (standing net.now)) }
+    ensures unearthed { IfErr result (λ refusal. IsFirstUnearthed (standing net.now) refusal.node.0) }
     ensures scratch { scratch.new.nodes ≡ scratch.old.nodes }
 {
     scratch.clear();

@@ -1,4 +1,4 @@
-use Rattle.std.proofs.Common.{◌≡◌, false, true, sym, ◌∙◌, arith}
+use Rattle.std.proofs.Common.{◌≡◌, false, true, sym, ◌∙◌, arith, rules}
 use Rattle.gic_net.specs.Net.{standing}
 use Rattle.gic_island.proofs.SpreadLemmas.{all_reached}
 use Rattle.gic_island.proofs.Steps.{live_node}
@@ -8,9 +8,13 @@ no_way : false ≡ true → ⊥
 no_way e = cc
 
 pub returns-then-not-has-clause-unearthed : goal.returns-then-not-has-clause-unearthed
-returns-then-not-has-clause-unearthed c = λ earthed.
-    let reached = all_reached (standing c.args.net.now) c.spread.new.scratch.reached c.spread.ensures.spread c.loop-node.node earthed.over earthed.chain in
-    no_way (sym c.if-not-has.true ∙ c.has.ensures ∙ reached)
+returns-then-not-has-clause-unearthed c = record {
+  live = search rules;
+  unearthed = λ earthed.
+      let reached = all_reached (standing c.args.net.now) c.spread.new.scratch.reached c.spread.ensures.spread c.loop-node.node earthed.over earthed.chain in
+      no_way (sym c.if-not-has.true ∙ c.has.ensures ∙ reached);
+  first = c.loop-node.invariant;
+}
 
 pub returns-clause-ok : goal.returns-clause-ok
 returns-clause-ok c = λ k live.
