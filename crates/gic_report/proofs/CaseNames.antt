@@ -8,7 +8,7 @@ use Rattle.gic_text.specs.Lines.{IsWord}
 use Rattle.gic_text.proofs.Words.{word_name}
 use Rattle.gic_case.specs.declared.item.Transformer.{Transformer}
 use Rattle.gic_case.specs.Lists.{Lists, names_of, node_names, with_device}
-use Rattle.gic_report.specs.Text.{HasNames}
+use Rattle.gic_report.specs.Fits.{HasNames}
 
 are_words : (names : List (List ℕ)) → AllByRecursion (λ name. IsTrue (is_name name)) names → AllByRecursion IsWord names
 are_words [] h = tt

@@ -12,4 +12,5 @@ pub mod ElementNames
 pub mod Transformers
 pub mod LinesWritten
 pub mod RowCounts
+pub mod ViewDetermined
 pub mod FieldDetermined

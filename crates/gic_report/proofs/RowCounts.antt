@@ -16,8 +16,8 @@ use Rattle.gic_case.specs.declared.item.Substation.{Substation}
 use Rattle.gic_case.specs.declared.item.Transformer.{Transformer}
 use Rattle.gic_case.specs.Lists.{Lists, grid_of, neutrals_of}
 use Rattle.gic_winding.specs.ElementList.{all_windings_of, earthing_of, earthings_of, elements_of, line, line_of, lines_of, resistor_of, resistors_of, windings_of}
-use Rattle.gic_report.specs.Text.{HasNames}
-use Rattle.gic_report.specs.ListText.{role_word}
+use Rattle.gic_report.specs.Fits.{HasNames}
+use Rattle.gic_report.specs.RoleWord.{role_word}
 use Rattle.gic_report.specs.ItemText.{Row, all_ground_rows, all_line_rows, all_neutral_rows, all_winding_rows, ground_rows, line_row, neutral_rows, rows_of, winding_rows}
 use Rattle.gic_report.proofs.CaseNames.{line_names, substation_names, transformer_names}
 use Rattle.gic_report.proofs.ListParts.{all_append}

@@ -1,8 +1,9 @@
--- What a view that a report shows keeps.
-use Rattle.std.specs.Prelude.{◌≡◌, IfSome, All, FitsSigned, length, neg_ℤ}
+-- What a case and a view that a report shows keep.
+use Rattle.std.specs.Prelude.{◌≡◌, IfSome, IsTrue, All, FitsSigned, length, neg_ℤ}
 use Rattle.std.specs.Int.{w128}
+use Rattle.gic_base.specs.Name.{is_name}
 use Rattle.gic_monitor.specs.View.{View, Ends}
-use Rattle.gic_case.specs.Lists.{Lists, node_names}
+use Rattle.gic_case.specs.Lists.{Lists, names_of, node_names}
 use Rattle.gic_winding.specs.ElementList.{elements_of}
 
 -- the interval has an absolute value of 128 bits: it doesn't begin at -2^127
@@ -30,3 +31,7 @@ pub record IsViewInRange (view : View) : Type 0 where
   pub nodes : All (λ cell. IfSome cell AreInRange) view.nodes
   pub elements : All (λ cell. IfSome cell AreInRange) view.elements
   pub effective : All AreInRange view.effective
+
+-- each row of the case has a name
+abbrev pub HasNames : Lists → Type 0
+HasNames case = All (λ name. IsTrue (is_name name)) (names_of case)

@@ -14,7 +14,7 @@ use Rattle.gic_case.specs.declared.item.Transformer.{Transformer}
 use Rattle.gic_case.specs.Lists.{Lists, node_names}
 use Rattle.gic_text.specs.Lines.{lines_text}
 use Rattle.gic_report.specs.SharedLines.{Words}
-use Rattle.gic_report.specs.ListText.{role_word}
+use Rattle.gic_report.specs.RoleWord.{role_word}
 use Rattle.gic_report.specs.Cells.{first_cell, first_ends}
 
 -- an interval by its ends

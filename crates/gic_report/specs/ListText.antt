@@ -2,12 +2,11 @@
 use Rattle.std.specs.Prelude.{ℕ, List, [], ◌∷◌, ◌++◌, length, map, codes, slice_index_or, decimal}
 use Rattle.gic_model.specs.declared.parts.End.{End}
 use Rattle.gic_model.specs.declared.parts.End.TheVariants.{Node, Earth}
-use Rattle.gic_model.specs.declared.parts.Role.{Role}
-use Rattle.gic_model.specs.declared.parts.Role.TheVariants as role
 use Rattle.gic_model.specs.declared.parts.Element.{Element}
 use Rattle.gic_case.specs.Lists.{Lists, node_names}
 use Rattle.gic_winding.specs.ElementList.{item_name}
 use Rattle.gic_report.specs.SharedLines.{Words, word_line}
+use Rattle.gic_report.specs.RoleWord.{role_word}
 
 -- the name of the node at a place in the node order
 abbrev pub node_name : Lists → ℕ → List ℕ
@@ -17,16 +16,6 @@ node_name case place = slice_index_or (node_names case) place []
 abbrev pub end_name : Lists → End → List ℕ
 end_name case (Node n) = node_name case n.0
 end_name case Earth = codes "*"
-
--- how a report names what an element is
-abbrev pub role_word : Role → List ℕ
-role_word role.Ground = codes "ground"
-role_word role.Line = codes "line"
-role_word role.High = codes "high"
-role_word role.Low = codes "low"
-role_word role.Series = codes "series"
-role_word role.Common = codes "common"
-role_word role.Neutral = codes "neutral"
 
 -- the line of an element: its item's name, what it is, its two ends, and its parallel paths of so many micro-ohm
 unfoldable pub element_line : Lists → Element → Words

@@ -1,15 +1,14 @@
 -- The texts of reports.
-use Rattle.std.specs.Prelude.{◌≡◌, ◌<◌, ◌^◌, List, ℕ, length, All, IsTrue, FitsSigned, ⊤}
+use Rattle.std.specs.Prelude.{◌≡◌, ◌<◌, ◌^◌, List, ℕ, length, All, FitsSigned, ⊤}
 use mir.Syntax.{w32, w64}
-use Rattle.gic_base.specs.Name.{is_name}
 use Rattle.gic_text.specs.Lines.{lines_text}
-use Rattle.gic_case.specs.Lists.{Lists, names_of, node_names}
+use Rattle.gic_case.specs.Lists.{Lists, node_names}
 use Rattle.gic_model.specs.Network.{Network}
 use Rattle.gic_report.specs.VoltsText.{volts_report}
 use Rattle.gic_report.specs.ListText.{list_report}
 use Rattle.gic_report.specs.CheckText.{live_count, check_report}
 use Rattle.gic_report.specs.FieldText.{field_report}
-use Rattle.gic_report.specs.Fits.{HasViewLengths, IsViewInRange, IsViewOf}
+use Rattle.gic_report.specs.Fits.{HasNames, HasViewLengths, IsViewInRange, IsViewOf}
 use Rattle.gic_report.specs.declared.report.Report.{Report}
 use Rattle.gic_report.specs.declared.report.Report.TheVariants as report
 
@@ -38,10 +37,6 @@ IsInRange (report.Volts north east nanovolts) = FitsSigned w32 north × FitsSign
 IsInRange report.List = ⊤
 IsInRange (report.Check live) = live_count live < 2 ^ 64
 IsInRange (report.Field north east width threshold view) = FitsSigned w32 north × FitsSigned w32 east × (width < 2 ^ 32) × (threshold < 2 ^ 32) × IsViewInRange view
-
--- each row of the case has a name
-abbrev pub HasNames : Lists → Type 0
-HasNames case = All (λ name. IsTrue (is_name name)) (names_of case)
 
 -- a report whose lists fit the case, and which holds numbers of its types
 pub record IsReport (case : Lists) (report : Report) : Type 0 where

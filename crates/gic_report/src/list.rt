@@ -5,30 +5,15 @@ ghost use Rattle.gic_base.specs.Causes.{HasCause};
 ghost use Rattle.gic_base.specs.Pieces.{AppendsPart};
 ghost use Rattle.gic_text.specs.Lines.{line_text, lines_text, with_word};
 ghost use Rattle.gic_winding.specs.ElementList.{elements_of};
-ghost use Rattle.gic_report.specs.ListText.{role_word, end_name, element_line, counts_line, list_report};
+ghost use Rattle.gic_report.specs.ListText.{end_name, element_line, counts_line, list_report};
 
 use crate::names::{item_name, node_name};
+use crate::role::role_word;
 use crate::write::write_word;
 use gic_base::{Sink, WriteFailed, write_all};
 use gic_case::Case;
-use gic_model::{Element, End, Role};
+use gic_model::{Element, End};
 use gic_text::LineBuilder;
-
-/// How the report names what an element is.
-pub(crate) fn role_word(role: Role) -> &'static str
-    ensures word { result.now ≡ role_word role }
-    ensures size { length result.now ≤ 7 }
-{
-    match role {
-        Role::Ground => "ground",
-        Role::Line => "line",
-        Role::High => "high",
-        Role::Low => "low",
-        Role::Series => "series",
-        Role::Common => "common",
-        Role::Neutral => "neutral",
-    }
-}
 
 /// Adds the name of the end to which an element runs to the line.
 fn add_end(case: &Case, element: &Element, line: &mut LineBuilder)

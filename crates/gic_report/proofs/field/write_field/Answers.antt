@@ -5,7 +5,8 @@ use Rattle.gic_case.specs.Lists.{Lists}
 use Rattle.gic_monitor.specs.View.{View}
 use Rattle.gic_report.specs.SharedLines.{Words, word_line}
 use Rattle.gic_report.specs.ItemText.{signed_lines}
-use Rattle.gic_report.specs.FieldText.{setting_line, transformer_lines}
+use Rattle.gic_report.specs.FieldText.{setting_line}
+use Rattle.gic_report.specs.VerdictText.{transformer_lines}
 use Rattle.gic_report.specs.declared.field.Setting.{Setting}
 use Rattle.gic_report.proofs.Framed.{part_first, part_second, part_body, part_last, all_written}
 use Rattle.gic_report.proofs.field.write_field.Goals as goal

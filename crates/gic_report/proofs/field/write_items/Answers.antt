@@ -2,7 +2,7 @@ use Rattle.std.proofs.Common.{ap, refl, sym}
 use Rattle.std.proofs.lemmas.Result.{on_ok_weaker}
 use Rattle.gic_text.specs.Lines.{lines_text}
 use Rattle.gic_report.specs.ItemText.{signed_lines}
-use Rattle.gic_report.specs.FieldText.{transformer_lines}
+use Rattle.gic_report.specs.VerdictText.{transformer_lines}
 use Rattle.gic_report.proofs.LinesWritten.{lines_go_on, lines_stop}
 use Rattle.gic_report.proofs.Written.{begins, same_left}
 use Rattle.gic_report.proofs.RowsWritten.{last_stop, last_written}

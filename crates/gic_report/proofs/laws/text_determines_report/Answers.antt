@@ -4,7 +4,8 @@ use Rattle.gic_model.specs.Network.{Network}
 use Rattle.gic_case.specs.Lists.{Lists, node_names}
 use Rattle.gic_report.specs.declared.report.Report.{Report}
 use Rattle.gic_report.specs.declared.report.Report.TheVariants as report
-use Rattle.gic_report.specs.Text.{HasNames, IsReport, printed, report_text}
+use Rattle.gic_report.specs.Fits.{HasNames}
+use Rattle.gic_report.specs.Text.{IsReport, printed, report_text}
 use Rattle.gic_report.proofs.CaseNames.{line_names, node_words}
 use Rattle.gic_report.proofs.CheckDetermined.{check_determined}
 use Rattle.gic_report.proofs.FieldDetermined.{report_determined}

@@ -1,5 +1,5 @@
 use Rattle.gic_winding.specs.Weights.{no_transformer}
-use Rattle.gic_report.specs.FieldText.{transformer_line}
+use Rattle.gic_report.specs.VerdictText.{transformer_line}
 use Rattle.gic_report.proofs.Transformers.{line_at}
 use Rattle.gic_report.proofs.laws.transformer_lines_law.Goals as goal
 

@@ -1,9 +1,9 @@
 use Rattle.std.proofs.Common.{◌≤◌, All, drop}
 use Rattle.gic_text.specs.Lines.{lines_text}
 use Rattle.gic_report.specs.Fits.{HasAbsolute}
-use Rattle.gic_report.specs.FieldText.{transformer_lines}
+use Rattle.gic_report.specs.VerdictText.{transformer_lines}
 use Rattle.gic_report.proofs.Written.{Written}
-use Rattle.gic_report.proofs.field.write_transformers.Given as goal
+use Rattle.gic_report.proofs.verdict.write_transformers.Given as goal
 
 -- all is written but the lines of the transformers that are left, and their intervals have absolute values
 abbrev pub invariant-loop-transformer : goal.invariant-loop-transformer

@@ -1,10 +1,10 @@
 use Rattle.std.proofs.Common.{rules, arith, All, get_or, subst, sym, ◌≡◌}
 use Rattle.gic_monitor.specs.View.{ends_of}
 use Rattle.gic_report.specs.Fits.{HasAbsolute}
-use Rattle.gic_report.specs.FieldText.{transformer_line}
+use Rattle.gic_report.specs.VerdictText.{transformer_line}
 use Rattle.gic_report.proofs.Transformers.{first_absolute, later_absolute, next_transformer}
 use Rattle.gic_report.proofs.Written.{goes_on, same_left, stops}
-use Rattle.gic_report.proofs.field.write_transformers.Goals as goal
+use Rattle.gic_report.proofs.verdict.write_transformers.Goals as goal
 
 pub write_transformer-requires : goal.write_transformer-requires
 write_transformer-requires g c = subst HasAbsolute (sym c.take.ensures.cell) (first_absolute c.loop-transformer.cells c.loop-transformer.invariant.absolutes)

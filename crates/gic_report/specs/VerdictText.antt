@@ -1,0 +1,55 @@
+-- The verdicts on the transformers of a view, and their lines.
+use Rattle.std.specs.Prelude.{◌≡◌, ◌<◌, length, slice_index_or, ℕ, Bool, List, [], ◌∷◌, codes}
+use Rattle.std.specs.Fmt.{signed_decimal}
+use Rattle.gic_fixed.specs.Rounding.{least_abs, greatest_abs}
+use Rattle.gic_monitor.specs.View.{View, Ends, effective_at}
+use Rattle.gic_case.specs.declared.item.Kind.{Kind}
+use Rattle.gic_case.specs.declared.item.Transformer.{Transformer}
+use Rattle.gic_case.specs.Lists.{Lists, has_windings}
+use Rattle.gic_winding.specs.Weights.{transformer_at}
+use Rattle.gic_screen.specs.declared.criterion.Verdict.{Verdict}
+use Rattle.gic_screen.specs.declared.criterion.Verdict.TheVariants.{Below, Reaches, Undecided, Outside}
+use Rattle.gic_screen.specs.Verdict.{verdict_of}
+use Rattle.gic_report.specs.SharedLines.{Words}
+use Rattle.gic_report.specs.ItemText.{per_transformer}
+
+-- the high side is earthed through its winding: only a delta-delta unit has none
+abbrev pub earthed_high : Kind → Bool
+earthed_high kind = has_windings kind
+
+-- the absolute values of the numbers from the low to the high end
+abbrev pub absolute_ends : Ends → Ends
+absolute_ends e = record { low = least_abs e.low e.high; high = greatest_abs e.low e.high }
+
+-- the verdict on a transformer whose signed effective current is in this interval, against a threshold in mA
+abbrev pub verdict_on : (threshold : ℕ) → Transformer → Ends → Verdict
+verdict_on threshold t e = verdict_of (absolute_ends e).low (absolute_ends e).high threshold t.high_volts (earthed_high t.kind)
+
+-- the verdict on the transformer at a place of the case
+abbrev pub verdict_at : Lists → (threshold : ℕ) → View → (place : ℕ) → Verdict
+verdict_at case threshold view place = verdict_on threshold (transformer_at case place) (effective_at view place)
+
+-- how a report names a verdict
+abbrev pub verdict_word : Verdict → List ℕ
+verdict_word Below = codes "below"
+verdict_word Reaches = codes "reaches"
+verdict_word Undecided = codes "undecided"
+verdict_word Outside = codes "outside"
+
+-- the line of a verdict: the transformer's name, its absolute effective interval, and the verdict on it
+unfoldable pub judged_line : (name : List ℕ) → Ends → Verdict → Words
+judged_line name e v = codes "transformer" ∷ name ∷ signed_decimal e.low ∷ signed_decimal e.high ∷ verdict_word v ∷ []
+
+-- the line of a transformer, by its signed effective interval
+abbrev pub transformer_line : (threshold : ℕ) → Transformer → Ends → Words
+transformer_line threshold t e = judged_line t.name (absolute_ends e) (verdict_on threshold t e)
+
+-- per transformer
+abbrev pub transformer_lines : (threshold : ℕ) → List Transformer → List Ends → List Words
+transformer_lines threshold = per_transformer (transformer_line threshold)
+
+-- the line of the transformer at each place shows its absolute effective interval and the verdict on it
+abbrev pub ShowsVerdicts : Type 0
+ShowsVerdicts = (case : Lists) (threshold : ℕ) (view : View) (place : ℕ) → place < length case.transformers →
+    slice_index_or (transformer_lines threshold case.transformers view.effective) place []
+    ≡ judged_line (transformer_at case place).name (absolute_ends (effective_at view place)) (verdict_at case threshold view place)

@@ -1,0 +1,117 @@
+//! The lines of the verdicts on transformers.
+ghost use Rattle.std.specs.Prelude.{◌≡◌, ◌+◌, ◌≤◌, length, All, OnOk};
+ghost use Rattle.std.specs.Io.KnownBytes.{Appends};
+ghost use Rattle.gic_base.specs.Causes.{HasCause};
+ghost use Rattle.gic_base.specs.Pieces.{AppendsPart};
+ghost use Rattle.gic_monitor.specs.View.{ends_of};
+ghost use Rattle.gic_text.specs.Lines.{with_word, line_text, lines_text};
+ghost use Rattle.gic_report.specs.Fits.{HasAbsolute};
+ghost use Rattle.gic_report.specs.VerdictText.{earthed_high, verdict_word, judged_line, transformer_line, transformer_lines};
+
+use crate::cells::EffectiveCells;
+use crate::items::add_ends;
+use gic_base::{Name, Sink, WriteFailed, write_all};
+use gic_case::{Kind, Transformer};
+use gic_fixed::Interval;
+use gic_monitor::StepView;
+use gic_screen::{Verdict, verdict};
+use gic_text::LineBuilder;
+
+/// Whether the high side of a unit is earthed through its winding.
+fn earthed_high(kind: Kind) -> bool
+    ensures { result ≡ earthed_high kind }
+{
+    match kind {
+        Kind::DeltaWye { .. } | Kind::WyeWye { .. } | Kind::Auto { .. } => true,
+        Kind::DeltaDelta => false,
+    }
+}
+
+/// How the report names a verdict.
+fn verdict_word(verdict: Verdict) -> &'static str
+    ensures word { result.now ≡ verdict_word verdict }
+    ensures size { length result.now ≤ 9 }
+{
+    match verdict {
+        Verdict::Below => "below",
+        Verdict::Reaches => "reaches",
+        Verdict::Undecided => "undecided",
+        Verdict::Outside => "outside",
+    }
+}
+
+/// Adds a verdict to the line.
+#[tactic(auto, using(gic_text::proofs::Sizes::line_room))]
+fn add_verdict(said: Verdict, line: &mut LineBuilder)
+    requires { length line.old.bytes ≤ 400 }
+    ensures word { line.new ≡ with_word line.old (verdict_word said) }
+    ensures size { length line.new.bytes ≤ length line.old.bytes + 10 }
+{
+    line.word(verdict_word(said).as_bytes());
+}
+
+/// Writes the line of a verdict, by the transformer's name and its absolute effective interval.
+#[tactic(auto, using(gic_text::proofs::Sizes::line_room), unfolding(crate::specs::VerdictText::judged_line))]
+fn write_judged<S: Sink>(
+    name: &Name,
+    current: Interval,
+    said: Verdict,
+    line: &mut LineBuilder,
+    out: &mut S,
+) -> Result<(), WriteFailed>
+    ensures all { OnOk result (Appends (S.written out.old) (S.written out.new)
+        (line_text (judged_line name.now (ends_of current) said))) }
+    ensures part { AppendsPart (S.written out.old) (S.written out.new)
+        (line_text (judged_line name.now (ends_of current) said)) }
+    ensures cause { HasCause (S.faults out.old) (S.faults out.new) result }
+{
+    line.start();
+    line.word(b"transformer");
+    line.word(name.as_bytes());
+    add_ends(current, line);
+    add_verdict(said, line);
+    write_all(out, line.finish())
+}
+
+/// Writes the line of a transformer, by its signed effective interval.
+fn write_transformer<S: Sink>(
+    transformer: &Transformer,
+    signed: Interval,
+    threshold: u32,
+    line: &mut LineBuilder,
+    out: &mut S,
+) -> Result<(), WriteFailed>
+    requires { HasAbsolute (ends_of signed) }
+    ensures all { OnOk result (Appends (S.written out.old) (S.written out.new)
+        (line_text (transformer_line threshold transformer.now (ends_of signed)))) }
+    ensures part { AppendsPart (S.written out.old) (S.written out.new)
+        (line_text (transformer_line threshold transformer.now (ends_of signed))) }
+    ensures cause { HasCause (S.faults out.old) (S.faults out.new) result }
+{
+    let current = signed.abs();
+    let is_earthed = earthed_high(transformer.kind);
+    let said = verdict(current, threshold, transformer.high_volts, is_earthed);
+    write_judged(&transformer.name, current, said, line, out)
+}
+
+/// Writes a line for each transformer.
+pub fn write_transformers<S: Sink>(
+    transformers: &[Transformer],
+    view: &StepView,
+    threshold: u32,
+    line: &mut LineBuilder,
+    out: &mut S,
+) -> Result<(), WriteFailed>
+    requires { All HasAbsolute view.now.effective }
+    ensures all { OnOk result (Appends (S.written out.old) (S.written out.new)
+        (lines_text (transformer_lines threshold transformers.now view.now.effective))) }
+    ensures part { AppendsPart (S.written out.old) (S.written out.new)
+        (lines_text (transformer_lines threshold transformers.now view.now.effective)) }
+    ensures cause { HasCause (S.faults out.old) (S.faults out.new) result }
+{
+    let mut cells = EffectiveCells::of(view);
+    for transformer in transformers {
+        write_transformer(transformer, cells.take(), threshold, line, out)?;
+    }
+    Ok(())
+}
