@@ -9,10 +9,11 @@ use crate::laws::least_capped_vector_law;
 use crate::row::is_row_positive;
 use crate::vector::BoundVector;
 use gic_base::NodeId;
+use gic_base::limits::{FULL_WALK, MOST_WALK};
 use gic_net::Net;
 
-/// The first node, in node order, at which the least capped vector has the entry 4097: every bound vector is above
-/// 4096 there.
+/// The first node, in node order, at which the least capped vector has the entry [`FULL_WALK`]: every bound vector is above
+/// [`MOST_WALK`] there.
 #[derive(Clone, Copy, PartialEq, Eq, Debug)]
 pub struct Unresolved {
     pub node: NodeId,
@@ -23,12 +24,12 @@ pub struct Unresolved {
 pub fn bound(net: &Net, out: &mut BoundVector) -> Result<(), Unresolved>
     requires { length out.old ≡ net.now.network.nodes }
     ensures least { IsLeastCappedVector (standing net.now) (slice_index out.new) }
-    ensures earthed { IsOk result ↔ IsEarthedWithin (standing net.now) 4096 }
-    ensures bound { OnOk result (IsBoundWithin (standing net.now) 4096 (slice_index out.new)) }
+    ensures earthed { IsOk result ↔ IsEarthedWithin (standing net.now) MOST_WALK }
+    ensures bound { OnOk result (IsBoundWithin (standing net.now) MOST_WALK (slice_index out.new)) }
 
-    // The named node has the entry 4097, and no node before it has.
-    ensures full { IfErr result (λ refusal. slice_index out.new refusal.node.0 ≡ 4097) }
-    ensures first { IfErr result (λ refusal. (k : ℕ) → k < refusal.node.0 → slice_index out.new k ≤ 4096) }
+    // The named node has the entry `FULL_WALK`, and no node before it has.
+    ensures full { IfErr result (λ refusal. slice_index out.new refusal.node.0 ≡ FULL_WALK) }
+    ensures first { IfErr result (λ refusal. (k : ℕ) → k < refusal.node.0 → slice_index out.new k ≤ MOST_WALK) }
 
     ensures same_length { length out.new ≡ length out.old }
 {
@@ -76,22 +77,22 @@ fn raise_all(net: &Net, out: &mut BoundVector) -> bool
 /// Raises the entry at a node by 1.
 fn raise(vector: &mut BoundVector, node: NodeId)
     requires node { node.0 < length vector.old }
-    requires room { slice_index vector.old node.0 < 4097 }
+    requires room { slice_index vector.old node.0 < FULL_WALK }
     ensures { vector.new ≡ slice_set vector.old node.0 (slice_index vector.old node.0 + 1) }
 {
     let entry = vector.entry(node);
     vector.set(node, entry + 1);
 }
 
-/// The first node with the entry 4097.
+/// The first node with the entry [`FULL_WALK`].
 fn first_full(net: &Net, vector: &BoundVector) -> Option<NodeId>
     requires { length vector.now ≡ net.now.network.nodes }
-    ensures none { IfNone result ((k : ℕ) → slice_index vector.now k ≤ 4096) }
-    ensures full { IfSome result (λ node. slice_index vector.now node.0 ≡ 4097) }
-    ensures first { IfSome result (λ node. (k : ℕ) → k < node.0 → slice_index vector.now k ≤ 4096) }
+    ensures none { IfNone result ((k : ℕ) → slice_index vector.now k ≤ MOST_WALK) }
+    ensures full { IfSome result (λ node. slice_index vector.now node.0 ≡ FULL_WALK) }
+    ensures first { IfSome result (λ node. (k : ℕ) → k < node.0 → slice_index vector.now k ≤ MOST_WALK) }
 {
     for node in 0..net.nodes() {
-        if vector.entry(NodeId(node)) == 4097 {
+        if vector.entry(NodeId(node)) == FULL_WALK {
             return Some(NodeId(node));
         }
     }
@@ -104,5 +105,5 @@ fn is_too_small(net: &Net, vector: &BoundVector, node: NodeId) -> bool
     requires node { node.0 < net.now.network.nodes }
     ensures { IsTrue result ↔ IsTooSmall (standing net.now) (slice_index vector.now) node.0 }
 {
-    net.live(node) && vector.entry(node) < 4097 && !is_row_positive(net, vector, node)
+    net.live(node) && vector.entry(node) < FULL_WALK && !is_row_positive(net, vector, node)
 }

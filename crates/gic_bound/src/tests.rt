@@ -1,70 +1,10 @@
-ghost use Rattle.std.specs.Prelude.{◌≡◌, ◌≤◌, All, IfOk, length};
-ghost use Rattle.gic_model.specs.WorkedLoop.{node};
+ghost use Rattle.std.specs.Prelude.{◌≡◌, ◌≤◌, All, length};
 
 use crate::{BoundVector, Unresolved, bound, rows_positive};
 use gic_base::NodeId;
-use gic_model::{Element, Elements, End, Item, Role};
 use gic_net::Net;
-use std::alloc::{AllocError, Global};
+use gic_worked::{loop_with, worked_loop};
 use std::test::Fail;
-
-/// The substations A and B with grounds of so many micro-ohm, the buses a and b, the line L, and the transformers TA
-/// and TB with windings of so many.
-fn loop_elements(alloc: Global, ground_ohms: u32, winding_ohms: u32) -> Result<Elements, AllocError>
-    requires least_ground { 1000 ≤ ground_ohms }
-    requires most_ground { ground_ohms ≤ 1000000000 }
-    requires least_winding { 1000 ≤ winding_ohms }
-    requires most_winding { winding_ohms ≤ 1000000000 }
-    ensures { IfOk result (λ elements. elements.nodes ≡ 4) }
-{
-    let list = vec![in alloc;
-        ground(0, ground_ohms),
-        ground(1, ground_ohms),
-        line(),
-        winding(2, 0, winding_ohms),
-        winding(3, 1, winding_ohms),
-    ]?;
-    Ok(Elements::new(4, list))
-}
-
-fn ground(substation: u16, micro_ohm: u32) -> Element
-    ensures { result ≡ record { from = node substation; to = End.Earth; times = 1; micro_ohm = micro_ohm; item = Item.Ground substation; role = Role.Ground } }
-{
-    Element {
-        from: NodeId(substation),
-        to: End::Earth,
-        times: 1,
-        micro_ohm,
-        item: Item::Ground(substation),
-        role: Role::Ground,
-    }
-}
-
-fn line() -> Element
-    ensures { result ≡ record { from = node 2; to = End.Node (node 3); times = 3; micro_ohm = 3000000; item = Item.Line 0; role = Role.Line } }
-{
-    Element {
-        from: NodeId(2),
-        to: End::Node(NodeId(3)),
-        times: 3,
-        micro_ohm: 3_000_000,
-        item: Item::Line(0),
-        role: Role::Line,
-    }
-}
-
-fn winding(bus: u16, substation: u16, micro_ohm: u32) -> Element
-    ensures { result ≡ record { from = node bus; to = End.Node (node substation); times = 3; micro_ohm = micro_ohm; item = Item.Transformer substation; role = Role.High } }
-{
-    Element {
-        from: NodeId(bus),
-        to: End::Node(NodeId(substation)),
-        times: 3,
-        micro_ohm,
-        item: Item::Transformer(substation),
-        role: Role::High,
-    }
-}
 
 fn entries(vector: &BoundVector) -> [u16; 4]
     requires { length vector.now ≡ 4 }
@@ -91,7 +31,7 @@ fn set_all(vector: &mut BoundVector, entries: [u16; 4])
 /// Grounds of 1 ohm and windings of 0.1 ohm a phase.
 #[test]
 fn bound_of_the_loop(rt: HostRuntime) -> Result<(), Fail> {
-    let elements = loop_elements(rt.alloc(), 1_000_000, 300_000)?;
+    let elements = worked_loop(rt.alloc())?;
     let net = Net::build(rt.alloc(), &elements)?;
     let mut vector = BoundVector::new(rt.alloc(), 4)?;
     assert!(rt; bound(&net, &mut vector).is_ok());
@@ -102,7 +42,7 @@ fn bound_of_the_loop(rt: HostRuntime) -> Result<(), Fail> {
 
 #[test]
 fn vector_too_small(rt: HostRuntime) -> Result<(), Fail> {
-    let elements = loop_elements(rt.alloc(), 1_000_000, 300_000)?;
+    let elements = worked_loop(rt.alloc())?;
     let net = Net::build(rt.alloc(), &elements)?;
     let mut vector = BoundVector::new(rt.alloc(), 4)?;
     set_all(&mut vector, [31, 31, 33, 33]);
@@ -117,7 +57,7 @@ fn vector_too_small(rt: HostRuntime) -> Result<(), Fail> {
 /// Grounds of 1000 ohm and windings of 0.001 ohm in three phases.
 #[test]
 fn network_unresolved(rt: HostRuntime) -> Result<(), Fail> {
-    let elements = loop_elements(rt.alloc(), 1_000_000_000, 1_000)?;
+    let elements = loop_with(rt.alloc(), 1_000_000_000, 1_000)?;
     let net = Net::build(rt.alloc(), &elements)?;
     let mut vector = BoundVector::new(rt.alloc(), 4)?;
     assert_eq!(rt;

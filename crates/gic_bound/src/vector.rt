@@ -1,9 +1,10 @@
 //! One entry for each node.
+use gic_base::limits::FULL_WALK;
 use gic_base::{NodeId, OutOfMemory};
 use std::alloc::Global;
 use std::marker::Model;
 
-/// One entry for each node, each from 0 to 4097.
+/// One entry for each node, each from 0 to [`FULL_WALK`].
 #[derive(Drop)]
 pub struct BoundVector {
     entries: Vec<u16>,
@@ -28,13 +29,11 @@ impl BoundVector {
     pub fn new(alloc: Global, nodes: u16) -> Result<BoundVector, OutOfMemory>
         ensures { IfOk result (λ vector. vector ≡ replicate nodes 0) }
     {
-        match vec![in alloc; 0; nodes as usize] {
-            Ok(entries) => Ok(BoundVector { entries }),
-            Err(_) => Err(OutOfMemory),
-        }
+        let entries = vec![in alloc; 0; nodes as usize]?;
+        Ok(BoundVector { entries })
     }
 
-    /// The entry at a node. The answer also tells that no entry is above 4097.
+    /// The entry at a node. The answer also tells that no entry is above [`FULL_WALK`].
     pub fn entry(&self, node: NodeId) -> u16
         requires { node.0 < length self.now }
         ensures value { result ≡ slice_index self.now node.0 }
@@ -46,7 +45,7 @@ impl BoundVector {
     /// Changes the entry at this node alone.
     pub fn set(&mut self, node: NodeId, value: u16)
         requires node { node.0 < length self.old }
-        requires capped { value ≤ 4097 }
+        requires capped { value ≤ FULL_WALK }
         ensures { self.new ≡ slice_set self.old node.0 value }
     {
         self.entries[node.0 as usize] = value;

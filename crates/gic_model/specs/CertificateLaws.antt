@@ -16,13 +16,13 @@ GuessesHoldPotentials = (network : Network) (stands : Item → Bool) (volts x : 
     IsSettledWithin standing volts x t → IsLive standing k →
     Encloses (x k -ℤ pos (v k * t)) (x k +ℤ pos (v k * t)) (pos (2 ^ 36) *ℤ s.potential k) s.denominator
 
--- an interval in units that holds the residual, with both ends within what the rounded conductance carries, shows that the node is settled
+-- an interval in units that holds the residual, with both ends within what the rounded conductance carries, shows that the node is settled; a unit is 2^12 times what 2^-20 siemens carry at one grain
 abbrev pub UnitsTellSettled : Type 0
 UnitsTellSettled = (network : Network) (stands : Item → Bool) (volts x : ℕ → ℤ) (t k : ℕ) (lo hi : ℤ) →
     let standing = standing_elements network stands in
     IsWithinLimits network → HoldsResidual standing volts x k lo hi →
-    4096 * unsigned_abs lo ≤ t * least_conductance standing k →
-    4096 * unsigned_abs hi ≤ t * least_conductance standing k →
+    2 ^ 12 * unsigned_abs lo ≤ t * least_conductance standing k →
+    2 ^ 12 * unsigned_abs hi ≤ t * least_conductance standing k →
     IsSettledAt standing volts x t k
 
 -- the residual lies between the sums of its parts rounded down and rounded up

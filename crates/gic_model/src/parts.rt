@@ -68,12 +68,14 @@ pub struct Element {
 }
 
 impl Element {
-    ghost use Rattle.std.specs.Prelude.{◌≡◌};
+    ghost use Rattle.std.specs.Prelude.{◌≡◌, ℕ};
+    ghost use Rattle.gic_model.specs.Network.{IsElementWithin, IsEndWithin};
     ghost use Rattle.gic_model.specs.Standing.{other_end};
 
     /// The other end of an element that ends at this node.
     pub fn other_end(&self, node: NodeId) -> End
-        ensures { result ≡ other_end node.0 self.now }
+        ensures value { result ≡ other_end node.0 self.now }
+        ensures inside { (nodes : ℕ) → IsElementWithin nodes self.now → IsEndWithin nodes result }
     {
         if self.from.0 == node.0 {
             self.to

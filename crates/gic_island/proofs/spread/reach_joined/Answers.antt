@@ -17,7 +17,7 @@ loop-place-preserved c =
     let old = c.loop-place.scratch in
     let new = c.match-other_end.scratch in
     let element : (placed_at net k place).1 ≡ c.element-element.result = ap (λ (p : Placed). p.1) c.element_at.ensures.value ∙ sym c.element-element.ensures.value in
-    let other : other_end k (placed_at net k place).1 ≡ c.other_end.result = ap (other_end k) element ∙ sym c.other_end.ensures in
+    let other : other_end k (placed_at net k place).1 ≡ c.other_end.result = ap (other_end k) element ∙ sym c.other_end.ensures.value in
     let step : AcrossElement (other_end k (placed_at net k place).1) old.reached new.reached = elim c.match-other_end.branch [
       | in-Node w ↦ inl (w.in-Node.other, other ∙ w.in-Node.is, ap (λ (s : ScratchView). s.reached) (w.scratch-is ∙ w.reach.ensures))
       | in-Earth w ↦ inr (other ∙ w.in-Earth.is, ap (λ (s : ScratchView). s.reached) w.scratch-is)
