@@ -7,8 +7,9 @@ use Rattle.std.proofs.lemmas.List.{get_or-set_same, get_or-set_other, get_or_def
 use Rattle.std.proofs.lemmas.List.Sums.{count_by_more_no, count_by_more_yes, count_by-le-length}
 use Rattle.std.specs.Prelude.{◌==◌}
 use Rattle.std.specs.List.{flat_map}
-use Rattle.gic_case.specs.Lists.{Lists, earthing_ends_from, earthing_ends, line_ends, grid_of, neutrals_from, neutrals_of, winding_ends, device_ends, transformer_ends, ends_of, degree_of}
+use Rattle.gic_case.specs.Lists.{Lists, earthing_ends_from, earthing_ends, line_ends, grid_of, neutrals_of, winding_ends, device_ends, transformer_ends, ends_of, degree_of}
 use Rattle.gic_case.specs.Rules.{breaks_degree_from}
+use Rattle.gic_case.proofs.NeutralNodes.{length-neutrals_of}
 use Rattle.gic_case.specs.declared.item.Substation.{Substation}
 use Rattle.gic_case.specs.declared.item.Line.{Line}
 use Rattle.gic_case.specs.declared.item.Bus.{Bus}
@@ -81,14 +82,6 @@ length-flat_map : {A : Type 0} (f : A → List ℕ) (n : ℕ) → ((x : A) → l
 length-flat_map f n few [] = omega arith
 length-flat_map f n few (x ∷ xs) = rw length-append (omega (arith, few x, length-flat_map f n few xs))
 
-length-neutrals_from : (buses : List Bus) (node : ℕ) (ts : List Transformer) → length (neutrals_from buses node ts) ≡ length ts
-length-neutrals_from buses node [] = refl
-length-neutrals_from buses node (t ∷ ts) =
-    elim (cases_Bool (is_some t.neutral)) [
-      | inl own ↦ rw own (ap (λ n. suc n) (length-neutrals_from buses (node + 1) ts))
-      | inr none ↦ rw none (ap (λ n. suc n) (length-neutrals_from buses node ts))
-    ]
-
 length-winding_ends : (first_bus neutral : ℕ) (k : Kind) → length (winding_ends first_bus neutral k) ≤ 4
 length-winding_ends first_bus neutral (kinds.DeltaWye high high_resistance) = omega arith
 length-winding_ends first_bus neutral (kinds.WyeWye high low low_volts high_resistance low_resistance) = omega arith
@@ -102,7 +95,7 @@ length-device_ends neutral grid (Some devices.Blocked) = omega arith
 
 length-transformer_ends : (c : Lists) → length (transformer_ends c) ≤ 6 * length c.transformers
 length-transformer_ends c =
-    let many = length-neutrals_from c.buses (length c.substations + length c.buses) c.transformers in
+    let many = length-neutrals_of c in
     let windings = length-flat_map {A = ℕ × Transformer} (λ p. winding_ends (length c.substations) p.0 p.1.kind) 4 (λ p. length-winding_ends (length c.substations) p.0 p.1.kind) (neutrals_of c) in
     let devices = length-flat_map {A = ℕ × Transformer} (λ p. device_ends p.0 (grid_of c.buses p.1.kind) p.1.neutral) 2 (λ p. length-device_ends p.0 (grid_of c.buses p.1.kind) p.1.neutral) (neutrals_of c) in
     rw length-append (omega (arith, many, windings, devices))
@@ -117,13 +110,7 @@ length-ends_of c =
     (omega (arith, earthings, lines, transformers))
 
 -- the ends at transformers, from what the code holds of the lists
-pub transformer_ends_by : (c : Lists) (first_bus first_neutral : ℕ) (buses : List Bus) (ts : List Transformer) (neutrals : List (ℕ × Transformer))
-    → first_bus ≡ length c.substations → first_neutral ≡ first_bus + length c.buses → buses ≡ c.buses → ts ≡ c.transformers → neutrals ≡ neutrals_from buses first_neutral ts
+pub transformer_ends_by : (c : Lists) (first_bus : ℕ) (buses : List Bus) (neutrals : List (ℕ × Transformer))
+    → first_bus ≡ length c.substations → buses ≡ c.buses → neutrals ≡ neutrals_of c
     → flat_map (λ p. winding_ends first_bus p.0 p.1.kind) neutrals ++ flat_map (λ p. device_ends p.0 (grid_of buses p.1.kind) p.1.neutral) neutrals ≡ transformer_ends c
-transformer_ends_by c first_bus first_neutral buses ts neutrals bus neutral same_buses same_transformers all =
-    let ends : ℕ → List Bus → List (ℕ × Transformer) → List ℕ =
-    λ n bs ns. flat_map (λ p. winding_ends n p.0 p.1.kind) ns ++ flat_map (λ p. device_ends p.0 (grid_of bs p.1.kind) p.1.neutral) ns in
-    let first : first_neutral ≡ length c.substations + length c.buses = neutral ∙ ap (λ n. n + length c.buses) bus in
-    let here : neutrals ≡ neutrals_of c =
-    all ∙ ap (λ bs. neutrals_from bs first_neutral ts) same_buses ∙ ap (λ n. neutrals_from c.buses n ts) first ∙ ap (λ xs. neutrals_from c.buses (length c.substations + length c.buses) xs) same_transformers in
-    ap (λ n. ends n buses neutrals) bus ∙ ap (λ bs. ends (length c.substations) bs neutrals) same_buses ∙ ap (λ ns. ends (length c.substations) c.buses ns) here
+transformer_ends_by c first_bus buses neutrals bus same_buses all = rw (bus, same_buses, all) refl

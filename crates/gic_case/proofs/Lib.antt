@@ -2,8 +2,10 @@ pub mod Degrees
 pub mod Documents
 pub mod FieldLaws
 pub mod PassLaws
+pub mod Passed
 pub mod Ranges
 pub mod Repeats
 pub mod Rows
 pub mod Sound
 pub mod Tables
+pub mod NeutralNodes

@@ -1,6 +1,7 @@
 pub mod Keys
 pub mod Lists
 pub mod Names
+pub mod NodeNames
 pub mod Pass
 pub mod Rows
 pub mod Rules

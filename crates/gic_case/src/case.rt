@@ -40,6 +40,14 @@ impl Model for Case {
 impl Case {
     ghost use Rattle.gic_case.specs.Lists.{IsSound, lists_with};
 
+    /// The lists.
+    pub(crate) fn network(&self) -> &Network
+        ensures value { result.now ≡ self.now }
+        ensures sound { IsSound self.now }
+    {
+        &self.network
+    }
+
     /// The zones.
     pub fn zones(&self) -> &[Zone]
         ensures value { result.now ≡ self.now.zones }

@@ -1,15 +1,15 @@
 //! The nodes at which elements end.
-ghost use Rattle.std.specs.Prelude.{◌≡◌, ℕ, ◌<◌, ◌^◌, ◌++◌, OnOk, IfOk, length, map, slice_index, vec_len};
+ghost use Rattle.std.specs.Prelude.{◌≡◌, ℕ, ◌<◌, ◌^◌, ◌++◌, OnOk, IfOk, length, slice_index, vec_len};
 ghost use Rattle.gic_base.specs.Refusals.{Answers, settle};
 ghost use Rattle.gic_case.specs.declared.refusal.CaseRefusal.TheVariants.{Memory};
-ghost use Rattle.gic_case.specs.Lists.{earthing_ends, line_ends, transformer_ends, ends_of, degree_of, with_device, node_names};
+ghost use Rattle.gic_case.specs.Lists.{earthing_ends, line_ends, transformer_ends, ends_of, degree_of};
 ghost use Rattle.gic_case.specs.Rules.{breaks_degree};
 
-use crate::item::{Line, Substation, Transformer};
+use crate::item::{Line, Substation};
 use crate::network::Network;
-use crate::neutral::{neutrals_from, push_device_ends, push_winding_ends};
+use crate::neutral::{push_device_ends, push_winding_ends};
 use crate::refusal::CaseRefusal;
-use gic_base::Name;
+use gic_base::NodeId;
 use std::alloc::{AllocError, Global};
 
 /// The most elements that may end at a node.
@@ -51,12 +51,9 @@ fn push_transformer_ends(
     ensures { OnOk result (ends.new.items ≡ ends.old.items ++ transformer_ends network.now) }
 {
     let first_bus = network.substations.len() as u32;
-    let first_neutral = first_bus + network.buses.len() as u32;
-    let buses = network.buses.as_slice();
-    let transformers = network.transformers.as_slice();
-    let neutrals = neutrals_from(alloc, buses, first_neutral, transformers)?;
+    let neutrals = network.neutrals(alloc)?;
     push_winding_ends(ends, first_bus, neutrals.as_slice())?;
-    push_device_ends(ends, buses, neutrals.as_slice())?;
+    push_device_ends(ends, network.buses.as_slice(), neutrals.as_slice())?;
     Ok(())
 }
 
@@ -90,43 +87,17 @@ fn degrees(alloc: Global, nodes: usize, ends: &[u32]) -> Result<Vec<u32>, AllocE
     Ok(counts)
 }
 
-/// Adds the names of the transformers that have a neutral device.
-fn push_device_names(names: &mut Vec<Name>, transformers: &[Transformer]) -> Result<(), AllocError>
-    ensures { OnOk result (names.new.items ≡ names.old.items ++ map (λ t. t.name) (with_device transformers.now)) }
-{
-    for transformer in transformers {
-        if transformer.neutral.is_some() {
-            names.push(transformer.name)?;
-        }
-    }
-    Ok(())
-}
-
-/// The names of the nodes, in node order.
-fn node_names(alloc: Global, network: &Network) -> Result<Vec<Name>, AllocError>
-    ensures { IfOk result (λ v. v.items ≡ node_names network.now) }
-{
-    let mut names = Vec::new(alloc);
-    for substation in &network.substations {
-        names.push(substation.name)?;
-    }
-    for bus in &network.buses {
-        names.push(bus.name)?;
-    }
-    push_device_names(&mut names, network.transformers.as_slice())?;
-    Ok(names)
-}
-
 /// Whether at most 256 elements end at each node.
 pub(crate) fn few_ends(alloc: Global, network: &Network) -> Result<(), CaseRefusal>
     ensures { Answers Memory (λ u. u) result (settle (breaks_degree network.now) (tt {0})) }
 {
     let ends = ends_of(alloc, network)?;
-    let names = node_names(alloc, network)?;
-    let counts = degrees(alloc, names.len(), ends.as_slice())?;
+    let nodes = network.node_count();
+    let counts = degrees(alloc, usize::from(nodes), ends.as_slice())?;
     for (node, count) in counts.iter().enumerate() {
         if *count > LIMIT {
-            return Err(CaseRefusal::Degree { node: names[node] });
+            let node = network.node_name(NodeId(node as u16));
+            return Err(CaseRefusal::Degree { node });
         }
     }
     Ok(())

@@ -12,6 +12,7 @@ mod list;
 mod names;
 mod network;
 mod neutral;
+mod node;
 mod reference;
 mod refusal;
 mod row;
@@ -23,6 +24,8 @@ mod value;
 pub use case::{Case, read_case};
 pub use field::Field;
 pub use item::{Bus, Kind, Line, Neutral, Substation, Transformer};
+pub use neutral::{ground_grid, neutrals};
+pub use node::{NodeNames, node_count, node_name};
 pub use refusal::{CaseRefusal, Part};
 
 #[cfg(test)]

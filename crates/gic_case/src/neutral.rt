@@ -1,9 +1,29 @@
-//! The neutrals of transformers, and the ends of the elements at them.
-ghost use Rattle.std.specs.Prelude.{◌≡◌, ◌<◌, ◌^◌, ◌++◌, flat_map, if◌then◌else◌, is_some, IfOk, OnOk, length};
-ghost use Rattle.gic_case.specs.Lists.{substation_at, grid_of, neutrals_from, winding_ends, device_ends};
+//! The ground grids and the neutrals of transformers, and the ends of the elements at them.
+ghost use Rattle.std.specs.Prelude.{◌≡◌, ◌<◌, ◌^◌, ◌++◌, flat_map, if◌then◌else◌, is_some, IfOk, OnOk, All};
+ghost use Rattle.gic_case.specs.Lists.{IsSoundTransformer, substation_at, grid_of, neutrals_of, winding_ends, device_ends};
 
+use crate::case::Case;
 use crate::item::{Bus, Kind, Neutral, Transformer};
+use crate::network::Network;
+use gic_base::{NodeId, OutOfMemory};
 use std::alloc::{AllocError, Global};
+
+/// The ground grid of a transformer of a case: the node of the substation of its high bus.
+pub fn ground_grid(case: &Case, transformer: &Transformer) -> NodeId
+    ensures { result.0 ≡ grid_of case.now.buses transformer.now.kind }
+{
+    NodeId(grid_of(case.buses(), &transformer.kind))
+}
+
+/// Each transformer of a case with the node of its neutral, in transformer order: a node of its own, after the buses,
+/// where it has a neutral device, and its ground grid otherwise. Each is sound.
+pub fn neutrals(alloc: Global, case: &Case) -> Result<Vec<(u16, Transformer)>, OutOfMemory>
+    ensures value { IfOk result (λ v. v.items ≡ neutrals_of case.now) }
+    ensures sound { IfOk result (λ v. All (λ p. IsSoundTransformer case.now p.1) v.items) }
+{
+    let neutrals = case.network().neutrals(alloc)?;
+    Ok(neutrals)
+}
 
 /// The place of the substation of a bus, or 0 past the last bus.
 pub(crate) fn substation_at(buses: &[Bus], place: u16) -> u16
@@ -28,34 +48,30 @@ fn grid_of(buses: &[Bus], kind: &Kind) -> u16
 }
 
 /// The node of a transformer's neutral: its own with a neutral device, its ground grid without one.
-fn neutral_of(buses: &[Bus], own: u32, transformer: &Transformer) -> u32
+fn neutral_of(buses: &[Bus], own: u16, transformer: &Transformer) -> u16
     ensures { result ≡ (if is_some transformer.now.neutral then own else grid_of buses.now transformer.now.kind) }
 {
     if transformer.neutral.is_some() {
         own
     } else {
-        u32::from(grid_of(buses, &transformer.kind))
+        grid_of(buses, &transformer.kind)
     }
 }
 
-/// Each transformer with the node of its neutral, where their own nodes are numbered from the first on.
-pub(crate) fn neutrals_from(
-    alloc: Global,
-    buses: &[Bus],
-    first: u32,
-    transformers: &[Transformer],
-) -> Result<Vec<(u32, Transformer)>, AllocError>
-    requires first { first < 2 ^ 16 }
-    requires few { length transformers.now < 2 ^ 16 }
-    ensures { IfOk result (λ v. v.items ≡ neutrals_from buses.now first transformers.now) }
-{
-    let mut neutrals = Vec::new(alloc);
-    let mut own = first;
-    for transformer in transformers {
-        neutrals.push((neutral_of(buses, own, transformer), *transformer))?;
-        own += u32::from(transformer.neutral.is_some());
+impl Network {
+    /// Each transformer with the node of its neutral.
+    pub(crate) fn neutrals(&self, alloc: Global) -> Result<Vec<(u16, Transformer)>, AllocError>
+        ensures { IfOk result (λ v. v.items ≡ neutrals_of self.now) }
+    {
+        let buses = self.buses.as_slice();
+        let mut neutrals = Vec::new(alloc);
+        let mut own = (self.substations.len() + buses.len()) as u16;
+        for transformer in &self.transformers {
+            neutrals.push((neutral_of(buses, own, transformer), *transformer))?;
+            own += u16::from(transformer.neutral.is_some());
+        }
+        Ok(neutrals)
     }
-    Ok(neutrals)
 }
 
 /// Adds the nodes at which the windings of a transformer end.
@@ -92,13 +108,13 @@ fn push_ends_of_windings(
 pub(crate) fn push_winding_ends(
     ends: &mut Vec<u32>,
     first_bus: u32,
-    neutrals: &[(u32, Transformer)],
+    neutrals: &[(u16, Transformer)],
 ) -> Result<(), AllocError>
     requires { first_bus < 2 ^ 16 }
     ensures { OnOk result (ends.new.items ≡ ends.old.items ++ flat_map (λ p. winding_ends first_bus p.0 p.1.kind) neutrals.now) }
 {
     for (neutral, transformer) in neutrals {
-        push_ends_of_windings(ends, first_bus, *neutral, &transformer.kind)?;
+        push_ends_of_windings(ends, first_bus, u32::from(*neutral), &transformer.kind)?;
     }
     Ok(())
 }
@@ -122,13 +138,13 @@ fn push_ends_of_device(
 pub(crate) fn push_device_ends(
     ends: &mut Vec<u32>,
     buses: &[Bus],
-    neutrals: &[(u32, Transformer)],
+    neutrals: &[(u16, Transformer)],
 ) -> Result<(), AllocError>
     ensures { OnOk result (ends.new.items ≡ ends.old.items ++ flat_map (λ p. device_ends p.0 (grid_of buses.now p.1.kind) p.1.neutral) neutrals.now) }
 {
     for (neutral, transformer) in neutrals {
         let grid = u32::from(grid_of(buses, &transformer.kind));
-        push_ends_of_device(ends, *neutral, grid, transformer.neutral)?;
+        push_ends_of_device(ends, u32::from(*neutral), grid, transformer.neutral)?;
     }
     Ok(())
 }

@@ -1,6 +1,6 @@
 use Rattle.std.proofs.Common.{◌≡◌, length}
 use Rattle.gic_case.specs.Lists.{with_device}
-use Rattle.gic_report.proofs.nodes.next_neutral.Given as goal
+use Rattle.gic_case.proofs.node.next_neutral.Given as goal
 
 -- no transformer with a device was passed
 abbrev pub invariant-loop-transformer : goal.invariant-loop-transformer

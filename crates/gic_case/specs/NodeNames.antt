@@ -1,7 +1,7 @@
 -- The names of nodes that are still to come.
 use Rattle.std.specs.Prelude.{ℕ, List, ◌++◌, map}
 use Rattle.gic_case.specs.Lists.{with_device}
-use Rattle.gic_report.specs.declared.nodes.NodeNames.{NodeNames}
+use Rattle.gic_case.specs.declared.node.NodeNames.{NodeNames}
 
 -- the names of the nodes that are left, in node order
 abbrev pub names_left : NodeNames → List (List ℕ)
