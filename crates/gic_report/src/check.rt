@@ -7,10 +7,9 @@ ghost use Rattle.gic_text.specs.Lines.{line_text, lines_text};
 ghost use Rattle.gic_case.specs.Lists.{node_names};
 ghost use Rattle.gic_report.specs.CheckText.{state_word, state_line, state_lines, live_count, live_count_line, check_report};
 
-use crate::nodes::NodeNames;
 use crate::write::write_word;
 use gic_base::{Name, Sink, WriteFailed, write_all};
-use gic_case::Case;
+use gic_case::{Case, NodeNames};
 use gic_text::LineBuilder;
 
 /// How the report says whether a node is live.

@@ -12,10 +12,9 @@ ghost use Rattle.gic_report.specs.ItemText.{all_ground_rows, all_line_rows, all_
 ghost use Rattle.gic_report.specs.ItemText.{node_line, node_lines, effective_line, effective_lines, signed_lines};
 
 use crate::cells::{EffectiveCells, ElementCells, NodeCells};
-use crate::nodes::NodeNames;
 use crate::role::role_word;
 use gic_base::{Name, Sink, WriteFailed, write_all};
-use gic_case::{Case, Kind, Line, Neutral, Substation, Transformer};
+use gic_case::{Case, Kind, Line, Neutral, NodeNames, Substation, Transformer};
 use gic_fixed::Interval;
 use gic_model::Role;
 use gic_monitor::StepView;

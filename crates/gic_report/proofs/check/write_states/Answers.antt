@@ -5,7 +5,7 @@ use Rattle.std.specs.Slice.Iter.{iter_rest, iter_steps}
 use Rattle.gic_text.specs.Lines.{lines_text}
 use Rattle.gic_case.specs.Lists.{node_names}
 use Rattle.gic_report.specs.CheckText.{state_lines}
-use Rattle.gic_report.specs.NodeNames.{names_left}
+use Rattle.gic_case.specs.NodeNames.{names_left}
 use Rattle.gic_report.proofs.StateLines.{either_ended, next_state, no_items, no_state_left}
 use Rattle.gic_report.proofs.Written.{begins, goes_on, same_left, stops, ends}
 use Rattle.gic_report.proofs.check.write_states.Goals as goal

@@ -4,7 +4,7 @@ use Rattle.std.specs.Slice.Iter.{iter_rest}
 use Rattle.gic_text.specs.Lines.{lines_text}
 use Rattle.gic_case.specs.Lists.{node_names}
 use Rattle.gic_report.specs.CheckText.{state_lines}
-use Rattle.gic_report.specs.NodeNames.{names_left}
+use Rattle.gic_case.specs.NodeNames.{names_left}
 use Rattle.gic_report.proofs.Written.{Written}
 use Rattle.gic_report.proofs.check.write_states.Given as goal
 

@@ -2,7 +2,7 @@ use Rattle.std.proofs.Common.{◌≤◌}
 use Rattle.gic_text.specs.Lines.{lines_text}
 use Rattle.gic_case.specs.Lists.{node_names}
 use Rattle.gic_report.specs.ItemText.{node_lines}
-use Rattle.gic_report.specs.NodeNames.{names_left}
+use Rattle.gic_case.specs.NodeNames.{names_left}
 use Rattle.gic_report.proofs.Written.{Written}
 use Rattle.gic_report.proofs.items.write_nodes.Given as goal
 

@@ -1,5 +1,5 @@
 use Rattle.std.proofs.Common.{◌≡◌, ◌-◌, ◌<◌, slice_get, arith, ap, sym, ◌∙◌}
-use Rattle.gic_report.specs.NodeNames.{names_left}
+use Rattle.gic_case.specs.NodeNames.{names_left}
 use Rattle.gic_study.proofs.Passed.{passed_one, next_is_first}
 use Rattle.gic_study.proofs.network.node_name.Goals as goal
 

@@ -1,6 +1,6 @@
 use Rattle.std.proofs.Common.{◌≡◌, ◌-◌, slice_get}
 use Rattle.gic_case.specs.Lists.{node_names}
-use Rattle.gic_report.specs.NodeNames.{names_left}
+use Rattle.gic_case.specs.NodeNames.{names_left}
 use Rattle.gic_study.proofs.network.node_name.Given as goal
 
 -- the node's name stands as far behind the names that were passed as are still to be passed

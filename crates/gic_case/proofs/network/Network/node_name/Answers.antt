@@ -1,6 +1,5 @@
-use Rattle.std.proofs.Common.{◌≡◌, ◌-◌, ◌<◌, slice_get, arith, ap, sym, ◌∙◌, rules}
+use Rattle.std.proofs.Common.{◌≡◌, ◌-◌, ◌<◌, slice_get, arith, ap, sym, ◌∙◌}
 use Rattle.gic_case.specs.NodeNames.{names_left}
-use Rattle.gic_case.specs.Lists.{node_names}
 use Rattle.gic_case.proofs.Passed.{passed_one, next_is_first}
 use Rattle.gic_case.proofs.network.Network.node_name.Goals as goal
 
