@@ -1,6 +1,7 @@
 -- Guesses of the potentials in grains of 2^-36 nanovolt, and how far Kirchhoff's law is missed over them.
-use Rattle.std.specs.Prelude.{ℕ, ◌*◌, ◌^◌, ◌≤◌, List, ℤ, pos, ◌+ℤ◌, ◌-ℤ◌, ◌*ℤ◌, ◌≤ℤ◌, unsigned_abs}
+use Rattle.std.specs.Prelude.{ℕ, ◌*◌, ◌^◌, ◌≤◌, List, ℤ, pos, neg_ℤ, ◌+ℤ◌, ◌-ℤ◌, ◌*ℤ◌, ◌≤ℤ◌, unsigned_abs}
 use Rattle.std.specs.List.{sum_by}
+use Rattle.std.specs.Int.{int_min, int_max}
 use Rattle.gic_model.specs.Standing.{IsLive, elements_at, value_at, leaving}
 use Rattle.gic_model.specs.Sums.{Placed, sum_of, product_of_ohms, sum_over_ohms}
 use Rattle.gic_model.specs.Conductance.{conductance_down, conductance_up}
@@ -9,6 +10,10 @@ use Rattle.gic_fixed.specs.Rounding.{floor_div, ceil_div}
 -- no guess is beyond this in grains, either way; the sweeps and the corrections cut it so
 abbrev pub most_guess : ℕ
 most_guess = 2 ^ 96
+
+-- a guess in grains, cut to this
+abbrev pub cut : ℤ → ℤ
+cut z = int_max (neg_ℤ (pos most_guess)) (int_min z (pos most_guess))
 
 -- no potential is beyond this in grains, either way, nor is a settled guess, where a network is earthed within `MOST_WALK`
 abbrev pub most_potential : ℕ

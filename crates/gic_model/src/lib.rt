@@ -2,10 +2,12 @@
 #![tactic(auto)]
 
 pub mod elements;
+pub mod guess;
 pub mod laws;
 pub mod parts;
 pub mod volts;
 
 pub use elements::Elements;
+pub use guess::{MOST_GUESS, cut_guess};
 pub use parts::{Element, End, Item, Role, Switching};
 pub use volts::Volts;

@@ -1,5 +1,6 @@
 -- What a relaxation keeps.
 use Rattle.std.specs.Prelude.{ℕ, ◌≡◌, ◌≤◌, ◌<◌, ◌^◌, List, length, ℤ}
+use Rattle.gic_relax.specs.declared.parts.TheConstants.{MOST_LINKS}
 use Rattle.std.specs.List.{All}
 use Rattle.gic_relax.specs.declared.parts.Link.{Link}
 use Rattle.gic_relax.specs.declared.parts.Row.{Row}
@@ -13,7 +14,7 @@ AreInside nodes links = All (λ (link : Link). link.far < nodes) links
 pub record IsKept (rows : List Row) (links : List Link) (charges corrections : List ℤ) (scale : ℕ) : Type 0 where
   pub row_count : length rows ≡ length corrections
   pub charge_count : length charges ≡ length corrections
-  pub few_links : length links ≤ 39936
+  pub few_links : length links ≤ MOST_LINKS
   pub inside : AreInside (length corrections) links
   pub charges_within : AreWithin (2 ^ 57) charges
   pub corrections_within : AreWithin (2 ^ 57) corrections

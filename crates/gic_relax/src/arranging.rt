@@ -1,10 +1,9 @@
 //! The rows of a net.
-ghost use Rattle.std.specs.Prelude.{ℕ, ◌≡◌, ◌*◌, ◌^◌, ◌≤◌, ◌<◌, unsigned_abs, length, IfSome};
-ghost use Rattle.gic_model.specs.Network.{IsElementWithin};
+ghost use Rattle.std.specs.Prelude.{◌≡◌, ◌*◌, ◌^◌, ◌≤◌, ◌<◌, unsigned_abs, length};
 ghost use Rattle.gic_relax.specs.Kept.{AreInside};
 
 use crate::linking::add_link;
-use crate::parts::{Link, Row};
+use crate::parts::{Link, MOST_LINKS, Row};
 use gic_base::NodeId;
 use gic_model::{Element, End};
 use gic_net::Net;
@@ -48,19 +47,6 @@ fn share(conductance: u64, row_conductance: u64, factor: u32) -> i64
     (product * (1 << 28) / row_conductance.max(1) as u128).min(1 << 49) as i64
 }
 
-/// The node at the other end of an element, unless it is earth.
-fn far_end(element: &Element, node: NodeId) -> Option<NodeId>
-    ensures { (nodes : ℕ) → IsElementWithin nodes element.now → IfSome result (λ far. far.0 < nodes) }
-{
-    if element.from.0 != node.0 {
-        return Some(element.from);
-    }
-    match element.to {
-        End::Node(to) => Some(to),
-        End::Earth => None,
-    }
-}
-
 /// Puts the links of a node's row in from `start` on, and says where they end.
 fn add_row(
     net: &Net,
@@ -81,7 +67,7 @@ fn add_row(
     let mut end = start;
     for place in 0..net.degree(node) {
         let element = net.element(net.element_at(node, place));
-        if let Some(far) = far_end(&element, node) {
+        if let End::Node(far) = element.other_end(node) {
             let share = share(conductance(&element), whole, factor);
             end = add_link(links, start, end, far.0, share);
         }
@@ -93,7 +79,7 @@ fn add_row(
 pub fn arrange_rows(net: &Net, factor: u32, rows: &mut [Row], links: &mut [Link])
     requires factor { factor ≤ 2 ^ 21 }
     requires rows { length rows.old ≡ net.now.network.nodes }
-    requires few { length links.old ≤ 39936 }
+    requires few { length links.old ≤ MOST_LINKS }
     requires inside { AreInside net.now.network.nodes links.old }
     ensures { AreInside net.now.network.nodes links.new }
 {

@@ -9,4 +9,5 @@ mod parts;
 mod passing;
 mod relaxation;
 
+pub use passing::MOST_PASSES;
 pub use relaxation::Relaxation;

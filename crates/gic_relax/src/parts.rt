@@ -1,6 +1,11 @@
 //! Rows and links.
 ghost use Rattle.std.specs.Prelude.{◌^◌, ◌≤◌, unsigned_abs};
 
+use gic_base::limits::MOST_ELEMENTS;
+
+/// The links of all rows, at most: an element makes one in the row of each of its ends.
+pub const MOST_LINKS: usize = 2 * MOST_ELEMENTS;
+
 /// A link of a row.
 #[derive(Clone, Copy)]
 pub struct Link {

@@ -5,7 +5,10 @@ ghost use Rattle.gic_relax.specs.Kept.{AreInside};
 
 use crate::cutting::{cut, scaled, weighed};
 use crate::linking::links_of;
-use crate::parts::{Link, Row};
+use crate::parts::{Link, MOST_LINKS, Row};
+
+/// The passes of one correction, at most.
+pub const MOST_PASSES: u32 = 20000;
 
 /// What a row's new correction has without its links, in units of 2^-48.
 #[inline(always)]
@@ -21,7 +24,7 @@ fn alone(charge: i64, here: i64, rest: i64) -> i128
 /// What a row's new correction has alone, and what its links add to it.
 #[inline(always)]
 fn with_links(links: &[Link], corrections: &[i64], alone: i128) -> i128
-    requires few { length links.now ≤ 39936 }
+    requires few { length links.now ≤ MOST_LINKS }
     requires inside { AreInside (length corrections.now) links.now }
     requires corrections { AreWithin (2 ^ 57) corrections.now }
     requires alone { unsigned_abs alone ≤ 2 ^ 122 }
@@ -38,7 +41,7 @@ fn with_links(links: &[Link], corrections: &[i64], alone: i128) -> i128
 fn pass(rows: &[Row], links: &[Link], charges: &[i64], rest: i64, corrections: &mut [i64]) -> u64
     requires row_count { length rows.now ≡ length corrections.old }
     requires charge_count { length charges.now ≡ length corrections.old }
-    requires few { length links.now ≤ 39936 }
+    requires few { length links.now ≤ MOST_LINKS }
     requires inside { AreInside (length corrections.old) links.now }
     requires charges { AreWithin (2 ^ 57) charges.now }
     requires corrections { AreWithin (2 ^ 57) corrections.old }
@@ -56,7 +59,7 @@ fn pass(rows: &[Row], links: &[Link], charges: &[i64], rest: i64, corrections: &
     most
 }
 
-/// Passes until the greatest step is at most `stop`, and at most 20000 of them. It returns how many.
+/// Passes until the greatest step is at most `stop`, and at most [`MOST_PASSES`] of them. It returns how many.
 pub fn passes(
     rows: &[Row],
     links: &[Link],
@@ -67,18 +70,18 @@ pub fn passes(
 ) -> u32
     requires row_count { length rows.now ≡ length corrections.old }
     requires charge_count { length charges.now ≡ length corrections.old }
-    requires few { length links.now ≤ 39936 }
+    requires few { length links.now ≤ MOST_LINKS }
     requires inside { AreInside (length corrections.old) links.now }
     requires charges { AreWithin (2 ^ 57) charges.now }
     requires corrections { AreWithin (2 ^ 57) corrections.old }
     requires rest { unsigned_abs rest ≤ 2 ^ 49 }
     ensures within { AreWithin (2 ^ 57) corrections.new }
-    ensures limit { result ≤ 20000 }
+    ensures limit { result ≤ MOST_PASSES }
 {
-    for done in 0..20000u32 {
+    for done in 0..MOST_PASSES {
         if pass(rows, links, charges, rest, corrections) <= stop {
             return done + 1;
         }
     }
-    20000
+    MOST_PASSES
 }

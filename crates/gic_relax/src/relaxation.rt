@@ -2,9 +2,11 @@
 use crate::arranging::{arrange_rows, relaxation_factor};
 use crate::charging::{charge_all, scale_bits};
 use crate::cutting::scaled;
-use crate::parts::{Link, Row};
-use crate::passing::passes;
+use crate::parts::{Link, MOST_LINKS, Row};
+use crate::passing::{MOST_PASSES, passes};
+use gic_base::limits::MOST_AT_A_NODE;
 use gic_base::{NodeId, OutOfMemory};
+use gic_model::cut_guess;
 use gic_net::Net;
 use std::alloc::Global;
 use std::marker::Model;
@@ -35,25 +37,20 @@ impl Model for Relaxation {
     ghost invariant = { λ r. IsKept r.rows.items r.links.items r.charges.items r.corrections.items r.scale };
 }
 
-ghost use Rattle.std.specs.Prelude.{◌≡◌, ◌+◌, ◌*◌, ◌^◌, ◌<◌, ◌≤◌, IfOk, IfSome, length, unsigned_abs, OnOk};
+ghost use Rattle.std.specs.Prelude.{◌≡◌, ◌+◌, ◌*◌, ◌^◌, ◌<◌, ◌≤◌, IfOk, IfSome, length, replicate, pos, unsigned_abs, OnOk};
+ghost use Rattle.gic_model.specs.Guess.{most_guess};
 ghost use Rattle.gic_relax.specs.Kept.{AreInside};
 
 impl Relaxation {
-    /// For a network of this many nodes, with room for 256 links at each node and for 39936 in all.
+    /// For a network of this many nodes, with room for [`MOST_AT_A_NODE`] links at each node and for [`MOST_LINKS`] in all.
     pub fn new(alloc: Global, nodes: u16) -> Result<Relaxation, OutOfMemory>
         ensures { IfOk result (λ relaxation. relaxation ≡ nodes) }
     {
-        let Ok(charges) = vec![in alloc; 0; nodes as usize] else {
-            return Err(OutOfMemory);
-        };
-        let Ok(corrections) = vec![in alloc; 0; nodes as usize] else {
-            return Err(OutOfMemory);
-        };
         Ok(Relaxation {
             rows: empty_rows(alloc, nodes)?,
             links: empty_links(alloc, nodes)?,
-            charges,
-            corrections,
+            charges: zeros(alloc, nodes)?,
+            corrections: zeros(alloc, nodes)?,
             walk: 1,
             scale: 0,
         })
@@ -74,12 +71,12 @@ impl Relaxation {
     }
 
     /// Finds corrections for these residuals, in units of 2^-44 nanoampere, one for each node, and says how many passes
-    /// it took, at most 20000. Residuals of any size are allowed; the corrections are cut to their limit. Where no
+    /// it took, at most [`MOST_PASSES`]. Residuals of any size are allowed; the corrections are cut to their limit. Where no
     /// residual is more than its node's conductance carries at three quarters of 2^18 grains, it finds none.
     pub fn correct(&mut self, residuals: &[i128]) -> Option<u32>
         requires { length residuals.now ≡ self.old }
         ensures same_nodes { self.new ≡ self.old }
-        ensures limit { IfSome result (λ passes. passes ≤ 20000) }
+        ensures limit { IfSome result (λ passes. passes ≤ MOST_PASSES) }
     {
         if are_small(self.rows.as_slice(), residuals) {
             return None;
@@ -104,14 +101,14 @@ impl Relaxation {
         ))
     }
 
-    /// The guess at a node less its correction, in grains, cut to the limit of a guess, which is 2^96 either way.
+    /// The guess at a node less its correction, in grains, cut to the limit of a guess.
     pub fn proposed(&self, node: NodeId, guess: i128) -> i128
         requires node { node.0 < self.now }
-        requires guess { unsigned_abs guess ≤ 2 ^ 96 }
-        ensures { unsigned_abs result ≤ 2 ^ 96 }
+        requires guess { unsigned_abs guess ≤ most_guess }
+        ensures { unsigned_abs result ≤ most_guess }
     {
         let correction = scaled(self.corrections[node.0 as usize], 1 << self.scale);
-        (guess - correction).min(1 << 96).max(-(1 << 96))
+        cut_guess(guess - correction)
     }
 }
 
@@ -133,6 +130,13 @@ fn last_step(greatest: u64, scale: u32) -> u64
     (greatest >> 26).max((1 << 16) >> scale).max(64)
 }
 
+fn zeros(alloc: Global, count: u16) -> Result<Vec<i64>, OutOfMemory>
+    ensures { IfOk result (λ zeros. zeros.items ≡ replicate count (pos 0)) }
+{
+    let zeros = vec![in alloc; 0; count as usize]?;
+    Ok(zeros)
+}
+
 fn empty_rows(alloc: Global, nodes: u16) -> Result<Vec<Row>, OutOfMemory>
     ensures { IfOk result (λ rows. length rows.items ≡ nodes) }
 {
@@ -141,19 +145,15 @@ fn empty_rows(alloc: Global, nodes: u16) -> Result<Vec<Row>, OutOfMemory>
         end: 0,
         conductance: 0,
     };
-    match vec![in alloc; row; nodes as usize] {
-        Ok(rows) => Ok(rows),
-        Err(_) => Err(OutOfMemory),
-    }
+    let rows = vec![in alloc; row; nodes as usize]?;
+    Ok(rows)
 }
 
 fn empty_links(alloc: Global, nodes: u16) -> Result<Vec<Link>, OutOfMemory>
-    ensures few { IfOk result (λ links. length links.items ≤ 39936) }
+    ensures few { IfOk result (λ links. length links.items ≤ MOST_LINKS) }
     ensures inside { IfOk result (λ links. AreInside nodes links.items) }
 {
     let link = Link { far: 0, share: 0 };
-    match vec![in alloc; link; (256 * nodes as usize).min(39936)] {
-        Ok(links) => Ok(links),
-        Err(_) => Err(OutOfMemory),
-    }
+    let links = vec![in alloc; link; (MOST_AT_A_NODE * nodes as usize).min(MOST_LINKS)]?;
+    Ok(links)
 }
