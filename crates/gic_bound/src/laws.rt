@@ -15,16 +15,16 @@ pub fn least_capped_vector_law()
     ensures above { FullEntryIsBelowAll }
 {}
 
-/// A network is earthed within `MOST_WALK` where each live node has standing earthings of at least a sixty-fourth of its
-/// conductance; 128 at each live node is a bound vector.
+/// A network is earthed within `MOST_WALK` where each live node has standing earthings of at least a sixty-fourth of
+/// its conductance; 128 at each live node is a bound vector.
 pub fn first_share_law()
     ensures earthed { EarthedEverywhereIsEarthed }
     ensures entries { Entries128AreBound }
 {}
 
-/// A case network is earthed within `MOST_WALK` where `2 s (t + 1)` is at most `MOST_WALK`, each live substation's standing earthing
-/// has at least 1/s of the conductance there, and at each live bus the standing elements that run to substations have
-/// at least 1/t of it. The entries are `2 s (t + 1)` at buses, and `2 t` less at substations.
+/// A case network is earthed within `MOST_WALK` where `2 s (t + 1)` is at most `MOST_WALK`, each live substation's
+/// standing earthing has at least 1/s of the conductance there, and at each live bus the standing elements that run to
+/// substations have at least 1/t of it. The entries are `2 s (t + 1)` at buses, and `2 t` less at substations.
 pub fn second_share_law()
     ensures earthed { EarthedThroughSubstationsIsEarthed }
     ensures entries { ShareEntriesAreBound }

@@ -12,8 +12,8 @@ use gic_base::NodeId;
 use gic_base::limits::{FULL_WALK, MOST_WALK};
 use gic_net::Net;
 
-/// The first node, in node order, at which the least capped vector has the entry [`FULL_WALK`]: every bound vector is above
-/// [`MOST_WALK`] there.
+/// The first node, in node order, at which the least capped vector has the entry [`FULL_WALK`]: every bound vector is
+/// above [`MOST_WALK`] there.
 #[derive(Clone, Copy, PartialEq, Eq, Debug)]
 pub struct Unresolved {
     pub node: NodeId,
@@ -34,7 +34,7 @@ pub fn bound(net: &Net, out: &mut BoundVector) -> Result<(), Unresolved>
     ensures same_length { length out.new ≡ length out.old }
 {
     least_capped_vector_law();
-    let _nodes = net.nodes();
+    net.within_limits();
     begin(net, out);
     while raise_all(net, out) {}
     match first_full(net, out) {

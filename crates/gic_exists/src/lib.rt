@@ -17,7 +17,7 @@ pub fn solution_exists(elements: &Elements, opened: &[Item], volts: &Volts)
     requires number { length volts.now ≡ length elements.now.list }
     ensures { HasSolution (standing_without elements.now opened.now) (number_at volts.now) }
 {
-    let _nodes = elements.nodes();
+    elements.within_limits();
 }
 
 /// Any two solutions agree, in the potential of each live node and in the current of each element, where, with the
@@ -27,5 +27,5 @@ pub fn solutions_agree(elements: &Elements, opened: &[Item], volts: &Volts)
     requires number { length volts.now ≡ length elements.now.list }
     ensures { AnyTwoAgree (standing_without elements.now opened.now) (number_at volts.now) }
 {
-    let _nodes = elements.nodes();
+    elements.within_limits();
 }

@@ -2,8 +2,9 @@
 use crate::parts::Element;
 use std::marker::Model;
 
-/// The elements of a network, over a number of nodes: at most 7680 nodes and 19968 elements, at most 256 elements at
-/// a node, each between two different ends, with one or three paths of 1000 to 1000000000 micro-ohm.
+/// The elements of a network, over a number of nodes: at most `MOST_NODES` nodes and `MOST_ELEMENTS` elements, at most
+/// `MOST_AT_A_NODE` elements at a node, each between two different ends, with one or three paths of 1000 to 1000000000
+/// micro-ohm.
 #[derive(Drop)]
 pub struct Elements {
     nodes: u16,
@@ -30,6 +31,13 @@ impl Elements {
         ensures { result ≡ record { nodes = nodes; list = list.items } }
     {
         Elements { nodes, list }
+    }
+
+    /// The network is within the limits. The call computes nothing: it brings this fact to where it stands.
+    pub fn within_limits(&self)
+        ensures { IsWithinLimits self.now }
+    {
+        let _ = &self.nodes;
     }
 
     /// How many nodes there are.

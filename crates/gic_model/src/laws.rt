@@ -31,7 +31,8 @@ pub fn superposition_law()
     ensures { SolutionsCombine }
 {}
 
-/// In a network that is earthed within `MOST_WALK`, no live node's potential is above `MOST_WALK` times the greatest voltage.
+/// In a network that is earthed within `MOST_WALK`, no live node's potential is above `MOST_WALK` times the greatest
+/// voltage.
 pub fn potential_law()
     ensures { PotentialsAreBounded }
 {}

@@ -34,7 +34,14 @@ impl Volts {
         Ok(Volts { list })
     }
 
-    /// How many elements there are. The answer also tells that no voltage is beyond the limit.
+    /// No voltage is beyond the limit. The call computes nothing: it brings this fact to where it stands.
+    pub fn within_limit(&self)
+        ensures { AreVolts (number_at self.now) }
+    {
+        let _ = &self.list;
+    }
+
+    /// How many elements there are.
     pub fn count(&self) -> usize
         ensures value { result ≡ length self.now }
         ensures limit { AreVolts (number_at self.now) }

@@ -94,6 +94,13 @@ impl Net {
         }
     }
 
+    /// The net is within the limits. The call computes nothing: it brings this fact to where it stands.
+    pub fn within_limits(&self)
+        ensures { IsWithinLimits self.now.network }
+    {
+        let _ = &self.nodes;
+    }
+
     /// How many nodes there are.
     pub fn nodes(&self) -> u16
         ensures value { result ≡ self.now.network.nodes }

@@ -29,7 +29,7 @@ fn row_conductance(net: &Net, node: NodeId) -> u64
     requires { node.0 < net.now.network.nodes }
     ensures { result ≤ 2 ^ 56 }
 {
-    let _nodes = net.nodes();
+    net.within_limits();
     let mut sum: u64 = 0;
     for place in 0..net.degree(node) {
         sum += conductance(&net.element(net.element_at(node, place)));
@@ -63,7 +63,7 @@ fn add_row(
     ensures end { result ≤ length links.old }
     ensures inside { AreInside net.now.network.nodes links.new }
 {
-    let _nodes = net.nodes();
+    net.within_limits();
     let mut end = start;
     for place in 0..net.degree(node) {
         let element = net.element(net.element_at(node, place));

@@ -42,7 +42,8 @@ ghost use Rattle.gic_model.specs.Guess.{most_guess};
 ghost use Rattle.gic_relax.specs.Kept.{AreInside};
 
 impl Relaxation {
-    /// For a network of this many nodes, with room for [`MOST_AT_A_NODE`] links at each node and for [`MOST_LINKS`] in all.
+    /// For a network of this many nodes, with room for [`MOST_AT_A_NODE`] links at each node and for [`MOST_LINKS`] in
+    /// all.
     pub fn new(alloc: Global, nodes: u16) -> Result<Relaxation, OutOfMemory>
         ensures { IfOk result (λ relaxation. relaxation ≡ nodes) }
     {
@@ -71,8 +72,8 @@ impl Relaxation {
     }
 
     /// Finds corrections for these residuals, in units of 2^-44 nanoampere, one for each node, and says how many passes
-    /// it took, at most [`MOST_PASSES`]. Residuals of any size are allowed; the corrections are cut to their limit. Where no
-    /// residual is more than its node's conductance carries at three quarters of 2^18 grains, it finds none.
+    /// it took, at most [`MOST_PASSES`]. Residuals of any size are allowed; the corrections are cut to their limit. Where
+    /// no residual is more than its node's conductance carries at three quarters of 2^18 grains, it finds none.
     pub fn correct(&mut self, residuals: &[i128]) -> Option<u32>
         requires { length residuals.now ≡ self.old }
         ensures same_nodes { self.new ≡ self.old }

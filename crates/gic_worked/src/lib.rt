@@ -9,9 +9,9 @@ use gic_base::{NodeId, OutOfMemory};
 use gic_model::{Element, Elements, End, Item, Role};
 use std::alloc::Global;
 
-/// The loop of two substations A and B, the nodes 0 and 1, with a ground of 1 ohm each, and two buses a and b, the nodes
-/// 2 and 3: a line of 3 ohm a phase joins them, and a winding of 0.3 ohm a phase leads from each to its substation. The
-/// elements in order are the two grounds, the line and the two windings.
+/// The loop of two substations A and B, the nodes 0 and 1, with a ground of 1 ohm each, and two buses a and b, the
+/// nodes 2 and 3: a line of 3 ohm a phase joins them, and a winding of 0.3 ohm a phase leads from each to its substation.
+/// The elements in order are the two grounds, the line and the two windings.
 pub fn worked_loop(alloc: Global) -> Result<Elements, OutOfMemory>
     ensures { IfOk result (λ elements. elements ≡ loop) }
 {

@@ -6,4 +6,4 @@ use Rattle.gic_exists.proofs.InNetworks.{exists_in}
 use Rattle.gic_exists.proofs.solution_exists.Goals as goal
 
 pub returns : goal.returns
-returns c = exists_in c.args.elements.now (λ item. not (list_any (is_item item) c.args.opened.now)) (number_at c.args.volts.now) c.nodes-nodes.ensures.limits c.requires.earthed
+returns c = exists_in c.args.elements.now (λ item. not (list_any (is_item item) c.args.opened.now)) (number_at c.args.volts.now) c.within_limits.ensures c.requires.earthed

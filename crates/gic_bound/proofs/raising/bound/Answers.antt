@@ -12,11 +12,11 @@ loop-smaller c =
 pub returns-in-Some-clause-earthed : goal.returns-in-Some-clause-earthed
 returns-in-Some-clause-earthed c =
     let net = c.args.net.now in
-    let told = c.least_capped_vector_law.ensures.earthed net.network (stands net) (slice_index c.raise_all.new.out) c.nodes-nodes.ensures.limits (c.loop-test.ensures.least refl) in
+    let told = c.least_capped_vector_law.ensures.earthed net.network (stands net) (slice_index c.raise_all.new.out) c.within_limits.ensures (c.loop-test.ensures.least refl) in
     (λ e. absurd (true≢false (sym e)), λ earthed. absurd (told.1 earthed c.in-Some.node.0 c.in-Some.ensures.full))
 
 pub returns-in-None-clause-earthed : goal.returns-in-None-clause-earthed
 returns-in-None-clause-earthed c =
     let net = c.args.net.now in
-    let told = c.least_capped_vector_law.ensures.earthed net.network (stands net) (slice_index c.raise_all.new.out) c.nodes-nodes.ensures.limits (c.loop-test.ensures.least refl) in
+    let told = c.least_capped_vector_law.ensures.earthed net.network (stands net) (slice_index c.raise_all.new.out) c.within_limits.ensures (c.loop-test.ensures.least refl) in
     (λ _. told.0 (λ k full. let small = c.in-None.ensures.none k in omega (arith, full, small)), λ _. refl)
