@@ -1,8 +1,10 @@
 -- Lists that are filled place by place, and views of which one list changes.
-use Rattle.std.proofs.Common.{◌≡◌, ℕ, ◌+◌, ◌<◌, List, Option, length, get_or, set, arith, ap, sym, subst, inl, inr}
+use Rattle.std.proofs.Common.{◌≡◌, ℕ, ◌+◌, ◌<◌, List, Option, length, get_or, set, arith, refl, ap, sym, subst, inl, inr}
 use Rattle.std.proofs.lemmas.Bool.{cases_lt}
 use Rattle.std.proofs.lemmas.List.{get_or-set_same, get_or-set_other}
+use Rattle.gic_case.specs.Lists.{Lists, node_names}
 use Rattle.gic_monitor.specs.View.{View, Ends}
+use Rattle.gic_winding.specs.ElementList.{elements_of}
 
 -- a fact of each place below i, and of the item that is put at i
 pub filled : {X : Type 0} (P : ℕ → X → Type 0) (xs : List X) (d x : X) (i : ℕ) → i < length xs →
@@ -20,3 +22,11 @@ nodes_alone old mid new xs h e = subst (λ (v : View). v ≡ record old { nodes 
 
 pub elements_alone : (old mid new : View) (xs : List (Option Ends)) → mid ≡ record old { elements = mid.elements } → new ≡ record mid { elements = xs } → new ≡ record old { elements = new.elements }
 elements_alone old mid new xs h e = subst (λ (v : View). v ≡ record old { elements = v.elements }) (sym e) (ap (λ (v : View). record v { elements = xs }) h)
+
+pub effective_alone : (old mid new : View) (xs : List Ends) → mid ≡ record old { effective = mid.effective } → new ≡ record mid { effective = xs } → new ≡ record old { effective = new.effective }
+effective_alone old mid new xs h e = subst (λ (v : View). v ≡ record old { effective = v.effective }) (sym e) (ap (λ (v : View). record v { effective = xs }) h)
+
+-- a node of a case is one of its names
+pub nodes_named : (case : Lists) → (elements_of case).nodes ≡ length (node_names case)
+unfolding elements_of
+nodes_named case = refl

@@ -1,3 +1,4 @@
+pub mod ViewLengths
 pub mod Ohm
 pub mod Weighted
 pub mod Narrow

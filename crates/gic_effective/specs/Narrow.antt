@@ -1,6 +1,9 @@
 -- How wide intervals are.
 use Rattle.std.specs.Prelude.{ℕ, ◌<◌, Option, None, Some, length, ℤ, pos, ◌-ℤ◌, ◌≤ℤ◌}
+use Rattle.gic_case.specs.Lists.{Lists, node_names}
 use Rattle.gic_monitor.specs.View.{View, Ends, node_at, element_at, effective_at}
+use Rattle.gic_winding.specs.ElementList.{elements_of}
+use Rattle.gic_effective.specs.ViewLengths.{HasViewLengths}
 
 -- the interval from lo to hi is at most this wide
 abbrev pub IsAtMostWide : ℕ → ℤ → ℤ → Type 0
@@ -11,8 +14,9 @@ abbrev pub IsNoWider : ℕ → Option Ends → Type 0
 IsNoWider width None = Unit {0}
 IsNoWider width (Some ends) = IsAtMostWide width ends.low ends.high
 
--- no interval of the view is wider than this
-pub record IsNarrowView (width : ℕ) (view : View) : Type 0 where
-  pub nodes : (k : ℕ) → k < length view.nodes → IsNoWider width (node_at view k)
-  pub elements : (place : ℕ) → place < length view.elements → IsNoWider width (element_at view place)
-  pub effective : (t : ℕ) → t < length view.effective → IsNoWider width (Some (effective_at view t))
+-- the view is one of the case, and none of its intervals is wider than this
+pub record IsNarrowView (case : Lists) (width : ℕ) (view : View) : Type 0 where
+  pub lengths : HasViewLengths case view
+  pub nodes : (k : ℕ) → k < length (node_names case) → IsNoWider width (node_at view k)
+  pub elements : (place : ℕ) → place < length (elements_of case).list → IsNoWider width (element_at view place)
+  pub effective : (t : ℕ) → t < length case.transformers → IsNoWider width (Some (effective_at view t))

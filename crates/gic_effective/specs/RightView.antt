@@ -1,12 +1,15 @@
 -- What a right view shows, its number and its time aside.
-use Rattle.std.specs.Prelude.{ℕ, ◌*◌, ◌<◌, Option, None, Some, List, length, IsFalse, IsTrue, ℤ}
-use Rattle.gic_case.specs.Lists.{Lists}
+use Rattle.std.specs.Prelude.{◌≡◌, ℕ, ◌*◌, ◌<◌, Option, None, Some, List, All, length, IsFalse, IsTrue, ℤ}
+use Rattle.gic_case.specs.Lists.{Lists, node_names}
 use Rattle.gic_fixed.specs.Encloses.{Encloses}
+use Rattle.gic_fixed.specs.Ends.{Ends, no_ends}
 use Rattle.gic_model.specs.Standing.{IsLive, is_live, is_standing}
 use Rattle.gic_model.specs.Solution.{Solution, IsSolution}
 use Rattle.gic_model.specs.Sums.{Placed}
-use Rattle.gic_monitor.specs.View.{View, Ends, node_at, element_at, effective_at}
-use Rattle.gic_winding.specs.Weights.{transformer_at}
+use Rattle.gic_monitor.specs.View.{View, node_at, element_at, effective_at}
+use Rattle.gic_winding.specs.ElementList.{elements_of}
+use Rattle.gic_winding.specs.Weights.{transformer_at, windings_at}
+use Rattle.gic_effective.specs.ViewLengths.{HasViewLengths}
 use Rattle.gic_effective.specs.Weighted.{effective_numerator}
 
 -- none exactly where the node is dead, and else one that holds its potential in mV in every solution
@@ -21,13 +24,19 @@ IsRightElement standing volts place None = IsFalse (is_standing standing place)
 IsRightElement standing volts place (Some ends) =
     IsTrue (is_standing standing place) × ((s : Solution) → IsSolution standing volts s → Encloses ends.low ends.high (s.current place) (1000000 * s.denominator))
 
--- one that holds the transformer's signed effective current in mA per phase in every solution
-abbrev pub IsRightEffective : Lists → List Placed → (ℕ → ℤ) → ℕ → Ends → Type 0
-IsRightEffective c standing volts t ends =
-    (s : Solution) → IsSolution standing volts s → Encloses ends.low ends.high (effective_numerator c s t) (3000000 * (transformer_at c t).high_volts * s.denominator)
+-- none of the transformer's windings stands
+abbrev pub HasNoStandingWinding : Lists → List Placed → ℕ → Type 0
+HasNoStandingWinding case standing t = All (λ winding. IsFalse (is_standing standing winding.0)) (windings_at (elements_of case) t)
 
--- the view is right for these standing elements and voltages
-pub record IsRightView (c : Lists) (standing : List Placed) (volts : ℕ → ℤ) (view : View) : Type 0 where
-  pub nodes : (k : ℕ) → k < length view.nodes → IsRightNode standing volts k (node_at view k)
-  pub elements : (place : ℕ) → place < length view.elements → IsRightElement standing volts place (element_at view place)
-  pub effective : (t : ℕ) → t < length view.effective → IsRightEffective c standing volts t (effective_at view t)
+-- one that holds the transformer's signed effective current in mA per phase in every solution, and 0 alone where none of its windings stands
+pub record IsRightEffective (case : Lists) (standing : List Placed) (volts : ℕ → ℤ) (t : ℕ) (ends : Ends) : Type 0 where
+  pub holds : (s : Solution) → IsSolution standing volts s →
+      Encloses ends.low ends.high (effective_numerator case s t) (3000000 * (transformer_at case t).high_volts * s.denominator)
+  pub nought : HasNoStandingWinding case standing t → ends ≡ no_ends
+
+-- the view has a place for each node, element and transformer of the case, and what stands there is right for these standing elements and voltages
+pub record IsRightView (case : Lists) (standing : List Placed) (volts : ℕ → ℤ) (view : View) : Type 0 where
+  pub lengths : HasViewLengths case view
+  pub nodes : (k : ℕ) → k < length (node_names case) → IsRightNode standing volts k (node_at view k)
+  pub elements : (place : ℕ) → place < length (elements_of case).list → IsRightElement standing volts place (element_at view place)
+  pub effective : (t : ℕ) → t < length case.transformers → IsRightEffective case standing volts t (effective_at view t)

@@ -1,5 +1,5 @@
 -- What intervals show where the potentials that they are made of hold every solution, and where these are sharp.
-use Rattle.std.specs.Prelude.{ℕ, ◌≡◌, ◌≤◌, ◌^◌, Option, None, Some, List, ℤ, pos}
+use Rattle.std.specs.Prelude.{ℕ, ◌≡◌, ◌≤◌, ◌^◌, Option, None, Some, List, IsFalse, ℤ, pos}
 use Rattle.gic_base.specs.declared.id.ElementId.{ElementId}
 use Rattle.gic_case.specs.Lists.{Lists}
 use Rattle.gic_enclose.specs.Ends as grains
@@ -7,8 +7,9 @@ use Rattle.gic_fixed.specs.Encloses.{Encloses, IsWithin}
 use Rattle.gic_fixed.specs.Rounding.{floor_div, ceil_div}
 use Rattle.gic_model.specs.Sharp.{IsSharp}
 use Rattle.gic_model.specs.Solution.{Solution, IsSolution}
+use Rattle.gic_model.specs.Standing.{is_standing}
 use Rattle.gic_model.specs.Sums.{Placed}
-use Rattle.gic_monitor.specs.View.{Ends}
+use Rattle.gic_monitor.specs.View.{Ends, View}
 use Rattle.gic_effective.specs.Holds.{HoldsSolution, HoldsSolutions}
 use Rattle.gic_effective.specs.Narrow.{IsAtMostWide, IsNoWider}
 use Rattle.gic_effective.specs.RightView.{IsRightNode, IsRightElement, IsRightEffective}
@@ -17,10 +18,11 @@ use Rattle.gic_effective.specs.RightView.{IsRightNode, IsRightElement, IsRightEf
 abbrev pub AreSharp : List Placed → (ℕ → ℤ) → List grains.Ends → ℕ → Type 0
 AreSharp standing volts potentials width = IsSharp standing volts (grains.low_at potentials) (grains.high_at potentials) width
 
--- an element's current in nA, and how wide it is in mA
+-- an element's current in nA, how wide it is in mA, and that it is 0 alone where the element doesn't stand
 pub record IsShownCurrent (standing : List Placed) (volts : ℕ → ℤ) (potentials : List grains.Ends) (place : ℕ) (lo hi : ℤ) : Type 0 where
   pub holds : (s : Solution) → IsSolution standing volts s → HoldsSolution standing potentials s → Encloses lo hi (s.current place) s.denominator
   pub narrow : (width : ℕ) → AreSharp standing volts potentials width → IsAtMostWide width (floor_div lo (pos 1000000)) (ceil_div hi (pos 1000000))
+  pub nought : IsFalse (is_standing standing place) → (lo ≡ pos 0) × (hi ≡ pos 0)
 
 -- the same of a winding, and the point 0 where there is none
 abbrev pub IsShownWinding : List Placed → (ℕ → ℤ) → List grains.Ends → Option (ElementId × ℕ) → ℤ → ℤ → Type 0
@@ -42,3 +44,8 @@ pub record IsShownEffective (c : Lists) (standing : List Placed) (volts : ℕ �
   pub right : HoldsSolutions standing volts potentials → IsRightEffective c standing volts t ends
   pub narrow : (width : ℕ) → 5 ≤ width → AreSharp standing volts potentials width → IsAtMostWide width ends.low ends.high
   pub small : IsWithin (2 ^ 113) ends.low ends.high
+
+-- the two views are of one step: number and time are the same
+pub record IsSameStep (one other : View) : Type 0 where
+  pub number : other.number ≡ one.number
+  pub time : other.time ≡ one.time

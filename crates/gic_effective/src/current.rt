@@ -9,7 +9,7 @@ ghost use Rattle.gic_model.specs.Sharp.{IsSharp};
 ghost use Rattle.gic_model.specs.Voltages.{number_at};
 ghost use Rattle.gic_net.specs.Net.{standing, element_of};
 ghost use Rattle.gic_enclose.specs.Ends.{low_at, high_at};
-ghost use Rattle.gic_effective.specs.Holds.{HoldsSolution};
+ghost use Rattle.gic_effective.specs.Holds.{AreOfNetwork, HoldsSolution};
 ghost use Rattle.gic_effective.specs.Ohm.{least_nano, most_nano};
 ghost use Rattle.gic_effective.specs.Narrow.{IsAtMostWide};
 
@@ -17,7 +17,7 @@ use crate::ohm::ohms_law;
 use gic_base::ElementId;
 use gic_enclose::Potentials;
 use gic_fixed::Interval;
-use gic_model::{Elements, End, Volts};
+use gic_model::{End, Volts};
 use gic_net::Net;
 
 /// The interval of the potential at an end, in grains; 0 at earth.
@@ -35,21 +35,15 @@ fn at_end(potentials: &Potentials, end: End) -> Interval
 
 /// The current of a standing element in nanoamperes, by Ohm's law over the intervals of the potentials at its ends and
 /// its voltage, rounded outward. It holds the element's current in every solution whose potentials the intervals hold.
-/// The net was built from the elements, and voltages and potentials are those of its elements and nodes.
-pub fn current_na(
-    net: &Net,
-    volts: &Volts,
-    potentials: &Potentials,
-    elements: &Elements,
-    element: ElementId,
-) -> Interval
-    requires net { net.now.network ≡ elements.now }
-    requires volts { length volts.now ≡ length elements.now.list }
-    requires potentials { length potentials.now ≡ elements.now.nodes }
-    requires element { element.0 < length elements.now.list }
+/// Voltages and potentials are those of the net's elements and nodes.
+pub fn current_na(net: &Net, volts: &Volts, potentials: &Potentials, element: ElementId) -> Interval
+    requires together { AreOfNetwork net.now.network volts.now potentials.now }
+    requires element { element.0 < length net.now.network.list }
     requires stands { IsTrue (is_standing (standing net.now) element.0) }
-    ensures low { result.lo ≡ least_nano (number_at volts.now) (low_at potentials.now) (high_at potentials.now) (element.0, element_of elements.now element.0) }
-    ensures high { result.hi ≡ most_nano (number_at volts.now) (low_at potentials.now) (high_at potentials.now) (element.0, element_of elements.now element.0) }
+    ensures low { result.lo ≡
+        least_nano (number_at volts.now) (low_at potentials.now) (high_at potentials.now) (element.0, element_of net.now.network element.0) }
+    ensures high { result.hi ≡
+        most_nano (number_at volts.now) (low_at potentials.now) (high_at potentials.now) (element.0, element_of net.now.network element.0) }
     ensures holds { (s : Solution) → IsSolution (standing net.now) (number_at volts.now) s → HoldsSolution (standing net.now) potentials.now s →
         Encloses result.lo result.hi (s.current element.0) s.denominator }
     ensures small { IsWithin (2 ^ 80) result.lo result.hi }

@@ -14,4 +14,4 @@ mod winding;
 pub use current::{current_na, milli};
 pub use effective::signed_effective;
 pub use potential::potential_mv;
-pub use view::fill_view;
+pub use view::{fill_view, view_of_case};

@@ -1,63 +1,62 @@
 //! The view of a step.
-ghost use Rattle.std.specs.Prelude.{◌≡◌, ℕ, ◌^◌, ◌<◌, ◌≤◌, length, ℤ};
+ghost use Rattle.std.specs.Prelude.{◌≡◌, ℕ, ◌^◌, ◌<◌, ◌≤◌, length, ℤ, IfOk};
+ghost use Rattle.gic_fixed.specs.Ends.{ends_of};
 ghost use Rattle.gic_fixed.specs.Encloses.{IsWithin};
 ghost use Rattle.gic_model.specs.Sharp.{IsSharp};
 ghost use Rattle.gic_model.specs.Voltages.{number_at};
 ghost use Rattle.gic_net.specs.Net.{standing};
 ghost use Rattle.gic_enclose.specs.Ends.{low_at, high_at};
-ghost use Rattle.gic_monitor.specs.View.{ends_of, optional_ends, node_at, element_at, effective_at};
+ghost use Rattle.gic_monitor.specs.View.{optional_ends, node_at, element_at, effective_at};
 ghost use Rattle.gic_winding.specs.ElementList.{elements_of};
-ghost use Rattle.gic_effective.specs.Holds.{HoldsSolutions};
+ghost use Rattle.gic_effective.specs.Holds.{AreOfNetwork, HoldsSolutions};
 ghost use Rattle.gic_effective.specs.RightView.{IsRightView};
 ghost use Rattle.gic_effective.specs.Narrow.{IsNarrowView};
-ghost use Rattle.gic_effective.specs.Shown.{IsShownNode, IsShownElement, IsShownEffective};
+ghost use Rattle.gic_effective.specs.Shown.{IsShownNode, IsShownElement, IsShownEffective, IsSameStep};
+ghost use Rattle.gic_effective.specs.ViewLengths.{HasViewLengths};
 
 use crate::current::{current_na, milli};
 use crate::effective::signed_effective;
 use crate::potential::potential_mv;
 use crate::winding::winding_current;
-use gic_base::{ElementId, NodeId};
+use gic_base::{ElementId, NodeId, OutOfMemory};
 use gic_case::Case;
 use gic_enclose::Potentials;
 use gic_fixed::Interval;
-use gic_model::{Elements, Volts};
+use gic_model::Volts;
 use gic_monitor::StepView;
 use gic_net::Net;
 use gic_winding::effective_weights;
+use std::alloc::Global;
 
-/// Sets all intervals of a view: the potential of each node in millivolts, `None` where it is dead; the current of each
-/// element in milliamperes, `None` where it doesn't stand; the signed effective current of each transformer in
-/// milliamperes per phase, in which an open winding counts as 0, with no end beyond 2^113 either way. Number and time
-/// stay. The elements are the case's, the net was built from them, and voltages, potentials and view are those of its
-/// elements, nodes and transformers.
-pub fn fill_view(
-    case: &Case,
-    elements: &Elements,
-    net: &Net,
-    volts: &Volts,
-    potentials: &Potentials,
-    out: &mut StepView,
-)
-    requires elements { elements.now ≡ elements_of case.now }
-    requires net { net.now.network ≡ elements.now }
-    requires volts { length volts.now ≡ length elements.now.list }
-    requires potentials { length potentials.now ≡ elements.now.nodes }
-    requires node_room { length out.old.nodes ≡ elements.now.nodes }
-    requires element_room { length out.old.elements ≡ length elements.now.list }
-    requires transformer_room { length out.old.effective ≡ length case.now.transformers }
-    ensures right { HoldsSolutions (standing net.now) (number_at volts.now) potentials.now → IsRightView case.now (standing net.now) (number_at volts.now) out.new }
+/// A view of a case whose elements these are, with no interval yet: no node is live, no element stands, and no
+/// transformer has a current. Its number and its time are 0.
+pub fn view_of_case(alloc: Global, case: &Case, net: &Net) -> Result<StepView, OutOfMemory>
+    requires { net.now.network ≡ elements_of case.now }
+    ensures { IfOk result (HasViewLengths case.now) }
+{
+    let transformers = case.transformers().len() as u16;
+    let view = StepView::new(alloc, net.nodes(), net.count(), transformers)?;
+    Ok(view)
+}
+
+/// Sets all intervals of a view of a case, whose net this is: the potential of each node in millivolts, `None` where it
+/// is dead; the current of each element in milliamperes, `None` where it doesn't stand; the signed effective current of
+/// each transformer in milliamperes per phase, in which an open winding counts as 0, with no end beyond 2^113 either way.
+pub fn fill_view(case: &Case, net: &Net, volts: &Volts, potentials: &Potentials, out: &mut StepView)
+    requires net { net.now.network ≡ elements_of case.now }
+    requires together { AreOfNetwork net.now.network volts.now potentials.now }
+    requires room { HasViewLengths case.now out.old }
+    ensures right { HoldsSolutions (standing net.now) (number_at volts.now) potentials.now →
+        IsRightView case.now (standing net.now) (number_at volts.now) out.new }
     ensures narrow { (width : ℕ) → 5 ≤ width → IsSharp (standing net.now) (number_at volts.now) (low_at potentials.now) (high_at potentials.now) width →
-        IsNarrowView width out.new }
+        IsNarrowView case.now width out.new }
     ensures small { (t : ℕ) → t < length out.new.effective → IsWithin (2 ^ 113) (effective_at out.new t).low (effective_at out.new t).high }
-    ensures number_stays { out.new.number ≡ out.old.number }
-    ensures time_stays { out.new.time ≡ out.old.time }
-    ensures node_count { length out.new.nodes ≡ length out.old.nodes }
-    ensures element_count { length out.new.elements ≡ length out.old.elements }
-    ensures transformer_count { length out.new.effective ≡ length out.old.effective }
+    ensures lengths { HasViewLengths case.now out.new }
+    ensures stays { IsSameStep out.old out.new }
 {
     fill_nodes(net, potentials, out);
-    fill_elements(elements, net, volts, potentials, out);
-    fill_effective(case, elements, net, volts, potentials, out);
+    fill_elements(net, volts, potentials, out);
+    fill_effective(case, net, volts, potentials, out);
 }
 
 /// The interval of a node in the view.
@@ -75,20 +74,17 @@ fn node_interval(net: &Net, potentials: &Potentials, node: NodeId) -> Option<Int
 
 /// The interval of an element in the view.
 fn element_interval(
-    elements: &Elements,
     net: &Net,
     volts: &Volts,
     potentials: &Potentials,
     element: ElementId,
 ) -> Option<Interval>
-    requires net { net.now.network ≡ elements.now }
-    requires volts { length volts.now ≡ length elements.now.list }
-    requires potentials { length potentials.now ≡ elements.now.nodes }
-    requires element { element.0 < length elements.now.list }
+    requires together { AreOfNetwork net.now.network volts.now potentials.now }
+    requires element { element.0 < length net.now.network.list }
     ensures { IsShownElement (standing net.now) (number_at volts.now) potentials.now element.0 (optional_ends result) }
 {
     if net.stands(element) {
-        Some(milli(current_na(net, volts, potentials, elements, element)))
+        Some(milli(current_na(net, volts, potentials, element)))
     } else {
         None
     }
@@ -97,23 +93,20 @@ fn element_interval(
 /// The interval of a transformer in the view.
 fn effective_interval(
     case: &Case,
-    elements: &Elements,
     net: &Net,
     volts: &Volts,
     potentials: &Potentials,
     transformer: u16,
 ) -> Interval
-    requires elements { elements.now ≡ elements_of case.now }
-    requires net { net.now.network ≡ elements.now }
-    requires volts { length volts.now ≡ length elements.now.list }
-    requires potentials { length potentials.now ≡ elements.now.nodes }
+    requires net { net.now.network ≡ elements_of case.now }
+    requires together { AreOfNetwork net.now.network volts.now potentials.now }
     requires place { transformer < length case.now.transformers }
     ensures { IsShownEffective case.now (standing net.now) (number_at volts.now) potentials.now transformer (ends_of result) }
 {
     let _row = &case.transformers()[transformer as usize];
-    let weights = effective_weights(case, elements, transformer);
-    let first = winding_current(net, volts, potentials, elements, weights.first);
-    let second = winding_current(net, volts, potentials, elements, weights.second);
+    let weights = effective_weights(case, net.list(), transformer);
+    let first = winding_current(net, volts, potentials, weights.first);
+    let second = winding_current(net, volts, potentials, weights.second);
     signed_effective(&weights, first, second)
 }
 
@@ -130,49 +123,40 @@ fn fill_nodes(net: &Net, potentials: &Potentials, out: &mut StepView)
     }
 }
 
-fn fill_elements(
-    elements: &Elements,
-    net: &Net,
-    volts: &Volts,
-    potentials: &Potentials,
-    out: &mut StepView,
-)
-    requires net { net.now.network ≡ elements.now }
-    requires volts { length volts.now ≡ length elements.now.list }
-    requires potentials { length potentials.now ≡ elements.now.nodes }
-    requires room { length out.old.elements ≡ length elements.now.list }
-    ensures shown { (place : ℕ) → place < length out.new.elements → IsShownElement (standing net.now) (number_at volts.now) potentials.now place (element_at out.new place) }
+fn fill_elements(net: &Net, volts: &Volts, potentials: &Potentials, out: &mut StepView)
+    requires together { AreOfNetwork net.now.network volts.now potentials.now }
+    requires room { length out.old.elements ≡ length net.now.network.list }
+    ensures shown { (place : ℕ) → place < length out.new.elements →
+        IsShownElement (standing net.now) (number_at volts.now) potentials.now place (element_at out.new place) }
     ensures rest { out.new ≡ record out.old { elements = out.new.elements } }
     ensures count { length out.new.elements ≡ length out.old.elements }
 {
     let (_, count, _) = out.sizes();
     for place in 0..count {
         let element = ElementId(place);
-        let interval = element_interval(elements, net, volts, potentials, element);
+        let interval = element_interval(net, volts, potentials, element);
         out.set_element(element, interval);
     }
 }
 
 fn fill_effective(
     case: &Case,
-    elements: &Elements,
     net: &Net,
     volts: &Volts,
     potentials: &Potentials,
     out: &mut StepView,
 )
-    requires elements { elements.now ≡ elements_of case.now }
-    requires net { net.now.network ≡ elements.now }
-    requires volts { length volts.now ≡ length elements.now.list }
-    requires potentials { length potentials.now ≡ elements.now.nodes }
+    requires net { net.now.network ≡ elements_of case.now }
+    requires together { AreOfNetwork net.now.network volts.now potentials.now }
     requires room { length out.old.effective ≡ length case.now.transformers }
-    ensures shown { (t : ℕ) → t < length out.new.effective → IsShownEffective case.now (standing net.now) (number_at volts.now) potentials.now t (effective_at out.new t) }
+    ensures shown { (t : ℕ) → t < length out.new.effective →
+        IsShownEffective case.now (standing net.now) (number_at volts.now) potentials.now t (effective_at out.new t) }
     ensures rest { out.new ≡ record out.old { effective = out.new.effective } }
     ensures count { length out.new.effective ≡ length out.old.effective }
 {
     let (_, _, count) = out.sizes();
     for transformer in 0..count {
-        let interval = effective_interval(case, elements, net, volts, potentials, transformer);
+        let interval = effective_interval(case, net, volts, potentials, transformer);
         out.set_effective(transformer, interval);
     }
 }

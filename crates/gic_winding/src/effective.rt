@@ -9,21 +9,21 @@ use crate::order::first_winding;
 use crate::weights::Weights;
 use gic_base::ElementId;
 use gic_case::{Case, Kind, Transformer};
-use gic_model::Elements;
+use gic_model::Element;
 
 /// The windings of the transformer at a place, from 0, with their weights: the voltage of the high side for a high
 /// winding, of the low side for a low or a common one, and their difference for a series one. A delta-delta unit has no
 /// winding.
-pub fn effective_weights(case: &Case, elements: &Elements, transformer: u16) -> Weights
-    requires elements { elements.now ≡ elements_of case.now }
+pub fn effective_weights(case: &Case, elements: &[Element], transformer: u16) -> Weights
+    requires elements { elements.now ≡ (elements_of case.now).list }
     requires place { transformer < length case.now.transformers }
     ensures value { result ≡ weights_of case.now transformer }
     ensures all { weighted_windings case.now transformer ≡ option_to_list result.first ++ option_to_list result.second }
-    ensures first_inside { IfSome result.first (λ w. w.0.0 < length elements.now.list) }
-    ensures second_inside { IfSome result.second (λ w. w.0.0 < length elements.now.list) }
+    ensures first_inside { IfSome result.first (λ w. w.0.0 < length elements.now) }
+    ensures second_inside { IfSome result.second (λ w. w.0.0 < length elements.now) }
 {
-    let first = first_winding(elements.list(), transformer);
-    weights_from(first, &case.transformers()[transformer as usize])
+    let row = &case.transformers()[transformer as usize];
+    weights_from(first_winding(elements, transformer), row)
 }
 
 /// The weights of a transformer whose first winding is at this place.

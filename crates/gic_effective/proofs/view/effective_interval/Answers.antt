@@ -1,4 +1,4 @@
-use Rattle.std.proofs.Common.{◌≡◌, ◌*◌, ◌≤◌, ℕ, ℤ, pos, ◌*ℤ◌, arith, rules, get_or, ap, sym, subst, subst₂, ◌∙◌}
+use Rattle.std.proofs.Common.{◌≡◌, ◌*◌, ◌≤◌, ◌<◌, ℕ, ℤ, pos, ◌*ℤ◌, arith, rules, get_or, ap, sym, subst, subst₂, ◌∙◌}
 use Rattle.std.proofs.lemmas.List.{get_or_default}
 use Rattle.gic_case.specs.declared.item.Transformer.{Transformer}
 use Rattle.gic_case.specs.Lists.{IsSoundTransformer}
@@ -11,7 +11,7 @@ use Rattle.gic_winding.specs.ElementList.{elements_of}
 use Rattle.gic_winding.specs.declared.weights.Weights.{Weights}
 use Rattle.gic_winding.specs.Weights.{low_volts_of, transformer_at, no_transformer, windings_at}
 use Rattle.gic_effective.specs.Weighted.{weighted_sum, effective_numerator}
-use Rattle.gic_effective.proofs.Weighings.{current_in, both_summed, winding_holds, winding_narrow, low_at_most, weights_most}
+use Rattle.gic_effective.proofs.Weighings.{current_in, both_summed, winding_holds, winding_narrow, low_at_most, weights_most, sums_nought, quotients_nought}
 use Rattle.gic_effective.proofs.view.effective_interval.Goals as goal
 
 row_is : (c : goal.After-signed_effective) → transformer_at c.args.case.now c.args.transformer ≡ c.index-transformers-transformer.result
@@ -29,6 +29,12 @@ order c =
 volts_are : (c : goal.After-signed_effective) → c.effective_weights-weights.result.high_volts ≡ (transformer_at c.args.case.now c.args.transformer).high_volts
 volts_are c = ap (λ (w : Weights). w.high_volts) c.effective_weights-weights.ensures.value
 
+rated : (c : goal.After-signed_effective) → 1 ≤ c.effective_weights-weights.result.high_volts
+rated c =
+    let row = c.index-transformers-transformer.result in
+    let sound : IsSoundTransformer c.args.case.now row = search rules in
+    omega (arith, volts_are c, ap (λ (t : Transformer). t.high_volts) (row_is c), sound.rated.0)
+
 sum_is : (c : goal.After-signed_effective) → (s : Solution) →
     weighted_sum c.effective_weights-weights.result (current_in s c.effective_weights-weights.result.first) (current_in s c.effective_weights-weights.result.second) ≡ effective_numerator c.args.case.now s c.args.transformer
 sum_is c s =
@@ -44,12 +50,19 @@ returns c =
     let one = c.winding_current-first in
     let other = c.winding_current-second in
     let result = c.signed_effective.result in
+    let some : 0 < 3000000 * w.high_volts = omega (arith, rated c) in
     record {
-      right = λ holds s solves.
-          let first = winding_holds stand volts xs w.first one.result.lo one.result.hi s one.ensures.shown solves (holds s solves) in
-          let second = winding_holds stand volts xs w.second other.result.lo other.result.hi s other.ensures.shown solves (holds s solves) in
-          let exact = c.signed_effective.ensures.holds (current_in s w.first) (current_in s w.second) s.denominator first second in
-          subst₂ (λ (n : ℤ) (v : ℕ). Encloses result.lo result.hi n (3000000 * v * s.denominator)) (sum_is c s) (volts_are c) exact;
+      right = λ holds. record {
+        holds = λ s solves.
+            let first = winding_holds stand volts xs w.first one.result.lo one.result.hi s one.ensures.shown solves (holds s solves) in
+            let second = winding_holds stand volts xs w.second other.result.lo other.result.hi s other.ensures.shown solves (holds s solves) in
+            let exact = c.signed_effective.ensures.holds (current_in s w.first) (current_in s w.second) s.denominator first second in
+            subst₂ (λ (n : ℤ) (v : ℕ). Encloses result.lo result.hi n (3000000 * v * s.denominator)) (sum_is c s) (volts_are c) exact;
+        nought = λ none.
+            let sums = sums_nought stand volts xs (transformer_at c.args.case.now c.args.transformer) (windings_at (elements_of c.args.case.now) c.args.transformer) w.first w.second
+            one.result.lo one.result.hi other.result.lo other.result.hi c.effective_weights-weights.ensures.all one.ensures.shown other.ensures.shown none in
+            quotients_nought _ _ result.lo result.hi (3000000 * w.high_volts) some c.signed_effective.ensures.low c.signed_effective.ensures.high sums.0 sums.1;
+      };
       narrow = λ width least sharp.
           let most = weights_most (transformer_at c.args.case.now c.args.transformer) (windings_at (elements_of c.args.case.now) c.args.transformer) w.first w.second (order c) c.effective_weights-weights.ensures.all in
           c.signed_effective.ensures.narrow width (omega (arith, least)) (omega (arith, most, volts_are c))
