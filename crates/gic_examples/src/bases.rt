@@ -1,5 +1,6 @@
 //! Potentials of any field from the guesses for two base fields.
-ghost use Rattle.std.specs.Prelude.{◌≡◌, ◌<◌, length};
+ghost use Rattle.std.specs.Prelude.{◌≡◌, ◌<◌};
+ghost use Rattle.gic_effective.specs.Holds.{AreOfNetwork};
 ghost use Rattle.gic_induce.specs.Voltage.{IsFieldWithin};
 
 use crate::runs::CASE_P;
@@ -11,7 +12,7 @@ use gic_effective::{current_na, milli};
 use gic_enclose::{Bases, Potentials, prepare, step_from_bases};
 use gic_fixed::Interval;
 use gic_induce::fill_volts;
-use gic_model::{Elements, Volts};
+use gic_model::Volts;
 use gic_net::Net;
 use gic_sweep::{Solver, Steps};
 use gic_winding::elements;
@@ -25,15 +26,12 @@ fn current_ma(
     net: &Net,
     volts: &Volts,
     potentials: &Potentials,
-    elements: &Elements,
     element: ElementId,
 ) -> Option<Interval>
-    requires net { net.now.network ≡ elements.now }
-    requires volts { length volts.now ≡ length elements.now.list }
-    requires potentials { length potentials.now ≡ elements.now.nodes }
+    requires { AreOfNetwork net.now.network volts.now potentials.now }
 {
-    if (element.0 as usize) < elements.list().len() && net.stands(element) {
-        Some(milli(current_na(net, volts, potentials, elements, element)))
+    if element.0 < net.count() && net.stands(element) {
+        Some(milli(current_na(net, volts, potentials, element)))
     } else {
         None
     }
@@ -87,7 +85,7 @@ fn line_current<L: Ledger>(
         &mut potentials,
         &mut steps,
     );
-    Ok(current_ma(&net, &volts, &potentials, &list, ElementId(2)))
+    Ok(current_ma(&net, &volts, &potentials, ElementId(2)))
 }
 
 /// Whether an interval holds a number, and is at most 10 wide.
