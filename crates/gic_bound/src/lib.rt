@@ -6,8 +6,6 @@ pub mod laws;
 mod raising;
 mod row;
 mod span;
-#[cfg(test)]
-mod tests;
 mod vector;
 
 pub use checking::rows_positive;

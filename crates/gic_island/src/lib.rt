@@ -3,8 +3,6 @@
 
 mod scratch;
 mod spread;
-#[cfg(test)]
-mod tests;
 mod unearthed;
 
 pub use scratch::Scratch;

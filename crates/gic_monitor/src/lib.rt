@@ -2,7 +2,5 @@
 #![tactic(auto)]
 
 mod step_view;
-#[cfg(test)]
-mod tests;
 
 pub use step_view::StepView;

@@ -7,7 +7,5 @@ pub mod laws;
 mod net;
 mod row;
 mod rows;
-#[cfg(test)]
-mod tests;
 
 pub use net::Net;

@@ -4,9 +4,9 @@ ghost use Rattle.std.specs.Prelude.{◌≡◌, ◌+◌, ◌*◌, ◌≤◌, ℤ,
 ghost use Rattle.gic_screen.specs.Worst.{square_of};
 ghost use Rattle.gic_screen.specs.VerdictLaws.{BelowIsUnder, ReachesIsAtLeast, UndecidedIsAcross, WorstBelowIsUnder, WorstReachesIsAtLeast};
 
-/// In a uniform field with the parts c and s a current that is a for the one unit field and b for the other is a·c + b·s.
-/// Over all fields of one strength none gives more than the root of a² + b², times the strength; the field along a and b
-/// gives as much.
+/// In a uniform field with the parts c and s a current that is a for the one unit field and b for the other is
+/// a·c + b·s. Over all fields of one strength none gives more than the root of a² + b², times the strength; the field
+/// along a and b gives as much.
 pub fn greatest_over_all_orientations_law()
     ensures most { (a b c s : ℤ) →
         square_of (a *ℤ c +ℤ b *ℤ s) ≤ (square_of a + square_of b) * (square_of c + square_of s) }

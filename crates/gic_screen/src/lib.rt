@@ -6,8 +6,6 @@ mod event;
 mod judge;
 pub mod laws;
 mod orientation;
-#[cfg(test)]
-mod tests;
 
 pub use criterion::Verdict;
 pub use event::Event;
