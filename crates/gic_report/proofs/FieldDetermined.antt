@@ -11,7 +11,8 @@ use Rattle.gic_case.specs.declared.item.Transformer.{Transformer}
 use Rattle.gic_case.specs.Lists.{Lists, node_names}
 use Rattle.gic_report.specs.SharedLines.{Words, word_line}
 use Rattle.gic_report.specs.Fits.{AreInRange, HasNames}
-use Rattle.gic_report.specs.ItemText.{Row, effective_lines, node_lines, row_lines, rows_of}
+use Rattle.gic_report.specs.ItemText.{effective_lines, node_lines, row_lines, rows_of}
+use Rattle.gic_report.specs.declared.rows.ItemRow.{ItemRow}
 use Rattle.gic_report.specs.FieldText.{field_report, setting_line}
 use Rattle.gic_report.specs.VerdictText.{transformer_lines}
 use Rattle.gic_report.specs.declared.report.Report.TheVariants as report
@@ -27,7 +28,7 @@ word_at ws k = get_or ws k []
 abbrev first_of_lines : List Words → Words
 first_of_lines ls = get_or ls 0 []
 
-module _ (names : List (List ℕ)) (rows : List Row) (ts : List Transformer) where
+module _ (names : List (List ℕ)) (rows : List ItemRow) (ts : List Transformer) where
   -- the lines from those of the nodes on
   abbrev body : (threshold : ℕ) → View → List Words
   body threshold view =

@@ -4,13 +4,14 @@ pub mod CaseNames
 pub mod VoltsDetermined
 pub mod CheckDetermined
 pub mod StateLines
-pub mod RowLines
 pub mod RowsWritten
 pub mod ListParts
 pub mod NeutralNames
 pub mod ElementNames
 pub mod Transformers
 pub mod LinesWritten
+pub mod RowHeads
 pub mod RowCounts
+pub mod LinePlaces
 pub mod ViewDetermined
 pub mod FieldDetermined

@@ -5,22 +5,9 @@ use Rattle.gic_base.specs.Pieces.{AppendsPart}
 use Rattle.gic_monitor.specs.View.{Ends}
 use Rattle.gic_text.specs.Lines.{line_text, lines_text}
 use Rattle.gic_report.specs.Cells.{first_cell}
-use Rattle.gic_report.specs.ItemText.{Row, left_behind_all, node_line, node_lines, rows_text}
-use Rattle.gic_report.proofs.RowLines.{rows_append}
+use Rattle.gic_report.specs.declared.rows.ItemRow.{ItemRow}
+use Rattle.gic_report.specs.ItemText.{left_behind, node_line, node_lines, row_line, row_lines}
 use Rattle.gic_report.proofs.Written.{Written, goes_on, same_left, stops, ends}
-
--- the first rows were written, and later intervals are left
-pub hand_over : (old now new : Option (List ℕ)) (whole : List ℕ) (xs ys : List Row) (cells later : List (Option Ends)) → Written old now whole (rows_text (xs ++ ys) cells)
-    → Appends now new (rows_text xs cells) → later ≡ left_behind_all xs cells → Written old new whole (rows_text ys later)
-hand_over old now new whole xs ys cells later w p e =
-    same_left old new whole _ _ (goes_on old now new whole (rows_text xs cells) (rows_text ys (left_behind_all xs cells)) (same_left old now whole _ _ w (rows_append xs ys cells)) p)
-    (ap (λ cs. rows_text ys cs) (sym e))
-
--- a part of the first rows was written
-pub rows_stop : (old now new : Option (List ℕ)) (whole : List ℕ) (xs ys : List Row) (cells : List (Option Ends)) → Written old now whole (rows_text (xs ++ ys) cells)
-    → AppendsPart now new (rows_text xs cells) → AppendsPart old new whole
-rows_stop old now new whole xs ys cells w p =
-    stops old now new whole (rows_text xs cells) (rows_text ys (left_behind_all xs cells)) (same_left old now whole _ _ w (rows_append xs ys cells)) p
 
 -- a part of all that was left was written
 pub last_stop : (old now new : Option (List ℕ)) (whole left : List ℕ) → Written old now whole left → AppendsPart now new left → AppendsPart old new whole
@@ -37,3 +24,9 @@ next_node names others cells left name shown e f h =
     ap (λ n. lines_text (node_lines n cells)) e
     ∙ ap (λ s. line_text (node_line name s) ++ lines_text (node_lines others (drop 1 cells))) (sym f)
     ∙ ap (λ l. line_text (node_line name shown) ++ lines_text (node_lines others l)) (sym h)
+
+-- what is left of the rows begins with the line of the next
+pub next_row : (rows others : List ItemRow) (cells left : List (Option Ends)) (row : ItemRow) → rows ≡ row ∷ others → left ≡ left_behind row.blocked cells
+    → lines_text (row_lines rows cells) ≡ line_text (row_line row cells) ++ lines_text (row_lines others left)
+next_row rows others cells left row e h =
+    ap (λ rs. lines_text (row_lines rs cells)) e ∙ ap (λ l. line_text (row_line row cells) ++ lines_text (row_lines others l)) (sym h)

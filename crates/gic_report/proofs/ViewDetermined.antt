@@ -13,8 +13,9 @@ use Rattle.gic_case.specs.declared.item.Transformer.{Transformer}
 use Rattle.gic_screen.specs.declared.criterion.Verdict.{Verdict}
 use Rattle.gic_screen.specs.declared.criterion.Verdict.TheVariants.{Below, Reaches, Undecided, Outside}
 use Rattle.gic_report.specs.SharedLines.{Words}
+use Rattle.gic_report.specs.declared.rows.ItemRow.{ItemRow}
 use Rattle.gic_report.specs.Fits.{AreInRange}
-use Rattle.gic_report.specs.ItemText.{Row, cell_words, effective_line, effective_lines, left_behind, node_line, node_lines, row_lines, shown_words}
+use Rattle.gic_report.specs.ItemText.{cell_words, effective_line, effective_lines, left_behind, node_line, node_lines, row_lines, row_words, shown_words}
 use Rattle.gic_report.specs.VerdictText.{absolute_ends, judged_line, transformer_lines, verdict_on, verdict_word}
 use Rattle.gic_report.proofs.ListParts.{all_append}
 use Rattle.gic_report.proofs.RowCounts.{HasLine, shown, shows}
@@ -99,22 +100,22 @@ behind_in_range true cells h = h
 behind_in_range false [] h = h
 behind_in_range false (x ∷ xs) h = h.1
 
-pub are_rows : (rows : List Row) (cells : List (Option Ends)) (rest : List Words) → AllByRecursion HasLine rows → AllByRecursion CellInRange cells → AllByRecursion IsLine rest
+pub are_rows : (rows : List ItemRow) (cells : List (Option Ends)) (rest : List Words) → AllByRecursion HasLine rows → AllByRecursion CellInRange cells → AllByRecursion IsLine rest
     → AllByRecursion IsLine (row_lines rows cells ++ rest)
 are_rows [] cells rest heads h k = k
 are_rows (row ∷ rows) cells rest heads h k =
-    (line_more row.head (shown_words row.blocked cells) heads.0 (are_shown row.blocked cells h), are_rows rows (left_behind row.blocked cells) rest heads.1 (behind_in_range row.blocked cells h) k)
+    (line_more (row_words row) (shown_words row.blocked cells) heads.0 (are_shown row.blocked cells h), are_rows rows (left_behind row.blocked cells) rest heads.1 (behind_in_range row.blocked cells h) k)
 
 same_tail : (head xs ys : Words) → head ++ xs ≡ head ++ ys → xs ≡ ys
 same_tail [] xs ys e = e
 same_tail (w ∷ ws) xs ys e = same_tail ws xs ys (ap (drop 1) e)
 
 -- the later rows determine the later intervals
-abbrev LaterSame : List Row → List Words → List Words → Type 0
+abbrev LaterSame : List ItemRow → List Words → List Words → Type 0
 LaterSame rows rest others = (xs ys : List (Option Ends)) → length xs ≡ shows rows → length ys ≡ shows rows → AllByRecursion CellInRange xs → AllByRecursion CellInRange ys
     → row_lines rows xs ++ rest ≡ row_lines rows ys ++ others → (xs ≡ ys) × (rest ≡ others)
 
-same_shown : (head : Words) (rows : List Row) (rest others : List Words) → LaterSame rows rest others → (xs ys : List (Option Ends)) → length xs ≡ suc (shows rows) → length ys ≡ suc (shows rows)
+same_shown : (head : Words) (rows : List ItemRow) (rest others : List Words) → LaterSame rows rest others → (xs ys : List (Option Ends)) → length xs ≡ suc (shows rows) → length ys ≡ suc (shows rows)
     → AllByRecursion CellInRange xs → AllByRecursion CellInRange ys
     → (head ++ shown_words false xs) ∷ (row_lines rows (left_behind false xs) ++ rest) ≡ (head ++ shown_words false ys) ∷ (row_lines rows (left_behind false ys) ++ others) → (xs ≡ ys) × (rest ≡ others)
 same_shown head rows rest others later [] ys p q h k e = absurd (omega (arith, p))
@@ -127,15 +128,15 @@ same_shown head rows rest others later (x ∷ xs) (y ∷ ys) p q h k e =
     let more = later xs ys (omega (arith, p)) (omega (arith, q)) h.1 k.1 left in
     (ap (λ z. z ∷ xs) here ∙ ap (λ zs. y ∷ zs) more.0, more.1)
 
-pub same_rows : (rows : List Row) (rest others : List Words) → LaterSame rows rest others
+pub same_rows : (rows : List ItemRow) (rest others : List Words) → LaterSame rows rest others
 same_rows [] rest others [] [] p q h k e = (refl, e)
 same_rows [] rest others [] (y ∷ ys) p q h k e = absurd (omega (arith, q))
 same_rows [] rest others (x ∷ xs) ys p q h k e = absurd (omega (arith, p))
 same_rows (row ∷ rows) rest others xs ys p q h k e =
     (elim row.blocked as (λ b. length xs ≡ shown b (shows rows) → length ys ≡ shown b (shows rows)
-    → (row.head ++ shown_words b xs) ∷ (row_lines rows (left_behind b xs) ++ rest) ≡ (row.head ++ shown_words b ys) ∷ (row_lines rows (left_behind b ys) ++ others) → (xs ≡ ys) × (rest ≡ others)) [
+    → (row_words row ++ shown_words b xs) ∷ (row_lines rows (left_behind b xs) ++ rest) ≡ (row_words row ++ shown_words b ys) ∷ (row_lines rows (left_behind b ys) ++ others) → (xs ≡ ys) × (rest ≡ others)) [
       | true ↦ λ n m f. same_rows rows rest others xs ys n m h k (ap (drop 1) f)
-      | false ↦ λ n m f. same_shown row.head rows rest others (same_rows rows rest others) xs ys n m h k f
+      | false ↦ λ n m f. same_shown (row_words row) rows rest others (same_rows rows rest others) xs ys n m h k f
     ]) p q e
 
 -- ---- effective currents

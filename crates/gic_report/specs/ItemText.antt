@@ -1,5 +1,5 @@
 -- The lines of the items of a view. A row that isn't blocked shows the next interval; the rows are in the order of the intervals.
-use Rattle.std.specs.Prelude.{ℕ, Bool, true, false, if◌then◌else◌, List, [], ◌∷◌, ◌++◌, flat_map, drop, codes, Option, None, Some}
+use Rattle.std.specs.Prelude.{ℕ, Bool, true, false, if◌then◌else◌, List, [], ◌∷◌, ◌++◌, map, flat_map, drop, codes, Option, None, Some}
 use Rattle.std.specs.Fmt.{signed_decimal}
 use Rattle.gic_monitor.specs.View.{Ends, View}
 use Rattle.gic_model.specs.declared.parts.Role.{Role}
@@ -12,9 +12,9 @@ use Rattle.gic_case.specs.declared.item.Neutral.{Neutral}
 use Rattle.gic_case.specs.declared.item.Neutral.TheVariants as devices
 use Rattle.gic_case.specs.declared.item.Transformer.{Transformer}
 use Rattle.gic_case.specs.Lists.{Lists, node_names}
-use Rattle.gic_text.specs.Lines.{lines_text}
 use Rattle.gic_report.specs.SharedLines.{Words}
 use Rattle.gic_report.specs.RoleWord.{role_word}
+use Rattle.gic_report.specs.declared.rows.ItemRow.{ItemRow}
 use Rattle.gic_report.specs.Cells.{first_cell, first_ends}
 
 -- an interval by its ends
@@ -26,10 +26,18 @@ abbrev pub cell_words : List ℕ → Option Ends → Words
 cell_words absent None = absent ∷ []
 cell_words absent (Some e) = ends_words e
 
--- a row of the items: the words that name it, and whether it is blocked
-pub record Row : Type 0 where
-  pub head : Words
-  pub blocked : Bool
+-- the words that name a row by what stands in it and by the name of its item
+abbrev pub named_as : Role → List ℕ → Words
+named_as role.Ground name = codes "ground" ∷ name ∷ []
+named_as role.Line name = codes "line" ∷ name ∷ []
+named_as role.Neutral name = codes "neutral" ∷ name ∷ []
+named_as role.High name = codes "winding" ∷ name ∷ role_word role.High ∷ []
+named_as role.Low name = codes "winding" ∷ name ∷ role_word role.Low ∷ []
+named_as role.Series name = codes "winding" ∷ name ∷ role_word role.Series ∷ []
+named_as role.Common name = codes "winding" ∷ name ∷ role_word role.Common ∷ []
+
+abbrev pub row_words : ItemRow → Words
+row_words row = named_as row.role row.name
 
 -- what a row shows of the intervals that are left
 abbrev pub shown_words : Bool → List (Option Ends) → Words
@@ -39,71 +47,58 @@ shown_words blocked cells = if blocked then codes "blocked" ∷ [] else cell_wor
 abbrev pub left_behind : Bool → List (Option Ends) → List (Option Ends)
 left_behind blocked cells = if blocked then cells else drop 1 cells
 
+-- the line of a row
+abbrev pub row_line : ItemRow → List (Option Ends) → Words
+row_line row cells = row_words row ++ shown_words row.blocked cells
+
 -- the lines of rows
-abbrev pub row_lines : List Row → List (Option Ends) → List Words
+abbrev pub row_lines : List ItemRow → List (Option Ends) → List Words
 row_lines [] cells = []
-row_lines (row ∷ rows) cells = (row.head ++ shown_words row.blocked cells) ∷ row_lines rows (left_behind row.blocked cells)
-
--- the intervals that are left behind rows
-abbrev pub left_behind_all : List Row → List (Option Ends) → List (Option Ends)
-left_behind_all [] cells = cells
-left_behind_all (row ∷ rows) cells = left_behind_all rows (left_behind row.blocked cells)
-
--- the text of rows
-abbrev pub rows_text : List Row → List (Option Ends) → List ℕ
-rows_text rows cells = lines_text (row_lines rows cells)
+row_lines (row ∷ rows) cells = row_line row cells ∷ row_lines rows (left_behind row.blocked cells)
 
 -- ---- the rows of a case
 
-abbrev pub row_of : Words → Bool → Row
-row_of head blocked = record { head = head; blocked = blocked }
+abbrev pub row_of : Role → List ℕ → Bool → ItemRow
+row_of kept name blocked = record { role = kept; name = name; blocked = blocked }
 
 -- a substation with a ground
-abbrev pub ground_rows : List ℕ → Option ℕ → List Row
+abbrev pub ground_rows : List ℕ → Option ℕ → List ItemRow
 ground_rows name None = []
-ground_rows name (Some ohm) = row_of (codes "ground" ∷ name ∷ []) false ∷ []
+ground_rows name (Some ohm) = row_of role.Ground name false ∷ []
 
 -- a line, blocked or not
-abbrev pub line_row : Line → Row
-line_row l = row_of (codes "line" ∷ l.name ∷ []) l.blocked
-
--- a winding by what it is
-abbrev pub winding_row : List ℕ → Role → Row
-winding_row name kept = row_of (codes "winding" ∷ name ∷ role_word kept ∷ []) false
+abbrev pub line_row : Line → ItemRow
+line_row l = row_of role.Line l.name l.blocked
 
 -- the windings of a transformer
-abbrev pub winding_rows : List ℕ → Kind → List Row
-winding_rows name (kinds.DeltaWye high high_resistance) = winding_row name role.High ∷ []
-winding_rows name (kinds.WyeWye high low low_volts high_resistance low_resistance) = winding_row name role.High ∷ winding_row name role.Low ∷ []
-winding_rows name (kinds.Auto high low low_volts series_resistance common_resistance) = winding_row name role.Series ∷ winding_row name role.Common ∷ []
+abbrev pub winding_rows : List ℕ → Kind → List ItemRow
+winding_rows name (kinds.DeltaWye high high_resistance) = row_of role.High name false ∷ []
+winding_rows name (kinds.WyeWye high low low_volts high_resistance low_resistance) = row_of role.High name false ∷ row_of role.Low name false ∷ []
+winding_rows name (kinds.Auto high low low_volts series_resistance common_resistance) = row_of role.Series name false ∷ row_of role.Common name false ∷ []
 winding_rows name kinds.DeltaDelta = []
 
 -- a neutral device, which is a resistor or blocked
-abbrev pub neutral_rows : List ℕ → Option Neutral → List Row
+abbrev pub neutral_rows : List ℕ → Option Neutral → List ItemRow
 neutral_rows name None = []
-neutral_rows name (Some (devices.Resistor ohm)) = row_of (codes "neutral" ∷ name ∷ []) false ∷ []
-neutral_rows name (Some devices.Blocked) = row_of (codes "neutral" ∷ name ∷ []) true ∷ []
+neutral_rows name (Some (devices.Resistor ohm)) = row_of role.Neutral name false ∷ []
+neutral_rows name (Some devices.Blocked) = row_of role.Neutral name true ∷ []
 
 -- the rows of each list of the case
-abbrev pub all_ground_rows : List Substation → List Row
+abbrev pub all_ground_rows : List Substation → List ItemRow
 all_ground_rows = flat_map (λ s. ground_rows s.name s.ground)
 
-abbrev pub all_line_rows : List Line → List Row
-all_line_rows = flat_map (λ l. line_row l ∷ [])
+abbrev pub all_line_rows : List Line → List ItemRow
+all_line_rows = map line_row
 
-abbrev pub all_winding_rows : List Transformer → List Row
+abbrev pub all_winding_rows : List Transformer → List ItemRow
 all_winding_rows = flat_map (λ t. winding_rows t.name t.kind)
 
-abbrev pub all_neutral_rows : List Transformer → List Row
+abbrev pub all_neutral_rows : List Transformer → List ItemRow
 all_neutral_rows = flat_map (λ t. neutral_rows t.name t.neutral)
 
--- the rows of these lists: grounds, lines, windings, neutral devices
-abbrev pub listed_rows : List Substation → List Line → List Transformer → List Row
-listed_rows substations lines transformers = all_ground_rows substations ++ (all_line_rows lines ++ (all_winding_rows transformers ++ all_neutral_rows transformers))
-
--- the rows of a case
-abbrev pub rows_of : Lists → List Row
-rows_of c = listed_rows c.substations c.lines c.transformers
+-- the rows of a case: grounds, lines, windings, neutral devices
+abbrev pub rows_of : Lists → List ItemRow
+rows_of c = all_ground_rows c.substations ++ (all_line_rows c.lines ++ (all_winding_rows c.transformers ++ all_neutral_rows c.transformers))
 
 -- ---- nodes and effective currents
 

@@ -10,6 +10,7 @@ mod list;
 mod names;
 mod report;
 mod role;
+mod rows;
 mod verdict;
 mod volts;
 mod write;
