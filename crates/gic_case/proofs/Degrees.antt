@@ -7,8 +7,8 @@ use Rattle.std.proofs.lemmas.List.{get_or-set_same, get_or-set_other, get_or_def
 use Rattle.std.proofs.lemmas.List.Sums.{count_by_more_no, count_by_more_yes, count_by-le-length}
 use Rattle.std.specs.Prelude.{◌==◌}
 use Rattle.std.specs.List.{flat_map}
-use Rattle.gic_case.specs.Lists.{Lists, earthing_ends_from, earthing_ends, line_ends, grid_of, neutrals_of, winding_ends, device_ends, transformer_ends, ends_of, degree_of}
-use Rattle.gic_case.specs.Rules.{breaks_degree_from}
+use Rattle.gic_case.specs.Lists.{Lists, earthing_ends, line_ends, grid_of, neutrals_of, winding_ends, device_ends, transformer_ends, ends_of, degree_of}
+use Rattle.gic_case.specs.OneByOne.{earthing_ends_from, breaks_degree_from}
 use Rattle.gic_case.proofs.NeutralNodes.{length-neutrals_of}
 use Rattle.gic_case.specs.declared.item.Substation.{Substation}
 use Rattle.gic_case.specs.declared.item.Line.{Line}

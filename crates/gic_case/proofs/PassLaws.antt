@@ -12,7 +12,8 @@ use Rattle.gic_case.specs.Values.{natural_within}
 use Rattle.gic_case.specs.Rows.{breaks_zone, zone_of, breaks_substation, substation_of, breaks_bus, bus_of, breaks_line, line_of}
 use Rattle.gic_case.specs.Transformers.{breaks_transformer, transformer_of}
 use Rattle.gic_case.specs.Lists.{Lists}
-use Rattle.gic_case.specs.Names.{is_repeat, first_from, first_repeat}
+use Rattle.gic_case.specs.Names.{is_repeat}
+use Rattle.gic_case.specs.OneByOne.{first_from, first_repeat}
 use Rattle.gic_case.specs.Rules.{list_in, array_in, entries_of, is_array, breaks_list, allows_devices, breaks_form, Written, written_in, written_names, duplicate_at, breaks_once, substation_place, bus_place, zone_place, breaks_bus_reference, breaks_line_references, breaks_side_reference, breaks_kind_references, breaks_references, bus_with_place, line_with_places, side_place, kind_with_places, transformer_with_places, resolved, breaks_same_ends, breaks_same_sides, breaks_apart, breaks_voltage_order, breaks_degree, broken_in, document_of, broken, lists_of, case_of}
 use Rattle.gic_case.specs.Pass.{items_or, items_at, count_of, rows_from, list_at, zone_row, substation_row, bus_row, line_row, transformer_row, rows_of, refuse_if, unique, each, side_at, bus_in, line_in, kind_in, transformer_in, resolve, case_in}
 use Rattle.gic_case.specs.declared.field.Field.{Field}

@@ -6,7 +6,8 @@ use Rattle.std.proofs.lemmas.List.Folds.{list_any_more}
 use Rattle.std.specs.List.{list_any}
 use Rattle.std.proofs.lemmas.Cmp.{nat_list_eq_equiv}
 use Rattle.gic_case.specs.Keys.{same}
-use Rattle.gic_case.specs.Names.{is_repeat, place_from, place_in, first_from, first_repeat}
+use Rattle.gic_case.specs.Names.{is_repeat, place_from, place_in}
+use Rattle.gic_case.specs.OneByOne.{first_from, first_repeat}
 
 -- no place below n repeats a name
 abbrev pub HasNoRepeat : List (List ℕ) → ℕ → Type 0

@@ -20,7 +20,8 @@ use Rattle.gic_case.specs.Lists.{Lists, names_of, node_names, substation_at, end
 use Rattle.gic_case.specs.Sides.{sides_of, sides_differ, are_together, are_ordered}
 use Rattle.gic_case.specs.Transformers.{breaks_transformer, transformer_of}
 use Rattle.gic_case.specs.Rows.{members_in, breaks_zone, zone_of, breaks_substation, substation_of, breaks_bus, bus_of, breaks_line, line_of}
-use Rattle.gic_case.specs.Rules.{entries_of, breaks_list, allows_devices, breaks_form, Written, written_in, written_names, duplicate_at, breaks_once, breaks_bus_reference, breaks_line_references, breaks_side_reference, breaks_kind_references, breaks_references, bus_with_place, line_with_places, side_place, kind_with_places, transformer_with_places, resolved, breaks_same_ends, breaks_same_sides, breaks_apart, breaks_voltage_order, breaks_degree_from, breaks_degree, broken_in}
+use Rattle.gic_case.specs.Rules.{entries_of, breaks_list, allows_devices, breaks_form, Written, written_in, written_names, duplicate_at, breaks_once, breaks_bus_reference, breaks_line_references, breaks_side_reference, breaks_kind_references, breaks_references, bus_with_place, line_with_places, side_place, kind_with_places, transformer_with_places, resolved, breaks_same_ends, breaks_same_sides, breaks_apart, breaks_voltage_order, breaks_degree, broken_in, broken, lists_of, document_of, case_of}
+use Rattle.gic_case.specs.OneByOne.{breaks_degree_from}
 use Rattle.gic_case.specs.Pass.{case_in}
 use Rattle.gic_case.specs.declared.field.Field.{Field}
 use Rattle.gic_case.specs.declared.field.Field.TheVariants as fields
@@ -373,3 +374,14 @@ pub sound_case : (ms : Members) (c : Lists) → case_in ms ≡ Ok c → IsSound 
 sound_case ms c h =
     let parts = none_settled (broken_in ms) (resolved (written_in ms)) c (sym (case_in_law ms) ∙ h) in
     subst IsSound parts.1 (sound_by ms parts.0)
+
+accepted_document : (d : Option Members) (c : Lists) → broken d ≡ [] → lists_of d ≡ c → IsSound c
+accepted_document None c none is = absurd (cc none)
+accepted_document (Some ms) c none is = subst IsSound is (sound_by ms none)
+
+-- an accepted case's lists are sound
+pub accepted_sound : (bytes : List ℕ) (c : Lists) → case_of bytes ≡ Ok c → IsSound c
+unfolding case_of
+accepted_sound bytes c h =
+    let parts = none_settled (broken (document_of bytes)) (lists_of (document_of bytes)) c h in
+    accepted_document (document_of bytes) c parts.0 parts.1

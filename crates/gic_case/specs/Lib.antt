@@ -1,7 +1,9 @@
+pub mod Accepted
 pub mod Keys
 pub mod Lists
 pub mod Names
 pub mod NodeNames
+pub mod OneByOne
 pub mod Pass
 pub mod Rows
 pub mod Rules

@@ -2,6 +2,7 @@
 use Rattle.std.specs.Prelude.{◌≡◌, ◌≢◌, ◌≤◌, ◌<◌, ◌+◌, ◌==◌, ℕ, List, [], ◌∷◌, ◌++◌, length, map, flat_map, slice_index_or, Bool, true, false, if◌then◌else◌, Option, Some, None, is_some, IfSome, All, AllPairs, IsTrue, count_by, unsigned_abs}
 use Rattle.std.specs.List.{enumerate_from, filter}
 use Rattle.gic_base.specs.Name.{is_name}
+use Rattle.gic_base.specs.declared.limits.TheConstants.{MOST_ZONES, MOST_SUBSTATIONS, MOST_BUSES, MOST_LINES, MOST_TRANSFORMERS, MOST_AT_A_NODE}
 use Rattle.gic_scale.specs.ZoneView.{ZoneView, IsZone}
 use Rattle.gic_case.specs.declared.item.Substation.{Substation}
 use Rattle.gic_case.specs.declared.item.Bus.{Bus}
@@ -36,13 +37,9 @@ with_device = filter (λ t. is_some t.neutral)
 abbrev pub node_names : Lists → List (List ℕ)
 node_names c = map (λ s. s.name) c.substations ++ (map (λ b. b.name) c.buses ++ map (λ t. t.name) (with_device c.transformers))
 
--- the nodes of these substations, numbered from here on, at which an earthing ends
-abbrev pub earthing_ends_from : (node : ℕ) → List Substation → List ℕ
-earthing_ends_from node substations = flat_map (λ p. if is_some p.1.ground then p.0 ∷ [] else []) (enumerate_from node substations)
-
 -- the nodes at which the earthings end: the substations that have one
 abbrev pub earthing_ends : List Substation → List ℕ
-earthing_ends = earthing_ends_from 0
+earthing_ends substations = flat_map (λ p. if is_some p.1.ground then p.0 ∷ [] else []) (enumerate_from 0 substations)
 
 -- the nodes at which the lines end: the two buses of each line that isn't blocked
 abbrev pub line_ends : (first_bus : ℕ) → List Line → List ℕ
@@ -155,11 +152,11 @@ pub record IsSoundTransformer (c : Lists) (t : Transformer) : Type 0 where
 
 -- what every case keeps
 pub record IsSound (c : Lists) : Type 0 where
-  pub few_zones : length c.zones ≤ 256
-  pub few_substations : length c.substations ≤ 1024
-  pub few_buses : length c.buses ≤ 3072
-  pub few_lines : length c.lines ≤ 8192
-  pub few_transformers : length c.transformers ≤ 3584
+  pub few_zones : length c.zones ≤ MOST_ZONES
+  pub few_substations : length c.substations ≤ MOST_SUBSTATIONS
+  pub few_buses : length c.buses ≤ MOST_BUSES
+  pub few_lines : length c.lines ≤ MOST_LINES
+  pub few_transformers : length c.transformers ≤ MOST_TRANSFORMERS
   pub zones_sound : All IsZone c.zones
   pub substations_sound : All IsSoundSubstation c.substations
   pub buses_within : All (λ b. b.substation < length c.substations) c.buses
@@ -167,4 +164,4 @@ pub record IsSound (c : Lists) : Type 0 where
   pub transformers_sound : All (IsSoundTransformer c) c.transformers
   pub names_sound : All (λ n. IsTrue (is_name n)) (names_of c)
   pub names_differ : AllPairs (λ x y. x ≢ y) (names_of c)
-  pub few_ends : (k : ℕ) → k < length (node_names c) → degree_of (ends_of c) k ≤ 256
+  pub few_ends : (k : ℕ) → k < length (node_names c) → degree_of (ends_of c) k ≤ MOST_AT_A_NODE

@@ -2,15 +2,16 @@
 use Rattle.std.specs.Prelude.{ℕ, ◌+◌, ◌==◌, nat_lt, suc, List, [], ◌∷◌, length, Bool, false, if◌then◌else◌, Option, Some, None, option_and_then, option_map, unwrap_or, Result, Ok, Err}
 use Rattle.toml.specs.Data.{Data, Items, no_items, item, Members, get_member, as_array, as_bool, as_table}
 use Rattle.gic_base.specs.Refusals.{settle}
+use Rattle.gic_base.specs.declared.limits.TheConstants.{MOST_ZONES, MOST_SUBSTATIONS, MOST_BUSES, MOST_LINES, MOST_TRANSFORMERS}
 use Rattle.gic_base.specs.Passes.{◌>>=◌, or_refuse, test}
 use Rattle.gic_scale.specs.ZoneView.{ZoneView}
 use Rattle.gic_case.specs.Keys.{key_of, has, fits, fits_document, list_key}
 use Rattle.gic_case.specs.Values.{natural_within, read_name, value_at}
 use Rattle.gic_case.specs.Rows.{ohm_within, volts_within, metres_within, read_neutral, zone_fields, bus_fields, line_fields, substation_with}
 use Rattle.gic_case.specs.Transformers.{read_kind, fields_of, others_of}
-use Rattle.gic_case.specs.Names.{first_repeat}
+use Rattle.gic_case.specs.OneByOne.{first_repeat, breaks_same_ends_from, breaks_same_sides_from, breaks_apart_from, breaks_voltage_order_from}
 use Rattle.gic_case.specs.Lists.{Lists}
-use Rattle.gic_case.specs.Rules.{Written, written_names, duplicate_at, substation_place, bus_place, zone_place, breaks_same_ends, breaks_same_sides, breaks_apart, breaks_voltage_order, breaks_degree}
+use Rattle.gic_case.specs.Rules.{Written, written_names, duplicate_at, substation_place, bus_place, zone_place, breaks_degree}
 use Rattle.gic_case.specs.declared.field.Field.{Field}
 use Rattle.gic_case.specs.declared.field.Field.TheVariants as fields
 use Rattle.gic_case.specs.declared.refusal.Part.{Part}
@@ -166,11 +167,11 @@ unfoldable pub rows_of : Members → Result Written CaseRefusal
 rows_of ms = do
   keys ← test (fits_document ms) (refusals.Key parts.Case 0)
   format ← required (natural_within 1 2) parts.Case 0 fields.Format ms
-  zones ← list_at parts.Zone 256 zone_row ms
-  substations ← list_at parts.Substation 1024 substation_row ms
-  buses ← list_at parts.Bus 3072 bus_row ms
-  lines ← list_at parts.Line 8192 line_row ms
-  transformers ← list_at parts.Transformer 3584 (transformer_row (format == 2)) ms
+  zones ← list_at parts.Zone MOST_ZONES zone_row ms
+  substations ← list_at parts.Substation MOST_SUBSTATIONS substation_row ms
+  buses ← list_at parts.Bus MOST_BUSES bus_row ms
+  lines ← list_at parts.Line MOST_LINES line_row ms
+  transformers ← list_at parts.Transformer MOST_TRANSFORMERS (transformer_row (format == 2)) ms
   Ok (record { zones = zones; substations = substations; buses = buses; lines = lines; transformers = transformers })
 
 -- the refusal, if there is one
@@ -238,9 +239,9 @@ case_in ms = do
   w ← rows_of ms
   once ← unique w
   c ← resolve w
-  lines ← settle (breaks_same_ends c) (tt {0})
-  sides ← settle (breaks_same_sides c) (tt {0})
-  together ← settle (breaks_apart c) (tt {0})
-  ordered ← settle (breaks_voltage_order c) (tt {0})
+  lines ← settle (breaks_same_ends_from 1 c.lines) (tt {0})
+  sides ← settle (breaks_same_sides_from 1 c.transformers) (tt {0})
+  together ← settle (breaks_apart_from c.buses 1 c.transformers) (tt {0})
+  ordered ← settle (breaks_voltage_order_from 1 c.transformers) (tt {0})
   few ← settle (breaks_degree c) (tt {0})
   Ok c

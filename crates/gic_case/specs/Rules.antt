@@ -5,6 +5,7 @@ use Rattle.std.specs.Str.{is_utf8}
 use Rattle.toml.specs.Data.{Data, Items, no_items, item, Members, get_member, as_array}
 use Rattle.toml.specs.Parse.{parse_document}
 use Rattle.gic_base.specs.Refusals.{unless, settle}
+use Rattle.gic_base.specs.declared.limits.TheConstants.{MOST_ZONES, MOST_SUBSTATIONS, MOST_BUSES, MOST_LINES, MOST_TRANSFORMERS, MOST_AT_A_NODE}
 use Rattle.gic_scale.specs.ZoneView.{ZoneView}
 use Rattle.gic_case.specs.Keys.{fits_document, list_key}
 use Rattle.gic_case.specs.Values.{natural_within, value_at}
@@ -66,11 +67,11 @@ unfoldable pub breaks_form : Members → List CaseRefusal
 breaks_form ms =
     unless (fits_document ms) (refusals.Key parts.Case 0)
     ++ (breaks_value (natural_within 1 2) parts.Case 0 fields.Format ms
-    ++ (breaks_list parts.Zone 256 breaks_zone ms
-    ++ (breaks_list parts.Substation 1024 breaks_substation ms
-    ++ (breaks_list parts.Bus 3072 breaks_bus ms
-    ++ (breaks_list parts.Line 8192 breaks_line ms
-    ++ breaks_list parts.Transformer 3584 (breaks_transformer (allows_devices ms)) ms)))))
+    ++ (breaks_list parts.Zone MOST_ZONES breaks_zone ms
+    ++ (breaks_list parts.Substation MOST_SUBSTATIONS breaks_substation ms
+    ++ (breaks_list parts.Bus MOST_BUSES breaks_bus ms
+    ++ (breaks_list parts.Line MOST_LINES breaks_line ms
+    ++ breaks_list parts.Transformer MOST_TRANSFORMERS (breaks_transformer (allows_devices ms)) ms)))))
 
 -- the rows as they are written, with names in place of references
 pub record Written : Type 0 where
@@ -180,12 +181,7 @@ kind_with_places w rows.DeltaDelta = kinds.DeltaDelta
 
 -- a transformer, with the places of its buses
 abbrev pub transformer_with_places : Written → TransformerRow → Transformer
-transformer_with_places w t = record {
-  name = t.name;
-  high_volts = t.high_volts;
-  kind = kind_with_places w t.kind;
-  neutral = t.neutral;
-}
+transformer_with_places w t = record { name = t.name; high_volts = t.high_volts; kind = kind_with_places w t.kind; neutral = t.neutral }
 
 -- the lists, with places in place of names; a name that is nowhere stands for the first place
 unfoldable pub resolved : Written → Lists
@@ -197,45 +193,29 @@ resolved w = record {
   transformers = map (transformer_with_places w) w.transformers;
 }
 
--- the two buses of each of these lines, numbered from here on, are not one
-abbrev pub breaks_same_ends_from : (row : ℕ) → List Line → List CaseRefusal
-breaks_same_ends_from row lines = flat_map (λ p. unless (not (p.1.from == p.1.to)) (refusals.SameEnds parts.Line p.0)) (enumerate_from row lines)
+-- each of the rows, numbered from 1, passes the test
+abbrev pub breaks_rows : {A : Type 0} → (A → Bool) → (ℕ → CaseRefusal) → List A → List CaseRefusal
+breaks_rows test refusal rows = flat_map (λ p. unless (test p.1) (refusal p.0)) (enumerate_from 1 rows)
 
 -- no line has one bus for two
 abbrev pub breaks_same_ends : Lists → List CaseRefusal
-breaks_same_ends c = breaks_same_ends_from 1 c.lines
-
--- the two sides of each of these transformers, numbered from here on, have two buses
-abbrev pub breaks_same_sides_from : (row : ℕ) → List Transformer → List CaseRefusal
-breaks_same_sides_from row transformers = flat_map (λ p. unless (sides_differ (sides_of p.1.kind)) (refusals.SameEnds parts.Transformer p.0)) (enumerate_from row transformers)
+breaks_same_ends c = breaks_rows (λ l. not (l.from == l.to)) (refusals.SameEnds parts.Line) c.lines
 
 -- no transformer has one bus for two
 abbrev pub breaks_same_sides : Lists → List CaseRefusal
-breaks_same_sides c = breaks_same_sides_from 1 c.transformers
-
--- the two sides of each of these transformers, numbered from here on, are in one substation
-abbrev pub breaks_apart_from : List Bus → (row : ℕ) → List Transformer → List CaseRefusal
-breaks_apart_from buses row transformers = flat_map (λ p. unless (are_together buses (sides_of p.1.kind)) (refusals.Apart p.0)) (enumerate_from row transformers)
+breaks_same_sides c = breaks_rows (λ t. sides_differ (sides_of t.kind)) (refusals.SameEnds parts.Transformer) c.transformers
 
 -- no transformer stands in two substations
 abbrev pub breaks_apart : Lists → List CaseRefusal
-breaks_apart c = breaks_apart_from c.buses 1 c.transformers
-
--- the low voltage of each of these transformers, numbered from here on, is not above its high voltage
-abbrev pub breaks_voltage_order_from : (row : ℕ) → List Transformer → List CaseRefusal
-breaks_voltage_order_from row transformers = flat_map (λ p. unless (are_ordered p.1.high_volts (sides_of p.1.kind)) (refusals.VoltageOrder p.0)) (enumerate_from row transformers)
+breaks_apart c = breaks_rows (λ t. are_together c.buses (sides_of t.kind)) refusals.Apart c.transformers
 
 -- no transformer has a low voltage above its high voltage
 abbrev pub breaks_voltage_order : Lists → List CaseRefusal
-breaks_voltage_order c = breaks_voltage_order_from 1 c.transformers
+breaks_voltage_order c = breaks_rows (λ t. are_ordered t.high_volts (sides_of t.kind)) refusals.VoltageOrder c.transformers
 
--- at most 256 of the ends are at each of the nodes with these names, numbered from here on
-abbrev pub breaks_degree_from : (node : ℕ) → (names : List (List ℕ)) → (ends : List ℕ) → List CaseRefusal
-breaks_degree_from node names ends = flat_map (λ p. unless (nat_le (degree_of ends p.0) 256) (refusals.Degree p.1)) (enumerate_from node names)
-
--- at most 256 elements end at each node
+-- at most `MOST_AT_A_NODE` elements end at each node, which is refused by its name
 abbrev pub breaks_degree : Lists → List CaseRefusal
-breaks_degree c = breaks_degree_from 0 (node_names c) (ends_of c)
+breaks_degree c = flat_map (λ p. unless (nat_le (degree_of (ends_of c) p.0) MOST_AT_A_NODE) (refusals.Degree p.1)) (enumerate_from 0 (node_names c))
 
 -- all rules on a document, in their order
 unfoldable pub broken_in : Members → List CaseRefusal

@@ -10,10 +10,8 @@ use crate::network::Network;
 use crate::neutral::{push_device_ends, push_winding_ends};
 use crate::refusal::CaseRefusal;
 use gic_base::NodeId;
+use gic_base::limits::MOST_AT_A_NODE;
 use std::alloc::{AllocError, Global};
-
-/// The most elements that may end at a node.
-const LIMIT: u32 = 256;
 
 /// Adds the nodes at which the earthings end.
 fn push_earthing_ends(ends: &mut Vec<u32>, substations: &[Substation]) -> Result<(), AllocError>
@@ -87,7 +85,7 @@ fn degrees(alloc: Global, nodes: usize, ends: &[u32]) -> Result<Vec<u32>, AllocE
     Ok(counts)
 }
 
-/// Whether at most 256 elements end at each node.
+/// Whether at most [`MOST_AT_A_NODE`] elements end at each node.
 pub(crate) fn few_ends(alloc: Global, network: &Network) -> Result<(), CaseRefusal>
     ensures { Answers Memory (λ u. u) result (settle (breaks_degree network.now) (tt {0})) }
 {
@@ -95,7 +93,7 @@ pub(crate) fn few_ends(alloc: Global, network: &Network) -> Result<(), CaseRefus
     let nodes = network.node_count();
     let counts = degrees(alloc, usize::from(nodes), ends.as_slice())?;
     for (node, count) in counts.iter().enumerate() {
-        if *count > LIMIT {
+        if *count as usize > MOST_AT_A_NODE {
             let node = network.node_name(NodeId(node as u16));
             return Err(CaseRefusal::Degree { node });
         }

@@ -16,6 +16,7 @@ use crate::list::list_at;
 use crate::refusal::{CaseRefusal, Part};
 use crate::row::{BusRow, LineRow, TransformerRow};
 use crate::value::natural_at;
+use gic_base::limits::{MOST_BUSES, MOST_LINES, MOST_SUBSTATIONS, MOST_TRANSFORMERS, MOST_ZONES};
 use gic_scale::Zone;
 use std::alloc::Global;
 use std::marker::Model;
@@ -63,13 +64,14 @@ pub(crate) struct Rows {
 
 impl Model for Rows {
     ghost use Rattle.std.specs.Prelude.{◌≤◌, length};
+    ghost use Rattle.gic_base.specs.declared.limits.TheConstants.{MOST_ZONES, MOST_SUBSTATIONS, MOST_BUSES, MOST_LINES, MOST_TRANSFORMERS};
     ghost use Rattle.gic_case.specs.Rules.{Written};
 
     ghost Value = { Written };
 
     ghost view = { λ r. record { zones = r.zones.items; substations = r.substations.items; buses = r.buses.items; lines = r.lines.items; transformers = r.transformers.items } };
 
-    ghost invariant = { λ r. (length r.zones.items ≤ 256) × (length r.substations.items ≤ 1024) × (length r.buses.items ≤ 3072) × (length r.lines.items ≤ 8192) × (length r.transformers.items ≤ 3584) };
+    ghost invariant = { λ r. (length r.zones.items ≤ MOST_ZONES) × (length r.substations.items ≤ MOST_SUBSTATIONS) × (length r.buses.items ≤ MOST_BUSES) × (length r.lines.items ≤ MOST_LINES) × (length r.transformers.items ≤ MOST_TRANSFORMERS) };
 }
 
 impl Rows {
@@ -80,11 +82,11 @@ impl Rows {
     {
         document_keys(table)?;
         let devices = natural_at(Part::Case, 0, Field::Format, 1, 2, table)? == 2;
-        let zones = list_at(alloc, Part::Zone, 256, devices, table)?;
-        let substations = list_at(alloc, Part::Substation, 1024, devices, table)?;
-        let buses = list_at(alloc, Part::Bus, 3072, devices, table)?;
-        let lines = list_at(alloc, Part::Line, 8192, devices, table)?;
-        let transformers = list_at(alloc, Part::Transformer, 3584, devices, table)?;
+        let zones = list_at(alloc, Part::Zone, MOST_ZONES, devices, table)?;
+        let substations = list_at(alloc, Part::Substation, MOST_SUBSTATIONS, devices, table)?;
+        let buses = list_at(alloc, Part::Bus, MOST_BUSES, devices, table)?;
+        let lines = list_at(alloc, Part::Line, MOST_LINES, devices, table)?;
+        let transformers = list_at(alloc, Part::Transformer, MOST_TRANSFORMERS, devices, table)?;
         Ok(Rows {
             zones,
             substations,

@@ -8,6 +8,7 @@ mod document;
 mod field;
 mod item;
 mod keys;
+pub mod laws;
 mod list;
 mod names;
 mod network;

@@ -2,7 +2,8 @@
 ghost use Rattle.std.specs.Prelude.{◌≡◌, ℕ, List, ◌<◌, ◌^◌, IfOk, IfSome, length};
 ghost use Rattle.std.specs.HashMap.{get};
 ghost use Rattle.gic_case.specs.Keys.{same};
-ghost use Rattle.gic_case.specs.Names.{place_in, first_repeat};
+ghost use Rattle.gic_case.specs.Names.{place_in};
+ghost use Rattle.gic_case.specs.OneByOne.{first_repeat};
 
 use gic_base::Name;
 use std::alloc::{AllocError, Global};

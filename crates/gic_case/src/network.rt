@@ -23,13 +23,14 @@ pub(crate) struct Network {
 
 impl Model for Network {
     ghost use Rattle.std.specs.Prelude.{◌≤◌, length};
+    ghost use Rattle.gic_base.specs.declared.limits.TheConstants.{MOST_SUBSTATIONS, MOST_BUSES, MOST_LINES, MOST_TRANSFORMERS};
     ghost use Rattle.gic_case.specs.Lists.{Lists};
 
     ghost Value = { Lists };
 
     ghost view = { λ n. record { zones = n.zones.items; substations = n.substations.items; buses = n.buses.items; lines = n.lines.items; transformers = n.transformers.items } };
 
-    ghost invariant = { λ n. (length n.substations.items ≤ 1024) × (length n.buses.items ≤ 3072) × (length n.lines.items ≤ 8192) × (length n.transformers.items ≤ 3584) };
+    ghost invariant = { λ n. (length n.substations.items ≤ MOST_SUBSTATIONS) × (length n.buses.items ≤ MOST_BUSES) × (length n.lines.items ≤ MOST_LINES) × (length n.transformers.items ≤ MOST_TRANSFORMERS) };
 }
 
 impl Network {

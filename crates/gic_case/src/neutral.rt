@@ -1,10 +1,11 @@
 //! The ground grids and the neutrals of transformers, and the ends of the elements at them.
-ghost use Rattle.std.specs.Prelude.{◌≡◌, ◌<◌, ◌^◌, ◌++◌, flat_map, if◌then◌else◌, is_some, IfOk, OnOk, All};
+ghost use Rattle.std.specs.Prelude.{◌≡◌, ◌<◌, ◌^◌, ◌++◌, flat_map, if◌then◌else◌, is_some, IfOk, OnOk, All, ◌≤◌, vec_len};
 ghost use Rattle.gic_case.specs.Lists.{IsSoundTransformer, substation_at, grid_of, neutrals_of, winding_ends, device_ends};
 
 use crate::case::Case;
 use crate::item::{Bus, Kind, Neutral, Transformer};
 use crate::network::Network;
+use gic_base::limits::MOST_TRANSFORMERS;
 use gic_base::{NodeId, OutOfMemory};
 use std::alloc::{AllocError, Global};
 
@@ -19,6 +20,7 @@ pub fn ground_grid(case: &Case, transformer: &Transformer) -> NodeId
 /// where it has a neutral device, and its ground grid otherwise. Each is sound.
 pub fn neutrals(alloc: Global, case: &Case) -> Result<Vec<(u16, Transformer)>, OutOfMemory>
     ensures value { IfOk result (λ v. v.items ≡ neutrals_of case.now) }
+    ensures few { IfOk result (λ v. vec_len v ≤ MOST_TRANSFORMERS) }
     ensures sound { IfOk result (λ v. All (λ p. IsSoundTransformer case.now p.1) v.items) }
 {
     let neutrals = case.network().neutrals(alloc)?;

@@ -3,7 +3,7 @@ ghost use Rattle.std.specs.Prelude.{◌≡◌, ◌<◌, ◌^◌, length};
 ghost use Rattle.gic_base.specs.Refusals.{Answers, settle};
 ghost use Rattle.gic_case.specs.declared.refusal.CaseRefusal.TheVariants.{Memory};
 ghost use Rattle.gic_case.specs.Sides.{sides_of, sides_differ, are_together, are_ordered};
-ghost use Rattle.gic_case.specs.Rules.{breaks_same_ends_from, breaks_same_sides_from, breaks_apart_from, breaks_voltage_order_from};
+ghost use Rattle.gic_case.specs.OneByOne.{breaks_same_ends_from, breaks_same_sides_from, breaks_apart_from, breaks_voltage_order_from};
 
 use crate::item::{Bus, Kind, Line, Transformer};
 use crate::neutral::substation_at;

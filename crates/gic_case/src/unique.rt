@@ -10,6 +10,7 @@ use crate::list::push_names;
 use crate::names::first_repeat;
 use crate::refusal::{CaseRefusal, Part};
 use gic_base::Name;
+use gic_base::limits::{MOST_BUSES, MOST_LINES, MOST_SUBSTATIONS, MOST_ZONES};
 use std::alloc::{AllocError, Global};
 
 /// The names of all rows, list after list.
@@ -33,10 +34,10 @@ fn duplicate_at(
     lines: usize,
     i: usize,
 ) -> CaseRefusal
-    requires zones { zones ≤ 256 }
-    requires substations { substations ≤ 1024 }
-    requires buses { buses ≤ 3072 }
-    requires lines { lines ≤ 8192 }
+    requires zones { zones ≤ MOST_ZONES }
+    requires substations { substations ≤ MOST_SUBSTATIONS }
+    requires buses { buses ≤ MOST_BUSES }
+    requires lines { lines ≤ MOST_LINES }
     requires place { i < 2 ^ 16 }
     ensures value { result ≡ duplicate_at zones substations buses lines i }
     ensures cause { result ≢ Memory }

@@ -19,7 +19,7 @@ use Rattle.gic_model.specs.declared.parts.Element.{Element}
 use Rattle.gic_model.specs.Standing.{is_item}
 use Rattle.gic_winding.specs.ElementList.{earthing_of, line_of, winding, windings_of, resistor_of, earthings_of, lines_of, all_windings_of, resistors_of, element_list}
 use Rattle.gic_winding.specs.Order.{comes_before}
-use Rattle.gic_winding.proofs.Neutrals.{length-neutrals_of}
+use Rattle.gic_case.proofs.NeutralNodes.{length-neutrals_of}
 use Rattle.gic_winding.proofs.Parts.{earthing_part, line_part, winding_part, resistor_part}
 use Rattle.gic_winding.proofs.Within.{all_joined, all_of_parts}
 

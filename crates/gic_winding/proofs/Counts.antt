@@ -1,8 +1,9 @@
 -- How many elements end at a node.
-use Rattle.std.proofs.Common.{ℕ, ◌+◌, ◌≤◌, Bool, true, false, cond, ◌||◌, Option, Some, None, List, [], ◌∷◌, ◌++◌, length, is_some, arith, inl, inr, flat_map, count_by}
+use Rattle.std.proofs.Common.{◌≡◌, ℕ, ◌+◌, Bool, true, false, cond, ◌||◌, Option, Some, None, List, [], ◌∷◌, ◌++◌, length, is_some, arith, inl, inr, flat_map, count_by}
 use Rattle.std.proofs.lemmas.Bool.{cases_Bool}
+use Rattle.std.proofs.lemmas.Bool.Decides.{nat_tests}
 use Rattle.std.proofs.lemmas.List.Sums.{sum_by-append}
-use Rattle.std.specs.List.{enumerate_from}
+use Rattle.std.specs.List.{AllByRecursion, enumerate_from}
 use Rattle.std.specs.Prelude.{◌==◌, if◌then◌else◌}
 use Rattle.gic_case.specs.declared.item.Substation.{Substation}
 use Rattle.gic_case.specs.declared.item.Line.{Line}
@@ -11,72 +12,93 @@ use Rattle.gic_case.specs.declared.item.Kind.TheVariants as kinds
 use Rattle.gic_case.specs.declared.item.Transformer.{Transformer}
 use Rattle.gic_case.specs.declared.item.Neutral.{Neutral}
 use Rattle.gic_case.specs.declared.item.Neutral.TheVariants as devices
-use Rattle.gic_case.specs.Lists.{Lists, degree_of, earthing_ends_from, winding_ends, device_ends, ends_of, grid_of, neutrals_of}
+use Rattle.gic_case.specs.Lists.{Lists, degree_of, earthing_ends, line_ends, winding_ends, device_ends, ends_of, grid_of, neutrals_of}
+use Rattle.gic_case.specs.OneByOne.{earthing_ends_from}
 use Rattle.gic_model.specs.declared.parts.Element.{Element}
-use Rattle.gic_model.specs.Network.{ends_at}
-use Rattle.gic_winding.specs.ElementList.{earthing_of, line_of, windings_of, resistor_of, element_list}
+use Rattle.gic_model.specs.Network.{is_node, ends_at}
+use Rattle.gic_winding.specs.ElementList.{earthing_of, line_of, windings_of, resistor_of, earthings_of, lines_of, all_windings_of, resistors_of, element_list}
 use Rattle.gic_winding.proofs.Parts.{earthing_part, line_part, winding_part, resistor_part}
 
--- at most as many of the elements end at the node as its place is among the ends
-abbrev pub AreFewAt : ℕ → List Element → List ℕ → Type 0
-AreFewAt k elements ends = count_by (λ e. ends_at e k) elements ≤ degree_of ends k
+-- the two ends of an element differ
+abbrev pub HasTwoEnds : Element → Type 0
+HasTwoEnds e = is_node e.to e.from.0 ≡ false
 
-few_joined : (k : ℕ) (es fs : List Element) (xs ys : List ℕ) → AreFewAt k es xs → AreFewAt k fs ys → AreFewAt k (es ++ fs) (xs ++ ys)
-few_joined k es fs xs ys first second = simp sum_by-append (omega (arith, first, second))
+-- as many of the elements end at the node as its place is among the ends, where the two ends of each differ
+abbrev pub AreAsManyAt : ℕ → List Element → List ℕ → Type 0
+AreAsManyAt k elements ends = AllByRecursion HasTwoEnds elements → count_by (λ e. ends_at e k) elements ≡ degree_of ends k
+
+both_parts : {X : Type 0} (P : X → Type 0) (xs ys : List X) → AllByRecursion P (xs ++ ys) → AllByRecursion P xs × AllByRecursion P ys
+both_parts P [] ys all = (tt, all)
+both_parts P (x ∷ xs) ys all = let rest = both_parts P xs ys all.1 in ((all.0, rest.0), rest.1)
+
+many_joined : (k : ℕ) (es fs : List Element) (xs ys : List ℕ) → AreAsManyAt k es xs → AreAsManyAt k fs ys → AreAsManyAt k (es ++ fs) (xs ++ ys)
+many_joined k es fs xs ys first second two =
+    let parts = both_parts HasTwoEnds es fs two in
+    let one = first parts.0 in
+    let other = second parts.1 in
+    simp sum_by-append (omega (arith, one, other))
 
 -- part by part
-few_of_parts : {X : Type 0} (k : ℕ) (part : ℕ × X → List Element) (ends : X → List ℕ) → ((i : ℕ) (x : X) → AreFewAt k (part (i, x)) (ends x))
-    → (i : ℕ) (xs : List X) → AreFewAt k (flat_map part (enumerate_from i xs)) (flat_map ends xs)
-few_of_parts k part ends each i [] = omega arith
-few_of_parts k part ends each i (x ∷ xs) =
-    few_joined k (part (i, x)) (flat_map part (enumerate_from (i + 1) xs)) (ends x) (flat_map ends xs) (each i x) (few_of_parts k part ends each (i + 1) xs)
+many_of_parts : {X : Type 0} (k : ℕ) (part : ℕ × X → List Element) (ends : X → List ℕ) → ((i : ℕ) (x : X) → AreAsManyAt k (part (i, x)) (ends x))
+    → (i : ℕ) (xs : List X) → AreAsManyAt k (flat_map part (enumerate_from i xs)) (flat_map ends xs)
+many_of_parts k part ends each i [] two = omega arith
+many_of_parts k part ends each i (x ∷ xs) two =
+    many_joined k (part (i, x)) (flat_map part (enumerate_from (i + 1) xs)) (ends x) (flat_map ends xs) (each i x) (many_of_parts k part ends each (i + 1) xs) two
 
--- one of two
-either_counts : (a b : Bool) → cond (a || b) 1 0 ≤ cond a 1 0 + cond b 1 0
-either_counts true b = omega arith
-either_counts false b = omega arith
-
-both_count : (p q k : ℕ) → cond ((p == k) || (q == k)) 1 0 ≤ degree_of (p ∷ q ∷ []) k
-both_count p q k = omega (arith, either_counts (p == k) (q == k))
-
-earthing_few : (k place : ℕ) (ohm : Option ℕ) → AreFewAt k (earthing_of place ohm) (if is_some ohm then place ∷ [] else [])
-earthing_few k place None = omega arith
-earthing_few k place (Some ohm) = omega (arith, either_counts (place == k) false)
-
-earthings_few : (k i : ℕ) (ss : List Substation) → AreFewAt k (flat_map earthing_part (enumerate_from i ss)) (earthing_ends_from i ss)
-earthings_few k i [] = omega arith
-earthings_few k i (s ∷ ss) = few_joined k (earthing_of i s.ground) _ (if is_some s.ground then i ∷ [] else []) _ (earthing_few k i s.ground) (earthings_few k (i + 1) ss)
-
-line_few : (first_bus k place : ℕ) (l : Line) → AreFewAt k (line_of first_bus place l) (if l.blocked then [] else (first_bus + l.from) ∷ (first_bus + l.to) ∷ [])
-line_few first_bus k place l =
-    elim (cases_Bool l.blocked) [
-      | inl blocked ↦ rw blocked (omega arith)
-      | inr runs ↦ rw runs (omega (arith, both_count (first_bus + l.from) (first_bus + l.to) k))
+-- one of two places that differ
+both_count : (p q k : ℕ) → (q == p) ≡ false → cond ((p == k) || (q == k)) 1 0 ≡ degree_of (p ∷ q ∷ []) k
+both_count p q k apart =
+    elim (cases_Bool (p == k)) [
+      | inl at ↦ let off : (q == k) ≡ false = grind (arith, nat_tests, at, apart) in rw (at, off) (omega arith)
+      | inr off ↦ rw off (omega arith)
     ]
 
-windings_few : (first_bus k place neutral : ℕ) (kind : Kind) → AreFewAt k (windings_of first_bus place neutral kind) (winding_ends first_bus neutral kind)
-windings_few first_bus k place neutral (kinds.DeltaWye high high_resistance) = omega (arith, both_count (first_bus + high) neutral k)
-windings_few first_bus k place neutral (kinds.WyeWye high low low_volts high_resistance low_resistance) =
-    omega (arith, both_count (first_bus + high) neutral k, both_count (first_bus + low) neutral k)
-windings_few first_bus k place neutral (kinds.Auto high low low_volts series_resistance common_resistance) =
-    omega (arith, both_count (first_bus + high) (first_bus + low) k, both_count (first_bus + low) neutral k)
-windings_few first_bus k place neutral kinds.DeltaDelta = omega arith
+or_earth : (b : Bool) → ◌≡◌ {A = ℕ} (cond (b || false) 1 0) (cond b 1 0)
+or_earth true = omega arith
+or_earth false = omega arith
 
-resistor_few : (k place neutral grid : ℕ) (device : Option Neutral) → AreFewAt k (resistor_of place neutral grid device) (device_ends neutral grid device)
-resistor_few k place neutral grid None = omega arith
-resistor_few k place neutral grid (Some (devices.Resistor ohm)) = omega (arith, both_count neutral grid k)
-resistor_few k place neutral grid (Some devices.Blocked) = omega arith
+earthing_many : (k place : ℕ) (ohm : Option ℕ) → AreAsManyAt k (earthing_of place ohm) (if is_some ohm then place ∷ [] else [])
+earthing_many k place None two = omega arith
+earthing_many k place (Some ohm) two = omega (arith, or_earth (place == k))
 
--- no more elements of a case end at a node than its degree
-pub few_at_a_node : (c : Lists) (k : ℕ) → AreFewAt k (element_list c) (ends_of c)
+earthings_many : (k i : ℕ) (ss : List Substation) → AreAsManyAt k (flat_map earthing_part (enumerate_from i ss)) (earthing_ends_from i ss)
+earthings_many k i [] two = omega arith
+earthings_many k i (s ∷ ss) two =
+    many_joined k (earthing_of i s.ground) (flat_map earthing_part (enumerate_from (i + 1) ss)) (if is_some s.ground then i ∷ [] else []) (earthing_ends_from (i + 1) ss) (earthing_many k i s.ground) (earthings_many k (i + 1) ss) two
+
+line_many : (first_bus k place : ℕ) (l : Line) → AreAsManyAt k (line_of first_bus place l) (if l.blocked then [] else (first_bus + l.from) ∷ (first_bus + l.to) ∷ [])
+line_many first_bus k place l =
+    elim (cases_Bool l.blocked) [
+      | inl blocked ↦ rw blocked (λ two. omega arith)
+      | inr runs ↦ rw runs (λ two. omega (arith, both_count (first_bus + l.from) (first_bus + l.to) k two.0))
+    ]
+
+windings_many : (first_bus k place neutral : ℕ) (kind : Kind) → AreAsManyAt k (windings_of first_bus place neutral kind) (winding_ends first_bus neutral kind)
+windings_many first_bus k place neutral (kinds.DeltaWye high high_resistance) two = omega (arith, both_count (first_bus + high) neutral k two.0)
+windings_many first_bus k place neutral (kinds.WyeWye high low low_volts high_resistance low_resistance) two =
+    omega (arith, both_count (first_bus + high) neutral k two.0, both_count (first_bus + low) neutral k two.1.0)
+windings_many first_bus k place neutral (kinds.Auto high low low_volts series_resistance common_resistance) two =
+    omega (arith, both_count (first_bus + high) (first_bus + low) k two.0, both_count (first_bus + low) neutral k two.1.0)
+windings_many first_bus k place neutral kinds.DeltaDelta two = omega arith
+
+resistor_many : (k place neutral grid : ℕ) (device : Option Neutral) → AreAsManyAt k (resistor_of place neutral grid device) (device_ends neutral grid device)
+resistor_many k place neutral grid None two = omega arith
+resistor_many k place neutral grid (Some (devices.Resistor ohm)) two = omega (arith, both_count neutral grid k two.0)
+resistor_many k place neutral grid (Some devices.Blocked) two = omega arith
+
+-- as many elements of a case end at a node as its degree
+pub as_many_at_a_node : (c : Lists) (k : ℕ) → AreAsManyAt k (element_list c) (ends_of c)
 unfolding ends_of
-few_at_a_node c k =
+as_many_at_a_node c k =
     let first_bus = length c.substations in
     let line_at = λ (l : Line). if l.blocked then [] else (first_bus + l.from) ∷ (first_bus + l.to) ∷ [] in
     let windings_at = λ (p : ℕ × Transformer). winding_ends first_bus p.0 p.1.kind in
     let resistor_at = λ (p : ℕ × Transformer). device_ends p.0 (grid_of c.buses p.1.kind) p.1.neutral in
-    let earthings = earthings_few k 0 c.substations in
-    let lines = few_of_parts k (line_part c) line_at (λ i l. line_few first_bus k i l) 0 c.lines in
-    let windings = few_of_parts k (winding_part c) windings_at (λ i p. windings_few first_bus k i p.0 p.1.kind) 0 (neutrals_of c) in
-    let resistors = few_of_parts k (resistor_part c) resistor_at (λ i p. resistor_few k i p.0 (grid_of c.buses p.1.kind) p.1.neutral) 0 (neutrals_of c) in
-    simp sum_by-append (omega (arith, earthings, lines, windings, resistors))
+    let earthings = earthings_many k 0 c.substations in
+    let lines = many_of_parts k (line_part c) line_at (λ i l. line_many first_bus k i l) 0 c.lines in
+    let windings = many_of_parts k (winding_part c) windings_at (λ i p. windings_many first_bus k i p.0 p.1.kind) 0 (neutrals_of c) in
+    let resistors = many_of_parts k (resistor_part c) resistor_at (λ i p. resistor_many k i p.0 (grid_of c.buses p.1.kind) p.1.neutral) 0 (neutrals_of c) in
+    many_joined k (earthings_of c) (lines_of c ++ (all_windings_of c ++ resistors_of c)) (earthing_ends c.substations)
+    (line_ends first_bus c.lines ++ (flat_map windings_at (neutrals_of c) ++ flat_map resistor_at (neutrals_of c))) earthings
+    (many_joined k (lines_of c) (all_windings_of c ++ resistors_of c) (line_ends first_bus c.lines) (flat_map windings_at (neutrals_of c) ++ flat_map resistor_at (neutrals_of c)) lines
+    (many_joined k (all_windings_of c) (resistors_of c) (flat_map windings_at (neutrals_of c)) (flat_map resistor_at (neutrals_of c)) windings resistors))

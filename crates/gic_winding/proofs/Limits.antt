@@ -1,24 +1,25 @@
 -- The elements of a case are within the limits.
-use Rattle.std.proofs.Common.{◌≡◌, ◌*◌, ℕ, ◌+◌, ◌≤◌, true, Option, Some, None, List, [], ◌∷◌, ◌++◌, length, map, is_some, ap, ◌∙◌, arith, inl, inr, flat_map, append_assoc, length-append}
+use Rattle.std.proofs.Common.{◌≡◌, ◌*◌, count_by, ℕ, ◌+◌, ◌≤◌, true, Option, Some, None, List, [], ◌∷◌, ◌++◌, length, map, is_some, ap, ◌∙◌, arith, inl, inr, flat_map, append_assoc, length-append}
 use Rattle.std.proofs.lemmas.Bool.{cases_Bool}
 use Rattle.std.proofs.lemmas.List.{length-map}
 use Rattle.std.proofs.lemmas.List.Elements.{recursion_from_All}
 use Rattle.std.proofs.lemmas.List.Sums.{length-filter, count_by-le-length}
 use Rattle.std.specs.List.{AllByRecursion, enumerate_from}
+use Rattle.gic_base.specs.declared.limits.TheConstants.{MOST_ELEMENTS}
 use Rattle.gic_case.specs.declared.item.Line.{Line}
 use Rattle.gic_case.specs.declared.item.Kind.{Kind}
 use Rattle.gic_case.specs.declared.item.Kind.TheVariants as kinds
 use Rattle.gic_case.specs.declared.item.Neutral.{Neutral}
 use Rattle.gic_case.specs.declared.item.Neutral.TheVariants as devices
 use Rattle.gic_case.specs.declared.item.Transformer.{Transformer}
-use Rattle.gic_case.specs.Lists.{Lists, IsSound, IsSoundSubstation, IsSoundLine, IsSoundTransformer, with_device, node_names, grid_of, neutrals_of, has_windings}
+use Rattle.gic_case.specs.Lists.{Lists, IsSound, IsSoundSubstation, IsSoundLine, IsSoundTransformer, with_device, node_names, ends_of, degree_of, grid_of, neutrals_of, has_windings}
 use Rattle.gic_model.specs.declared.parts.Element.{Element}
-use Rattle.gic_model.specs.Network.{IsElementWithin, IsWithinLimits}
+use Rattle.gic_model.specs.Network.{ends_at, IsElementWithin, IsWithinLimits}
 use Rattle.gic_winding.specs.ElementList.{earthing_of, line_of, windings_of, resistor_of, earthings_of, lines_of, all_windings_of, resistors_of, element_list, elements_of}
 use Rattle.gic_winding.proofs.Parts.{earthing_part, line_part, winding_part, resistor_part}
 use Rattle.gic_winding.proofs.Grids.{IsNeutral, neutrals_within, grid_within}
-use Rattle.gic_winding.proofs.Neutrals.{length-neutrals_of}
-use Rattle.gic_winding.proofs.Counts.{few_at_a_node}
+use Rattle.gic_case.proofs.NeutralNodes.{length-neutrals_of}
+use Rattle.gic_winding.proofs.Counts.{HasTwoEnds, as_many_at_a_node}
 use Rattle.gic_winding.proofs.Within.{IsPlaced, all_placed, all_joined, all_of_parts, earthing_within, line_within, windings_within, resistor_within}
 
 -- the number of nodes
@@ -61,7 +62,7 @@ resistor_single i neutral grid None = omega arith
 resistor_single i neutral grid (Some (devices.Resistor ohm)) = omega arith
 resistor_single i neutral grid (Some devices.Blocked) = omega arith
 
-pub few_elements : (c : Lists) → IsSound c → length (element_list c) ≤ 19968
+pub few_elements : (c : Lists) → IsSound c → length (element_list c) ≤ MOST_ELEMENTS
 few_elements c sound =
     let first_bus = length c.substations in
     let earthings = length_of_parts 1 earthing_part (λ i s. earthing_single i s.ground) 0 c.substations in
@@ -100,13 +101,22 @@ each_element c sound =
     (λ device. h.fact.inside (has_windings_with_device c p.1.1 h.fact.sound device)) h.fact.sound.device_sound) (enumerate_from 0 (neutrals_of c)) neutrals in
     all_joined within _ _ earthings (all_joined within _ _ lines (all_joined within _ _ windings resistors))
 
+two_ends : (nodes : ℕ) (es : List Element) → AllByRecursion (IsElementWithin nodes) es → AllByRecursion HasTwoEnds es
+two_ends nodes [] all = tt
+two_ends nodes (e ∷ es) all = (all.0.ends_differ, two_ends nodes es all.1)
+
+-- as many elements end at a node of a sound case as the rule of degrees counts there
+pub degrees_count : (c : Lists) (k : ℕ) → IsSound c → count_by (λ e. ends_at e k) (elements_of c).list ≡ degree_of (ends_of c) k
+unfolding elements_of
+degrees_count c k sound = as_many_at_a_node c k (two_ends (length (node_names c)) (element_list c) (each_element c sound))
+
 pub within_limits : (c : Lists) → IsSound c → IsWithinLimits (elements_of c)
 unfolding elements_of
 within_limits c sound = record {
   few_nodes = omega (arith, length-node_names c, few_devices c.transformers, sound.few_substations, sound.few_buses, sound.few_transformers);
   few_elements = few_elements c sound;
   each_element = each_element c sound;
-  few_at_a_node = λ k below. omega (arith, few_at_a_node c k, sound.few_ends k below);
+  few_at_a_node = λ k below. omega (arith, degrees_count c k sound, sound.few_ends k below);
 }
 
 -- the four groups, pushed one after the other

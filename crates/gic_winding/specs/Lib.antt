@@ -2,3 +2,4 @@ pub mod ElementList
 pub mod Weights
 pub mod Order
 pub mod Terminals
+pub mod Degrees

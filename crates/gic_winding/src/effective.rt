@@ -8,6 +8,7 @@ ghost use Rattle.gic_winding.specs.Order.{roles_of, weighted_from};
 use crate::order::first_winding;
 use crate::weights::Weights;
 use gic_base::ElementId;
+use gic_base::limits::MOST_ELEMENTS;
 use gic_case::{Case, Kind, Transformer};
 use gic_model::Element;
 
@@ -28,7 +29,7 @@ pub fn effective_weights(case: &Case, elements: &[Element], transformer: u16) ->
 
 /// The weights of a transformer whose first winding is at this place.
 fn weights_from(first: u16, transformer: &Transformer) -> Weights
-    requires room { first ≤ 19968 }
+    requires room { first ≤ MOST_ELEMENTS }
     requires order { low_volts_of transformer.now.kind ≤ transformer.now.high_volts }
     ensures first { result.first ≡ slice_get (weighted_from transformer.now first) 0 }
     ensures second { result.second ≡ slice_get (weighted_from transformer.now first) 1 }

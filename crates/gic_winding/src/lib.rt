@@ -5,8 +5,6 @@ mod effective;
 mod element;
 pub mod laws;
 mod list;
-mod memory;
-mod neutral;
 mod order;
 mod push;
 #[cfg(test)]

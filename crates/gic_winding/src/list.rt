@@ -1,12 +1,12 @@
 //! The element list of a case.
-ghost use Rattle.std.specs.Prelude.{◌≡◌, ◌++◌, map, IfOk, OnOk};
-ghost use Rattle.gic_case.specs.Lists.{neutrals_of};
-ghost use Rattle.gic_winding.specs.ElementList.{node, earthings_of, lines_of, all_windings_of, resistors_of, elements_of};
+ghost use Rattle.std.specs.Prelude.{◌≡◌, ◌≤◌, ◌++◌, All, IfOk, OnOk, length};
+ghost use Rattle.gic_case.specs.Lists.{IsSoundTransformer, neutrals_of};
+ghost use Rattle.gic_winding.specs.ElementList.{earthings_of, lines_of, all_windings_of, resistors_of, elements_of};
 
-use crate::neutral::{neutral_nodes, node_count};
 use crate::push::{push_earthing, push_line, push_resistor, push_windings};
+use gic_base::limits::MOST_TRANSFORMERS;
 use gic_base::{NodeId, OutOfMemory};
-use gic_case::Case;
+use gic_case::{Case, Transformer, neutrals, node_count};
 use gic_model::{Element, Elements};
 use std::alloc::Global;
 
@@ -15,7 +15,7 @@ use std::alloc::Global;
 pub fn elements(alloc: Global, case: &Case) -> Result<Elements, OutOfMemory>
     ensures { IfOk result (λ elements. elements ≡ elements_of case.now) }
 {
-    let neutrals = neutral_nodes(alloc, case)?;
+    let neutrals = neutrals(alloc, case)?;
     let mut list = Vec::new(alloc);
     push_all_earthings(&mut list, case)?;
     push_all_lines(&mut list, case)?;
@@ -45,13 +45,15 @@ fn push_all_lines(list: &mut Vec<Element>, case: &Case) -> Result<(), OutOfMemor
 fn push_all_windings(
     list: &mut Vec<Element>,
     case: &Case,
-    neutrals: &[NodeId],
+    neutrals: &[(u16, Transformer)],
 ) -> Result<(), OutOfMemory>
-    requires { neutrals.now ≡ map (λ p. node p.0) (neutrals_of case.now) }
+    requires all { neutrals.now ≡ neutrals_of case.now }
+    requires few { length neutrals.now ≤ MOST_TRANSFORMERS }
+    requires sound { All (λ p. IsSoundTransformer case.now p.1) neutrals.now }
     ensures { OnOk result (list.new.items ≡ list.old.items ++ all_windings_of case.now) }
 {
-    for (place, transformer) in case.transformers().iter().enumerate() {
-        push_windings(list, case, place as u16, neutrals[place], transformer)?;
+    for (place, (neutral, transformer)) in neutrals.iter().enumerate() {
+        push_windings(list, case, place as u16, NodeId(*neutral), transformer)?;
     }
     Ok(())
 }
@@ -59,13 +61,15 @@ fn push_all_windings(
 fn push_all_resistors(
     list: &mut Vec<Element>,
     case: &Case,
-    neutrals: &[NodeId],
+    neutrals: &[(u16, Transformer)],
 ) -> Result<(), OutOfMemory>
-    requires { neutrals.now ≡ map (λ p. node p.0) (neutrals_of case.now) }
+    requires all { neutrals.now ≡ neutrals_of case.now }
+    requires few { length neutrals.now ≤ MOST_TRANSFORMERS }
+    requires sound { All (λ p. IsSoundTransformer case.now p.1) neutrals.now }
     ensures { OnOk result (list.new.items ≡ list.old.items ++ resistors_of case.now) }
 {
-    for (place, transformer) in case.transformers().iter().enumerate() {
-        push_resistor(list, case, place as u16, neutrals[place], transformer)?;
+    for (place, (neutral, transformer)) in neutrals.iter().enumerate() {
+        push_resistor(list, case, place as u16, NodeId(*neutral), transformer)?;
     }
     Ok(())
 }

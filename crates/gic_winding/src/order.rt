@@ -4,12 +4,13 @@ ghost use Rattle.std.specs.List.{AllByRecursion};
 ghost use Rattle.gic_model.specs.declared.parts.Element.{Element};
 ghost use Rattle.gic_winding.specs.Order.{comes_before};
 
+use gic_base::limits::MOST_ELEMENTS;
 use gic_model::{Element, Item};
 
 /// The place of the first element that does not come before the windings of a transformer, in a list in which those that
 /// do come before them stand in front.
 pub fn first_winding(list: &[Element], transformer: u16) -> u16
-    requires { length list.now ≤ 19968 }
+    requires { length list.now ≤ MOST_ELEMENTS }
     ensures inside { result ≤ length list.now }
     ensures parted { (front back : List Element) → list.now ≡ front ++ back → AllByRecursion (λ e. comes_before e.item transformer ≡ true) front → AllByRecursion (λ e. comes_before e.item transformer ≡ false) back → result ≡ length front }
 {

@@ -1,14 +1,20 @@
 //! Elements at the end of a list.
-ghost use Rattle.std.specs.Prelude.{◌≡◌, ◌++◌, length, OnOk};
+ghost use Rattle.std.specs.Prelude.{◌≡◌, ◌+◌, ◌<◌, ◌++◌, length, OnOk};
 ghost use Rattle.gic_case.specs.Lists.{IsSoundLine, IsSoundTransformer, grid_of};
-ghost use Rattle.gic_winding.specs.ElementList.{earthing_of, line_of, windings_of, resistor_of};
+ghost use Rattle.gic_winding.specs.ElementList.{node, earthing_of, line_of, windings_of, resistor_of};
 
 use crate::element::{earthing, line, resistor, winding};
-use crate::memory::push;
-use crate::neutral::{bus_node, ground_grid};
 use gic_base::{NodeId, OutOfMemory};
-use gic_case::{Case, Kind, Line, Neutral, Transformer};
+use gic_case::{Case, Kind, Line, Neutral, Transformer, ground_grid};
 use gic_model::{Element, Role};
+
+/// The node of the bus at a place.
+fn bus_node(case: &Case, place: u16) -> NodeId
+    requires { place < length case.now.buses }
+    ensures { result ≡ node (length case.now.substations + place) }
+{
+    NodeId(case.substations().len() as u16 + place)
+}
 
 /// The earthing of a substation, if it has one.
 pub fn push_earthing(
@@ -18,10 +24,10 @@ pub fn push_earthing(
 ) -> Result<(), OutOfMemory>
     ensures { OnOk result (list.new.items ≡ list.old.items ++ earthing_of place ground) }
 {
-    match ground {
-        Some(micro_ohm) => push(list, earthing(place, micro_ohm)),
-        None => Ok(()),
+    if let Some(micro_ohm) = ground {
+        list.push(earthing(place, micro_ohm))?;
     }
+    Ok(())
 }
 
 /// A line, if it is not blocked.
@@ -39,7 +45,8 @@ pub fn push_line(
     }
     let from = bus_node(case, row.from);
     let to = bus_node(case, row.to);
-    push(list, line(place, from, to, row.resistance))
+    list.push(line(place, from, to, row.resistance))?;
+    Ok(())
 }
 
 /// The windings of a transformer.
@@ -60,7 +67,7 @@ pub fn push_windings(
         } => {
             let high = bus_node(case, high);
             let only = winding(place, Role::High, high, neutral, high_resistance);
-            push(list, only)
+            list.push(only)?;
         }
         Kind::WyeWye {
             high,
@@ -73,8 +80,8 @@ pub fn push_windings(
             let low = bus_node(case, low);
             let first = winding(place, Role::High, high, neutral, high_resistance);
             let second = winding(place, Role::Low, low, neutral, low_resistance);
-            push(list, first)?;
-            push(list, second)
+            list.push(first)?;
+            list.push(second)?;
         }
         Kind::Auto {
             high,
@@ -87,11 +94,12 @@ pub fn push_windings(
             let low = bus_node(case, low);
             let first = winding(place, Role::Series, high, low, series_resistance);
             let second = winding(place, Role::Common, low, neutral, common_resistance);
-            push(list, first)?;
-            push(list, second)
+            list.push(first)?;
+            list.push(second)?;
         }
-        Kind::DeltaDelta => Ok(()),
+        Kind::DeltaDelta => {}
     }
+    Ok(())
 }
 
 /// The resistor in a transformer's neutral, if it has one.
@@ -108,8 +116,9 @@ pub fn push_resistor(
     match transformer.neutral {
         Some(Neutral::Resistor(micro_ohm)) => {
             let grid = ground_grid(case, transformer);
-            push(list, resistor(place, neutral, grid, micro_ohm))
+            list.push(resistor(place, neutral, grid, micro_ohm))?;
         }
-        Some(Neutral::Blocked) | None => Ok(()),
+        Some(Neutral::Blocked) | None => {}
     }
+    Ok(())
 }

@@ -1,7 +1,7 @@
 use Rattle.std.proofs.Common.{◌≡◌, drop}
 use Rattle.gic_base.specs.Refusals.{settle}
 use Rattle.gic_case.specs.Lists.{node_names, ends_of}
-use Rattle.gic_case.specs.Rules.{breaks_degree_from}
+use Rattle.gic_case.specs.OneByOne.{breaks_degree_from}
 use Rattle.gic_case.proofs.degree.few_ends.Given as goal
 
 -- the nodes that are left decide

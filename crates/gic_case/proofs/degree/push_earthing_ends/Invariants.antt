@@ -1,5 +1,5 @@
 use Rattle.std.proofs.Common.{◌≡◌, ◌++◌, drop}
-use Rattle.gic_case.specs.Lists.{earthing_ends_from}
+use Rattle.gic_case.specs.OneByOne.{earthing_ends_from}
 use Rattle.gic_case.proofs.degree.push_earthing_ends.Given as goal
 
 -- the ends so far and those that are left are all of them

@@ -1,6 +1,6 @@
 use Rattle.std.proofs.Common.{◌≡◌, ◌+◌, drop}
 use Rattle.gic_base.specs.Refusals.{settle}
-use Rattle.gic_case.specs.Rules.{breaks_same_ends_from}
+use Rattle.gic_case.specs.OneByOne.{breaks_same_ends_from}
 use Rattle.gic_case.proofs.side.lines_have_two_buses.Given as goal
 
 -- the lines that are left decide

@@ -1,6 +1,6 @@
 use Rattle.std.proofs.Common.{◌≡◌, ◌+◌, drop}
 use Rattle.gic_base.specs.Refusals.{settle}
-use Rattle.gic_case.specs.Rules.{breaks_apart_from}
+use Rattle.gic_case.specs.OneByOne.{breaks_apart_from}
 use Rattle.gic_case.proofs.side.stand_in_one_substation.Given as goal
 
 -- the transformers that are left decide

@@ -1,6 +1,6 @@
 use Rattle.std.proofs.Common.{◌≡◌, ◌+◌, drop}
 use Rattle.gic_base.specs.Refusals.{settle}
-use Rattle.gic_case.specs.Rules.{breaks_voltage_order_from}
+use Rattle.gic_case.specs.OneByOne.{breaks_voltage_order_from}
 use Rattle.gic_case.proofs.side.voltages_are_ordered.Given as goal
 
 -- the transformers that are left decide

@@ -1,0 +1,13 @@
+-- What the law says of the elements that end at a node.
+use Rattle.std.specs.Prelude.{◌≡◌, ℕ, count_by}
+use Rattle.gic_case.specs.Lists.{Lists, IsSound, ends_of, degree_of}
+use Rattle.gic_model.specs.Network.{ends_at, IsWithinLimits}
+use Rattle.gic_winding.specs.ElementList.{elements_of}
+
+-- in every sound case as many elements end at a node as the rule of degrees counts there
+abbrev pub DegreesCountElements : Type 0
+DegreesCountElements = (case : Lists) (node : ℕ) → IsSound case → count_by (λ e. ends_at e node) (elements_of case).list ≡ degree_of (ends_of case) node
+
+-- the elements of every sound case are within the limits
+abbrev pub ElementsAreWithinLimits : Type 0
+ElementsAreWithinLimits = (case : Lists) → IsSound case → IsWithinLimits (elements_of case)
