@@ -13,7 +13,7 @@ use Rattle.gic_model.specs.Standing.{IsLive, elements_at, value_at, leaving}
 use Rattle.gic_model.specs.Sums.{Placed, sum_over_ohms}
 use Rattle.gic_model.specs.Solution.{Solution, IsSolution}
 use Rattle.gic_model.specs.Bound.{IsEarthedWithin}
-use Rattle.gic_model.specs.Guess.{conductance, guessed_current, IsSettledWithin}
+use Rattle.gic_model.specs.Guess.{guessed_current, IsSettledWithin}
 use Rattle.gic_fixed.proofs.Integers.{linear, *ℤ-≤ℤ, *ℤ-neg_ℤ}
 use Rattle.gic_model.proofs.SumLaws.{sum_over_ohms-≤ℤ, sum_over_ohms-*ℤ, sum_over_ohms-neg_ℤ}
 use Rattle.gic_model.proofs.Row.{weight}

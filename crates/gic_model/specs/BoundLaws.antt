@@ -1,6 +1,6 @@
 -- What the laws say of bound vectors and of sharp potentials.
 use Rattle.std.specs.Prelude.{ℕ, ◌≤◌, List, ℤ}
-use Rattle.gic_base.specs.declared.limits.TheConstants.{MOST_WALK, FULL_WALK}
+use Rattle.gic_base.specs.declared.limits.TheConstants.{MOST_WALK}
 use Rattle.gic_model.specs.Bound.{IsBoundVector, IsCappedVector, IsEarthedWithin}
 use Rattle.gic_model.specs.Sharp.{IsSharp}
 use Rattle.gic_model.specs.Sums.{Placed}
