@@ -11,7 +11,7 @@ use Rattle.gic_model.specs.Sums.{Placed, sum_over_ohms}
 use Rattle.gic_model.specs.Solution.{Solution, IsOhm, IsSolution}
 use Rattle.gic_model.specs.Bound.{IsBoundVector}
 use Rattle.gic_model.specs.Guess.{residual, conductance, IsSettledWithin}
-use Rattle.gic_model.specs.Encloses.{Encloses}
+use Rattle.gic_fixed.specs.Encloses.{Encloses}
 use Rattle.gic_fixed.proofs.Integers.{linear, abs-parts, *ℤ-≤ℤ, *ℤ--ℤ, *ℤ-+ℤ}
 use Rattle.gic_model.proofs.SumLaws.{sum_over_ohms-≤ℤ, sum_over_ohms-*ℤ}
 use Rattle.gic_model.proofs.Row.{weight, fall, carried, signed, row_carries}

@@ -6,7 +6,7 @@ use Rattle.gic_model.specs.Standing.{IsLive, standing_elements, elements_at}
 use Rattle.gic_model.specs.Solution.{Solution, IsSolution}
 use Rattle.gic_model.specs.Bound.{IsBoundVector}
 use Rattle.gic_model.specs.Guess.{ohms_at, conductance, IsSettledWithin, IsSettledAt, HoldsResidual, least_conductance, diagonal, residual_down, residual_up}
-use Rattle.gic_model.specs.Encloses.{Encloses}
+use Rattle.gic_fixed.specs.Encloses.{Encloses}
 
 -- where guesses are settled within t grains, each live node's potential in each solution lies within v_k t grains of its guess, for each bound vector v
 abbrev pub GuessesHoldPotentials : Type 0

@@ -1,6 +1,7 @@
 -- The view of a step, with each interval as its two ends.
 use Rattle.std.specs.Prelude.{ℕ, ◌^◌, ◌<◌, List, replicate, Option, None, Some, slice_index_or}
 use Rattle.gic_fixed.specs.declared.interval.Interval.{Interval}
+use Rattle.gic_fixed.specs.Ends.{no_ends}
 pub use Rattle.gic_fixed.specs.Ends.{Ends, ends_of, no_ends as nought}
 
 abbrev pub optional_ends : Option Interval → Option Ends
@@ -24,7 +25,7 @@ abbrev pub element_at : View → ℕ → Option Ends
 element_at view place = slice_index_or view.elements place None
 
 abbrev pub effective_at : View → ℕ → Ends
-effective_at view place = slice_index_or view.effective place nought
+effective_at view place = slice_index_or view.effective place no_ends
 
 -- number and time 0, no node live, no element standing, and no current in any transformer
 abbrev pub blank_view : (nodes elements transformers : ℕ) → View
@@ -33,7 +34,7 @@ blank_view nodes elements transformers = record {
   time = 0;
   nodes = replicate nodes None;
   elements = replicate elements None;
-  effective = replicate transformers nought;
+  effective = replicate transformers no_ends;
 }
 
 -- what every view keeps: each of its numbers of places is one of 16 bits

@@ -1,6 +1,6 @@
 //! The view of a step.
 ghost use Rattle.std.specs.Prelude.{◌≡◌, length, map, replicate, IfOk, None};
-ghost use Rattle.gic_monitor.specs.View.{ends_of, nought};
+ghost use Rattle.gic_fixed.specs.Ends.{ends_of, no_ends};
 
 use gic_base::{ElementId, NodeId, OutOfMemory};
 use gic_fixed::Interval;
@@ -21,7 +21,8 @@ pub struct StepView {
 
 impl Model for StepView {
     ghost use Rattle.std.specs.Prelude.{map, length};
-    ghost use Rattle.gic_monitor.specs.View.{View, AreFew, ends_of, optional_ends};
+    ghost use Rattle.gic_fixed.specs.Ends.{ends_of};
+    ghost use Rattle.gic_monitor.specs.View.{View, AreFew, optional_ends};
 
     ghost Value = { View };
 
@@ -40,29 +41,26 @@ impl Model for StepView {
 fn absent(alloc: Global, count: u16) -> Result<Vec<Option<Interval>>, OutOfMemory>
     ensures { IfOk result (λ list. list.items ≡ replicate count None) }
 {
-    match vec![in alloc; None; count as usize] {
-        Ok(list) => Ok(list),
-        Err(_) => Err(OutOfMemory),
-    }
+    let list = vec![in alloc; None; count as usize]?;
+    Ok(list)
 }
 
 /// Intervals that hold 0 alone.
 fn points(alloc: Global, count: u16) -> Result<Vec<Interval>, OutOfMemory>
     ensures count { IfOk result (λ list. length list.items ≡ count) }
-    ensures noughts { IfOk result (λ list. map ends_of list.items ≡ replicate count nought) }
+    ensures noughts { IfOk result (λ list. map ends_of list.items ≡ replicate count no_ends) }
 {
-    match vec![in alloc; Interval::point(0); count as usize] {
-        Ok(list) => Ok(list),
-        Err(_) => Err(OutOfMemory),
-    }
+    let list = vec![in alloc; Interval::point(0); count as usize]?;
+    Ok(list)
 }
 
 impl StepView {
     ghost use Rattle.std.specs.Prelude.{◌≡◌, ◌<◌, length, slice_set, IfOk};
-    ghost use Rattle.gic_monitor.specs.View.{ends_of, optional_ends, node_at, element_at, effective_at, blank_view};
+    ghost use Rattle.gic_fixed.specs.Ends.{ends_of};
+    ghost use Rattle.gic_monitor.specs.View.{optional_ends, node_at, element_at, effective_at, blank_view};
 
-    /// A view over these numbers of nodes, elements and transformers, in which no node is live, no element stands and no
-    /// transformer has a current. Its number and its time are 0.
+    /// A view over these numbers of nodes, elements and transformers, in which no node is live, no element stands and
+    /// no transformer has a current. Its number and its time are 0.
     pub fn new(
         alloc: Global,
         nodes: u16,

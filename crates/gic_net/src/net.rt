@@ -5,6 +5,7 @@ use crate::conductor::{Conductor, conductors};
 use crate::item_index::{ItemIndex, has_element, index_items};
 use crate::row::{Row, number_of};
 use crate::rows::{full_rows, gather_item};
+use gic_base::limits::MOST_AT_A_NODE;
 use gic_base::{ElementId, NodeId, OutOfMemory};
 use gic_divide::Divisor;
 use gic_model::{Element, Elements, Item};
@@ -187,7 +188,7 @@ impl Net {
     pub fn degree(&self, node: NodeId) -> u16
         requires { node.0 < self.now.network.nodes }
         ensures value { result ≡ length (row_at self.now node.0) }
-        ensures few { result ≤ 256 }
+        ensures few { result ≤ MOST_AT_A_NODE }
     {
         self.rows[node.0 as usize].degree() as u16
     }

@@ -1,7 +1,7 @@
 //! Passes of successive over-relaxation.
 ghost use Rattle.std.specs.Prelude.{◌≡◌, ◌+◌, ◌*◌, ◌^◌, ◌≤◌, ◌<◌, unsigned_abs, length};
 ghost use Rattle.gic_relax.specs.Within.{AreWithin};
-ghost use Rattle.gic_relax.specs.Kept.{AreInside};
+ghost use Rattle.gic_relax.specs.Kept.{AreInside, IsWork};
 
 use crate::cutting::{cut, scaled, weighed};
 use crate::linking::links_of;
@@ -39,12 +39,7 @@ fn with_links(links: &[Link], corrections: &[i64], alone: i128) -> i128
 
 /// One pass over the rows. It returns the greatest step.
 fn pass(rows: &[Row], links: &[Link], charges: &[i64], rest: i64, corrections: &mut [i64]) -> u64
-    requires row_count { length rows.now ≡ length corrections.old }
-    requires charge_count { length charges.now ≡ length corrections.old }
-    requires few { length links.now ≤ MOST_LINKS }
-    requires inside { AreInside (length corrections.old) links.now }
-    requires charges { AreWithin (2 ^ 57) charges.now }
-    requires corrections { AreWithin (2 ^ 57) corrections.old }
+    requires work { IsWork rows.now links.now charges.now corrections.old }
     requires rest { unsigned_abs rest ≤ 2 ^ 49 }
     ensures { AreWithin (2 ^ 57) corrections.new }
 {
@@ -68,12 +63,7 @@ pub fn passes(
     stop: u64,
     corrections: &mut [i64],
 ) -> u32
-    requires row_count { length rows.now ≡ length corrections.old }
-    requires charge_count { length charges.now ≡ length corrections.old }
-    requires few { length links.now ≤ MOST_LINKS }
-    requires inside { AreInside (length corrections.old) links.now }
-    requires charges { AreWithin (2 ^ 57) charges.now }
-    requires corrections { AreWithin (2 ^ 57) corrections.old }
+    requires work { IsWork rows.now links.now charges.now corrections.old }
     requires rest { unsigned_abs rest ≤ 2 ^ 49 }
     ensures within { AreWithin (2 ^ 57) corrections.new }
     ensures limit { result ≤ MOST_PASSES }
