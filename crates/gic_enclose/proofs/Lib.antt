@@ -1,5 +1,4 @@
 pub mod Intervals
-pub mod Quotients
 pub mod Cuts
 pub mod Turns
 pub mod Widths

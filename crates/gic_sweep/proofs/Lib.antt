@@ -7,3 +7,4 @@ pub mod Targets
 pub mod Writes
 pub mod Shares
 pub mod Carried
+pub mod Quotients

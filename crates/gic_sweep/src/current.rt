@@ -5,10 +5,11 @@ ghost use Rattle.gic_fixed.specs.Encloses.{IsWithin};
 ghost use Rattle.gic_fixed.specs.Rounding.{floor_div, ceil_div};
 ghost use Rattle.gic_model.specs.Network.{IsEndWithin, IsElementWithin};
 ghost use Rattle.gic_model.specs.Standing.{value_at, leaving as leaving_of};
-ghost use Rattle.gic_model.specs.Voltages.{number_at, most_volts};
+ghost use Rattle.gic_model.specs.Voltages.{number_at};
 ghost use Rattle.gic_model.specs.Guess.{part_times_ohms};
 ghost use Rattle.gic_sweep.specs.Guesses.{AreCut};
 
+use crate::driving::{drive, in_grains, micro_paths};
 use gic_base::{ElementId, NodeId};
 use gic_divide::Divisor;
 use gic_fixed::Interval;
@@ -25,32 +26,12 @@ fn guess_there(guesses: &[i128], end: End) -> i128
     }
 }
 
-/// A voltage in grains.
-fn in_grains(nanovolts: i64) -> i128
-    requires { unsigned_abs nanovolts ≤ most_volts }
-    ensures value { result ≡ pos (2 ^ 36) *ℤ nanovolts }
-    ensures small { unsigned_abs result ≤ 2 ^ 82 }
-{
-    68_719_476_736 * nanovolts as i128
-}
-
-/// What drives a current, in grains.
-fn drive(from: i128, to: i128, push: i128) -> i128
-    requires from { unsigned_abs from ≤ 2 ^ 96 }
-    requires to { unsigned_abs to ≤ 2 ^ 96 }
-    requires push { unsigned_abs push ≤ 2 ^ 82 }
-    ensures value { result ≡ from -ℤ to +ℤ push }
-    ensures small { unsigned_abs result ≤ 2 ^ 97 + 2 ^ 82 }
-{
-    from - to + push
-}
-
 /// 256 times an element's conductance, times its resistance.
 fn weight(times: u8) -> u32
     requires { times ≤ 3 }
     ensures { result ≡ 256 * (times * 1000000) }
 {
-    256 * (times as u32 * 1_000_000)
+    256 * micro_paths(times)
 }
 
 fn product(weight: u32, drive: i128) -> i128

@@ -1,19 +1,49 @@
 //! Rough corrections of the guesses.
-ghost use Rattle.std.specs.Prelude.{◌≡◌, ◌^◌, ◌<◌, length};
+ghost use Rattle.std.specs.Prelude.{◌≡◌, ◌+◌, ◌^◌, ◌<◌, ◌≤◌, length, unsigned_abs};
 ghost use Rattle.gic_model.specs.Voltages.{number_at};
 ghost use Rattle.gic_sweep.specs.Guesses.{AreCut};
 
+use crate::guesses::Guesses;
+use crate::steps::Steps;
 use gic_base::NodeId;
 use gic_relax::Relaxation;
+use std::sync::ledger::Ledger;
 
-/// Puts in the guesses that a relaxation proposes.
-pub fn propose_all(relaxation: &Relaxation, guesses: &mut [i128])
+/// Makes of each old guess the one that a relaxation proposes.
+fn propose<L: Ledger>(
+    relaxation: &Relaxation,
+    old: &[i128],
+    guesses: &mut Guesses,
+    steps: &mut Steps<L>,
+)
     requires nodes { relaxation.now ≡ length guesses.old }
-    requires few { length guesses.old < 2 ^ 16 }
-    requires cut { AreCut (number_at guesses.old) }
-    ensures { AreCut (number_at guesses.new) }
+    requires room { length old.now ≡ length guesses.old }
+    requires cut { AreCut (number_at old.now) }
+    ensures same_length { length guesses.new ≡ length guesses.old }
+    ensures tick { steps.new ≡ steps.old + 1 }
 {
-    for node in 0..guesses.len() {
-        guesses[node] = relaxation.proposed(NodeId(node as u16), guesses[node]);
-    }
+    let proposed = |node: NodeId| -> i128
+        requires nodes { node.0 < relaxation.now }
+        requires room { node.0 < length old.now }
+        requires cut { AreCut (number_at old.now) }
+        ensures { unsigned_abs result ≤ 2 ^ 96 }
+    { relaxation.proposed(node, old[node.0 as usize]) };
+    guesses.fill(&proposed, steps);
+}
+
+/// Puts in the guesses that a relaxation proposes, and ticks once. The guesses as they were go into `old`.
+pub fn propose_all<L: Ledger>(
+    relaxation: &Relaxation,
+    guesses: &mut Guesses,
+    old: &mut [i128],
+    steps: &mut Steps<L>,
+)
+    requires nodes { relaxation.now ≡ length guesses.old }
+    requires room { length old.old ≡ length guesses.old }
+    ensures same_length { length guesses.new ≡ length guesses.old }
+    ensures room { length old.new ≡ length old.old }
+    ensures tick { steps.new ≡ steps.old + 1 }
+{
+    old.copy_from_slice(guesses.as_slice());
+    propose(relaxation, old, guesses, steps);
 }

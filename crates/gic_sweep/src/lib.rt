@@ -2,10 +2,13 @@
 #![tactic(auto)]
 
 mod current;
+mod driving;
 mod fall;
+mod guesses;
 mod improving;
 mod node_sums;
 mod passing;
+mod reaching;
 mod settling;
 mod solver;
 mod steps;
@@ -13,7 +16,9 @@ mod sweeping;
 #[cfg(test)]
 mod tests;
 
-pub use node_sums::conductance;
-pub use settling::greatest_at;
-pub use solver::{Solver, improve, is_settled, residual, residuals, sweep};
+pub use driving::{GRAINS, drive, in_grains, micro_paths};
+pub use fall::cut_guess;
+pub use solver::{
+    Improvement, MOST_ROUNDS, Solver, improve, is_settled, reach, residual, residuals, sweep, zeros,
+};
 pub use steps::Steps;

@@ -1,10 +1,12 @@
 //! Guesses of the potentials.
+use crate::guesses::Guesses;
 use crate::improving::propose_all;
 use crate::node_sums::rounded_residual;
 use crate::passing::residuals_into;
+use crate::reaching::reach_between;
 use crate::settling::are_settled;
 use crate::steps::Steps;
-use crate::sweeping::sweep_into;
+use crate::sweeping::sweep_over;
 use gic_base::{NodeId, OutOfMemory};
 use gic_fixed::Interval;
 use gic_model::Volts;
@@ -13,15 +15,14 @@ use gic_net::Net;
 use gic_relax::Relaxation;
 use std::alloc::Global;
 use std::marker::Model;
-use std::mem;
 use std::sync::ledger::Ledger;
 
 /// One guess for each node, in grains of 2^-36 nanovolt, each from -2^96 to 2^96.
 #[derive(Drop)]
 pub struct Solver {
-    guesses: Vec<i128>,
-    /// Room for the guesses of the next sweep.
-    next: Vec<i128>,
+    guesses: Guesses,
+    /// Room for the guesses as they were before they are written.
+    before: Vec<i128>,
     /// Room for the residuals, rounded down and up.
     low: Vec<i128>,
     high: Vec<i128>,
@@ -30,23 +31,23 @@ pub struct Solver {
 
 impl Model for Solver {
     ghost use Rattle.std.specs.Prelude.{List, ℤ};
-    ghost use Rattle.gic_sweep.specs.Guesses.{AreGuesses};
+    ghost use Rattle.gic_sweep.specs.Guesses.{IsRoomFor};
 
     ghost Value = { List ℤ };
 
-    ghost view = { λ s. s.guesses.items };
+    ghost view = { λ s. s.guesses };
 
-    ghost invariant = { λ s. AreGuesses s.guesses.items s.next.items s.low.items s.high.items s.relaxation };
+    ghost invariant = { λ s. IsRoomFor s.guesses s.before.items s.low.items s.high.items s.relaxation };
 }
 
-ghost use Rattle.std.specs.Prelude.{◌≡◌, ℕ, ℤ, ◌+◌, ◌^◌, ◌<◌, ◌≤◌, ◌*◌, length, IfOk, replicate, pos, ◌-ℤ◌, ◌≤ℤ◌, unsigned_abs, IsTrue, IfSome};
+ghost use Rattle.std.specs.Prelude.{◌≡◌, ℕ, ℤ, ◌+◌, ◌^◌, ◌<◌, ◌≤◌, ◌*◌, length, IfOk, replicate, pos, ◌-ℤ◌, ◌≤ℤ◌, unsigned_abs, IsTrue, IfSome, IfNone};
 ghost use Rattle.gic_base.specs.declared.id.NodeId.{NodeId};
 ghost use Rattle.gic_fixed.specs.Encloses.{IsWithin};
 ghost use Rattle.gic_model.specs.Guess.{HoldsResidual, IsSettled, IsSettledWithin, diagonal};
 ghost use Rattle.gic_model.specs.Voltages.{number_at};
 ghost use Rattle.gic_net.specs.Net.{standing, row_at};
 ghost use Rattle.gic_sweep.specs.Guesses.{AreCut};
-ghost use Rattle.gic_sweep.specs.Residuals.{HoldResiduals};
+ghost use Rattle.gic_sweep.specs.Residuals.{HoldResiduals, most_reach};
 ghost use Rattle.gic_sweep.specs.Sweep.{IsSweep};
 
 impl Solver {
@@ -54,14 +55,14 @@ impl Solver {
     pub fn new(alloc: Global, nodes: u16) -> Result<Solver, OutOfMemory>
         ensures { IfOk result (λ solver. solver ≡ replicate nodes (pos 0)) }
     {
-        let guesses = zeros(alloc, nodes)?;
-        let next = zeros(alloc, nodes)?;
+        let guesses = Guesses::new(alloc, nodes)?;
+        let before = zeros(alloc, nodes)?;
         let low = zeros(alloc, nodes)?;
         let high = zeros(alloc, nodes)?;
         let relaxation = Relaxation::new(alloc, nodes)?;
         Ok(Solver {
             guesses,
-            next,
+            before,
             low,
             high,
             relaxation,
@@ -72,7 +73,7 @@ impl Solver {
     pub fn clear(&mut self)
         ensures { self.new ≡ replicate (length self.old) (pos 0) }
     {
-        self.guesses.fill(0);
+        self.guesses.clear();
     }
 
     /// How many nodes there are. The answer also tells that no guess is beyond its limit.
@@ -80,7 +81,7 @@ impl Solver {
         ensures value { result ≡ length self.now }
         ensures cut { AreCut (number_at self.now) }
     {
-        self.guesses.len()
+        self.guesses.as_slice().len()
     }
 
     /// The guess at a node. The answer also tells that no guess is beyond its limit.
@@ -89,7 +90,7 @@ impl Solver {
         ensures value { result ≡ number_at self.now node.0 }
         ensures cut { AreCut (number_at self.now) }
     {
-        self.guesses[node.0 as usize]
+        self.guesses.as_slice()[node.0 as usize]
     }
 
     /// Makes each node's guess the closure's answer for that node, and ticks once.
@@ -100,8 +101,7 @@ impl Solver {
         ensures same_length { length self.new ≡ length self.old }
         ensures tick { steps.new ≡ steps.old + 1 }
     {
-        fill_all(grains, &mut self.guesses);
-        steps.tick();
+        self.guesses.fill(grains, steps);
     }
 
     /// The guesses, by their nodes.
@@ -112,21 +112,22 @@ impl Solver {
         self.guesses.as_slice()
     }
 
-    fn advance(&mut self, net: &Net, volts: &Volts)
+    fn advance<L: Ledger>(&mut self, net: &Net, volts: &Volts, steps: &mut Steps<L>)
         requires volts { length volts.now ≡ length net.now.network.list }
         requires nodes { length self.old ≡ net.now.network.nodes }
         ensures sweep { IsSweep (standing net.now) (number_at volts.now) (number_at self.old) (number_at self.new) }
         ensures same_length { length self.new ≡ length self.old }
+        ensures tick { steps.new ≡ steps.old + 1 }
     {
-        sweep_into(
+        sweep_over(
             net,
             volts,
-            &self.guesses,
+            &mut self.guesses,
+            &mut self.before,
             &mut self.low,
             &mut self.high,
-            &mut self.next,
+            steps,
         );
-        mem::swap(&mut self.guesses, &mut self.next);
     }
 
     /// Makes the relaxation ready for a net, whose bound vector has this greatest entry.
@@ -137,17 +138,30 @@ impl Solver {
         self.relaxation.arrange(net, walk);
     }
 
-    /// Puts guesses in that are likely to be closer, and says how many passes of over-relaxation that took. Where the
-    /// residuals are small already, it does nothing.
-    fn approach(&mut self, net: &Net, volts: &Volts) -> Option<u32>
+    /// Puts guesses in that are likely to be closer, which ticks once, and says how many passes of over-relaxation that
+    /// took. Where the residuals are small already, it changes no guess and doesn't tick.
+    fn approach<L: Ledger>(
+        &mut self,
+        net: &Net,
+        volts: &Volts,
+        steps: &mut Steps<L>,
+    ) -> Option<u32>
         requires volts { length volts.now ≡ length net.now.network.list }
         requires nodes { length self.old ≡ net.now.network.nodes }
         ensures same_length { length self.new ≡ length self.old }
         ensures passes { IfSome result (λ passes. passes ≤ 20000) }
+        ensures tick { IfSome result (λ passes. steps.new ≡ steps.old + 1) }
+        ensures no_tick { IfNone result (steps.new ≡ steps.old) }
+        ensures same { IfNone result (self.new ≡ self.old) }
     {
-        residuals_into(net, volts, &self.guesses, &mut self.low, &mut self.high);
+        residuals_into(net, volts, self.guesses.as_slice(), &mut self.low, &mut self.high);
         let passes = self.relaxation.correct(self.low.as_slice())?;
-        propose_all(&self.relaxation, self.guesses.as_mut_slice());
+        propose_all(
+            &self.relaxation,
+            &mut self.guesses,
+            &mut self.before,
+            steps,
+        );
         Some(passes)
     }
 
@@ -159,30 +173,16 @@ impl Solver {
         ensures seen { IsSettledWithin (standing net.now) (number_at volts.now) (number_at self.old) (2 ^ 17) → IsTrue result }
         ensures same { self.new ≡ self.old }
     {
-        are_settled(net, volts, &self.guesses, &mut self.low, &mut self.high)
+        are_settled(net, volts, self.guesses.as_slice(), &mut self.low, &mut self.high)
     }
 }
 
-fn zeros(alloc: Global, nodes: u16) -> Result<Vec<i128>, OutOfMemory>
+/// A zero for each of so many nodes.
+pub fn zeros(alloc: Global, nodes: u16) -> Result<Vec<i128>, OutOfMemory>
     ensures { IfOk result (λ list. list.items ≡ replicate nodes (pos 0)) }
 {
-    match vec![in alloc; 0; nodes as usize] {
-        Ok(list) => Ok(list),
-        Err(_) => Err(OutOfMemory),
-    }
-}
-
-fn fill_all<F: Fn(NodeId) -> i128>(grains: &F, guesses: &mut [i128])
-    requires callable { (node : NodeId) → node.0 < length guesses.old → F.pre grains.now node }
-    requires small { (node : NodeId) (z : ℤ) → node.0 < length guesses.old → F.post grains.now node z → unsigned_abs z ≤ 2 ^ 96 }
-    requires cut { AreCut (number_at guesses.old) }
-    requires few { length guesses.old < 2 ^ 16 }
-    ensures each { (node : NodeId) → node.0 < length guesses.old → F.post grains.now node (number_at guesses.new node.0) }
-    ensures cut { AreCut (number_at guesses.new) }
-{
-    for node in 0..guesses.len() {
-        guesses[node] = grains(NodeId(node as u16));
-    }
+    let list = vec![in alloc; 0; nodes as usize]?;
+    Ok(list)
 }
 
 /// One sweep over the guesses, which ticks once: the guess at each live node moves to within `2 + 4096 * h / d` grains
@@ -196,36 +196,55 @@ pub fn sweep<L: Ledger>(net: &Net, volts: &Volts, solver: &mut Solver, steps: &m
     ensures same_length { length solver.new ≡ length solver.old }
     ensures tick { steps.new ≡ steps.old + 1 }
 {
-    solver.advance(net, volts);
-    steps.tick();
+    solver.advance(net, volts, steps);
 }
 
-/// Brings the guesses closer to Kirchhoff's law by at most four rough corrections, each of which ticks once, and says
-/// how many passes of over-relaxation they took. Nothing is promised of the guesses: this only saves sweeps. The walk is the greatest entry of the net's bound vector; the
-/// voltages and the guesses are those of the net's elements and nodes.
+/// The most rough corrections that `improve` makes.
+pub const MOST_ROUNDS: u8 = 4;
+
+/// What rough corrections took.
+pub struct Improvement {
+    /// How many corrections were made, each with one tick.
+    pub rounds: u8,
+    /// How many passes of over-relaxation all of them took.
+    pub passes: u32,
+}
+
+/// Brings the guesses closer to Kirchhoff's law by at most four rough corrections, each of which ticks once. Nothing is
+/// promised of the guesses after a correction: this only saves sweeps. The walk is the greatest entry of the net's bound
+/// vector; the voltages and the guesses are those of the net's elements and nodes.
 pub fn improve<L: Ledger>(
     net: &Net,
     volts: &Volts,
     walk: u16,
     solver: &mut Solver,
     steps: &mut Steps<L>,
-) -> u32
+) -> Improvement
     requires volts { length volts.now ≡ length net.now.network.list }
     requires nodes { length solver.old ≡ net.now.network.nodes }
+    ensures tick { steps.new ≡ steps.old + result.rounds }
+    ensures few_rounds { result.rounds ≤ MOST_ROUNDS }
+    ensures few_passes { result.passes ≤ 20000 * result.rounds }
+    ensures same { result.rounds ≡ 0 → solver.new ≡ solver.old }
     ensures same_length { length solver.new ≡ length solver.old }
-    ensures ticks { steps.new ≤ steps.old + 4 }
-    ensures passes { result ≤ 80000 }
 {
     solver.arrange(net, walk);
     let mut passes: u32 = 0;
-    for _round in 0..4u8 {
-        match solver.approach(net, volts) {
+    for round in 0..MOST_ROUNDS {
+        match solver.approach(net, volts, steps) {
             Some(more) => passes += more,
-            None => return passes,
+            None => {
+                return Improvement {
+                    rounds: round,
+                    passes,
+                };
+            }
         }
-        steps.tick();
     }
-    passes
+    Improvement {
+        rounds: MOST_ROUNDS,
+        passes,
+    }
 }
 
 /// Whether the residuals show that the guesses are settled, which is within 2^18 grains, as they do where the guesses are
@@ -272,4 +291,22 @@ pub fn residuals(net: &Net, volts: &Volts, solver: &Solver, low: &mut [i128], hi
     rounded_residual_law();
     let _nodes = net.nodes();
     residuals_into(net, volts, solver.guesses(), low, high);
+}
+
+/// The grains within which the guesses are settled, as their residuals show: for each unit of a bound vector no
+/// solution is further from the guess at a node. They are hardly more than those within which the guesses are settled
+/// indeed. The residuals go into `low` and `high`.
+pub fn reach(net: &Net, volts: &Volts, solver: &Solver, low: &mut [i128], high: &mut [i128]) -> u128
+    requires volts { length volts.now ≡ length net.now.network.list }
+    requires nodes { length solver.now ≡ net.now.network.nodes }
+    requires low_count { length low.old ≡ net.now.network.nodes }
+    requires high_count { length high.old ≡ net.now.network.nodes }
+    ensures low_count { length low.new ≡ length low.old }
+    ensures high_count { length high.new ≡ length high.old }
+    ensures settled { IsSettledWithin (standing net.now) (number_at volts.now) (number_at solver.now) result }
+    ensures small { result ≤ 2 ^ 99 }
+    ensures close { (t : ℕ) → IsSettledWithin (standing net.now) (number_at volts.now) (number_at solver.now) t → result ≤ most_reach t }
+{
+    residuals(net, volts, solver, low, high);
+    reach_between(net, low, high)
 }

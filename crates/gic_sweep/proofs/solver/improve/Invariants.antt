@@ -3,7 +3,8 @@ use Rattle.gic_sweep.proofs.solver.improve.Given as goal
 
 abbrev pub invariant-loop-round : goal.invariant-loop-round
 invariant-loop-round g l = record {
+  tick : l.steps ≡ l.initial.steps + l.round;
+  few_passes : l.passes ≤ 20000 * l.round;
+  same : l.round ≡ 0 → l.solver ≡ l.initial.solver;
   same_length : length l.solver ≡ length l.initial.solver;
-  ticks : l.steps ≤ l.initial.steps + l._round;
-  passes : l.passes ≤ 20000 * l._round;
 }

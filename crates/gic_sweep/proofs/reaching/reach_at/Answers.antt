@@ -4,7 +4,7 @@ use Rattle.gic_model.specs.Voltages.{number_at}
 use Rattle.gic_net.specs.Net.{standing, stands}
 use Rattle.gic_sweep.specs.Residuals.{most_reach}
 use Rattle.gic_sweep.proofs.Closeness.{diagonal_twice, close_at}
-use Rattle.gic_enclose.proofs.reach.reach_at.Goals as goal
+use Rattle.gic_sweep.proofs.reaching.reach_at.Goals as goal
 
 pub quotient_up-requires-clause-most : goal.quotient_up-requires-clause-most
 quotient_up-requires-clause-most c =

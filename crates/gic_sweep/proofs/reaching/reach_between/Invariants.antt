@@ -3,7 +3,7 @@ use Rattle.gic_model.specs.Standing.{IsLive}
 use Rattle.gic_model.specs.Guess.{IsSettledWithin, IsSettledAt}
 use Rattle.gic_net.specs.Net.{standing}
 use Rattle.gic_sweep.specs.Residuals.{HoldResiduals, most_reach}
-use Rattle.gic_enclose.proofs.reach.reach_between.Given as goal
+use Rattle.gic_sweep.proofs.reaching.reach_between.Given as goal
 
 abbrev pub invariant-loop-node : goal.invariant-loop-node
 invariant-loop-node l = record {

@@ -1,6 +1,6 @@
 use Rattle.std.proofs.Common.{◌^◌, arith}
-use Rattle.gic_enclose.proofs.Quotients.{whole_most, least_up}
-use Rattle.gic_enclose.proofs.reach.quotient_up.Goals as goal
+use Rattle.gic_sweep.proofs.Quotients.{whole_most, least_up}
+use Rattle.gic_sweep.proofs.reaching.quotient_up.Goals as goal
 
 pub overflow_mul-result : goal.overflow_mul-result
 overflow_mul-result c = record { fits = omega (arith, whole_most c.args.most c.args.conductance (2 ^ 87) c.requires.some c.requires.most) }

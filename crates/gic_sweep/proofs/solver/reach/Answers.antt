@@ -1,5 +1,5 @@
 use Rattle.gic_model.specs.Voltages.{number_at}
-use Rattle.gic_enclose.proofs.reach.reach.Goals as goal
+use Rattle.gic_sweep.proofs.solver.reach.Goals as goal
 
 pub returns-clause-settled : goal.returns-clause-settled
 returns-clause-settled c = c.reach_between.ensures.settled (number_at c.args.volts.now) (number_at c.args.solver.now) c.residuals.ensures.holds

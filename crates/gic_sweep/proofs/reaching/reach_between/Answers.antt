@@ -5,7 +5,7 @@ use Rattle.gic_model.specs.Guess.{IsSettledAt}
 use Rattle.gic_model.proofs.Ends.{live_within, standing_within}
 use Rattle.gic_net.specs.Net.{standing, stands}
 use Rattle.gic_sweep.proofs.Closeness.{settled_more}
-use Rattle.gic_enclose.proofs.reach.reach_between.Goals as goal
+use Rattle.gic_sweep.proofs.reaching.reach_between.Goals as goal
 
 pub loop-node-preserved : goal.loop-node-preserved
 loop-node-preserved c =

@@ -2,7 +2,7 @@ use Rattle.std.proofs.Common.{◌<◌}
 use Rattle.gic_base.specs.declared.id.NodeId.{NodeId}
 use Rattle.gic_model.specs.Voltages.{number_at}
 use Rattle.gic_sweep.specs.Guesses.{AreCut}
-use Rattle.gic_sweep.proofs.solver.fill_all.Given as goal
+use Rattle.gic_sweep.proofs.guesses.write_all.Given as goal
 
 abbrev pub invariant-loop-node : goal.invariant-loop-node
 invariant-loop-node g l = record {

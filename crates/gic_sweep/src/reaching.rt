@@ -1,5 +1,5 @@
-//! How far solutions can be from the guesses.
-ghost use Rattle.std.specs.Prelude.{◌≡◌, ℕ, ℤ, ◌+◌, ◌*◌, ◌/◌, ◌^◌, ◌<◌, ◌≤◌, length, pos, ◌-ℤ◌, ◌≤ℤ◌, unsigned_abs};
+//! How far guesses are from being settled, as their residuals show.
+ghost use Rattle.std.specs.Prelude.{◌≡◌, ℕ, ℤ, ◌+◌, ◌*◌, ◌/◌, ◌^◌, ◌<◌, ◌≤◌, ◌⊎◌, length, pos, ◌-ℤ◌, ◌≤ℤ◌, unsigned_abs};
 ghost use Rattle.gic_fixed.specs.Encloses.{IsWithin};
 ghost use Rattle.gic_model.specs.Standing.{IsLive};
 ghost use Rattle.gic_model.specs.Voltages.{number_at};
@@ -7,11 +7,10 @@ ghost use Rattle.gic_model.specs.Guess.{IsSettledWithin, IsSettledAt, HoldsResid
 ghost use Rattle.gic_net.specs.Net.{standing, row_at};
 ghost use Rattle.gic_sweep.specs.Residuals.{HoldResiduals, most_reach};
 
+use crate::node_sums::conductance;
 use gic_base::NodeId;
-use gic_model::Volts;
 use gic_model::laws::{diagonal_law, settled_law};
 use gic_net::Net;
-use gic_sweep::{Solver, conductance, greatest_at, residuals};
 
 /// `4096 * most / conductance`, rounded up, with no product that could leave the type.
 fn quotient_up(most: u128, conductance: u64) -> u128
@@ -25,6 +24,18 @@ fn quotient_up(most: u128, conductance: u64) -> u128
     let whole = most / conductance as u128;
     let rest = most % conductance as u128;
     4096 * whole + (4096 * rest).div_ceil(conductance as u128)
+}
+
+/// The greater absolute value of the two ends of the interval at a node, as `residuals` leaves them.
+fn greatest_at(low: &[i128], high: &[i128], node: NodeId) -> u128
+    requires low { node.0 < length low.now }
+    requires high { node.0 < length high.now }
+    ensures either { (result ≡ unsigned_abs (number_at low.now node.0)) ⊎ (result ≡ unsigned_abs (number_at high.now node.0)) }
+    ensures low { unsigned_abs (number_at low.now node.0) ≤ result }
+    ensures high { unsigned_abs (number_at high.now node.0) ≤ result }
+{
+    let place = node.0 as usize;
+    low[place].unsigned_abs().max(high[place].unsigned_abs())
 }
 
 /// The grains within which guesses are settled at a live node, whose residual lies between these ends.
@@ -68,7 +79,7 @@ fn greater_reach(net: &Net, low: &[i128], high: &[i128], node: NodeId, most: u12
 }
 
 /// The grains within which guesses are settled, whose residuals lie between the ends in `low` and `high`.
-fn reach_between(net: &Net, low: &[i128], high: &[i128]) -> u128
+pub fn reach_between(net: &Net, low: &[i128], high: &[i128]) -> u128
     requires low_count { length low.now ≡ net.now.network.nodes }
     requires high_count { length high.now ≡ net.now.network.nodes }
     requires narrow { (k : ℕ) → (number_at high.now k -ℤ number_at low.now k) ≤ℤ pos (length (row_at net.now k)) }
@@ -84,20 +95,3 @@ fn reach_between(net: &Net, low: &[i128], high: &[i128]) -> u128
     most
 }
 
-/// The grains within which the guesses are settled, as their residuals show: for each unit of a bound vector no
-/// solution is further from the guess at a node. They are hardly more than those within which the guesses are settled
-/// indeed. The residuals go into `low` and `high`.
-pub fn reach(net: &Net, volts: &Volts, solver: &Solver, low: &mut [i128], high: &mut [i128]) -> u128
-    requires volts { length volts.now ≡ length net.now.network.list }
-    requires nodes { length solver.now ≡ net.now.network.nodes }
-    requires low_count { length low.old ≡ net.now.network.nodes }
-    requires high_count { length high.old ≡ net.now.network.nodes }
-    ensures low_count { length low.new ≡ length low.old }
-    ensures high_count { length high.new ≡ length high.old }
-    ensures settled { IsSettledWithin (standing net.now) (number_at volts.now) (number_at solver.now) result }
-    ensures small { result ≤ 2 ^ 99 }
-    ensures close { (t : ℕ) → IsSettledWithin (standing net.now) (number_at volts.now) (number_at solver.now) t → result ≤ most_reach t }
-{
-    residuals(net, volts, solver, low, high);
-    reach_between(net, low, high)
-}
