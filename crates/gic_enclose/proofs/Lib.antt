@@ -2,10 +2,4 @@ pub mod Intervals
 pub mod Cuts
 pub mod Turns
 pub mod Widths
-pub mod LinearResidual
 pub mod Bounds
-pub mod SumsBelow
-pub mod Combined
-pub mod BaseVolts
-pub mod Kept
-pub mod StepGuesses

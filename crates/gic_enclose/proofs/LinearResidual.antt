@@ -16,7 +16,7 @@ use Rattle.gic_model.proofs.SumLaws.{sum_over_ohms-same, sum_over_ohms-+ℤ, sum
 use Rattle.gic_model.proofs.Row.{weight}
 use Rattle.gic_model.proofs.Ends.{IsLiveEnd, end_own, from_own}
 use Rattle.gic_model.proofs.Pushes.{product_within, leaving_within, carried_within}
-use Rattle.gic_enclose.specs.Bases.{sum_below}
+use Rattle.gic_bases.specs.Bases.{sum_below}
 
 -- no voltage
 abbrev pub no_volts : ℕ → ℤ

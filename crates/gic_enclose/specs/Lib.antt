@@ -1,4 +1,5 @@
 pub mod Ends
 pub mod Certain
-pub mod Bases
+pub mod Together
+pub mod Solved
 pub mod Laws

@@ -1,13 +1,15 @@
 //! Intervals that hold every solution, round any guesses.
 ghost use Rattle.std.specs.Prelude.{◌≡◌, ℕ, ◌*◌, ◌^◌, ◌<◌, ◌≤◌, length, slice_index, pos, ◌-ℤ◌, ◌+ℤ◌, ◌*ℤ◌, ◌≤ℤ◌, unsigned_abs};
+ghost use Rattle.gic_base.specs.declared.limits.TheConstants.{MOST_WALK};
 ghost use Rattle.gic_fixed.specs.Encloses.{IsWithin};
 ghost use Rattle.gic_model.specs.Standing.{IsLive};
 ghost use Rattle.gic_model.specs.Voltages.{number_at};
-ghost use Rattle.gic_model.specs.Guess.{IsSettledWithin};
+ghost use Rattle.gic_model.specs.Guess.{most_guess, IsSettledWithin};
 ghost use Rattle.gic_net.specs.Net.{standing};
 ghost use Rattle.gic_sweep.specs.Sweep.{cut};
 ghost use Rattle.gic_bound.specs.Entries.{IsBoundWithin};
 ghost use Rattle.gic_enclose.specs.Ends.{ends_of, ends_at, low_at, high_at};
+ghost use Rattle.gic_enclose.specs.Together.{BelongTogether};
 ghost use Rattle.gic_enclose.specs.Certain.{AreCertain, IsCertainAt, IsNarrow};
 
 use crate::laws::potential_bound_law;
@@ -18,11 +20,11 @@ use gic_fixed::Interval;
 use gic_model::Volts;
 use gic_model::laws::certificate_law;
 use gic_net::Net;
-use gic_sweep::Solver;
+use gic_sweep::{Solver, cut_guess};
 
 /// How far a solution can lie from the guess at a node with this entry.
 fn radius(entry: u16, reach: u128) -> i128
-    requires entry { entry ≤ 4096 }
+    requires entry { entry ≤ MOST_WALK }
     requires reach { reach ≤ 2 ^ 99 }
     ensures value { result ≡ pos (entry * reach) }
     ensures small { entry * reach ≤ 2 ^ 111 }
@@ -31,7 +33,7 @@ fn radius(entry: u16, reach: u128) -> i128
 }
 
 fn below(guess: i128, radius: i128) -> i128
-    requires guess { unsigned_abs guess ≤ 2 ^ 96 }
+    requires guess { unsigned_abs guess ≤ most_guess }
     requires radius { unsigned_abs radius ≤ 2 ^ 111 }
     ensures { result ≡ guess -ℤ radius }
 {
@@ -39,29 +41,25 @@ fn below(guess: i128, radius: i128) -> i128
 }
 
 fn above(guess: i128, radius: i128) -> i128
-    requires guess { unsigned_abs guess ≤ 2 ^ 96 }
+    requires guess { unsigned_abs guess ≤ most_guess }
     requires radius { unsigned_abs radius ≤ 2 ^ 111 }
     ensures { result ≡ guess +ℤ radius }
 {
     guess + radius
 }
 
-/// An end, cut to the limit of guesses.
-pub fn cut_end(end: i128) -> i128
-    ensures { result ≡ cut end }
-{
-    end.min(1 << 96).max(-(1 << 96))
-}
-
 /// The interval round a guess. No solution is beyond the limit to which its ends are cut.
 fn around(guess: i128, radius: i128) -> Interval
-    requires guess { unsigned_abs guess ≤ 2 ^ 96 }
+    requires guess { unsigned_abs guess ≤ most_guess }
     requires some { pos 0 ≤ℤ radius }
     requires most { radius ≤ℤ pos (2 ^ 111) }
     ensures low { result.lo ≡ cut (guess -ℤ radius) }
     ensures high { result.hi ≡ cut (guess +ℤ radius) }
 {
-    Interval::new(cut_end(below(guess, radius)), cut_end(above(guess, radius)))
+    Interval::new(
+        cut_guess(below(guess, radius)),
+        cut_guess(above(guess, radius)),
+    )
 }
 
 /// The interval at a node.
@@ -76,11 +74,11 @@ fn interval_at(
     requires nodes { length solver.now ≡ net.now.network.nodes }
     requires entries { length bound.now ≡ net.now.network.nodes }
     requires node { node.0 < net.now.network.nodes }
-    requires bound { IsBoundWithin (standing net.now) 4096 (slice_index bound.now) }
+    requires bound { IsBoundWithin (standing net.now) MOST_WALK (slice_index bound.now) }
     requires reach { reach ≤ 2 ^ 99 }
     requires settled { IsSettledWithin (standing net.now) (number_at volts.now) (number_at solver.now) reach }
     ensures certain { IsCertainAt (standing net.now) (number_at volts.now) node.0 (ends_of result) }
-    ensures small { IsWithin (2 ^ 96) result.lo result.hi }
+    ensures small { IsWithin most_guess result.lo result.hi }
     ensures narrow { reach ≤ 2 ^ 30 → IsNarrow (ends_of result) }
     ensures middle { reach ≤ 2 ^ 30 → IsLive (standing net.now) node.0 → unsigned_abs (number_at solver.now node.0) ≤ 2 ^ 95 → result.lo +ℤ result.hi ≡ pos 2 *ℤ number_at solver.now node.0 }
 {
@@ -96,15 +94,12 @@ fn interval_at(
 }
 
 /// The certificate: makes the interval at each live node one that holds the node's potential in every solution,
-/// whatever the guesses are, and that at each dead node the point 0. The vector is a bound vector of the net without an
-/// entry above 4096, as `rows_positive` tests it; voltages, guesses, vector and potentials are those of the net's
-/// elements and nodes. The nearer the guesses are to being settled, the narrower are the intervals.
+/// whatever the guesses are, and that at each dead node the point 0. The vector is a bound vector of the net, as
+/// `rows_positive` tests it; voltages, guesses, vector and potentials are those of the net's elements and nodes. The
+/// nearer the guesses are to being settled, the narrower are the intervals.
 pub fn enclose(net: &Net, volts: &Volts, solver: &Solver, bound: &BoundVector, out: &mut Potentials)
-    requires volts { length volts.now ≡ length net.now.network.list }
-    requires nodes { length solver.now ≡ net.now.network.nodes }
-    requires entries { length bound.now ≡ net.now.network.nodes }
-    requires room { length out.old ≡ net.now.network.nodes }
-    requires bound { IsBoundWithin (standing net.now) 4096 (slice_index bound.now) }
+    requires together { BelongTogether net.now.network volts.now solver.now bound.now out.old }
+    requires bound { IsBoundWithin (standing net.now) MOST_WALK (slice_index bound.now) }
     ensures certain { AreCertain (standing net.now) (number_at volts.now) out.new }
 
     // Where the guesses are settled within 2^29 grains, no interval is wider than 2^43 grains, which are 128 nanovolts.

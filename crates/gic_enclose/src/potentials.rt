@@ -1,10 +1,9 @@
 //! One interval for each node.
-use crate::reach::reach;
 use gic_base::{NodeId, OutOfMemory};
 use gic_fixed::Interval;
 use gic_model::Volts;
 use gic_net::Net;
-use gic_sweep::Solver;
+use gic_sweep::{Solver, reach, zeros};
 use std::alloc::Global;
 use std::marker::Model;
 
@@ -32,7 +31,7 @@ impl Potentials {
     ghost use Rattle.std.specs.Prelude.{ℕ, ◌≡◌, ◌^◌, ◌<◌, ◌≤◌, length, replicate, slice_set, IfOk};
     ghost use Rattle.gic_fixed.specs.Encloses.{IsWithin};
     ghost use Rattle.gic_model.specs.Voltages.{number_at};
-    ghost use Rattle.gic_model.specs.Guess.{IsSettledWithin};
+    ghost use Rattle.gic_model.specs.Guess.{most_guess, IsSettledWithin};
     ghost use Rattle.gic_net.specs.Net.{standing};
     ghost use Rattle.gic_sweep.specs.Residuals.{most_reach};
     ghost use Rattle.gic_enclose.specs.Ends.{ends_of, no_ends, low_at, high_at};
@@ -43,14 +42,12 @@ impl Potentials {
     {
         let low = zeros(alloc, nodes)?;
         let high = zeros(alloc, nodes)?;
-        match vec![in alloc; Interval::point(0); nodes as usize] {
-            Ok(intervals) => Ok(Potentials {
-                intervals,
-                low,
-                high,
-            }),
-            Err(_) => Err(OutOfMemory),
-        }
+        let intervals = vec![in alloc; Interval::point(0); nodes as usize]?;
+        Ok(Potentials {
+            intervals,
+            low,
+            high,
+        })
     }
 
     /// The interval at a node.
@@ -58,7 +55,7 @@ impl Potentials {
         requires { node.0 < length self.now }
         ensures low { result.lo ≡ low_at self.now node.0 }
         ensures high { result.hi ≡ high_at self.now node.0 }
-        ensures small { IsWithin (2 ^ 96) result.lo result.hi }
+        ensures small { IsWithin most_guess result.lo result.hi }
     {
         self.intervals[node.0 as usize]
     }
@@ -66,7 +63,7 @@ impl Potentials {
     /// Changes the interval at this node alone.
     pub(crate) fn set(&mut self, node: NodeId, interval: Interval)
         requires node { node.0 < length self.old }
-        requires small { IsWithin (2 ^ 96) interval.lo interval.hi }
+        requires small { IsWithin most_guess interval.lo interval.hi }
         ensures { self.new ≡ slice_set self.old node.0 (ends_of interval) }
     {
         self.intervals[node.0 as usize] = interval;
@@ -84,16 +81,5 @@ impl Potentials {
         ensures close { (t : ℕ) → IsSettledWithin (standing net.now) (number_at volts.now) (number_at solver.now) t → result ≤ most_reach t }
     {
         reach(net, volts, solver, &mut self.low, &mut self.high)
-    }
-}
-
-ghost use Rattle.std.specs.Prelude.{◌≡◌, pos, replicate, IfOk};
-
-fn zeros(alloc: Global, nodes: u16) -> Result<Vec<i128>, OutOfMemory>
-    ensures { IfOk result (λ list. list.items ≡ replicate nodes (pos 0)) }
-{
-    match vec![in alloc; 0; nodes as usize] {
-        Ok(list) => Ok(list),
-        Err(_) => Err(OutOfMemory),
     }
 }

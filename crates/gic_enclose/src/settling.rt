@@ -1,5 +1,7 @@
 //! Sweeps until the guesses are settled.
-ghost use Rattle.std.specs.Prelude.{◌≡◌, ◌+◌, ◌%◌, ◌^◌, ◌≤◌, length, slice_index, IsTrue};
+ghost use Rattle.std.specs.Prelude.{◌≡◌, ◌+◌, ◌*◌, ◌%◌, ◌^◌, ◌≤◌, length, slice_index, IsTrue};
+ghost use Rattle.gic_base.specs.declared.limits.TheConstants.{MOST_WALK};
+ghost use Rattle.gic_sweep.specs.declared.solver.TheConstants.{MOST_ROUNDS};
 ghost use Rattle.gic_model.specs.Voltages.{number_at};
 ghost use Rattle.gic_model.specs.Guess.{IsSettled, IsSettledWithin};
 ghost use Rattle.gic_net.specs.Net.{standing};
@@ -12,20 +14,30 @@ use gic_net::Net;
 use gic_sweep::{Solver, Steps, improve, is_settled, sweep};
 use std::sync::ledger::Ledger;
 
+/// The turns between two looks whether the guesses are settled.
+const LOOK: u32 = 16;
+
+/// The sweeps of a phase, which at least halve what is left of each guess: twice the longest way to earth.
+const PHASE: u32 = 8192;
+
+/// The phases after which what is left is settled, from any guesses.
+const PHASES: u32 = 98;
+
 /// Whether the guesses are settled, which it looks at in every sixteenth turn.
 fn is_seen_settled(turn: u32, net: &Net, volts: &Volts, solver: &mut Solver) -> bool
     requires volts { length volts.now ≡ length net.now.network.list }
     requires nodes { length solver.old ≡ net.now.network.nodes }
     ensures settled { IsTrue result → IsSettled (standing net.now) (number_at volts.now) (number_at solver.old) }
-    ensures seen { turn % 16 ≡ 0 → IsSettledWithin (standing net.now) (number_at volts.now) (number_at solver.old) (2 ^ 17) → IsTrue result }
+    ensures seen { turn % LOOK ≡ 0 → IsSettledWithin (standing net.now) (number_at volts.now) (number_at solver.old) (2 ^ 17) → IsTrue result }
     ensures same { solver.new ≡ solver.old }
 {
-    turn % 16 == 0 && is_settled(net, volts, solver)
+    turn % LOOK == 0 && is_settled(net, volts, solver)
 }
 
 /// Sweeps until the guesses are settled, whatever they were before. At most four rough corrections come first, after
-/// which hardly a sweep is left. It looks every sixteen sweeps whether the guesses are settled, and stops then; the 98
-/// phases of 8192 sweeps are enough for any network.
+/// which hardly a sweep is left; each correction and each sweep ticks once. It looks every sixteen sweeps whether the
+/// guesses are settled, and stops then; the 98 phases of 8192 sweeps are enough for any network. The vector is a bound
+/// vector of the net; voltages and guesses are those of the net's elements and nodes.
 pub fn settle<L: Ledger>(
     net: &Net,
     volts: &Volts,
@@ -35,10 +47,10 @@ pub fn settle<L: Ledger>(
 )
     requires volts { length volts.now ≡ length net.now.network.list }
     requires nodes { length solver.old ≡ net.now.network.nodes }
-    requires bound { IsBoundWithin (standing net.now) 4096 (slice_index bound.now) }
+    requires bound { IsBoundWithin (standing net.now) MOST_WALK (slice_index bound.now) }
     ensures settled { IsSettled (standing net.now) (number_at volts.now) (number_at solver.new) }
     ensures same_length { length solver.new ≡ length solver.old }
-    ensures ticks { steps.new ≤ steps.old + 802821 }
+    ensures ticks { steps.new ≤ steps.old + (MOST_ROUNDS + 1 + PHASES * PHASE) }
 {
     sweeps_converge_law();
     let _nodes = net.nodes();
@@ -46,8 +58,8 @@ pub fn settle<L: Ledger>(
     improve(net, volts, bound.walk(), solver, steps);
     let _guesses = solver.count();
     sweep(net, volts, solver, steps);
-    for phase in 0..98u32 {
-        for turn in 0..8192u32 {
+    for phase in 0..PHASES {
+        for turn in 0..PHASE {
             if is_seen_settled(turn, net, volts, solver) {
                 return;
             }

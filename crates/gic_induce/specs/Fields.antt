@@ -1,5 +1,5 @@
 -- The fields of zones: for each a pair (north, east) in mV/km.
-use Rattle.std.specs.Prelude.{ℕ, ℤ, pos, List, slice_index_or}
+use Rattle.std.specs.Prelude.{ℕ, ℤ, pos, List, replicate, slice_set, slice_index_or}
 use Rattle.gic_induce.specs.Voltage.{IsFieldWithin}
 
 -- both parts of a field are within 20000 mV/km
@@ -13,3 +13,7 @@ no_field = (pos 0, pos 0)
 -- the field of the zone at this place
 abbrev pub field_at : List (ℤ × ℤ) → ℕ → ℤ × ℤ
 field_at fields zone = slice_index_or fields zone no_field
+
+-- the fields of so many zones where this zone alone has one
+unfoldable pub lone_field : ℕ → ℕ → ℤ × ℤ → List (ℤ × ℤ)
+lone_field zones zone field = slice_set (replicate zones no_field) zone field

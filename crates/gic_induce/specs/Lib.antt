@@ -1,3 +1,4 @@
 pub mod Fields
 pub mod LineVolts
 pub mod Voltage
+pub mod Linear

@@ -1,13 +1,14 @@
 //! The voltages of the elements of a case.
 ghost use Rattle.std.specs.Prelude.{◌≡◌, ◌≤◌, ◌<◌, length, All, unsigned_abs};
+ghost use Rattle.gic_base.specs.declared.limits.TheConstants.{MOST_ELEMENTS};
 ghost use Rattle.gic_model.specs.Voltages.{number_at, most_volts, AreVolts};
 ghost use Rattle.gic_induce.specs.LineVolts.{all_line_volts, volts_of_item, volts_of, IsLineWithin};
 
 use crate::fields::Fields;
-use crate::voltage::line_nanovolts;
+use crate::voltage::volts_in_zone;
 use gic_base::ElementId;
 use gic_case::Case;
-use gic_model::{Elements, Item, Volts};
+use gic_model::{Element, Item, Volts};
 
 /// The voltage of the line at a place of the case, in the field of its zone.
 fn volts_of_line(case: &Case, fields: &Fields, place: u16) -> i64
@@ -17,9 +18,8 @@ fn volts_of_line(case: &Case, fields: &Fields, place: u16) -> i64
     ensures limit { unsigned_abs result ≤ most_volts }
 {
     let line = &case.lines()[place as usize];
-    let zone = &case.zones()[line.zone as usize];
     let (north, east) = fields.get(line.zone);
-    line_nanovolts(line, zone, north, east)
+    volts_in_zone(case.zones(), line, north, east)
 }
 
 /// The voltage of an element of this item.
@@ -38,13 +38,14 @@ fn volts_of_item(case: &Case, fields: &Fields, item: Item) -> i64
 /// Leaves in `out` the voltage of each element in nanovolts, each within ±6·10^13: for a line's element the voltage that
 /// the field of the line's zone induces in it, and 0 for every other. The elements are those of the case, `fields` has its
 /// zones, and `out` has one number for each element.
-pub fn fill_volts(case: &Case, elements: &Elements, fields: &Fields, out: &mut Volts)
-    requires lines { All (λ e. IsLineWithin case.now e.item) elements.now.list }
+pub fn fill_volts(case: &Case, elements: &[Element], fields: &Fields, out: &mut Volts)
+    requires lines { All (λ e. IsLineWithin case.now e.item) elements.now }
+    requires few { length elements.now ≤ MOST_ELEMENTS }
     requires zones { length fields.now ≡ length case.now.zones }
-    requires count { length out.old ≡ length elements.now.list }
-    ensures { out.new ≡ volts_of case.now fields.now elements.now.list }
+    requires count { length out.old ≡ length elements.now }
+    ensures { out.new ≡ volts_of case.now fields.now elements.now }
 {
-    for (place, element) in elements.list().iter().enumerate() {
+    for (place, element) in elements.iter().enumerate() {
         let nanovolts = volts_of_item(case, fields, element.item);
         out.set(ElementId(place as u16), nanovolts);
     }

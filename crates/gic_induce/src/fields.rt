@@ -22,17 +22,15 @@ impl Model for Fields {
 
 impl Fields {
     ghost use Rattle.std.specs.Prelude.{◌≡◌, ◌<◌, length, replicate, slice_set, All, IfOk};
-    ghost use Rattle.gic_induce.specs.Fields.{IsField, no_field, field_at};
+    ghost use Rattle.gic_induce.specs.Fields.{IsField, no_field, field_at, lone_field};
     ghost use Rattle.gic_induce.specs.Voltage.{IsFieldWithin};
 
     /// No field in any of so many zones.
     pub fn new(alloc: Global, zones: u16) -> Result<Fields, OutOfMemory>
         ensures { IfOk result (λ fields. fields ≡ replicate zones no_field) }
     {
-        match vec![in alloc; (0, 0); zones as usize] {
-            Ok(list) => Ok(Fields { list }),
-            Err(_) => Err(OutOfMemory),
-        }
+        let list = vec![in alloc; (0, 0); zones as usize]?;
+        Ok(Fields { list })
     }
 
     /// How many zones there are.
@@ -66,5 +64,17 @@ impl Fields {
         ensures { self.new ≡ slice_set self.old zone (north, east) }
     {
         self.list[zone as usize] = (north, east);
+    }
+
+    /// Leaves this field in one zone, and none in any other. Both parts are in mV/km.
+    #[tactic(auto, unfolding(crate::specs::Fields::lone_field))]
+    pub fn set_alone(&mut self, zone: u16, north: i32, east: i32)
+        requires zone { zone < length self.old }
+        requires north { IsFieldWithin north }
+        requires east { IsFieldWithin east }
+        ensures { self.new ≡ lone_field (length self.old) zone (north, east) }
+    {
+        self.list.fill((0, 0));
+        self.set(zone, north, east);
     }
 }

@@ -3,10 +3,11 @@
 
 mod element_volts;
 mod fields;
+pub mod laws;
 #[cfg(test)]
 mod tests;
 mod voltage;
 
 pub use element_volts::fill_volts;
 pub use fields::Fields;
-pub use voltage::line_nanovolts;
+pub use voltage::{line_nanovolts, volts_in_zone};

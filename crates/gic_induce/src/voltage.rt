@@ -1,5 +1,7 @@
 //! The voltage of one line.
-ghost use Rattle.std.specs.Prelude.{◌≡◌, ◌≤◌, ◌*ℤ◌, ◌+ℤ◌, pos, unsigned_abs};
+ghost use Rattle.std.specs.Prelude.{◌≡◌, ◌<◌, ◌≤◌, length, ◌*ℤ◌, ◌+ℤ◌, pos, unsigned_abs};
+ghost use Rattle.gic_model.specs.Voltages.{most_volts};
+ghost use Rattle.gic_induce.specs.LineVolts.{zone_among};
 ghost use Rattle.gic_induce.specs.Voltage.{line_nanovolts, IsFieldWithin, IsSpanWithin};
 
 use gic_case::Line;
@@ -44,10 +46,25 @@ pub fn line_nanovolts(line: &Line, zone: &Zone, north: i32, east: i32) -> i64
     requires span_north { IsSpanWithin line.now.north }
     requires span_east { IsSpanWithin line.now.east }
     ensures value { result ≡ line_nanovolts line.now zone.now north east }
-    ensures small { unsigned_abs result ≤ 60000000000000 }
+    ensures small { unsigned_abs result ≤ most_volts }
 {
     scaled(
         sum(along(north, line.north), along(east, line.east)),
         zone.factor(),
     )
+}
+
+/// The voltage of a line in nanovolts, in this field of its zone, which stands among the zones at the line's place for
+/// it.
+pub fn volts_in_zone(zones: &[Zone], line: &Line, north: i32, east: i32) -> i64
+    requires zone { line.now.zone < length zones.now }
+    requires north { IsFieldWithin north }
+    requires east { IsFieldWithin east }
+    requires span_north { IsSpanWithin line.now.north }
+    requires span_east { IsSpanWithin line.now.east }
+    ensures value { result ≡ line_nanovolts line.now (zone_among zones.now line.now.zone) north east }
+    ensures limit { unsigned_abs result ≤ most_volts }
+{
+    let zone = &zones[line.zone as usize];
+    line_nanovolts(line, zone, north, east)
 }

@@ -12,7 +12,8 @@ use Rattle.gic_model.specs.Standing.{elements_at}
 use Rattle.gic_model.specs.Sums.{Placed, sum_of}
 use Rattle.gic_model.specs.Voltages.{number_at}
 use Rattle.gic_net.specs.Net.{NetView, stands, no_element, element_of}
-use Rattle.gic_sweep.specs.Passes.{diagonal_part, part_down, part_up, share_at, left_at, IsCarriedOn}
+use Rattle.gic_sweep.proofs.NodeSums.{diagonal_part}
+use Rattle.gic_sweep.specs.Passes.{part_down, part_up, share_at, left_at, IsCarriedOn}
 use Rattle.gic_sweep.proofs.Shares.{down_share, up_share, share_small}
 
 drop_more : (es : List Element) (i : ℕ) (d : Element) → i < length es → drop i es ≡ get_or es i d ∷ drop (i + 1) es

@@ -4,6 +4,7 @@ use Rattle.std.specs.List.{AllByRecursion, sum_by}
 use Rattle.std.proofs.lemmas.Nat.{le-div}
 use Rattle.std.proofs.lemmas.List.Sums.{sum_by-cons, sum_by_more, sum_by_more_le, sum_by-le}
 use Rattle.std.proofs.lemmas.List.Elements.{All-from_recursion}
+use Rattle.gic_model.specs.Conductance.{conductance_down}
 use Rattle.gic_model.specs.declared.parts.Element.{Element}
 use Rattle.gic_model.specs.Network.{IsWithinLimits, IsElementWithin}
 use Rattle.gic_model.specs.Sums.{Placed, product_of_ohms}
@@ -18,7 +19,7 @@ use Rattle.gic_sweep.proofs.NodeSums.{live_some}
 
 -- one element's part
 abbrev pub floor_part : Placed → ℕ
-floor_part p = p.1.times * 1000000 * 2 ^ 20 / p.1.micro_ohm
+floor_part p = conductance_down p.1
 
 -- it is from 1048 to 2^32
 part_least : (nodes : ℕ) (p : Placed) → IsElementWithin nodes p.1 → 1048 ≤ floor_part p

@@ -17,8 +17,12 @@ use Rattle.gic_model.proofs.Members.{weaker}
 use Rattle.gic_model.proofs.Ends.{standing_within, within_at}
 use Rattle.gic_net.specs.Net.{NetView, row_at, placed_at, no_element, standing, stands}
 use Rattle.gic_net.proofs.Places.{few_at, placed_is, some_any}
-pub use Rattle.gic_sweep.specs.Passes.{diagonal_part}
+use Rattle.gic_model.specs.Conductance.{conductance_up}
 use Rattle.gic_sweep.proofs.Parts.{one_le, part_most}
+
+-- what a standing element adds to the diagonal
+abbrev pub diagonal_part : Placed → ℕ
+diagonal_part p = conductance_up p.1
 
 sum_of_more : (f : Placed → ℤ) (ps : List Placed) (i : ℕ) (d : Placed) → i < length ps → sum_of f (take (i + 1) ps) ≡ sum_of f (take i ps) +ℤ f (get_or ps i d)
 sum_of_more f ps i d h =

@@ -1,9 +1,10 @@
 -- Guesses of the potentials, in grains, by the places of the nodes.
-use Rattle.std.specs.Prelude.{ℕ, ◌≡◌, ◌^◌, ◌≤◌, List, length, ℤ, unsigned_abs}
+use Rattle.std.specs.Prelude.{ℕ, ◌≡◌, ◌≤◌, List, length, ℤ, unsigned_abs}
+use Rattle.gic_model.specs.Guess.{most_guess}
 
--- no guess is beyond 2^96, either way
+-- no guess is beyond the limit, either way
 abbrev pub AreCut : (ℕ → ℤ) → Type 0
-AreCut x = (k : ℕ) → unsigned_abs (x k) ≤ 2 ^ 96
+AreCut x = (k : ℕ) → unsigned_abs (x k) ≤ most_guess
 
 -- a solver has as much room again for the guesses before a writing and for residuals, and a relaxation for as many nodes
 pub record IsRoomFor (guesses before low high : List ℤ) (relaxed : ℕ) : Type 0 where

@@ -1,19 +1,15 @@
 -- Sums at all nodes, as far as a pass over the elements has come.
 use Rattle.std.specs.Prelude.{ℕ, ◌≡◌, ◌≤◌, ◌+◌, ◌*◌, ◌^◌, List, length, drop, ℤ, pos, ◌+ℤ◌, unsigned_abs, if◌then◌else◌, ◌==◌}
-use Rattle.std.specs.Int.{div_ceil}
 use Rattle.std.specs.List.{filter, enumerate_from, sum_by}
 use Rattle.gic_fixed.specs.Rounding.{floor_div, ceil_div}
 use Rattle.gic_model.specs.declared.parts.Element.{Element}
+use Rattle.gic_model.specs.Conductance.{conductance_up}
 use Rattle.gic_model.specs.Network.{is_node}
 use Rattle.gic_model.specs.Standing.{elements_at}
 use Rattle.gic_model.specs.Guess.{part_times_ohms}
 use Rattle.gic_model.specs.Sums.{Placed, sum_of}
 use Rattle.gic_model.specs.Voltages.{number_at}
 use Rattle.gic_net.specs.Net.{NetView, stands}
-
--- one element's part of a diagonal
-abbrev pub diagonal_part : Placed → ℕ
-diagonal_part p = div_ceil (p.1.times * 1000000 * 2 ^ 20) p.1.micro_ohm
 
 -- one element's part of the residual at the node k in units of 2^-44 nanoampere, rounded down
 abbrev pub part_down : (ℕ → ℤ) → (ℕ → ℤ) → ℕ → Placed → ℤ
@@ -36,4 +32,4 @@ pub record IsCarriedOn (net : NetView) (part : ℕ → Placed → ℤ) (place : 
   pub count : length new ≡ length old
   pub sums : (k : ℕ) → (number_at new k +ℤ sum_of (part k) (left_at net (place + 1) k)) ≡ (number_at old k +ℤ sum_of (part k) (left_at net place k))
   pub small : (k : ℕ) →
-      unsigned_abs (number_at new k) + sum_by diagonal_part (left_at net (place + 1) k) * 2 ^ 86 ≤ unsigned_abs (number_at old k) + sum_by diagonal_part (left_at net place k) * 2 ^ 86
+      unsigned_abs (number_at new k) + sum_by (λ p. conductance_up p.1) (left_at net (place + 1) k) * 2 ^ 86 ≤ unsigned_abs (number_at old k) + sum_by (λ p. conductance_up p.1) (left_at net place k) * 2 ^ 86

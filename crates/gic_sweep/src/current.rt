@@ -1,8 +1,8 @@
 //! The current of one element over guesses.
 ghost use Rattle.std.specs.Prelude.{◌≡◌, ◌+◌, ◌*◌, ◌/◌, ◌^◌, ◌<◌, ◌≤◌, length, pos, ◌+ℤ◌, ◌-ℤ◌, ◌*ℤ◌, unsigned_abs};
-ghost use Rattle.std.specs.Int.{div_ceil};
 ghost use Rattle.gic_fixed.specs.Encloses.{IsWithin};
 ghost use Rattle.gic_fixed.specs.Rounding.{floor_div, ceil_div};
+ghost use Rattle.gic_model.specs.Conductance.{conductance_up};
 ghost use Rattle.gic_model.specs.Network.{IsEndWithin, IsElementWithin};
 ghost use Rattle.gic_model.specs.Standing.{value_at, leaving as leaving_of};
 ghost use Rattle.gic_model.specs.Voltages.{number_at};
@@ -96,7 +96,7 @@ pub fn current(
     ensures low { result.lo ≡ floor_div (part_times_ohms (number_at volts.now) (number_at guesses.now) node.0 (place.0, element.now)) (pos element.now.micro_ohm) }
     ensures high { result.hi ≡ ceil_div (part_times_ohms (number_at volts.now) (number_at guesses.now) node.0 (place.0, element.now)) (pos element.now.micro_ohm) }
     ensures bounded { IsWithin (2 ^ 118) result.lo result.hi }
-    ensures small { IsWithin (div_ceil (element.now.times * 1000000 * 2 ^ 20) element.now.micro_ohm * 2 ^ 86) result.lo result.hi }
+    ensures small { IsWithin (conductance_up element.now * 2 ^ 86) result.lo result.hi }
 {
     let times_ohms = part(volts, guesses, node, place, element);
     divisor.rounded(times_ohms)

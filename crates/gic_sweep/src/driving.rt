@@ -1,5 +1,6 @@
 //! What drives the current of an element, in grains of 2^-36 nanovolt.
 ghost use Rattle.std.specs.Prelude.{◌≡◌, ◌+◌, ◌*◌, ◌^◌, ◌≤◌, pos, ◌+ℤ◌, ◌-ℤ◌, ◌*ℤ◌, unsigned_abs};
+ghost use Rattle.gic_model.specs.Guess.{most_guess};
 ghost use Rattle.gic_model.specs.Voltages.{most_volts};
 
 /// Grains in a nanovolt.
@@ -16,8 +17,8 @@ pub fn in_grains(nanovolts: i64) -> i128
 
 /// What drives a current from one potential to another, with a voltage, all in grains.
 pub fn drive(from: i128, to: i128, push: i128) -> i128
-    requires from { unsigned_abs from ≤ 2 ^ 96 }
-    requires to { unsigned_abs to ≤ 2 ^ 96 }
+    requires from { unsigned_abs from ≤ most_guess }
+    requires to { unsigned_abs to ≤ most_guess }
     requires push { unsigned_abs push ≤ 2 ^ 82 }
     ensures value { result ≡ from -ℤ to +ℤ push }
     ensures small { unsigned_abs result ≤ 2 ^ 97 + 2 ^ 82 }

@@ -60,9 +60,12 @@ pub fn fall(low: i128, d: u64) -> i128
     join(whole, 4096 * rest / d)
 }
 
+/// The greatest guess in grains, either way.
+const MOST_GUESS: i128 = 1 << 96;
+
 /// A guess, cut to its limit.
 pub fn cut_guess(guess: i128) -> i128
     ensures { result ≡ cut guess }
 {
-    guess.min(1 << 96).max(-(1 << 96))
+    guess.min(MOST_GUESS).max(-MOST_GUESS)
 }

@@ -27,6 +27,7 @@ impl Model for Guesses {
 impl Guesses {
     ghost use Rattle.std.specs.Prelude.{◌≡◌, ℤ, ◌+◌, ◌^◌, ◌<◌, ◌≤◌, length, IfOk, replicate, pos, unsigned_abs};
     ghost use Rattle.gic_base.specs.declared.id.NodeId.{NodeId};
+    ghost use Rattle.gic_model.specs.Guess.{most_guess};
     ghost use Rattle.gic_model.specs.Voltages.{number_at};
     ghost use Rattle.gic_sweep.specs.Guesses.{AreCut};
 
@@ -56,7 +57,7 @@ impl Guesses {
     /// Makes each node's guess the closure's answer for that node, and ticks once.
     pub fn fill<L: Ledger, F: Fn(NodeId) -> i128>(&mut self, grains: &F, steps: &mut Steps<L>)
         requires callable { (node : NodeId) → node.0 < length self.old → F.pre grains.now node }
-        requires small { (node : NodeId) (z : ℤ) → node.0 < length self.old → F.post grains.now node z → unsigned_abs z ≤ 2 ^ 96 }
+        requires small { (node : NodeId) (z : ℤ) → node.0 < length self.old → F.post grains.now node z → unsigned_abs z ≤ most_guess }
         ensures each { (node : NodeId) → node.0 < length self.old → F.post grains.now node (number_at self.new node.0) }
         ensures same_length { length self.new ≡ length self.old }
         ensures tick { steps.new ≡ steps.old + 1 }
@@ -68,12 +69,13 @@ impl Guesses {
 
 ghost use Rattle.std.specs.Prelude.{◌≡◌, ℤ, ◌^◌, ◌<◌, ◌≤◌, length, unsigned_abs};
 ghost use Rattle.gic_base.specs.declared.id.NodeId.{NodeId};
+ghost use Rattle.gic_model.specs.Guess.{most_guess};
 ghost use Rattle.gic_model.specs.Voltages.{number_at};
 ghost use Rattle.gic_sweep.specs.Guesses.{AreCut};
 
 fn write_all<F: Fn(NodeId) -> i128>(grains: &F, guesses: &mut [i128])
     requires callable { (node : NodeId) → node.0 < length guesses.old → F.pre grains.now node }
-    requires small { (node : NodeId) (z : ℤ) → node.0 < length guesses.old → F.post grains.now node z → unsigned_abs z ≤ 2 ^ 96 }
+    requires small { (node : NodeId) (z : ℤ) → node.0 < length guesses.old → F.post grains.now node z → unsigned_abs z ≤ most_guess }
     requires cut { AreCut (number_at guesses.old) }
     requires few { length guesses.old < 2 ^ 16 }
     ensures each { (node : NodeId) → node.0 < length guesses.old → F.post grains.now node (number_at guesses.new node.0) }

@@ -1,5 +1,6 @@
 //! Rough corrections of the guesses.
 ghost use Rattle.std.specs.Prelude.{◌≡◌, ◌+◌, ◌^◌, ◌<◌, ◌≤◌, length, unsigned_abs};
+ghost use Rattle.gic_model.specs.Guess.{most_guess};
 ghost use Rattle.gic_model.specs.Voltages.{number_at};
 ghost use Rattle.gic_sweep.specs.Guesses.{AreCut};
 
@@ -26,7 +27,7 @@ fn propose<L: Ledger>(
         requires nodes { node.0 < relaxation.now }
         requires room { node.0 < length old.now }
         requires cut { AreCut (number_at old.now) }
-        ensures { unsigned_abs result ≤ 2 ^ 96 }
+        ensures { unsigned_abs result ≤ most_guess }
     { relaxation.proposed(node, old[node.0 as usize]) };
     guesses.fill(&proposed, steps);
 }

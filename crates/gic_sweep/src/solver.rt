@@ -43,7 +43,7 @@ impl Model for Solver {
 ghost use Rattle.std.specs.Prelude.{◌≡◌, ℕ, ℤ, ◌+◌, ◌^◌, ◌<◌, ◌≤◌, ◌*◌, length, IfOk, replicate, pos, ◌-ℤ◌, ◌≤ℤ◌, unsigned_abs, IsTrue, IfSome, IfNone};
 ghost use Rattle.gic_base.specs.declared.id.NodeId.{NodeId};
 ghost use Rattle.gic_fixed.specs.Encloses.{IsWithin};
-ghost use Rattle.gic_model.specs.Guess.{HoldsResidual, IsSettled, IsSettledWithin, diagonal};
+ghost use Rattle.gic_model.specs.Guess.{most_guess, HoldsResidual, IsSettled, IsSettledWithin, diagonal};
 ghost use Rattle.gic_model.specs.Voltages.{number_at};
 ghost use Rattle.gic_net.specs.Net.{standing, row_at};
 ghost use Rattle.gic_sweep.specs.Guesses.{AreCut};
@@ -96,7 +96,7 @@ impl Solver {
     /// Makes each node's guess the closure's answer for that node, and ticks once.
     pub fn fill<L: Ledger, F: Fn(NodeId) -> i128>(&mut self, grains: &F, steps: &mut Steps<L>)
         requires callable { (node : NodeId) → node.0 < length self.old → F.pre grains.now node }
-        requires small { (node : NodeId) (z : ℤ) → node.0 < length self.old → F.post grains.now node z → unsigned_abs z ≤ 2 ^ 96 }
+        requires small { (node : NodeId) (z : ℤ) → node.0 < length self.old → F.post grains.now node z → unsigned_abs z ≤ most_guess }
         ensures each { (node : NodeId) → node.0 < length self.old → F.post grains.now node (number_at self.new node.0) }
         ensures same_length { length self.new ≡ length self.old }
         ensures tick { steps.new ≡ steps.old + 1 }
@@ -203,6 +203,7 @@ pub fn sweep<L: Ledger>(net: &Net, volts: &Volts, solver: &mut Solver, steps: &m
 pub const MOST_ROUNDS: u8 = 4;
 
 /// What rough corrections took.
+#[derive(Clone, Copy)]
 pub struct Improvement {
     /// How many corrections were made, each with one tick.
     pub rounds: u8,

@@ -2,7 +2,7 @@
 ghost use Rattle.std.specs.Prelude.{◌≡◌, ℕ, ◌+◌, ◌*◌, ◌^◌, ◌<◌, ◌≤◌, length, unsigned_abs};
 ghost use Rattle.gic_model.specs.Standing.{IsLive};
 ghost use Rattle.gic_model.specs.Voltages.{number_at};
-ghost use Rattle.gic_model.specs.Guess.{residual_down, diagonal as diagonal_at};
+ghost use Rattle.gic_model.specs.Guess.{most_guess, residual_down, diagonal as diagonal_at};
 ghost use Rattle.gic_net.specs.Net.{standing};
 ghost use Rattle.gic_sweep.specs.Guesses.{AreCut};
 ghost use Rattle.gic_sweep.specs.Sweep.{IsTarget, IsSweptTo, IsSweep};
@@ -48,7 +48,7 @@ fn next_guess(net: &Net, volts: &Volts, guesses: &[i128], low: &[i128], node: No
     requires low { (k : ℕ) → number_at low.now k ≡ residual_down (standing net.now) (number_at volts.now) (number_at guesses.now) k }
     requires low_small { (k : ℕ) → unsigned_abs (number_at low.now k) ≤ diagonal_at (standing net.now) k * 2 ^ 86 }
     ensures swept { IsSweptTo (standing net.now) (number_at volts.now) (number_at guesses.now) node.0 result }
-    ensures small { unsigned_abs result ≤ 2 ^ 96 }
+    ensures small { unsigned_abs result ≤ most_guess }
 {
     if net.live(node) {
         cut_guess(target(net, volts, guesses, low, node))
@@ -87,7 +87,7 @@ fn sweep_from<L: Ledger>(
         requires low { (k : ℕ) → number_at low.now k ≡ residual_down (standing net.now) (number_at volts.now) (number_at old.now) k }
         requires low_small { (k : ℕ) → unsigned_abs (number_at low.now k) ≤ diagonal_at (standing net.now) k * 2 ^ 86 }
         ensures swept { IsSweptTo (standing net.entry.now) (number_at volts.entry.now) (number_at old.entry.now) node.0 result }
-        ensures small { unsigned_abs result ≤ 2 ^ 96 }
+        ensures small { unsigned_abs result ≤ most_guess }
     { next_guess(net, volts, old, low, node) };
     guesses.fill(&moved, steps);
 }

@@ -18,7 +18,7 @@ returns-clause-narrow c settled k =
     ⊎_elim
     (λ inside. i.narrow (omega (arith, close)) k (omega (arith, inside, end, c.loop-node-test.false, c.loop-node.auto.node-end)))
     (λ past.
-    let none : ends_at out k ≡ no_ends = get_or_past out k no_ends (omega (arith, past, i.same_length, c.requires.room)) in
+    let none : ends_at out k ≡ no_ends = get_or_past out k no_ends (omega (arith, past, i.same_length, c.requires.together.interval_count)) in
     let narrow : IsNarrow no_ends = omega (arith, ints) in
     subst IsNarrow (sym none) narrow)
     (cases_lt k net.network.nodes)

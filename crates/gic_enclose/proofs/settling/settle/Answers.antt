@@ -14,7 +14,7 @@ loop-phase-init g c =
     record {
       near = (x, c.sweeps_converge_law.ensures.first net.network (stands net) (number_at c.args.volts.now) x (number_at c.sweep.new.solver) (slice_index c.args.bound.now) c.nodes-nodes.ensures.limits c.requires.bound c.count-voltages.ensures.limit c.count-guesses.ensures.cut c.sweep.ensures.sweep);
       same_length = omega (arith, c.sweep.ensures.same_length, c.improve.ensures.same_length);
-      ticks = omega (arith, c.sweep.ensures.tick, c.improve.ensures.ticks);
+      ticks = omega (arith, c.sweep.ensures.tick, c.improve.ensures.tick, c.improve.ensures.few_rounds);
     }
 
 pub loop-turn-preserved : goal.loop-turn-preserved

@@ -7,11 +7,14 @@ use Rattle.gic_sweep.proofs.Closeness.{settled_more}
 use Rattle.gic_enclose.proofs.Widths.{narrow_is_sharp}
 use Rattle.gic_enclose.proofs.solving.solve.Goals as goal
 
-pub returns-clause-sharp : goal.returns-clause-sharp
-returns-clause-sharp g c =
+pub returns-clause-solved : goal.returns-clause-solved
+returns-clause-solved g c =
     let net = c.args.net.now in
     let volts = number_at c.args.volts.now in
     let x = number_at c.settle.new.solver in
     let more : 2 ^ 18 ≤ 2 ^ 29 = omega arith in
-    narrow_is_sharp net.network.nodes volts (low_at c.enclose.new.out) (high_at c.enclose.new.out) c.args.width (omega (arith, c.requires.width_least))
-    (c.enclose.ensures.narrow (λ k live. settled_more (standing net) volts x k (2 ^ 18) (2 ^ 29) more (c.settle.ensures.settled k live))) (standing net) (standing_within net.network (stands net) c.nodes-nodes.ensures.limits)
+    record {
+      certain = c.enclose.ensures.certain;
+      sharp = narrow_is_sharp net.network.nodes volts (low_at c.enclose.new.out) (high_at c.enclose.new.out) c.args.width (omega (arith, c.requires.width.least))
+          (c.enclose.ensures.narrow (λ k live. settled_more (standing net) volts x k (2 ^ 18) (2 ^ 29) more (c.settle.ensures.settled k live))) (standing net) (standing_within net.network (stands net) c.nodes-nodes.ensures.limits);
+    }

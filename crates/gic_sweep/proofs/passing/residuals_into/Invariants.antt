@@ -4,7 +4,8 @@ use Rattle.gic_model.specs.Guess.{diagonal, residual_down, residual_up}
 use Rattle.gic_model.specs.Sums.{sum_of}
 use Rattle.gic_model.specs.Voltages.{number_at}
 use Rattle.gic_net.specs.Net.{standing}
-use Rattle.gic_sweep.specs.Passes.{diagonal_part, part_down, part_up, left_at}
+use Rattle.gic_sweep.specs.Passes.{part_down, part_up, left_at}
+use Rattle.gic_sweep.proofs.NodeSums.{diagonal_part}
 use Rattle.gic_sweep.proofs.passing.residuals_into.Given as goal
 
 abbrev pub invariant-loop-place : goal.invariant-loop-place
