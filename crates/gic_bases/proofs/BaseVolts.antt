@@ -1,170 +1,168 @@
 -- The voltages of fields are a 20000th of what the fields make of those of the base fields.
-use Rattle.std.proofs.Common.{◌≡◌, ◌≢◌, ℕ, zero, suc, ◌<◌, ◌≤◌, List, [], ◌∷◌, length, map, All, ℤ, pos, ◌+ℤ◌, ◌*ℤ◌, replicate, arith, refl, ap, ap₂, sym, ◌∙◌, ⊎_elim}
+use Rattle.std.proofs.Common.{◌≡◌, ◌≢◌, ℕ, zero, suc, ◌<◌, ◌≤◌, List, length, take, ℤ, pos, ◌+ℤ◌, ◌*ℤ◌, ◌⊎◌, inl, inr, replicate, arith, ap, ap₂, sym, ◌∙◌, ⊎_elim}
+use Rattle.std.proofs.Math.Seq.{take-length}
 use lib.IntN.{*ℤ-zero, *ℤ_comm}
-use Rattle.std.specs.List.{AllByRecursion}
-use Rattle.std.proofs.lemmas.Bool.{cases_lt}
-use Rattle.std.proofs.lemmas.List.{get_or_past, length-map, get_or-set_same, get_or-set_other, length-replicate, get_or-replicate}
-use Rattle.std.proofs.lemmas.List.Elements.{recursion_from_All}
-use Rattle.gic_fixed.proofs.Integers.{linear, *ℤ-+ℤ, *ℤ_assoc, *ℤ_left_comm}
-use Rattle.gic_scale.specs.ZoneView.{ZoneView, factor_of}
-use Rattle.gic_case.specs.Lists.{Lists, IsSound, IsSoundLine}
-use Rattle.gic_case.specs.declared.item.Line.{Line}
+use Rattle.std.proofs.lemmas.Bool.{cases_lt, cases_eq}
+use Rattle.std.proofs.lemmas.List.{get_or_past, get_or-take, length-take, get_or-set_same, get_or-set_other, length-replicate, get_or-replicate}
+use Rattle.gic_fixed.proofs.Integers.{linear}
+use Rattle.gic_case.specs.Lists.{Lists}
 use Rattle.gic_model.specs.Voltages.{number_at}
-use Rattle.gic_model.specs.declared.parts.Item.{Item}
-use Rattle.gic_model.specs.declared.parts.Item.TheVariants as items
 use Rattle.gic_model.specs.declared.parts.Element.{Element}
-use Rattle.gic_induce.specs.Fields.{no_field, field_at}
-use Rattle.gic_induce.specs.Voltage.{line_nanovolts}
-use Rattle.gic_induce.specs.LineVolts.{zone_among, line_volts, volts_of_item, volts_of, IsLineWithin}
-use Rattle.gic_bases.specs.Bases.{lone_field, north_volts, east_volts, sum_below}
-use Rattle.gic_bases.proofs.SumsBelow.{sum_below-nothing, sum_below-same, sum_below-one}
+use Rattle.gic_induce.specs.Fields.{no_field, field_at, lone_field}
+use Rattle.gic_induce.specs.LineVolts.{volts_of}
+use Rattle.gic_induce.specs.Linear.{AreCombined}
+use Rattle.gic_induce.proofs.Linear.{volts_linear}
+use Rattle.gic_bases.specs.Bases.{north_volts, east_volts, sum_below}
 
--- an item of a list at a place, for every function of it at once
-pick : {X : Type 0} (P : X → Type 0) (xs : List X) (i : ℕ) → i < length xs → AllByRecursion P xs → (x : X) × P x × ((f : X → ℤ) → number_at (map f xs) i ≡ f x)
-pick P [] i less each = absurd (omega (arith, less))
-pick P (x ∷ xs) zero less each = (x, each.0, λ f. refl)
-pick P (x ∷ xs) (suc i) less each = pick P xs i (omega (arith, less)) each.1
-
--- the field of a zone where another one has it
+-- the field of a zone that alone has one, and of another
 lone_here : (zones zone : ℕ) (field : ℤ × ℤ) → zone < zones → field_at (lone_field zones zone field) zone ≡ field
 unfolding lone_field
 lone_here zones zone field less = get_or-set_same (replicate zones no_field) zone field no_field (omega (arith, length-replicate zones no_field, less))
 
-lone_there : (zones zone other : ℕ) (field : ℤ × ℤ) → other < zones → other ≢ zone → field_at (lone_field zones zone field) other ≡ no_field
+lone_there : (zones zone other : ℕ) (field : ℤ × ℤ) → other ≢ zone → field_at (lone_field zones zone field) other ≡ no_field
 unfolding lone_field
-lone_there zones zone other field less differ = get_or-set_other (replicate zones no_field) zone other field no_field differ ∙ get_or-replicate zones other no_field no_field less
+lone_there zones zone other field differ = get_or-set_other (replicate zones no_field) zone other field no_field differ ∙ ⊎_elim inside past (cases_lt other zones)
+  where
+    inside : other < zones → field_at (replicate zones no_field) other ≡ no_field
+    inside less = get_or-replicate zones other no_field no_field less
 
--- a field of nothing induces nothing
-nothing_induced : (line : Line) (zone : ZoneView) → line_nanovolts line zone (pos 0) (pos 0) ≡ pos 0
-nothing_induced line zone =
-    let one = *ℤ-zero line.north in
-    let other = *ℤ-zero line.east in
-    let first = *ℤ_comm (pos 0) line.north in
-    let second = *ℤ_comm (pos 0) line.east in
-    let inner : (pos 0 *ℤ line.north) +ℤ (pos 0 *ℤ line.east) ≡ pos 0 = omega (arith, linear) in
-    let product = ap (λ z. z *ℤ pos (factor_of zone)) inner in
-    let turned = *ℤ_comm (pos 0) (pos (factor_of zone)) in
-    let none = *ℤ-zero (pos (factor_of zone)) in
-    omega (arith, linear)
+    past : zones ≤ other → field_at (replicate zones no_field) other ≡ no_field
+    past more = get_or_past (replicate zones no_field) other no_field (omega (arith, more, length-replicate zones no_field))
 
--- over plain numbers: a line's voltage by those of its base fields
-line_sum : (n e north east : ℤ) (f : ℕ) →
-    n *ℤ (((pos 20000 *ℤ north) +ℤ (pos 0 *ℤ east)) *ℤ pos f) +ℤ e *ℤ (((pos 0 *ℤ north) +ℤ (pos 20000 *ℤ east)) *ℤ pos f) ≡
-    pos 20000 *ℤ (((n *ℤ north) +ℤ (e *ℤ east)) *ℤ pos f)
-line_sum n e north east f =
-    let zn = *ℤ-zero north in
-    let ze = *ℤ-zero east in
-    let cn = *ℤ_comm (pos 0) north in
-    let ce = *ℤ_comm (pos 0) east in
-    let first : (pos 20000 *ℤ north) +ℤ (pos 0 *ℤ east) ≡ pos 20000 *ℤ north = omega (arith, linear) in
-    let second : (pos 0 *ℤ north) +ℤ (pos 20000 *ℤ east) ≡ pos 20000 *ℤ east = omega (arith, linear) in
-    let one = ap (λ z. n *ℤ (z *ℤ pos f)) first in
-    let other = ap (λ z. e *ℤ (z *ℤ pos f)) second in
-    let one_out = ap (λ z. n *ℤ z) (*ℤ_assoc (pos 20000) north (pos f)) in
-    let other_out = ap (λ z. e *ℤ z) (*ℤ_assoc (pos 20000) east (pos f)) in
-    let one_front = *ℤ_left_comm n (pos 20000) (north *ℤ pos f) in
-    let other_front = *ℤ_left_comm e (pos 20000) (east *ℤ pos f) in
-    let one_in = ap (λ z. pos 20000 *ℤ z) (sym (*ℤ_assoc n north (pos f))) in
-    let other_in = ap (λ z. pos 20000 *ℤ z) (sym (*ℤ_assoc e east (pos f))) in
-    let turned = *ℤ_comm ((n *ℤ north) +ℤ (e *ℤ east)) (pos f) in
-    let split = *ℤ-+ℤ (pos f) (n *ℤ north) (e *ℤ east) in
-    let back_n = *ℤ_comm (pos f) (n *ℤ north) in
-    let back_e = *ℤ_comm (pos f) (e *ℤ east) in
-    let inside : ((n *ℤ north) +ℤ (e *ℤ east)) *ℤ pos f ≡ (n *ℤ north) *ℤ pos f +ℤ (e *ℤ east) *ℤ pos f = omega (arith, linear) in
-    let right = ap (λ z. pos 20000 *ℤ z) inside in
-    let right_split = *ℤ-+ℤ (pos 20000) ((n *ℤ north) *ℤ pos f) ((e *ℤ east) *ℤ pos f) in
-    omega (arith, linear)
+-- the first fields of a list, and what is past them
+first_here : (fields : List (ℤ × ℤ)) (n z : ℕ) → z < n → field_at (take n fields) z ≡ field_at fields z
+first_here fields n z less = get_or-take n fields z no_field less
 
-module _ (case : Lists) (sound : IsSound case) (fields : List (ℤ × ℤ)) where
+first_past : (fields : List (ℤ × ℤ)) (n z : ℕ) → n ≤ z → field_at (take n fields) z ≡ no_field
+first_past fields n z more = get_or_past (take n fields) z no_field (omega (arith, more, length-take n fields))
+
+-- over plain numbers: one of two fields is none
+either_field : (x y w : ℤ × ℤ) → ((w ≡ x) × (y ≡ no_field)) ⊎ ((w ≡ y) × (x ≡ no_field)) →
+    (pos 20000 *ℤ w.0 ≡ pos 20000 *ℤ x.0 +ℤ pos 20000 *ℤ y.0) × (pos 20000 *ℤ w.1 ≡ pos 20000 *ℤ x.1 +ℤ pos 20000 *ℤ y.1)
+either_field x y w =
+    let none = *ℤ-zero (pos 20000) in
+    ⊎_elim
+    (λ h.
+    let a = ap (λ (p : ℤ × ℤ). pos 20000 *ℤ p.0) h.0 in
+    let b = ap (λ (p : ℤ × ℤ). pos 20000 *ℤ p.1) h.0 in
+    let c = ap (λ (p : ℤ × ℤ). pos 20000 *ℤ p.0) h.1 in
+    let d = ap (λ (p : ℤ × ℤ). pos 20000 *ℤ p.1) h.1 in
+    (omega (arith, linear), omega (arith, linear)))
+    (λ h.
+    let a = ap (λ (p : ℤ × ℤ). pos 20000 *ℤ p.0) h.0 in
+    let b = ap (λ (p : ℤ × ℤ). pos 20000 *ℤ p.1) h.0 in
+    let c = ap (λ (p : ℤ × ℤ). pos 20000 *ℤ p.0) h.1 in
+    let d = ap (λ (p : ℤ × ℤ). pos 20000 *ℤ p.1) h.1 in
+    (omega (arith, linear), omega (arith, linear)))
+
+module _ (case : Lists) (fields : List (ℤ × ℤ)) (count : length fields ≡ length case.zones) (elements : List Element) (place : ℕ) where
   abbrev pub zones : ℕ
   zones = length case.zones
 
-  -- a zone's part of an item's voltage
-  abbrev pub part : Item → ℕ → ℤ
-  part item zone =
-      (field_at fields zone).0 *ℤ volts_of_item case (lone_field zones zone (pos 20000, pos 0)) item +ℤ
-      (field_at fields zone).1 *ℤ volts_of_item case (lone_field zones zone (pos 0, pos 20000)) item
+  -- the voltage at the place in other fields
+  abbrev pub volt : List (ℤ × ℤ) → ℤ
+  volt given = number_at (volts_of case given elements) place
 
-  nothing : (item : Item) → ((fields : List (ℤ × ℤ)) → volts_of_item case fields item ≡ pos 0) → (zone : ℕ) → part item zone ≡ pos 0
-  nothing item none zone =
-      let one = ap (λ z. (field_at fields zone).0 *ℤ z) (none (lone_field zones zone (pos 20000, pos 0))) in
-      let other = ap (λ z. (field_at fields zone).1 *ℤ z) (none (lone_field zones zone (pos 0, pos 20000))) in
-      let one_none = *ℤ-zero (field_at fields zone).0 in
-      let other_none = *ℤ-zero (field_at fields zone).1 in
-      omega (arith, linear)
+  -- a zone's part of it
+  abbrev pub part : ℕ → ℤ
+  part zone = (field_at fields zone).0 *ℤ north_volts case elements zone place +ℤ (field_at fields zone).1 *ℤ east_volts case elements zone place
 
-  no_sum : (item : Item) → ((fields : List (ℤ × ℤ)) → volts_of_item case fields item ≡ pos 0) → pos 20000 *ℤ volts_of_item case fields item ≡ sum_below (part item) zones
-  no_sum item none =
-      let left = ap (λ z. pos 20000 *ℤ z) (none fields) in
-      let zero_is = *ℤ-zero (pos 20000) in
-      let right = sum_below-nothing (part item) zones (nothing item none) in
-      omega (arith, linear)
-
-  module _ (line : Line) (within : line.zone < zones) (place : ℕ) (is : (f : Line → ℤ) → number_at (map f case.lines) place ≡ f line) where
-    volts_is : (given : List (ℤ × ℤ)) → volts_of_item case given (items.Line place) ≡ line_volts case.zones given line
-    volts_is given = is (line_volts case.zones given)
-
-    by_field : (given : List (ℤ × ℤ)) (field : ℤ × ℤ) → field_at given line.zone ≡ field → volts_of_item case given (items.Line place) ≡ line_nanovolts line (zone_among case.zones line.zone) field.0 field.1
-    by_field given field e = volts_is given ∙ ap (λ (g : ℤ × ℤ). line_nanovolts line (zone_among case.zones line.zone) g.0 g.1) e
-
-    other_zones : (zone : ℕ) → zone ≢ line.zone → part (items.Line place) zone ≡ pos 0
-    other_zones zone differ =
-        let there = λ (field : ℤ × ℤ). by_field (lone_field zones zone field) no_field (lone_there zones zone line.zone field within (λ e. differ (sym e))) ∙ nothing_induced line (zone_among case.zones line.zone) in
-        let one = ap (λ z. (field_at fields zone).0 *ℤ z) (there (pos 20000, pos 0)) in
-        let other = ap (λ z. (field_at fields zone).1 *ℤ z) (there (pos 0, pos 20000)) in
-        let one_none = *ℤ-zero (field_at fields zone).0 in
-        let other_none = *ℤ-zero (field_at fields zone).1 in
-        omega (arith, linear)
-
-    own_zone : part (items.Line place) line.zone ≡ pos 20000 *ℤ volts_of_item case fields (items.Line place)
-    own_zone =
-        let here = λ (field : ℤ × ℤ). by_field (lone_field zones line.zone field) field (lone_here zones line.zone field within) in
-        let one = ap (λ z. (field_at fields line.zone).0 *ℤ z) (here (pos 20000, pos 0)) in
-        let other = ap (λ z. (field_at fields line.zone).1 *ℤ z) (here (pos 0, pos 20000)) in
-        let whole = ap (λ z. pos 20000 *ℤ z) (by_field fields (field_at fields line.zone) refl) in
-        let sum = line_sum (field_at fields line.zone).0 (field_at fields line.zone).1 line.north line.east (factor_of (zone_among case.zones line.zone)) in
-        omega (arith, linear)
-
-    line_item : pos 20000 *ℤ volts_of_item case fields (items.Line place) ≡ sum_below (part (items.Line place)) zones
-    line_item = sym own_zone ∙ sym (sum_below-one (part (items.Line place)) zones line.zone within other_zones)
-
-  item_sum : (item : Item) → IsLineWithin case item → pos 20000 *ℤ volts_of_item case fields item ≡ sum_below (part item) zones
-  item_sum (items.Line place) within =
-      let line = pick (IsSoundLine case) case.lines place within (recursion_from_All (IsSoundLine case) case.lines sound.lines_sound) in
-      line_item line.0 line.1.zone_within place line.2
-  item_sum (items.Ground place) within = no_sum (items.Ground place) (λ given. refl)
-  item_sum (items.Transformer place) within = no_sum (items.Transformer place) (λ given. refl)
-  item_sum (items.Neutral place) within = no_sum (items.Neutral place) (λ given. refl)
-
-  pub volts_combine : (elements : List Element) → All (λ e. IsLineWithin case e.item) elements → (place : ℕ) →
-      pos 20000 *ℤ number_at (volts_of case fields elements) place ≡
-      sum_below (λ zone. (field_at fields zone).0 *ℤ north_volts case elements zone place +ℤ (field_at fields zone).1 *ℤ east_volts case elements zone place) zones
-  volts_combine elements each place = ⊎_elim inside past (cases_lt place (length elements))
+  -- one field more is that field alone besides
+  one_more : (n : ℕ) → n < zones → AreCombined (pos 20000) (pos 20000) (pos 20000) (take n fields) (lone_field zones n (field_at fields n)) (take (suc n) fields)
+  one_more n less = record { north = λ z. (both z).0; east = λ z. (both z).1 }
     where
-      inside : place < length elements → pos 20000 *ℤ number_at (volts_of case fields elements) place ≡
-          sum_below (λ zone. (field_at fields zone).0 *ℤ north_volts case elements zone place +ℤ (field_at fields zone).1 *ℤ east_volts case elements zone place) zones
-      inside less =
-          let e = pick (λ e. IsLineWithin case e.item) elements place less (recursion_from_All (λ e. IsLineWithin case e.item) elements each) in
-          let left = ap (λ z. pos 20000 *ℤ z) (e.2 (λ e. volts_of_item case fields e.item)) in
-          left ∙ item_sum e.0.item e.1 ∙
-          sum_below-same (part e.0.item) (λ zone. (field_at fields zone).0 *ℤ north_volts case elements zone place +ℤ (field_at fields zone).1 *ℤ east_volts case elements zone place) zones
-          (λ zone. ap₂ (λ y z. (field_at fields zone).0 *ℤ y +ℤ (field_at fields zone).1 *ℤ z)
-          (sym (e.2 (λ e. volts_of_item case (lone_field zones zone (pos 20000, pos 0)) e.item)))
-          (sym (e.2 (λ e. volts_of_item case (lone_field zones zone (pos 0, pos 20000)) e.item))))
+      both : (z : ℕ) → (pos 20000 *ℤ (field_at (take (suc n) fields) z).0 ≡ pos 20000 *ℤ (field_at (take n fields) z).0 +ℤ pos 20000 *ℤ (field_at (lone_field zones n (field_at fields n)) z).0)
+          × (pos 20000 *ℤ (field_at (take (suc n) fields) z).1 ≡ pos 20000 *ℤ (field_at (take n fields) z).1 +ℤ pos 20000 *ℤ (field_at (lone_field zones n (field_at fields n)) z).1)
+      both z = either_field (field_at (take n fields) z) (field_at (lone_field zones n (field_at fields n)) z) (field_at (take (suc n) fields) z)
+          (⊎_elim
+          (λ e. inr (
+            first_here fields (suc n) z (omega (arith, e)) ∙ ap (field_at fields) e ∙ sym (lone_here zones n (field_at fields n) less) ∙ ap (field_at (lone_field zones n (field_at fields n))) (sym e),
+            first_past fields n z (omega (arith, e)),
+          ))
+          (λ d. inl (
+            ⊎_elim
+            (λ (before : z < n). first_here fields (suc n) z (omega (arith, before)) ∙ sym (first_here fields n z before))
+            (λ (after : n ≤ z). first_past fields (suc n) z (omega (arith, after, d)) ∙ sym (first_past fields n z after))
+            (cases_lt z n),
+            lone_there zones n z (field_at fields n) d,
+          ))
+          (cases_eq z n))
 
-      none : length elements ≤ place → (given : List (ℤ × ℤ)) → number_at (volts_of case given elements) place ≡ pos 0
-      none h given = get_or_past (volts_of case given elements) place (pos 0) (omega (arith, h, length-map elements (λ e. volts_of_item case given e.item)))
+  -- a zone's field is made of its base fields
+  module _ (n : ℕ) (less : n < zones) where
+    abbrev pub own : ℤ × ℤ
+    own = field_at fields n
 
-      past : length elements ≤ place → pos 20000 *ℤ number_at (volts_of case fields elements) place ≡
-          sum_below (λ zone. (field_at fields zone).0 *ℤ north_volts case elements zone place +ℤ (field_at fields zone).1 *ℤ east_volts case elements zone place) zones
-      past h =
-          let left = ap (λ z. pos 20000 *ℤ z) (none h fields) in
-          let zero_is = *ℤ-zero (pos 20000) in
-          let right = sum_below-nothing (λ zone. (field_at fields zone).0 *ℤ north_volts case elements zone place +ℤ (field_at fields zone).1 *ℤ east_volts case elements zone place) zones
-          (λ zone.
-          let one = ap (λ z. (field_at fields zone).0 *ℤ z) (none h (lone_field zones zone (pos 20000, pos 0))) in
-          let other = ap (λ z. (field_at fields zone).1 *ℤ z) (none h (lone_field zones zone (pos 0, pos 20000))) in
-          let one_none = *ℤ-zero (field_at fields zone).0 in
-          let other_none = *ℤ-zero (field_at fields zone).1 in
-          omega (arith, linear)) in
-          omega (arith, linear)
+    -- over plain numbers
+    of_both : (f g h : ℤ × ℤ) → ((f ≡ (pos 20000, pos 0)) × ((g ≡ (pos 0, pos 20000)) × (h ≡ own))) ⊎ ((f ≡ no_field) × ((g ≡ no_field) × (h ≡ no_field))) →
+        (pos 20000 *ℤ h.0 ≡ own.0 *ℤ f.0 +ℤ own.1 *ℤ g.0) × (pos 20000 *ℤ h.1 ≡ own.0 *ℤ f.1 +ℤ own.1 *ℤ g.1)
+    of_both f g h =
+        let none = *ℤ-zero (pos 20000) in
+        let none0 = *ℤ-zero own.0 in
+        let none1 = *ℤ-zero own.1 in
+        let turn0 = *ℤ_comm own.0 (pos 20000) in
+        let turn1 = *ℤ_comm own.1 (pos 20000) in
+        ⊎_elim
+        (λ e.
+        let f0 = ap (λ (p : ℤ × ℤ). own.0 *ℤ p.0) e.0 in
+        let f1 = ap (λ (p : ℤ × ℤ). own.0 *ℤ p.1) e.0 in
+        let g0 = ap (λ (p : ℤ × ℤ). own.1 *ℤ p.0) e.1.0 in
+        let g1 = ap (λ (p : ℤ × ℤ). own.1 *ℤ p.1) e.1.0 in
+        let h0 = ap (λ (p : ℤ × ℤ). pos 20000 *ℤ p.0) e.1.1 in
+        let h1 = ap (λ (p : ℤ × ℤ). pos 20000 *ℤ p.1) e.1.1 in
+        (omega (arith, linear), omega (arith, linear)))
+        (λ e.
+        let f0 = ap (λ (p : ℤ × ℤ). own.0 *ℤ p.0) e.0 in
+        let f1 = ap (λ (p : ℤ × ℤ). own.0 *ℤ p.1) e.0 in
+        let g0 = ap (λ (p : ℤ × ℤ). own.1 *ℤ p.0) e.1.0 in
+        let g1 = ap (λ (p : ℤ × ℤ). own.1 *ℤ p.1) e.1.0 in
+        let h0 = ap (λ (p : ℤ × ℤ). pos 20000 *ℤ p.0) e.1.1 in
+        let h1 = ap (λ (p : ℤ × ℤ). pos 20000 *ℤ p.1) e.1.1 in
+        (omega (arith, linear), omega (arith, linear)))
+
+    in_zone : (z : ℕ) → (pos 20000 *ℤ (field_at (lone_field zones n own) z).0 ≡ own.0 *ℤ (field_at (lone_field zones n (pos 20000, pos 0)) z).0 +ℤ own.1 *ℤ (field_at (lone_field zones n (pos 0, pos 20000)) z).0)
+        × (pos 20000 *ℤ (field_at (lone_field zones n own) z).1 ≡ own.0 *ℤ (field_at (lone_field zones n (pos 20000, pos 0)) z).1 +ℤ own.1 *ℤ (field_at (lone_field zones n (pos 0, pos 20000)) z).1)
+    in_zone z =
+        let here = λ (given : ℤ × ℤ) (e : z ≡ n). ap (field_at (lone_field zones n given)) e ∙ lone_here zones n given less in
+        of_both (field_at (lone_field zones n (pos 20000, pos 0)) z) (field_at (lone_field zones n (pos 0, pos 20000)) z) (field_at (lone_field zones n own) z)
+        (⊎_elim
+        (λ e. inl (here (pos 20000, pos 0) e, (here (pos 0, pos 20000) e, here own e)))
+        (λ d. inr (lone_there zones n z (pos 20000, pos 0) d, (lone_there zones n z (pos 0, pos 20000) d, lone_there zones n z own d)))
+        (cases_eq z n))
+
+    of_bases : AreCombined (pos 20000) own.0 own.1 (lone_field zones n (pos 20000, pos 0)) (lone_field zones n (pos 0, pos 20000)) (lone_field zones n own)
+    of_bases = record { north = λ z. (in_zone z).0; east = λ z. (in_zone z).1 }
+
+  -- no field induces nothing
+  nothing : (given : List (ℤ × ℤ)) → ((z : ℕ) → field_at given z ≡ no_field) → pos 20000 *ℤ volt given ≡ pos 0
+  nothing given none =
+      let e = volts_linear case elements (pos 20000) (pos 0) (pos 0) given given given (record { north = λ z. (plain (field_at given z) (none z)).0; east = λ z. (plain (field_at given z) (none z)).1 }) place in
+      let turned = *ℤ_comm (pos 0) (volt given) in
+      let gone = *ℤ-zero (volt given) in
+      omega (arith, linear)
+    where
+      plain : (x : ℤ × ℤ) → x ≡ no_field → (pos 20000 *ℤ x.0 ≡ pos 0 *ℤ x.0 +ℤ pos 0 *ℤ x.0) × (pos 20000 *ℤ x.1 ≡ pos 0 *ℤ x.1 +ℤ pos 0 *ℤ x.1)
+      plain x h =
+          let a = ap (λ (p : ℤ × ℤ). pos 20000 *ℤ p.0) h in
+          let b = ap (λ (p : ℤ × ℤ). pos 20000 *ℤ p.1) h in
+          let none = *ℤ-zero (pos 20000) in
+          let a_turned = *ℤ_comm (pos 0) x.0 in
+          let b_turned = *ℤ_comm (pos 0) x.1 in
+          let a_gone = *ℤ-zero x.0 in
+          let b_gone = *ℤ-zero x.1 in
+          (omega (arith, linear), omega (arith, linear))
+
+  so_far : (n : ℕ) → n ≤ zones → pos 20000 *ℤ volt (take n fields) ≡ sum_below part n
+  so_far zero less = nothing (take zero fields) (λ z. first_past fields zero z (omega arith))
+  so_far (suc n) less =
+      let before = so_far n (omega (arith, less)) in
+      let inside : n < zones = omega (arith, less) in
+      let more = volts_linear case elements (pos 20000) (pos 20000) (pos 20000) (take n fields) (lone_field zones n (field_at fields n)) (take (suc n) fields) (one_more n inside) place in
+      let alone = volts_linear case elements (pos 20000) (field_at fields n).0 (field_at fields n).1 (lone_field zones n (pos 20000, pos 0)) (lone_field zones n (pos 0, pos 20000)) (lone_field zones n (field_at fields n)) (of_bases n inside) place in
+      more ∙ ap₂ (λ y z. y +ℤ z) before alone
+
+  pub volts_combine : pos 20000 *ℤ number_at (volts_of case fields elements) place ≡
+      sum_below (λ zone. (field_at fields zone).0 *ℤ north_volts case elements zone place +ℤ (field_at fields zone).1 *ℤ east_volts case elements zone place) (length case.zones)
+  volts_combine =
+      let all : take zones fields ≡ fields = ap (λ (n : ℕ). take n fields) (sym count) ∙ take-length fields in
+      ap (λ (given : List (ℤ × ℤ)). pos 20000 *ℤ volt given) (sym all) ∙ so_far zones (omega arith)

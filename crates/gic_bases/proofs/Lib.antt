@@ -1,5 +1,4 @@
 pub mod SumsBelow
-pub mod LinearResidual
 pub mod Combined
 pub mod BaseVolts
 pub mod Kept

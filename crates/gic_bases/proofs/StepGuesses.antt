@@ -9,12 +9,11 @@ use Rattle.gic_model.specs.Network.{Network, IsWithinLimits}
 use Rattle.gic_model.specs.Voltages.{number_at, AreVolts}
 use Rattle.gic_model.specs.Standing.{IsLive, standing_elements}
 use Rattle.gic_model.specs.Bound.{IsEarthedWithin}
-use Rattle.gic_model.specs.Guess.{IsSettledWithin}
+use Rattle.gic_model.specs.Guess.{IsSettledWithin, cut}
 use Rattle.gic_model.specs.Sums.{Placed}
-use Rattle.gic_sweep.specs.Sweep.{cut}
 use Rattle.gic_case.specs.Lists.{Lists, IsSound}
 use Rattle.gic_induce.specs.Fields.{IsField, no_field, field_at}
-use Rattle.gic_induce.specs.LineVolts.{volts_of, IsLineWithin}
+use Rattle.gic_induce.specs.LineVolts.{volts_of}
 use Rattle.gic_converge.proofs.Cuts.{cut_same}
 use Rattle.gic_bases.specs.Bases.{ZoneBases, north_at, east_at, north_volts, east_volts, sum_below, combined_guess, AreSettledBases}
 use Rattle.gic_bases.proofs.BaseVolts.{volts_combine}
@@ -30,13 +29,13 @@ field_small fields each zone =
     (cases_lt zone (length fields))
 
 module _ (case : Lists) (sound : IsSound case) (fields : List (ℤ × ℤ)) (within : All IsField fields) (count : length fields ≡ length case.zones)
-    (list : List Element) (lines : All (λ e. IsLineWithin case e.item) list) (bases : List ZoneBases) (volts : List ℤ) (is : volts ≡ volts_of case fields list) where
+    (list : List Element) (bases : List ZoneBases) (volts : List ℤ) (is : volts ≡ volts_of case fields list) where
   pub step_settled : (standing : List Placed) → AreSettledBases standing case list bases → (x : ℕ → ℤ) → ((k : ℕ) → IsLive standing k → x k ≡ combined_guess fields bases k) →
       IsSettledWithin standing (number_at volts) x (2 ^ 28)
   step_settled standing settled x guess =
       combined_settled standing (length case.zones) sound.few_zones (λ z. (field_at fields z).0) (λ z. (field_at fields z).1) (λ z. (field_small fields within z).0) (λ z. (field_small fields within z).1)
       (north_volts case list) (east_volts case list) (north_at bases) (east_at bases) (λ z less. (settled z less).north) (λ z less. (settled z less).east)
-      (number_at volts) (λ i. ap (λ (l : List ℤ). pos 20000 *ℤ number_at l i) is ∙ volts_combine case sound fields list lines i)
+      (number_at volts) (λ i. ap (λ (l : List ℤ). pos 20000 *ℤ number_at l i) is ∙ volts_combine case fields count list i)
       x (λ k live. guess k live ∙ ap (λ n. floor_div (sum_below (λ z. (field_at fields z).0 *ℤ north_at bases z k +ℤ (field_at fields z).1 *ℤ east_at bases z k) n) (pos 20000)) count)
 
   -- so no combined guess is cut

@@ -1,8 +1,11 @@
 -- Sums below a number.
-use Rattle.std.proofs.Common.{◌≡◌, ◌≢◌, ℕ, zero, suc, ◌+◌, ◌*◌, ◌<◌, ◌≤◌, ℤ, pos, ◌+ℤ◌, unsigned_abs, arith, refl, ap, sym, ⊎_elim}
+use Rattle.std.proofs.Common.{◌≡◌, ◌≢◌, ℕ, zero, suc, ◌+◌, ◌*◌, ◌<◌, ◌≤◌, List, ℤ, pos, ◌+ℤ◌, unsigned_abs, arith, refl, ap, sym, ◌∙◌, ⊎_elim}
 use Rattle.std.proofs.lemmas.Int.{ints}
 use Rattle.std.proofs.lemmas.Bool.{cases_eq}
 use Rattle.gic_fixed.proofs.Integers.{linear}
+use Rattle.gic_model.specs.Sums.{Placed}
+use Rattle.gic_model.specs.Guess.{residual}
+use Rattle.gic_enclose.proofs.LinearResidual.{residual_nothing, residual_sum}
 use Rattle.gic_bases.specs.Bases.{sum_below}
 
 pub sum_below-nothing : (f : ℕ → ℤ) (n : ℕ) → ((i : ℕ) → f i ≡ pos 0) → sum_below f n ≡ pos 0
@@ -41,3 +44,11 @@ sum_below-within f (suc n) b h =
 -- one term more
 pub sum_below-next : (f : ℕ → ℤ) (n : ℕ) → sum_below f (n + 1) ≡ sum_below f n +ℤ f n
 sum_below-next f n = let e : n + 1 ≡ suc n = omega arith in ap (sum_below f) e
+
+-- the residual of sums
+pub residual_sum_below : (standing : List Placed) (k : ℕ) (u x : ℕ → ℕ → ℤ) (n : ℕ) →
+    residual standing (λ i. sum_below (λ z. u z i) n) (λ m. sum_below (λ z. x z m) n) k ≡ sum_below (λ z. residual standing (u z) (x z) k) n
+residual_sum_below standing k u x zero = residual_nothing standing k
+residual_sum_below standing k u x (suc n) =
+    residual_sum standing k (λ i. sum_below (λ z. u z i) n) (u n) (λ m. sum_below (λ z. x z m) n) (x n) ∙
+    ap (λ z. z +ℤ residual standing (u n) (x n) k) (residual_sum_below standing k u x n)

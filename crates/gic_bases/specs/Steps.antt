@@ -13,7 +13,7 @@ use Rattle.gic_bases.specs.Bases.{ZoneBases, combined_guess, AreBasesFor, AreSet
 pub record FitCase (case : Lists) (network : Network) (fields : List (ℤ × ℤ)) (bases : List ZoneBases) : Type 0 where
   pub lines : All (λ e. IsLineWithin case e.item) network.list
   pub zones : length fields ≡ length case.zones
-  pub shape : AreBasesFor network.nodes (length fields) bases
+  pub shape : AreBasesFor network.nodes (length case.zones) bases
 
 -- so it is, and the bases' guesses are settled in this net
 pub record AreReady (case : Lists) (net : NetView) (fields : List (ℤ × ℤ)) (bases : List ZoneBases) : Type 0 where

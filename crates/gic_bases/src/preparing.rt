@@ -1,8 +1,10 @@
 //! Settled guesses for the base fields of all zones.
-ghost use Rattle.std.specs.Prelude.{ℕ, ◌≡◌, ◌≢◌, ◌+◌, ◌*◌, ◌<◌, ◌≤◌, length, slice_index};
+ghost use Rattle.std.specs.Prelude.{ℕ, ◌≡◌, ◌≢◌, ◌+◌, ◌*◌, ◌<◌, ◌≤◌, length, slice_index, All};
 ghost use Rattle.gic_base.specs.declared.limits.TheConstants.{MOST_WALK};
 ghost use Rattle.gic_enclose.specs.declared.solving.TheConstants.{MOST_TICKS};
 ghost use Rattle.gic_net.specs.Net.{standing};
+ghost use Rattle.gic_induce.specs.Fields.{IsField, lone_field};
+ghost use Rattle.gic_induce.specs.LineVolts.{volts_of, IsLineWithin};
 ghost use Rattle.gic_bound.specs.Entries.{IsBoundWithin};
 ghost use Rattle.gic_bases.specs.Bases.{bases_at, AreSettledFor};
 ghost use Rattle.gic_bases.specs.Steps.{FitCase, AreReady};
@@ -17,6 +19,28 @@ use gic_model::Volts;
 use gic_net::Net;
 use gic_sweep::{Solver, Steps};
 use std::sync::ledger::Ledger;
+
+/// Leaves in `volts` the voltages of the elements in the field that this zone alone has.
+fn fill_base_volts(
+    case: &Case,
+    net: &Net,
+    zone: u16,
+    field: (i32, i32),
+    fields: &mut Fields,
+    volts: &mut Volts,
+)
+    requires zone { zone < length case.now.zones }
+    requires field { IsField field }
+    requires lines { All (λ e. IsLineWithin case.now e.item) net.now.network.list }
+    requires zones { length fields.old ≡ length case.now.zones }
+    requires count { length volts.old ≡ length net.now.network.list }
+    ensures volts { volts.new ≡ volts_of case.now (lone_field (length case.now.zones) zone field) net.now.network.list }
+    ensures zones { length fields.new ≡ length fields.old }
+{
+    let (north, east) = field;
+    fields.set_alone(zone, north, east);
+    fill_volts(case, net.list(), fields, volts);
+}
 
 /// Solves the two base fields of a zone.
 fn prepare_zone<L: Ledger>(
@@ -42,12 +66,10 @@ fn prepare_zone<L: Ledger>(
     ensures volt_count { length volts.new ≡ length volts.old }
     ensures guess_count { length solver.new ≡ length solver.old }
 {
-    fields.set_alone(zone, MOST_FIELD as i32, 0);
-    fill_volts(case, net.list(), fields, volts);
+    fill_base_volts(case, net, zone, (MOST_FIELD as i32, 0), fields, volts);
     settle(net, volts, bound, solver, steps);
     bases.keep_north(zone, solver);
-    fields.set_alone(zone, 0, MOST_FIELD as i32);
-    fill_volts(case, net.list(), fields, volts);
+    fill_base_volts(case, net, zone, (0, MOST_FIELD as i32), fields, volts);
     settle(net, volts, bound, solver, steps);
     bases.keep_east(zone, solver);
 }

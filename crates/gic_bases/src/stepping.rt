@@ -1,11 +1,10 @@
 //! Certain potentials for the fields of a step, from the bases.
 ghost use Rattle.std.specs.Prelude.{ℕ, ℤ, ◌≡◌, ◌+◌, ◌*◌, ◌<◌, ◌≤◌, ◌+ℤ◌, ◌*ℤ◌, length, slice_index, unsigned_abs};
 ghost use Rattle.gic_base.specs.declared.limits.TheConstants.{MOST_FIELD, MOST_WALK, MOST_ZONES};
-ghost use Rattle.gic_model.specs.Guess.{most_guess};
+ghost use Rattle.gic_model.specs.Guess.{most_guess, cut};
 ghost use Rattle.gic_model.specs.Standing.{IsLive};
 ghost use Rattle.gic_model.specs.Voltages.{number_at};
 ghost use Rattle.gic_net.specs.Net.{standing};
-ghost use Rattle.gic_sweep.specs.Sweep.{cut};
 ghost use Rattle.gic_bound.specs.Entries.{IsBoundWithin};
 ghost use Rattle.gic_induce.specs.Fields.{field_at};
 ghost use Rattle.gic_enclose.specs.Together.{BelongTogether};
@@ -20,9 +19,9 @@ use gic_bound::BoundVector;
 use gic_case::Case;
 use gic_enclose::{Potentials, enclose};
 use gic_induce::{Fields, fill_volts};
-use gic_model::Volts;
+use gic_model::{Volts, cut_guess};
 use gic_net::Net;
-use gic_sweep::{Solver, Steps, cut_guess};
+use gic_sweep::{Solver, Steps};
 use std::sync::ledger::Ledger;
 
 /// A part of a field times a guess.

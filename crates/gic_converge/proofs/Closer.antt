@@ -4,7 +4,7 @@ use Rattle.std.proofs.lemmas.Int.{ints}
 use borrow.Author.Differences.{up, down, sum_is_lem}
 use Rattle.gic_converge.proofs.Links.{Link, denominator, weighted, conductance, diagonal, residual, guess_at, entry_at, IsLinkWithin, AreRowsBound, row_sum}
 use Rattle.gic_converge.proofs.LinkSweeps.{IsRowTarget, IsRowSweep, AreClose}
-use Rattle.gic_sweep.specs.Sweep.{cut}
+use Rattle.gic_model.specs.Guess.{cut}
 use Rattle.gic_converge.proofs.OneSweep.{step, combine}
 use Rattle.gic_converge.proofs.LinkSums.{flow_is, weighted_balance4, weighted_const, weighted_close}
 use Rattle.gic_fixed.proofs.Signs.{abs_in, abs_out, times_pos}

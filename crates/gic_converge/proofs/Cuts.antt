@@ -1,7 +1,7 @@
 -- What a cut does to numbers.
 use Rattle.std.proofs.Common.{◌≡◌, ◌^◌, ◌≤◌, arith, ℤ, ◌-ℤ◌, unsigned_abs}
 use Rattle.std.proofs.lemmas.Int.{ints, clamps}
-use Rattle.gic_sweep.specs.Sweep.{cut}
+use Rattle.gic_model.specs.Guess.{cut}
 
 -- it brings no two numbers further apart
 pub cut_apart : (a b : ℤ) → unsigned_abs (cut b -ℤ cut a) ≤ unsigned_abs (b -ℤ a)

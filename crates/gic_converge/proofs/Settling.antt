@@ -6,7 +6,7 @@ use Rattle.std.proofs.Common.{⊎_elim, eq-zero-or-pos}
 use borrow.Author.Differences.{up, down}
 use Rattle.gic_converge.proofs.Links.{Link, IsLiveRow, denominator, weighted, conductance, diagonal, residual, guess_at, entry_at, IsLinkWithin, AreRowsBound, row_sum}
 use Rattle.gic_converge.proofs.LinkSweeps.{IsRowSweep, IsRowTarget, AreClose, most_push, IsPushWithin, IsFarLive, AreRowsWithin, AreRowsSettled, AreWithin}
-use Rattle.gic_sweep.specs.Sweep.{cut}
+use Rattle.gic_model.specs.Guess.{cut}
 use Rattle.gic_sweep.specs.Guesses.{AreCut}
 use Rattle.gic_converge.proofs.OneSweep.{step, reach, left_over}
 use Rattle.gic_converge.proofs.LinkSums.{flow_is, weighted_balance4, weighted_const, weighted_close, weighted_close_all}

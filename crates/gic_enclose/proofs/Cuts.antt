@@ -5,7 +5,7 @@ use Rattle.std.proofs.lemmas.Bool.{cases_lt}
 use Rattle.gic_fixed.proofs.Integers.{linear}
 use Rattle.gic_fixed.proofs.Enclosures.{≤ℤ-times}
 use Rattle.gic_model.specs.Encloses.{Encloses}
-use Rattle.gic_sweep.specs.Sweep.{cut}
+use Rattle.gic_model.specs.Guess.{cut}
 
 cut_low : (a : ℤ) → (cut a ≤ℤ a) ⊎ (cut a ≤ℤ neg_ℤ (pos (2 ^ 94)))
 cut_low (pos n) = inl (omega (arith, ints, clamps))

@@ -3,3 +3,4 @@ pub mod Cuts
 pub mod Turns
 pub mod Widths
 pub mod Bounds
+pub mod LinearResidual

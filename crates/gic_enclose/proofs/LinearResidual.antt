@@ -16,7 +16,6 @@ use Rattle.gic_model.proofs.SumLaws.{sum_over_ohms-same, sum_over_ohms-+ℤ, sum
 use Rattle.gic_model.proofs.Row.{weight}
 use Rattle.gic_model.proofs.Ends.{IsLiveEnd, end_own, from_own}
 use Rattle.gic_model.proofs.Pushes.{product_within, leaving_within, carried_within}
-use Rattle.gic_bases.specs.Bases.{sum_below}
 
 -- no voltage
 abbrev pub no_volts : ℕ → ℤ
@@ -104,18 +103,11 @@ module _ (standing : List Placed) (k : ℕ) where
           let inner : x p.1.from.0 -ℤ value_at x p.1.to +ℤ pos (2 ^ 36) *ℤ u p.0 ≡ y p.1.from.0 -ℤ value_at y p.1.to +ℤ pos (2 ^ 36) *ℤ v p.0 = omega (arith, linear) in
           ap (λ z. weight p *ℤ z) inner
 
-  residual_nothing : residual standing no_volts no_volts k ≡ pos 0
+  pub residual_nothing : residual standing no_volts no_volts k ≡ pos 0
   residual_nothing =
       let none = residual_sum no_volts no_volts no_volts no_volts in
       let same : residual standing (λ i. no_volts i +ℤ no_volts i) (λ m. no_volts m +ℤ no_volts m) k ≡ residual standing no_volts no_volts k = refl in
       omega (arith, linear)
-
-  pub residual_sum_below : (u x : ℕ → ℕ → ℤ) (n : ℕ) →
-      residual standing (λ i. sum_below (λ z. u z i) n) (λ m. sum_below (λ z. x z m) n) k ≡ sum_below (λ z. residual standing (u z) (x z) k) n
-  residual_sum_below u x zero = residual_nothing
-  residual_sum_below u x (suc n) =
-      residual_sum (λ i. sum_below (λ z. u z i) n) (u n) (λ m. sum_below (λ z. x z m) n) (x n) ∙
-      ap (λ z. z +ℤ residual standing (u n) (x n) k) (residual_sum_below u x n)
 
   -- guesses from 0 to b carry at most what the conductance carries at b
   pub residual_small : (x : ℕ → ℤ) (b : ℕ) → ((m : ℕ) → (pos 0 ≤ℤ x m) × (x m ≤ℤ pos b)) → unsigned_abs (residual standing no_volts x k) ≤ b * unsigned_abs (conductance standing k)

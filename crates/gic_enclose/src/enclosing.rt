@@ -4,9 +4,8 @@ ghost use Rattle.gic_base.specs.declared.limits.TheConstants.{MOST_WALK};
 ghost use Rattle.gic_fixed.specs.Encloses.{IsWithin};
 ghost use Rattle.gic_model.specs.Standing.{IsLive};
 ghost use Rattle.gic_model.specs.Voltages.{number_at};
-ghost use Rattle.gic_model.specs.Guess.{most_guess, IsSettledWithin};
+ghost use Rattle.gic_model.specs.Guess.{most_guess, IsSettledWithin, cut};
 ghost use Rattle.gic_net.specs.Net.{standing};
-ghost use Rattle.gic_sweep.specs.Sweep.{cut};
 ghost use Rattle.gic_bound.specs.Entries.{IsBoundWithin};
 ghost use Rattle.gic_enclose.specs.Ends.{ends_of, ends_at, low_at, high_at};
 ghost use Rattle.gic_enclose.specs.Together.{BelongTogether};
@@ -17,10 +16,10 @@ use crate::potentials::Potentials;
 use gic_base::NodeId;
 use gic_bound::BoundVector;
 use gic_fixed::Interval;
-use gic_model::Volts;
+use gic_model::{Volts, cut_guess};
 use gic_model::laws::certificate_law;
 use gic_net::Net;
-use gic_sweep::{Solver, cut_guess};
+use gic_sweep::Solver;
 
 /// How far a solution can lie from the guess at a node with this entry.
 fn radius(entry: u16, reach: u128) -> i128

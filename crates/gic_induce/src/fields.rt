@@ -72,7 +72,8 @@ impl Fields {
         requires zone { zone < length self.old }
         requires north { IsFieldWithin north }
         requires east { IsFieldWithin east }
-        ensures { self.new ≡ lone_field (length self.old) zone (north, east) }
+        ensures value { self.new ≡ lone_field (length self.old) zone (north, east) }
+        ensures same_length { length self.new ≡ length self.old }
     {
         self.list.fill((0, 0));
         self.set(zone, north, east);

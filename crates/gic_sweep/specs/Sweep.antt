@@ -1,13 +1,8 @@
 -- What a sweep makes of guesses.
-use Rattle.std.specs.Prelude.{ℕ, ◌≡◌, ◌≤◌, ◌+◌, ◌*◌, ◌^◌, List, length, IsFalse, ℤ, pos, neg_ℤ, ◌+ℤ◌, ◌-ℤ◌, ◌*ℤ◌, unsigned_abs}
-use Rattle.std.specs.Int.{int_min, int_max}
+use Rattle.std.specs.Prelude.{ℕ, ◌≡◌, ◌≤◌, ◌+◌, ◌*◌, ◌^◌, List, length, IsFalse, ℤ, pos, ◌+ℤ◌, ◌-ℤ◌, ◌*ℤ◌, unsigned_abs}
 use Rattle.gic_model.specs.Standing.{IsLive, is_live, elements_at}
-use Rattle.gic_model.specs.Guess.{most_guess, ohms_at, residual, diagonal}
+use Rattle.gic_model.specs.Guess.{cut, ohms_at, residual, diagonal}
 use Rattle.gic_model.specs.Sums.{Placed}
-
--- cut to the limit of guesses, either way
-abbrev pub cut : ℤ → ℤ
-cut z = int_max (neg_ℤ (pos most_guess)) (int_min z (pos most_guess))
 
 -- where a sweep may move the guess at the node k: t is within 2 + 4096 h / d grains of the old guess less its residual over the diagonal d, where h is the number of standing elements at k (2^-44 nanoampere over 2^-20 siemens are 4096 grains)
 abbrev pub IsTarget : List Placed → (ℕ → ℤ) → (ℕ → ℤ) → ℕ → ℤ → Type 0

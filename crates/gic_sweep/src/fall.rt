@@ -1,6 +1,5 @@
 //! How far a guess falls: a residual over a diagonal, in grains.
 ghost use Rattle.std.specs.Prelude.{◌≡◌, ◌+◌, ◌*◌, ◌/◌, ◌^◌, ◌<◌, ◌≤◌, pos, ◌+ℤ◌, ◌*ℤ◌, ◌≤ℤ◌, ◌<ℤ◌, unsigned_abs};
-ghost use Rattle.gic_sweep.specs.Sweep.{cut};
 
 /// The quotient, rounded down.
 fn quotient(a: i128, d: u64) -> i128
@@ -58,14 +57,4 @@ pub fn fall(low: i128, d: u64) -> i128
     let whole = quotient(low, d);
     let rest = rest_above(low, whole, d);
     join(whole, 4096 * rest / d)
-}
-
-/// The greatest guess in grains, either way.
-const MOST_GUESS: i128 = 1 << 96;
-
-/// A guess, cut to its limit.
-pub fn cut_guess(guess: i128) -> i128
-    ensures { result ≡ cut guess }
-{
-    guess.min(MOST_GUESS).max(-MOST_GUESS)
 }

@@ -17,7 +17,6 @@ mod sweeping;
 mod tests;
 
 pub use driving::{GRAINS, drive, in_grains, micro_paths};
-pub use fall::cut_guess;
 pub use solver::{
     Improvement, MOST_ROUNDS, Solver, improve, is_settled, reach, residual, residuals, sweep, zeros,
 };

@@ -7,13 +7,13 @@ ghost use Rattle.gic_net.specs.Net.{standing};
 ghost use Rattle.gic_sweep.specs.Guesses.{AreCut};
 ghost use Rattle.gic_sweep.specs.Sweep.{IsTarget, IsSweptTo, IsSweep};
 
-use crate::fall::{cut_guess, fall};
+use crate::fall::fall;
 use crate::guesses::Guesses;
 use crate::node_sums::diagonal;
 use crate::passing::residuals_into;
 use crate::steps::Steps;
 use gic_base::NodeId;
-use gic_model::Volts;
+use gic_model::{Volts, cut_guess};
 use gic_model::laws::rounded_residual_law;
 use gic_net::Net;
 use std::sync::ledger::Ledger;

@@ -9,7 +9,7 @@ pub loop-zone-preserved : goal.loop-zone-preserved
 loop-zone-preserved g c =
     let s = standing c.args.net.now in
     let case = c.args.case.now in
-    let list = c.args.elements.now.list in
+    let list = c.args.net.now.network.list in
     let i = c.loop-zone.invariant in
     let new = c.prepare_zone.new.bases in
     record {
@@ -17,12 +17,15 @@ loop-zone-preserved g c =
           (λ e. subst (λ (n : ℕ). AreSettledFor s case list new n) (sym e) c.prepare_zone.ensures.settled)
           (λ d. settled_same s case list c.loop-zone.bases new z (c.prepare_zone.ensures.others z d) (i.settled z (omega (arith, less, d))))
           (cases_eq z c.loop-zone.zone);
-      bases = c.prepare_zone.ensures.bases;
+      fit = c.prepare_zone.ensures.fit;
       ticks = omega (arith, c.prepare_zone.ensures.ticks, i.ticks);
       volt_count = omega (arith, c.prepare_zone.ensures.volt_count, i.volt_count);
       guess_count = omega (arith, c.prepare_zone.ensures.guess_count, i.guess_count);
     }
 
-pub returns-clause-settled : goal.returns-clause-settled
-returns-clause-settled g c zone less =
-    c.loop-zone.invariant.settled zone (omega (arith, less, c.loop-zone-test.false, c.loop-zone.auto.zone-end, c.zones-zone-end.ensures, c.requires.bases.zone_count))
+pub returns-clause-ready : goal.returns-clause-ready
+returns-clause-ready g c = record {
+  fit = c.loop-zone.invariant.fit;
+  settled = λ zone less. c.loop-zone.invariant.settled zone
+      (omega (arith, less, c.loop-zone-test.false, c.loop-zone.auto.zone-end, c.zones-zone-end.ensures, c.requires.fit.shape.zone_count));
+}

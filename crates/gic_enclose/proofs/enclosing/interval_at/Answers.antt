@@ -3,7 +3,7 @@ use Rattle.gic_model.specs.Bound.{IsEarthedWithin}
 use Rattle.gic_model.specs.Encloses.{Encloses}
 use Rattle.gic_model.specs.Voltages.{number_at}
 use Rattle.gic_net.specs.Net.{standing, stands}
-use Rattle.gic_sweep.specs.Sweep.{cut}
+use Rattle.gic_model.specs.Guess.{cut}
 use Rattle.gic_enclose.proofs.Cuts.{cut_encloses, cut_small, cut_narrow, cut_middle}
 use Rattle.gic_enclose.proofs.enclosing.interval_at.Goals as goal
 

@@ -3,8 +3,8 @@ use Rattle.gic_enclose.specs.Ends.{ends_of}
 use Rattle.gic_enclose.proofs.Intervals.{map_replicate, ends_are}
 use Rattle.gic_enclose.proofs.potentials.Potentials.new.Goals as goal
 
-pub returns-in-Ok : goal.returns-in-Ok
-returns-in-Ok c =
-    ap (λ l. map ends_of l) (c.in-Ok.ensures.items_if_clones_equal (λ y h. h)) ∙
+pub returns : goal.returns
+returns c =
+    ap (λ l. map ends_of l) (c.in_ok-intervals.ensures.items_if_clones_equal (λ y h. h)) ∙
     map_replicate ends_of c.args.nodes c.point.result ∙
     ap (λ e. replicate c.args.nodes e) (ends_are c.point.result c.point.ensures.low c.point.ensures.high)
