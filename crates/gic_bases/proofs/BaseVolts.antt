@@ -81,9 +81,9 @@ module _ (case : Lists) (fields : List (ℤ × ℤ)) (count : length fields ≡ 
           ))
           (λ d. inl (
             ⊎_elim
-            (λ (before : z < n). first_here fields (suc n) z (omega (arith, before)) ∙ sym (first_here fields n z before))
-            (λ (after : n ≤ z). first_past fields (suc n) z (omega (arith, after, d)) ∙ sym (first_past fields n z after))
-            (cases_lt z n),
+                (λ (before : z < n). first_here fields (suc n) z (omega (arith, before)) ∙ sym (first_here fields n z before))
+                (λ (after : n ≤ z). first_past fields (suc n) z (omega (arith, after, d)) ∙ sym (first_past fields n z after))
+                (cases_lt z n),
             lone_there zones n z (field_at fields n) d,
           ))
           (cases_eq z n))

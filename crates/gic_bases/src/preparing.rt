@@ -99,8 +99,6 @@ pub fn prepare<L: Ledger>(
     ensures guess_count { length solver.new ≡ length solver.old }
 {
     for zone in 0..bases.zones() {
-        prepare_zone(
-            case, net, bound, zone, fields, volts, solver, bases, steps,
-        );
+        prepare_zone(case, net, bound, zone, fields, volts, solver, bases, steps);
     }
 }

@@ -116,10 +116,10 @@ pub fn step_from_bases<L: Ledger>(
     ensures tick { steps.new ≡ steps.old + 1 }
 {
     let _zones = case.zones();
-    let _nodes = net.nodes();
-    fields.within();
+    net.within_limits();
+    fields.within_limit();
     fill_volts(case, net.list(), fields, volts);
-    let _count = volts.count();
+    volts.within_limit();
     let combined = |node: NodeId| -> i128
         requires few { length fields.now ≤ MOST_ZONES }
         requires bases { AreBasesFor net.now.network.nodes (length fields.now) bases.now }

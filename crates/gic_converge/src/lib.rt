@@ -2,3 +2,6 @@
 #![tactic(auto)]
 
 pub mod laws;
+mod phases;
+
+pub use phases::{PHASE, PHASES};

@@ -16,8 +16,8 @@ use crate::potentials::Potentials;
 use gic_base::NodeId;
 use gic_bound::BoundVector;
 use gic_fixed::Interval;
-use gic_model::{Volts, cut_guess};
 use gic_model::laws::certificate_law;
+use gic_model::{Volts, cut_guess};
 use gic_net::Net;
 use gic_sweep::Solver;
 
@@ -83,8 +83,8 @@ fn interval_at(
 {
     certificate_law();
     potential_bound_law();
-    let _count = volts.count();
-    let _nodes = net.nodes();
+    volts.within_limit();
+    net.within_limits();
     if net.live(node) {
         around(solver.guess(node), radius(bound.entry(node), reach))
     } else {

@@ -2,6 +2,7 @@
 ghost use Rattle.std.specs.Prelude.{◌≡◌, ◌+◌, ◌*◌, ◌%◌, ◌^◌, ◌≤◌, length, slice_index, IsTrue};
 ghost use Rattle.gic_base.specs.declared.limits.TheConstants.{MOST_WALK};
 ghost use Rattle.gic_sweep.specs.declared.solver.TheConstants.{MOST_ROUNDS};
+ghost use Rattle.gic_converge.specs.declared.phases.TheConstants.{PHASE, PHASES};
 ghost use Rattle.gic_model.specs.Voltages.{number_at};
 ghost use Rattle.gic_model.specs.Guess.{IsSettled, IsSettledWithin};
 ghost use Rattle.gic_net.specs.Net.{standing};
@@ -9,6 +10,7 @@ ghost use Rattle.gic_bound.specs.Entries.{IsBoundWithin};
 
 use gic_bound::BoundVector;
 use gic_converge::laws::sweeps_converge_law;
+use gic_converge::{PHASE, PHASES};
 use gic_model::Volts;
 use gic_net::Net;
 use gic_sweep::{Solver, Steps, improve, is_settled, sweep};
@@ -16,12 +18,6 @@ use std::sync::ledger::Ledger;
 
 /// The turns between two looks whether the guesses are settled.
 const LOOK: u32 = 16;
-
-/// The sweeps of a phase, which at least halve what is left of each guess: twice the longest way to earth.
-const PHASE: u32 = 8192;
-
-/// The phases after which what is left is settled, from any guesses.
-const PHASES: u32 = 98;
 
 /// Whether the guesses are settled, which it looks at in every sixteenth turn.
 fn is_seen_settled(turn: u32, net: &Net, volts: &Volts, solver: &mut Solver) -> bool
@@ -53,10 +49,10 @@ pub fn settle<L: Ledger>(
     ensures ticks { steps.new ≤ steps.old + (MOST_ROUNDS + 1 + PHASES * PHASE) }
 {
     sweeps_converge_law();
-    let _nodes = net.nodes();
-    let _voltages = volts.count();
+    net.within_limits();
+    volts.within_limit();
     improve(net, volts, bound.walk(), solver, steps);
-    let _guesses = solver.count();
+    solver.within_limit();
     sweep(net, volts, solver, steps);
     for phase in 0..PHASES {
         for turn in 0..PHASE {

@@ -41,7 +41,7 @@ pub fn solve<L: Ledger>(
     ensures together { BelongTogether net.now.network volts.now solver.new bound.now out.new }
     ensures ticks { steps.new ≤ steps.old + MOST_TICKS }
 {
-    let _nodes = net.nodes();
+    net.within_limits();
     settle(net, volts, bound, solver, steps);
     enclose(net, volts, solver, bound, out);
 }

@@ -6,12 +6,13 @@ ghost use Rattle.gic_induce.specs.Voltage.{IsFieldWithin};
 use crate::runs::CASE_P;
 use crate::solver::{least_bound, uniform_fields};
 use gic_base::ElementId;
+use gic_bases::{Bases, prepare, step_from_bases};
 use gic_case::read_case;
 use gic_effective::laws::line_items_law;
 use gic_effective::{current_na, milli};
-use gic_enclose::{Bases, Potentials, prepare, step_from_bases};
+use gic_enclose::Potentials;
 use gic_fixed::Interval;
-use gic_induce::fill_volts;
+use gic_induce::Fields;
 use gic_model::Volts;
 use gic_net::Net;
 use gic_sweep::{Solver, Steps};
@@ -59,28 +60,28 @@ fn line_current<L: Ledger>(
     let mut solver = Solver::new(alloc, net.nodes())?;
     let zones = case.zones().len() as u16;
     let mut bases = Bases::new(alloc, net.nodes(), zones)?;
+    let mut base_fields = Fields::new(alloc, zones)?;
     line_items_law();
     prepare(
         &case,
-        &list,
         &net,
         &vector,
+        &mut base_fields,
         &mut volts,
         &mut solver,
         &mut bases,
         &mut steps,
     );
     let fields = uniform_fields(alloc, zones, north, east)?;
-    fill_volts(&case, &list, &fields, &mut volts);
     let mut potentials = Potentials::new(alloc, net.nodes())?;
     step_from_bases(
         &case,
         &net,
-        &volts,
         &fields,
         &vector,
         10,
         &bases,
+        &mut volts,
         &mut solver,
         &mut potentials,
         &mut steps,

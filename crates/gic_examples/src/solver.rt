@@ -90,7 +90,7 @@ fn north_volts(
     let fields = uniform_fields(alloc, case.zones().len() as u16, north, 0)?;
     let mut volts = Volts::new(alloc, elements)?;
     line_items_law();
-    fill_volts(case, elements, &fields, &mut volts);
+    fill_volts(case, elements.list(), &fields, &mut volts);
     Ok(volts)
 }
 

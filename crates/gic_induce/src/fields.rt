@@ -40,8 +40,8 @@ impl Fields {
         self.list.len() as u16
     }
 
-    /// Tells that all fields are within their limits.
-    pub fn within(&self)
+    /// All fields are within their limits. The call computes nothing: it brings this fact to where it stands.
+    pub fn within_limit(&self)
         ensures { All IsField self.now }
     {
         let _ = &self.list;

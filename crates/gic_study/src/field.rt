@@ -71,7 +71,7 @@ fn uniform_volts(
     line_items_law();
     let fields = uniform_field(alloc, case, north, east)?;
     let mut volts = Volts::new(alloc, elements)?;
-    fill_volts(case, elements, &fields, &mut volts);
+    fill_volts(case, elements.list(), &fields, &mut volts);
     Ok(volts)
 }
 

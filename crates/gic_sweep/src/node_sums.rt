@@ -23,7 +23,7 @@ pub fn rounded_residual(net: &Net, volts: &Volts, guesses: &[i128], node: NodeId
     ensures high { result.hi ≡ residual_up (standing net.now) (number_at volts.now) (number_at guesses.now) node.0 }
     ensures small { IsWithin (diagonal_at (standing net.now) node.0 * 2 ^ 86) result.lo result.hi }
 {
-    let _nodes = net.nodes();
+    net.within_limits();
     let mut sum = Interval::point(0);
     for place in 0..net.degree(node) {
         let id = net.element_at(node, place);
@@ -40,7 +40,7 @@ pub fn diagonal(net: &Net, node: NodeId) -> u64
     ensures most { result ≤ 2 ^ 40 }
     ensures live { IsLive (standing net.now) node.0 → 0 < result }
 {
-    let _nodes = net.nodes();
+    net.within_limits();
     let mut sum: u64 = 0;
     for place in 0..net.degree(node) {
         let id = net.element_at(node, place);
@@ -57,7 +57,7 @@ pub fn conductance(net: &Net, node: NodeId) -> u64
     ensures most { result ≤ 2 ^ 40 }
     ensures live { IsLive (standing net.now) node.0 → 0 < result }
 {
-    let _nodes = net.nodes();
+    net.within_limits();
     let mut sum: u64 = 0;
     for place in 0..net.degree(node) {
         let id = net.element_at(node, place);

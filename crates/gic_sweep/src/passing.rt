@@ -141,7 +141,7 @@ pub fn residuals_into(
     ensures high { (k : ℕ) → number_at high.new k ≡ residual_up (standing net.now) (number_at volts.now) (number_at guesses.now) k }
     ensures small { (k : ℕ) → IsWithin (diagonal (standing net.now) k * 2 ^ 86) (number_at low.new k) (number_at high.new k) }
 {
-    let _nodes = net.nodes();
+    net.within_limits();
     clear(low);
     clear(high);
     for place in 0..net.count() {

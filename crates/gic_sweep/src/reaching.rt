@@ -52,7 +52,7 @@ fn reach_at(net: &Net, low: &[i128], high: &[i128], node: NodeId) -> u128
 {
     settled_law();
     diagonal_law();
-    let _nodes = net.nodes();
+    net.within_limits();
     let most = greatest_at(low, high, node);
     quotient_up(most, conductance(net, node))
 }
@@ -94,4 +94,3 @@ pub fn reach_between(net: &Net, low: &[i128], high: &[i128]) -> u128
     }
     most
 }
-

@@ -34,7 +34,7 @@ pub fn are_settled(
     ensures high_count { length high.new ≡ length high.old }
 {
     rounded_residual_law();
-    let _nodes = net.nodes();
+    net.within_limits();
     residuals_into(net, volts, guesses, low, high);
     reach_between(net, low, high) <= SETTLED
 }

@@ -76,15 +76,14 @@ impl Solver {
         self.guesses.clear();
     }
 
-    /// How many nodes there are. The answer also tells that no guess is beyond its limit.
-    pub fn count(&self) -> usize
-        ensures value { result ≡ length self.now }
-        ensures cut { AreCut (number_at self.now) }
+    /// No guess is beyond its limit. The call computes nothing: it brings this fact to where it stands.
+    pub fn within_limit(&self)
+        ensures { AreCut (number_at self.now) }
     {
-        self.guesses.as_slice().len()
+        let _ = self.guesses.as_slice();
     }
 
-    /// The guess at a node. The answer also tells that no guess is beyond its limit.
+    /// The guess at a node.
     pub fn guess(&self, node: NodeId) -> i128
         requires { node.0 < length self.now }
         ensures value { result ≡ number_at self.now node.0 }
@@ -140,12 +139,7 @@ impl Solver {
 
     /// Puts guesses in that are likely to be closer, which ticks once, and says how many passes of over-relaxation that
     /// took. Where the residuals are small already, it changes no guess and doesn't tick.
-    fn approach<L: Ledger>(
-        &mut self,
-        net: &Net,
-        volts: &Volts,
-        steps: &mut Steps<L>,
-    ) -> Option<u32>
+    fn approach<L: Ledger>(&mut self, net: &Net, volts: &Volts, steps: &mut Steps<L>) -> Option<u32>
         requires volts { length volts.now ≡ length net.now.network.list }
         requires nodes { length self.old ≡ net.now.network.nodes }
         ensures same_length { length self.new ≡ length self.old }
@@ -154,14 +148,15 @@ impl Solver {
         ensures no_tick { IfNone result (steps.new ≡ steps.old) }
         ensures same { IfNone result (self.new ≡ self.old) }
     {
-        residuals_into(net, volts, self.guesses.as_slice(), &mut self.low, &mut self.high);
-        let passes = self.relaxation.correct(self.low.as_slice())?;
-        propose_all(
-            &self.relaxation,
-            &mut self.guesses,
-            &mut self.before,
-            steps,
+        residuals_into(
+            net,
+            volts,
+            self.guesses.as_slice(),
+            &mut self.low,
+            &mut self.high,
         );
+        let passes = self.relaxation.correct(self.low.as_slice())?;
+        propose_all(&self.relaxation, &mut self.guesses, &mut self.before, steps);
         Some(passes)
     }
 
@@ -173,7 +168,13 @@ impl Solver {
         ensures seen { IsSettledWithin (standing net.now) (number_at volts.now) (number_at self.old) (2 ^ 17) → IsTrue result }
         ensures same { self.new ≡ self.old }
     {
-        are_settled(net, volts, self.guesses.as_slice(), &mut self.low, &mut self.high)
+        are_settled(
+            net,
+            volts,
+            self.guesses.as_slice(),
+            &mut self.low,
+            &mut self.high,
+        )
     }
 }
 
@@ -272,7 +273,7 @@ pub fn residual(net: &Net, volts: &Volts, solver: &Solver, node: NodeId) -> Inte
     ensures small { IsWithin (diagonal (standing net.now) node.0 * 2 ^ 86) result.lo result.hi }
 {
     rounded_residual_law();
-    let _nodes = net.nodes();
+    net.within_limits();
     rounded_residual(net, volts, solver.guesses(), node)
 }
 
@@ -290,7 +291,7 @@ pub fn residuals(net: &Net, volts: &Volts, solver: &Solver, low: &mut [i128], hi
     ensures high_count { length high.new ≡ net.now.network.nodes }
 {
     rounded_residual_law();
-    let _nodes = net.nodes();
+    net.within_limits();
     residuals_into(net, volts, solver.guesses(), low, high);
 }
 

@@ -13,8 +13,8 @@ use crate::node_sums::diagonal;
 use crate::passing::residuals_into;
 use crate::steps::Steps;
 use gic_base::NodeId;
-use gic_model::{Volts, cut_guess};
 use gic_model::laws::rounded_residual_law;
+use gic_model::{Volts, cut_guess};
 use gic_net::Net;
 use std::sync::ledger::Ledger;
 
@@ -32,8 +32,8 @@ fn target(net: &Net, volts: &Volts, guesses: &[i128], low: &[i128], node: NodeId
     ensures small { unsigned_abs result ≤ 2 ^ 100 }
 {
     rounded_residual_law();
-    let _nodes = net.nodes();
-    let _volts = volts.count();
+    net.within_limits();
+    volts.within_limit();
     let down = fall(low[node.0 as usize], diagonal(net, node));
     guesses[node.0 as usize] - down
 }
@@ -77,7 +77,7 @@ fn sweep_from<L: Ledger>(
     ensures same_length { length guesses.new ≡ length guesses.old }
     ensures tick { steps.new ≡ steps.old + 1 }
 {
-    let _nodes = net.nodes();
+    net.within_limits();
     let moved = |node: NodeId| -> i128
         requires volts { length volts.now ≡ length net.now.network.list }
         requires nodes { length old.now ≡ net.now.network.nodes }

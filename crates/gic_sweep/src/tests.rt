@@ -22,12 +22,7 @@ fn swept<L: Ledger>(net: &Net, volts: &Volts, solver: &mut Solver, blank: Blank)
     sweep(net, volts, solver, &mut steps);
 }
 
-fn improved<L: Ledger>(
-    net: &Net,
-    volts: &Volts,
-    solver: &mut Solver,
-    blank: Blank,
-) -> Improvement
+fn improved<L: Ledger>(net: &Net, volts: &Volts, solver: &mut Solver, blank: Blank) -> Improvement
     requires name { blank.name ≡ L.name }
     requires parts { blank.parts ≡ L.parts }
     requires some { 0 < blank.parts }

@@ -30,11 +30,11 @@ returns g c =
     let volts = c.fill_volts.new.out in
     let x = number_at c.fill.new.self in
     let sound = c.zones-zones.ensures.sound in
-    let limits = c.nodes-nodes.ensures.limits in
-    let each = c.within.ensures in
+    let limits = c.within_limits.ensures in
+    let each = c.within_limit.ensures in
     let zones = c.requires.ready.fit.zones in
     let ready = c.requires.ready.settled in
-    let volt = c.count-count.ensures.limit in
+    let volt = c.within_limit-2.ensures in
     let within = standing_within net.network (stands net) limits in
     let earthed : IsEarthedWithin s 4096 = record { entries = slice_index c.args.bound.now; bound = c.requires.bound.bound; none_above = c.requires.bound.none_above } in
     let induced : volts ≡ volts_of case fields list = c.fill_volts.ensures ∙ ap (λ (l : List Element). volts_of case fields l) c.list.ensures.value in

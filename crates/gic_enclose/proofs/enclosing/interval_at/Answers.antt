@@ -15,7 +15,7 @@ returns-then-live c =
     let x = number_at c.args.solver.now in
     let v = slice_index c.args.bound.now in
     let t = c.args.reach in
-    let limits = c.nodes-nodes.ensures.limits in
+    let limits = c.within_limits.ensures in
     let earthed : IsEarthedWithin (standing net) 4096 = record { entries = v; bound = c.requires.bound.bound; none_above = c.requires.bound.none_above } in
     let low : c.around.result.lo ≡ cut (x k -ℤ pos (v k * t)) = search (rules, c.around.ensures.low, c.guess.ensures.value, c.radius.ensures.value, c.entry.ensures.value) in
     let high : c.around.result.hi ≡ cut (x k +ℤ pos (v k * t)) = search (rules, c.around.ensures.high, c.guess.ensures.value, c.radius.ensures.value, c.entry.ensures.value) in
@@ -25,7 +25,7 @@ returns-then-live c =
             subst₂ (λ (a b : ℤ). Encloses a b (pos (2 ^ 36) *ℤ s.potential k) s.denominator) (sym low) (sym high)
             (cut_encloses (x k -ℤ pos (v k * t)) (x k +ℤ pos (v k * t)) (s.potential k) s.denominator
             (c.certificate_law.ensures net.network (stands net) volts x s v t k limits solves c.requires.bound.bound c.requires.settled live)
-            (c.potential_bound_law.ensures.grains net.network (stands net) volts s k limits earthed c.count-count.ensures.limit solves live));
+            (c.potential_bound_law.ensures.grains net.network (stands net) volts s k limits earthed c.within_limit.ensures solves live));
         dead = λ dead. let h = c.if-live.true in let e = c.live.ensures in absurd (cc);
       };
       small = record { low = cut_small (x k -ℤ pos (v k * t)) c.around.result.lo low; high = cut_small (x k +ℤ pos (v k * t)) c.around.result.hi high };

@@ -12,7 +12,7 @@ loop-phase-init g c =
     let net = c.args.net.now in
     let x = number_at c.improve.new.solver in
     record {
-      near = (x, c.sweeps_converge_law.ensures.first net.network (stands net) (number_at c.args.volts.now) x (number_at c.sweep.new.solver) (slice_index c.args.bound.now) c.nodes-nodes.ensures.limits c.requires.bound c.count-voltages.ensures.limit c.count-guesses.ensures.cut c.sweep.ensures.sweep);
+      near = (x, c.sweeps_converge_law.ensures.first net.network (stands net) (number_at c.args.volts.now) x (number_at c.sweep.new.solver) (slice_index c.args.bound.now) c.within_limits.ensures c.requires.bound c.within_limit.ensures c.within_limit-2.ensures c.sweep.ensures.sweep);
       same_length = omega (arith, c.sweep.ensures.same_length, c.improve.ensures.same_length);
       ticks = omega (arith, c.sweep.ensures.tick, c.improve.ensures.tick, c.improve.ensures.few_rounds);
     }
@@ -28,7 +28,7 @@ loop-turn-preserved g c =
     let turn = c.loop-turn.turn in
     let i = c.loop-turn.invariant in
     let swept : IsSweep (standing net) volts y z = subst (λ (g : List ℤ). IsSweep (standing net) volts (number_at g) z) c.is_seen_settled.ensures.same c.sweep-in-loop-turn.ensures.sweep in
-    let next = c.sweeps_converge_law.ensures.next net.network (stands net) volts i.near.0 y z v (left phase turn) (2 ^ (97 - phase)) c.nodes-nodes.ensures.limits c.requires.bound c.count-voltages.ensures.limit
+    let next = c.sweeps_converge_law.ensures.next net.network (stands net) volts i.near.0 y z v (left phase turn) (2 ^ (97 - phase)) c.within_limits.ensures c.requires.bound c.within_limit.ensures
     (room phase turn c.loop-phase-test.true c.loop-turn-test.true) i.near.1 swept in
     record {
       near = (y, subst (λ (n : ℕ). IsNear (standing net) volts v n y z) (less phase turn c.loop-phase-test.true c.loop-turn-test.true) next);
@@ -60,7 +60,7 @@ returns-clause-settled g c =
     let last : c.loop-phase.phase ≡ 98 = omega (arith, c.loop-phase-test.false, c.loop-phase.auto.phase-end) in
     let one : 8192 * 2 ^ (98 - c.loop-phase.phase) ≡ 8192 = ap (λ n. 8192 * 2 ^ (98 - n)) last in
     let near : IsNear (standing net) volts v 8192 i.near.0 y = subst (λ (n : ℕ). IsNear (standing net) volts v n i.near.0 y) one i.near.1 in
-    c.sweeps_converge_law.ensures.last net.network (stands net) volts i.near.0 y v c.nodes-nodes.ensures.limits c.requires.bound c.count-voltages.ensures.limit near
+    c.sweeps_converge_law.ensures.last net.network (stands net) volts i.near.0 y v c.within_limits.ensures c.requires.bound c.within_limit.ensures near
 
 pub returns-then-is_seen_settled-clause-settled : goal.returns-then-is_seen_settled-clause-settled
 returns-then-is_seen_settled-clause-settled g c =

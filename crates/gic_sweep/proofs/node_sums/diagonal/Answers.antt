@@ -13,7 +13,7 @@ overflow_add-sum c =
     let h : c.loop-place.place < length (row_at net k) = omega (arith, c.loop-place-test.true, c.degree-place-end.ensures.value) in
     let id = c.element_at-id.result.0 in
     let d = diagonal_step (λ p. pos 0) net k c.loop-place.place h id (element_of net.network id) c.element_at-id.ensures.value in
-    let most = diagonal_most net k c.nodes-nodes.ensures.limits c.requires.node in
+    let most = diagonal_most net k c.within_limits.ensures c.requires.node in
     record { fits = omega (arith, d.1, most, c.loop-place.invariant, c.conductance_up-part.ensures) }
 
 pub loop-place-preserved : goal.loop-place-preserved
@@ -34,6 +34,6 @@ returns c =
     let value : c.loop-place.sum ≡ diagonal (standing net) k = c.loop-place.invariant ∙ ap (sum_by diagonal_part) all in
     record {
       value = value;
-      most = omega (arith, value, diagonal_most net k c.nodes-nodes.ensures.limits c.requires.node);
-      live = λ live. omega (arith, value, diagonal_some net k c.nodes-nodes.ensures.limits live);
+      most = omega (arith, value, diagonal_most net k c.within_limits.ensures c.requires.node);
+      live = λ live. omega (arith, value, diagonal_some net k c.within_limits.ensures live);
     }

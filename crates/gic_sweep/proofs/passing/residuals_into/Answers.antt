@@ -23,13 +23,13 @@ loop-place-init c =
 
 pub add_element-requires-clause-low_room : goal.add_element-requires-clause-low_room
 add_element-requires-clause-low_room c = λ k h.
-    let most = diagonal_most c.args.net.now k c.nodes-nodes.ensures.limits (omega (arith, h, c.loop-place.invariant.low_count)) in
+    let most = diagonal_most c.args.net.now k c.within_limits.ensures (omega (arith, h, c.loop-place.invariant.low_count)) in
     let small = c.loop-place.invariant.low_small k in
     omega (arith, most, small)
 
 pub add_element-requires-clause-high_room : goal.add_element-requires-clause-high_room
 add_element-requires-clause-high_room c = λ k h.
-    let most = diagonal_most c.args.net.now k c.nodes-nodes.ensures.limits (omega (arith, h, c.loop-place.invariant.high_count)) in
+    let most = diagonal_most c.args.net.now k c.within_limits.ensures (omega (arith, h, c.loop-place.invariant.high_count)) in
     let small = c.loop-place.invariant.high_small k in
     omega (arith, most, small)
 

@@ -9,7 +9,7 @@ use Rattle.gic_sweep.proofs.reaching.reach_at.Goals as goal
 pub quotient_up-requires-clause-most : goal.quotient_up-requires-clause-most
 quotient_up-requires-clause-most c =
     let net = c.args.net.now in
-    let twice = diagonal_twice net c.args.node.0 c.nodes-nodes.ensures.limits in
+    let twice = diagonal_twice net c.args.node.0 c.within_limits.ensures in
     let value = c.conductance.ensures.value in
     ⊎_elim
     (λ e. omega (arith, e, c.requires.ends.low, twice, value))
@@ -23,14 +23,14 @@ returns-clause-settled c volts x holds =
     let t = c.quotient_up.result in
     let scaled : t * c.conductance.result ≡ t * least_conductance (standing net) k = ap (λ n. t * n) c.conductance.ensures.value in
     let covers = c.quotient_up.ensures.covers in
-    c.settled_law.ensures net.network (stands net) volts x t k (number_at c.args.low.now k) (number_at c.args.high.now k) c.nodes-nodes.ensures.limits holds
+    c.settled_law.ensures net.network (stands net) volts x t k (number_at c.args.low.now k) (number_at c.args.high.now k) c.within_limits.ensures holds
     (omega (arith, scaled, covers, c.greatest_at-most.ensures.low)) (omega (arith, scaled, covers, c.greatest_at-most.ensures.high))
 
 pub returns-clause-close : goal.returns-clause-close
 returns-clause-close c volts x t holds settled =
     let net = c.args.net.now in
     let k = c.args.node.0 in
-    let limits = c.nodes-nodes.ensures.limits in
+    let limits = c.within_limits.ensures in
     let value : c.conductance.result ≡ least_conductance (standing net) k = c.conductance.ensures.value in
     let scaled : most_reach t * c.conductance.result ≡ most_reach t * least_conductance (standing net) k = ap (λ n. most_reach t * n) value in
     let both = close_at net k limits volts x (number_at c.args.low.now k) (number_at c.args.high.now k) holds c.requires.narrow (c.diagonal_law.ensures.at_least net.network (stands net) k limits) t settled in

@@ -14,7 +14,7 @@ held c = λ k.
     let v = number_at c.args.volts.now in
     let x = number_at c.args.guesses.now in
     subst₂ (λ (a b : ℤ). HoldsResidual (standing net) v x k a b) (sym (c.residuals_into.ensures.low k)) (sym (c.residuals_into.ensures.high k))
-    (c.rounded_residual_law.ensures.holds net.network (stands net) v x k c.nodes-nodes.ensures.limits)
+    (c.rounded_residual_law.ensures.holds net.network (stands net) v x k c.within_limits.ensures)
 
 pub returns-clause-settled : goal.returns-clause-settled
 returns-clause-settled c h =

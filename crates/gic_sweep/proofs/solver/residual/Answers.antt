@@ -10,6 +10,6 @@ returns-clause-holds c =
     let v = number_at c.args.volts.now in
     let k = c.args.node.0 in
     let x = number_at c.guesses.result.now in
-    let holds = c.rounded_residual_law.ensures.holds net.network (stands net) v x k c.nodes-nodes.ensures.limits in
+    let holds = c.rounded_residual_law.ensures.holds net.network (stands net) v x k c.within_limits.ensures in
     let here = subst₂ (λ (a b : ℤ). HoldsResidual (standing net) v x k a b) (sym c.rounded_residual.ensures.low) (sym c.rounded_residual.ensures.high) holds in
     subst (λ (xs : List ℤ). HoldsResidual (standing net) v (number_at xs) k c.rounded_residual.result.lo c.rounded_residual.result.hi) c.guesses.ensures.value here

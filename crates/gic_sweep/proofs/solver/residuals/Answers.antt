@@ -9,7 +9,7 @@ returns-clause-holds c = λ k.
     let net = c.args.net.now in
     let v = number_at c.args.volts.now in
     let x = number_at c.guesses.result.now in
-    let holds = c.rounded_residual_law.ensures.holds net.network (stands net) v x k c.nodes-nodes.ensures.limits in
+    let holds = c.rounded_residual_law.ensures.holds net.network (stands net) v x k c.within_limits.ensures in
     let low = c.residuals_into.new.low in
     let high = c.residuals_into.new.high in
     let here = subst₂ (λ (a b : ℤ). HoldsResidual (standing net) v x k a b) (sym (c.residuals_into.ensures.low k)) (sym (c.residuals_into.ensures.high k)) holds in
@@ -20,5 +20,5 @@ returns-clause-narrow c = λ k.
     let net = c.args.net.now in
     let v = number_at c.args.volts.now in
     let x = number_at c.guesses.result.now in
-    let narrow = c.rounded_residual_law.ensures.narrow net.network (stands net) v x k c.nodes-nodes.ensures.limits in
+    let narrow = c.rounded_residual_law.ensures.narrow net.network (stands net) v x k c.within_limits.ensures in
     subst₂ (λ (a b : ℤ). (b -ℤ a) ≤ℤ pos (length (row_at net k))) (sym (c.residuals_into.ensures.low k)) (sym (c.residuals_into.ensures.high k)) narrow

@@ -8,7 +8,7 @@ use Rattle.gic_sweep.proofs.sweeping.sweep_from.Goals as goal
 pub returns-clause-sweep : goal.returns-clause-sweep
 returns-clause-sweep g c = λ k.
     let net = c.args.net.now in
-    let within = standing_within net.network (stands net) c.nodes-nodes.ensures.limits in
+    let within = standing_within net.network (stands net) c.within_limits.ensures in
     ⊎_elim
     (λ below. (c.fill.ensures.each (record { 0 = k }) (omega (arith, below, c.requires.guesses))).1.0)
     (λ after. record {

@@ -31,6 +31,6 @@ returns-clause-value c =
     let below' : (pos d *ℤ m) ≤ℤ (pos 4096 *ℤ low) = subst (λ (n : ℕ). (pos n *ℤ m) ≤ℤ (pos 4096 *ℤ low)) de (subst (λ (z : ℤ). (pos c.diagonal.result *ℤ m) ≤ℤ (pos 4096 *ℤ z)) le below) in
     let above' : (pos 4096 *ℤ low) ≤ℤ ((pos d *ℤ m) +ℤ pos d) = subst (λ (n : ℕ). (pos 4096 *ℤ low) ≤ℤ ((pos n *ℤ m) +ℤ pos n)) de (subst (λ (z : ℤ). (pos 4096 *ℤ z) ≤ℤ ((pos c.diagonal.result *ℤ m) +ℤ pos c.diagonal.result)) le above) in
     let te : t ≡ g -ℤ m = omega (arith, ints, c.requires.guesses k, c.fall-down.ensures.small) in
-    let holds = c.rounded_residual_law.ensures.holds net.network (stands net) v x k c.nodes-nodes.ensures.limits in
-    let narrow = c.rounded_residual_law.ensures.narrow net.network (stands net) v x k c.nodes-nodes.ensures.limits in
+    let holds = c.rounded_residual_law.ensures.holds net.network (stands net) v x k c.within_limits.ensures in
+    let narrow = c.rounded_residual_law.ensures.narrow net.network (stands net) v x k c.within_limits.ensures in
     is_target d (ohms_at (standing net) k) (length (row_at net k)) low (residual_up (standing net) v x k) m g t (residual (standing net) v x k) below' above' holds.above_lo holds.below_hi narrow te
