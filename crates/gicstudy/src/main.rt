@@ -1,18 +1,12 @@
 //! The program `gicstudy`: analyses geomagnetically induced currents in a transmission network.
 #![tactic(auto)]
 
-mod files;
-mod streams;
-#[cfg(test)]
-mod tests;
-
-use files::FileLibrary;
 use gic_study::gicstudy;
+use gic_system::{FileLibrary, StreamSink};
 use std::alloc::Global;
 use std::io::ErrorKind;
 use std::process::ExitCode;
 use std::{env, io};
-use streams::StreamSink;
 
 /// The words after the program's name.
 fn words(rt: &HostRuntime, alloc: Global) -> io::Result<Vec<String>> {

@@ -1,0 +1,10 @@
+//! The files and the streams of the system, as the traits of `gic_base` have them.
+#![tactic(auto)]
+
+mod files;
+mod streams;
+mod tries;
+
+pub use files::FileLibrary;
+pub use streams::StreamSink;
+pub use tries::{MOST_TRIES, read_some, write_some};
