@@ -1,0 +1,165 @@
+//! Runs of the top call over files in memory.
+ghost use Rattle.std.specs.Prelude.{None};
+
+use crate::files::{TextFile, bytes_of};
+use gic_base::{MemoryLibrary, MemorySink, Sink, WriteFailed};
+use gic_study::gicstudy;
+use std::alloc::{AllocError, Global};
+
+/// Which calls of a run fail, by their numbers from 0: fetches, writes to the output, and writes to the error sink.
+#[derive(Drop)]
+pub struct Failing {
+    pub fetches: Vec<u64>,
+    pub writes: Vec<u64>,
+    pub tellings: Vec<u64>,
+}
+
+impl Failing {
+    /// No call fails.
+    pub fn none(alloc: Global) -> Failing {
+        Failing {
+            fetches: Vec::new(alloc),
+            writes: Vec::new(alloc),
+            tellings: Vec::new(alloc),
+        }
+    }
+}
+
+/// What a run left: its status, and what was written to the output and to the error sink.
+#[derive(Drop)]
+pub struct Ended {
+    pub status: u8,
+    pub out: Vec<u8>,
+    pub err: Vec<u8>,
+}
+
+/// An output that takes one byte of each piece, and tells nothing.
+#[derive(Drop)]
+struct OneByteSink {
+    bytes: Vec<u8>,
+    faults: u64,
+}
+
+impl Sink for OneByteSink {
+    ghost written = { λ _. None };
+
+    ghost faults = { λ s. s.faults };
+
+    fn write(&mut self, piece: &[u8]) -> Result<usize, WriteFailed> {
+        match piece {
+            [] => Ok(0),
+            [first, ..] => {
+                if self.bytes.push(*first).is_err() {
+                    self.faults = self.faults.saturating_add(1);
+                    return Err(WriteFailed);
+                }
+                Ok(1)
+            }
+        }
+    }
+}
+
+/// Words as a program gets them: those of a line, with spaces between them.
+fn words_of(alloc: Global, line: &str) -> Result<Vec<String>, AllocError> {
+    let mut words = Vec::new(alloc);
+    for word in line.split(' ') {
+        if !word.is_empty() {
+            words.push(String::from_str(alloc, word)?)?;
+        }
+    }
+    Ok(words)
+}
+
+/// A library of these files.
+fn library_of(
+    alloc: Global,
+    files: &[TextFile],
+    failing: &[u64],
+) -> Result<MemoryLibrary, AllocError> {
+    let mut shelf = Vec::new(alloc);
+    for file in files.iter().rev() {
+        let name = String::from_str(alloc, file.name.as_str())?;
+        let bytes = Vec::from_slice(alloc, file.bytes.as_slice())?;
+        shelf.push((name, bytes))?;
+    }
+    Ok(MemoryLibrary::new(alloc, shelf, Vec::from_slice(alloc, failing)?))
+}
+
+/// Runs the words of a line over these files.
+pub fn run(
+    alloc: Global,
+    line: &str,
+    files: &[TextFile],
+    failing: &Failing,
+) -> Result<Ended, AllocError> {
+    let words = words_of(alloc, line)?;
+    let mut library = library_of(alloc, files, failing.fetches.as_slice())?;
+    let writes = Vec::from_slice(alloc, failing.writes.as_slice())?;
+    let tellings = Vec::from_slice(alloc, failing.tellings.as_slice())?;
+    let mut out = MemorySink::new(alloc, writes);
+    let mut err = MemorySink::new(alloc, tellings);
+    let status = gicstudy(alloc, &words, &mut library, &mut out, &mut err);
+    Ok(Ended {
+        status,
+        out: Vec::from_slice(alloc, out.bytes())?,
+        err: Vec::from_slice(alloc, err.bytes())?,
+    })
+}
+
+/// Runs the words of a line over these files, with an output that takes one byte a call.
+pub fn run_byte_by_byte(
+    alloc: Global,
+    line: &str,
+    files: &[TextFile],
+) -> Result<Ended, AllocError> {
+    let words = words_of(alloc, line)?;
+    let mut library = library_of(alloc, files, &[])?;
+    let mut out = OneByteSink {
+        bytes: Vec::new(alloc),
+        faults: 0,
+    };
+    let mut err = MemorySink::new(alloc, Vec::new(alloc));
+    let status = gicstudy(alloc, &words, &mut library, &mut out, &mut err);
+    Ok(Ended {
+        status,
+        out: out.bytes,
+        err: Vec::from_slice(alloc, err.bytes())?,
+    })
+}
+
+/// The file `p` cut after so many bytes, alone.
+fn prefix_of(alloc: Global, whole: &[u8], length: usize) -> Result<Vec<TextFile>, AllocError> {
+    let mut file = TextFile::new(alloc, "p")?;
+    file.bytes.extend_from_slice(whole)?;
+    file.bytes.truncate(length);
+    let mut files = Vec::new(alloc);
+    files.push(file)?;
+    Ok(files)
+}
+
+/// Runs the words of a line over each prefix of the file `p`. The output has a line `STATUS FIRST LAST` for each run of
+/// prefixes that end with one status, by their lengths.
+pub fn run_prefixes(alloc: Global, line: &str, files: &[TextFile]) -> Result<Ended, AllocError> {
+    let whole = bytes_of(files, "p");
+    let mut text = String::new(alloc);
+    let (mut first, mut status) = (0usize, 255u8);
+    for length in 0..=whole.len() {
+        let prefix = prefix_of(alloc, whole, length)?;
+        let ended = run(alloc, line, prefix.as_slice(), &Failing::none(alloc))?;
+        if ended.status != status {
+            if length > 0 {
+                let last = length - 1;
+                text.push_str(format!(in alloc; "{status} {first} {last}\n")?.as_str())?;
+            }
+            first = length;
+            status = ended.status;
+        }
+    }
+    let last = whole.len();
+    text.push_str(format!(in alloc; "{status} {first} {last}\n")?.as_str())?;
+    Ok(Ended {
+        status: 0,
+        out: text.into_bytes(),
+        err: Vec::new(alloc),
+    })
+}

@@ -1,0 +1,197 @@
+//! Scripts of examples, line by line.
+use crate::comparison::is_enclosure;
+use crate::files::{TextFile, bytes_of};
+use crate::outcome::{Ended, Failing, run, run_byte_by_byte, run_prefixes};
+use std::alloc::{AllocError, Global};
+use std::io;
+
+/// A script as it has been followed so far.
+#[derive(Drop)]
+pub struct Script {
+    alloc: Global,
+    files: Vec<TextFile>,
+    /// The name of the example that is open, empty where none is.
+    name: String,
+    failing: Failing,
+    width: i64,
+    ended: Ended,
+    /// How many lines of the output have been compared.
+    compared: usize,
+    /// The first line of the example that didn't come out, empty where all did.
+    complaint: String,
+    /// How many examples were closed, and how many of them went wrong.
+    pub examples: u32,
+    pub wrong: u32,
+}
+
+impl Script {
+    /// A script of which no line was followed.
+    pub fn new(alloc: Global) -> Result<Script, AllocError> {
+        Ok(Script {
+            alloc,
+            files: Vec::new(alloc),
+            name: String::new(alloc),
+            failing: Failing::none(alloc),
+            width: 100,
+            ended: nothing(alloc),
+            compared: 0,
+            complaint: String::new(alloc),
+            examples: 0,
+            wrong: 0,
+        })
+    }
+
+    /// Follows a line: it writes to a file, opens an example, runs it, or is compared with what the run left.
+    pub fn follow(&mut self, rt: &HostRuntime, line: &str) -> io::Result<()> {
+        let (word, rest) = line.split_once(' ').unwrap_or((line, ""));
+        match word {
+            "" | "#" => {}
+            "example" => self.open(rt, rest)?,
+            "failing" => self.fail(rest)?,
+            "width" => self.width = rest.parse::<i64>().unwrap_or(0),
+            "run" => {
+                self.ended = run(self.alloc, rest, self.files.as_slice(), &self.failing)?;
+            }
+            "run-byte-by-byte" => {
+                self.ended = run_byte_by_byte(self.alloc, rest, self.files.as_slice())?;
+            }
+            "run-prefixes" => {
+                self.ended = run_prefixes(self.alloc, rest, self.files.as_slice())?;
+            }
+            "file" | "|" | "from" | "times" | "fill" | "cut" | "byte" => {
+                self.write(word, rest)?;
+            }
+            _ => {
+                if !self.comes_out(word, rest) {
+                    self.complain(line)?;
+                }
+            }
+        }
+        Ok(())
+    }
+
+    /// Closes the example that is open, and tells of it in a line. What the run wrote must have been compared.
+    pub fn close(&mut self, rt: &HostRuntime) -> io::Result<()> {
+        if self.name.is_empty() {
+            return Ok(());
+        }
+        if self.next_line().is_some() || !self.ended.err.is_empty() {
+            self.complain("something more was written")?;
+        }
+        if !self.ended.out.is_empty() && !self.ended.out.ends_with(b"\n") {
+            self.complain("the last line has no end")?;
+        }
+        self.examples = self.examples.saturating_add(1);
+        if self.complaint.is_empty() {
+            return println!(rt; "{}", self.name);
+        }
+        self.wrong = self.wrong.saturating_add(1);
+        println!(rt; "{} WRONG: {}", self.name, self.complaint)
+    }
+
+    /// Closes the example before, and opens one of this name.
+    fn open(&mut self, rt: &HostRuntime, name: &str) -> io::Result<()> {
+        self.close(rt)?;
+        self.name = String::from_str(self.alloc, name)?;
+        self.failing = Failing::none(self.alloc);
+        self.width = 100;
+        self.ended = nothing(self.alloc);
+        self.compared = 0;
+        self.complaint = String::new(self.alloc);
+        Ok(())
+    }
+
+    /// Keeps the first complaint of an example.
+    fn complain(&mut self, line: &str) -> Result<(), AllocError> {
+        if self.complaint.is_empty() {
+            self.complaint = String::from_str(self.alloc, line)?;
+        }
+        Ok(())
+    }
+
+    /// Has a call fail: `fetch N`, `write N` or `telling N`.
+    fn fail(&mut self, call: &str) -> Result<(), AllocError> {
+        let (kind, number) = call.split_once(' ').unwrap_or((call, ""));
+        let number = number.parse::<u64>().unwrap_or(0);
+        match kind {
+            "fetch" => self.failing.fetches.push(number)?,
+            "write" => self.failing.writes.push(number)?,
+            _ => self.failing.tellings.push(number)?,
+        }
+        Ok(())
+    }
+
+    /// Begins a file, or writes to the one that was begun last.
+    fn write(&mut self, word: &str, rest: &str) -> Result<(), AllocError> {
+        let alloc = self.alloc;
+        if word == "file" {
+            self.files.push(TextFile::new(alloc, rest)?)?;
+            return Ok(());
+        }
+        let earlier = Vec::from_slice(alloc, bytes_of(self.files.as_slice(), rest))?;
+        let Some(file) = self.files.last_mut() else {
+            return Ok(());
+        };
+        match word {
+            "|" => file.add(rest)?,
+            "from" => file.bytes.extend_from_slice(earlier.as_slice())?,
+            "times" => {
+                let (count, line) = rest.split_once(' ').unwrap_or((rest, ""));
+                file.add_many(alloc, count.parse::<u32>().unwrap_or(0), line)?;
+            }
+            "fill" => file.fill(rest.parse::<usize>().unwrap_or(0))?,
+            "byte" => file.bytes.push(rest.parse::<u8>().unwrap_or(0))?,
+            _ => file.cut(rest.parse::<usize>().unwrap_or(0)),
+        }
+        Ok(())
+    }
+
+    /// The next line of the output that was not compared yet.
+    fn next_line(&self) -> Option<&str> {
+        str::from_utf8(self.ended.out.as_slice())
+            .ok()?
+            .lines()
+            .nth(self.compared)
+    }
+
+    /// Whether what a line wants came out: `status N`, `> LINE`, `~ FRACTION WORDS`, `skip N` lines, or `! LINE` on the
+    /// error sink.
+    fn comes_out(&mut self, word: &str, rest: &str) -> bool {
+        match word {
+            "status" => rest.parse::<u8>() == Ok(self.ended.status),
+            "!" => {
+                let is_told = self.ended.err.strip_suffix(b"\n") == Some(rest.as_bytes());
+                self.ended.err.clear();
+                is_told
+            }
+            ">" => {
+                let is_line = self.next_line() == Some(rest);
+                self.compared = self.compared.saturating_add(1);
+                is_line
+            }
+            "~" => {
+                let is_line = self
+                    .next_line()
+                    .is_some_and(|line| is_enclosure(line, rest, self.width));
+                self.compared = self.compared.saturating_add(1);
+                is_line
+            }
+            "skip" => {
+                self.compared = self
+                    .compared
+                    .saturating_add(rest.parse::<usize>().unwrap_or(0));
+                self.next_line().is_some()
+            }
+            _ => false,
+        }
+    }
+}
+
+/// What a run leaves that was never made, with a status that none has.
+fn nothing(alloc: Global) -> Ended {
+    Ended {
+        status: 255,
+        out: Vec::new(alloc),
+        err: Vec::new(alloc),
+    }
+}
