@@ -1,7 +1,7 @@
 #!/usr/bin/env python3
 """Writes the cases that solver.sh times into a folder, each as NAME.toml.
 
-    python3 solver_cases.py ../crates/gic_examples/src/realistic.rt FOLDER
+    python3 solver_cases.py ../crates/gic_examples/data/realistic.txt FOLDER
 
 The realistic case is taken from the examples of the repository. The numbers of all cases belong to no real network.
 """
@@ -61,8 +61,9 @@ def chain(stations, ground):
 
 
 def realistic(path):
-    source = pathlib.Path(path).read_text()
-    return source.split('REALISTIC_CASE: &str = "')[1].split('";')[0].replace('\\"', '"')
+    """The lines of the file `realistic` in a script of examples."""
+    script = pathlib.Path(path).read_text().split("file realistic\n")[1]
+    return "".join(line[2:] for line in script.splitlines(keepends=True) if line.startswith("| "))
 
 
 def cases(source):
