@@ -48,6 +48,13 @@ impl Case {
         &self.network
     }
 
+    /// The case keeps all rules. The call computes nothing: it brings this fact to where it stands.
+    pub fn keeps_rules(&self)
+        ensures { IsSound self.now }
+    {
+        let _ = &self.network;
+    }
+
     /// The zones.
     pub fn zones(&self) -> &[Zone]
         ensures value { result.now ≡ self.now.zones }
