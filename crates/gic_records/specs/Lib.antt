@@ -1,2 +1,4 @@
 pub mod Columns
 pub mod Records
+pub mod Rows
+pub mod RowPass

@@ -4,8 +4,10 @@
 mod column;
 pub mod laws;
 mod records;
+mod rows;
 #[cfg(test)]
 mod tests;
 
-pub use column::{is_word, text_at};
+pub use column::{is_word, text_at, time_in};
 pub use records::Records;
+pub use rows::{RowReader, read_rows};

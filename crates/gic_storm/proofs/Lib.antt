@@ -1,7 +1,6 @@
 pub mod Cuts
 pub mod LastRows
-pub mod Ordered
+pub mod Follows
 pub mod PassLaws
-pub mod ReadRows
 pub mod Rising
 pub mod StepRows

@@ -3,10 +3,15 @@ use Rattle.std.proofs.Common.{◌≡◌, ℕ, ◌+◌, ◌==◌, pos, nat_le, Li
 use Rattle.gic_base.specs.Refusals.{unless, settle}
 use Rattle.gic_base.specs.Passes.{◌>>=◌, or_refuse}
 use Rattle.gic_base.proofs.RefusalLaws.{then_law, last_law, value_law, test_law}
+use Rattle.gic_records.specs.Columns.{time_in, time_of}
 use Rattle.gic_records.specs.Records.{records_of}
-use Rattle.gic_storm.specs.Columns.{form_of, width_of, north_place, east_place, time_in, field_in, zone_in, follows}
-use Rattle.gic_storm.specs.Pass.{row_in, rows_in, some_rows, storm_from}
-use Rattle.gic_storm.specs.Rules.{time_of, breaks_record, breaks_records, breaks_empty, broken_after, broken, row_of, rows_after, storm_with, storm_in, storm_of}
+use Rattle.gic_records.specs.Rows.{breaks_records}
+use Rattle.gic_records.proofs.RowLaws.{rows_law as all_rows_law}
+use Rattle.gic_base.specs.declared.limits.TheConstants.{MOST_ROWS}
+use Rattle.gic_storm.specs.declared.row.Row.{Row}
+use Rattle.gic_storm.specs.Columns.{form_of, width_of, north_place, east_place, field_in, zone_in, follows}
+use Rattle.gic_storm.specs.Pass.{row_in, storm_rows, some_rows, storm_from}
+use Rattle.gic_storm.specs.Rules.{breaks_record, breaks_empty, broken_after, broken, row_of, rows_after, storm_with, storm_in, storm_of}
 use Rattle.gic_storm.specs.declared.form.Form.{Form}
 use Rattle.gic_storm.specs.declared.refusal.StormField.TheVariants as fields
 use Rattle.gic_storm.specs.declared.refusal.StormRefusal.{StormRefusal}
@@ -38,35 +43,23 @@ time_row : (form : Form) (zones columns : List (List ℕ)) → (row_of form zone
 unfolding row_of
 time_row form zones columns = refl
 
-parts_row : (form : Form) (zones : List (List ℕ)) (row : ℕ) (before : Option ℕ) (columns : List (List ℕ)) (more : List StormRefusal)
-    → breaks_record form zones row before columns ++ more ≡ unless (nat_le row 20000) refusals.TooMany ++ (breaks_columns form zones row before columns ++ more)
-unfolding breaks_record
-parts_row form zones row before columns more = append_assoc (unless (nat_le row 20000) refusals.TooMany) (breaks_columns form zones row before columns) more
-
 -- the records after the first
-pub rows_law : (form : Form) (zones : List (List ℕ)) (row : ℕ) (before : Option ℕ) (records : List (List (List ℕ)))
-    → rows_in form zones row before records ≡ settle (breaks_records form zones row before records) (map (row_of form zones) records)
-unfolding rows_in
-rows_law form zones row before [] = refl
-rows_law form zones row before (columns ∷ records) =
-    let more = breaks_records form zones (row + 1) (Some (time_of columns)) records in
-    let xs = map (row_of form zones) records in
-    let rest : rows_in form zones (row + 1) (Some (row_of form zones columns).time) records ≡ settle more xs = rw (time_row form zones columns) (rows_law form zones (row + 1) (Some (time_of columns)) records) in
-    rw (parts_row form zones row before columns more)
-    (then_law _ _ _ _ _ _ (test_law (nat_le row 20000) refusals.TooMany)
-    (then_law _ _ _ _ _ _ (row_law form zones row before columns)
-    (last_law _ _ _ (λ ys. row_of form zones columns ∷ ys) rest)))
+pub rows_law : (form : Form) (zones : List (List ℕ)) (records : List (List (List ℕ)))
+    → storm_rows form zones records ≡ settle (breaks_records (breaks_record form zones) 1 None records) (map (row_of form zones) records)
+unfolding breaks_record
+rows_law form zones records =
+    all_rows_law (row_in form zones) (λ (r : Row). r.time) MOST_ROWS refusals.TooMany (breaks_columns form zones) (row_of form zones) (row_law form zones) (time_row form zones) 1 None records
 
 some_law : (form : Form) (zones : List (List ℕ)) (records : List (List (List ℕ))) → some_rows (map (row_of form zones) records) ≡ settle (breaks_empty records) (map (row_of form zones) records)
 some_law form zones [] = refl
 some_law form zones (columns ∷ records) = refl
 
 form_law : (o : Option Form) (zones : List (List ℕ)) (records : List (List (List ℕ)))
-    → (or_refuse o (refusals.Shape 0) >>= (λ form. rows_in form zones 1 None records >>= (λ xs. some_rows xs >>= (λ ys. Ok (storm_with zones ys)))))
+    → (or_refuse o (refusals.Shape 0) >>= (λ form. storm_rows form zones records >>= (λ xs. some_rows xs >>= (λ ys. Ok (storm_with zones ys)))))
     ≡ settle (broken_after o zones records) (storm_with zones (rows_after o zones records))
 form_law None zones records = refl
 form_law (Some form) zones records =
-    then_law _ _ _ _ _ _ (rows_law form zones 1 None records)
+    then_law _ _ _ _ _ _ (rows_law form zones records)
     (last_law _ _ _ (storm_with zones) (some_law form zones records))
 
 -- all records

@@ -1,7 +1,8 @@
 -- What the fields of one record of a storm say.
-use Rattle.std.specs.Prelude.{ℕ, ℤ, pos, neg_ℤ, nat_abs, nat_lt, nat_le, ◌==◌, ◌&&◌, List, length, codes, Bool, true, if◌then◌else◌, Option, Some, None, option_map}
-use Rattle.gic_text.specs.Decimal.{read_decimal}
+use Rattle.std.specs.Prelude.{ℕ, ℤ, pos, neg_ℤ, nat_lt, nat_le, ◌==◌, ◌&&◌, List, length, codes, Bool, true, if◌then◌else◌, Option, Some, None, option_map}
+use Rattle.gic_base.specs.declared.limits.TheConstants.{MOST_FIELD}
 use Rattle.gic_records.specs.Columns.{text_at, is_word}
+use Rattle.gic_text.specs.Decimal.{read_decimal}
 use Rattle.gic_case.specs.Names.{place_in}
 use Rattle.gic_storm.specs.declared.form.Form.{Form}
 use Rattle.gic_storm.specs.declared.form.Form.TheVariants.{Uniform, Zoned}
@@ -34,13 +35,9 @@ abbrev pub east_place : Form → ℕ
 east_place Uniform = 2
 east_place Zoned = 3
 
--- the time in seconds, from 0 to 4294967295
-unfoldable pub time_in : List (List ℕ) → Option ℕ
-time_in columns = option_map nat_abs (read_decimal (text_at columns 0) (pos 0) (pos 4294967295))
-
--- a part of a field in mV/km, from -20000 to 20000
+-- a part of a field in mV/km, at most `MOST_FIELD` either way
 unfoldable pub field_in : List (List ℕ) → ℕ → Option ℤ
-field_in columns place = read_decimal (text_at columns place) (neg_ℤ (pos 20000)) (pos 20000)
+field_in columns place = read_decimal (text_at columns place) (neg_ℤ (pos MOST_FIELD)) (pos MOST_FIELD)
 
 -- whom a record is for: all zones, or the zone at a place
 unfoldable pub zone_in : Form → List (List ℕ) → List (List ℕ) → Option (Option ℕ)

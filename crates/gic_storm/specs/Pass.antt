@@ -1,7 +1,10 @@
 -- What one pass over the records reads, up to the first fault. Private functions are proved to read this; the contract of the reader speaks of the rules.
-use Rattle.std.specs.Prelude.{ℕ, ◌+◌, nat_le, ◌==◌, List, [], ◌∷◌, length, Option, Some, None, Result, Ok, Err}
+use Rattle.std.specs.Prelude.{ℕ, ◌==◌, List, [], ◌∷◌, length, Option, None, Result, Ok, Err}
+use Rattle.gic_base.specs.declared.limits.TheConstants.{MOST_ROWS}
 use Rattle.gic_base.specs.Passes.{◌>>=◌, or_refuse, test}
-use Rattle.gic_storm.specs.Columns.{form_of, width_of, north_place, east_place, time_in, field_in, zone_in, follows}
+use Rattle.gic_records.specs.Columns.{time_in}
+use Rattle.gic_records.specs.RowPass.{rows_in}
+use Rattle.gic_storm.specs.Columns.{form_of, width_of, north_place, east_place, field_in, zone_in, follows}
 use Rattle.gic_storm.specs.Rules.{storm_with}
 use Rattle.gic_storm.specs.StormView.{StormView}
 use Rattle.gic_storm.specs.declared.form.Form.{Form}
@@ -21,14 +24,9 @@ row_in form zones row before columns = do
   order ← test (follows form before time) (refusals.Order row)
   Ok (record { time = time; zone = zone; north = north; east = east })
 
--- the rows of the records, numbered from here on
-unfoldable pub rows_in : Form → (zones : List (List ℕ)) → (row : ℕ) → (before : Option ℕ) → List (List (List ℕ)) → Result (List Row) StormRefusal
-rows_in form zones row before [] = Ok []
-rows_in form zones row before (columns ∷ records) =
-    test (nat_le row 20000) refusals.TooMany
-    >>= (λ few. row_in form zones row before columns
-    >>= (λ x. rows_in form zones (row + 1) (Some x.time) records
-    >>= (λ xs. Ok (x ∷ xs))))
+-- the rows of the records after the first
+abbrev pub storm_rows : Form → (zones : List (List ℕ)) → List (List (List ℕ)) → Result (List Row) StormRefusal
+storm_rows form zones = rows_in (row_in form zones) (λ r. r.time) MOST_ROWS refusals.TooMany 1 None
 
 -- the rows, of which there is one at least
 abbrev pub some_rows : List Row → Result (List Row) StormRefusal
@@ -40,6 +38,6 @@ unfoldable pub storm_from : (zones : List (List ℕ)) → List (List (List ℕ))
 storm_from zones [] = Err (refusals.Shape 0)
 storm_from zones (first ∷ records) = do
   form ← or_refuse (form_of first) (refusals.Shape 0)
-  xs ← rows_in form zones 1 None records
+  xs ← storm_rows form zones records
   ys ← some_rows xs
   Ok (storm_with zones ys)

@@ -1,8 +1,11 @@
 -- The rules of a storm, each read by itself on the list of records: the refusals for all places where the records break it, in order. A storm is accepted where no rule gives one, and the first of all answers otherwise.
-use Rattle.std.specs.Prelude.{ℕ, ◌+◌, pos, nat_le, ◌==◌, List, [], ◌∷◌, ◌++◌, length, map, Bool, true, false, not, Option, Some, None, unwrap_or, is_some, Result}
+use Rattle.std.specs.Prelude.{ℕ, pos, nat_le, ◌==◌, List, [], ◌∷◌, ◌++◌, length, map, Bool, true, false, not, Option, Some, None, unwrap_or, is_some, Result}
+use Rattle.gic_base.specs.declared.limits.TheConstants.{MOST_ROWS}
 use Rattle.gic_base.specs.Refusals.{unless, settle}
+use Rattle.gic_records.specs.Columns.{time_in, time_of}
 use Rattle.gic_records.specs.Records.{records_of}
-use Rattle.gic_storm.specs.Columns.{form_of, width_of, north_place, east_place, time_in, field_in, zone_in, follows}
+use Rattle.gic_records.specs.Rows.{breaks_records}
+use Rattle.gic_storm.specs.Columns.{form_of, width_of, north_place, east_place, field_in, zone_in, follows}
 use Rattle.gic_storm.specs.StormView.{StormView}
 use Rattle.gic_storm.specs.declared.form.Form.{Form}
 use Rattle.gic_storm.specs.declared.refusal.StormField.TheVariants as fields
@@ -10,26 +13,16 @@ use Rattle.gic_storm.specs.declared.refusal.StormRefusal.{StormRefusal}
 use Rattle.gic_storm.specs.declared.refusal.StormRefusal.TheVariants as refusals
 use Rattle.gic_storm.specs.declared.row.Row.{Row}
 
--- the time of a record, 0 where it has none
-abbrev pub time_of : List (List ℕ) → ℕ
-time_of columns = unwrap_or (time_in columns) 0
-
 -- the rules of one record, over a case with zones of these names, after a record of the time before
 unfoldable pub breaks_record : Form → (zones : List (List ℕ)) → (row : ℕ) → (before : Option ℕ) → (columns : List (List ℕ)) → List StormRefusal
 breaks_record form zones row before columns =
-    unless (nat_le row 20000) refusals.TooMany
+    unless (nat_le row MOST_ROWS) refusals.TooMany
     ++ (unless (length columns == width_of form) (refusals.Shape row)
     ++ (unless (is_some (time_in columns)) (refusals.Number row fields.Time)
     ++ (unless (is_some (field_in columns (north_place form))) (refusals.Number row fields.North)
     ++ (unless (is_some (field_in columns (east_place form))) (refusals.Number row fields.East)
     ++ (unless (is_some (zone_in form zones columns)) (refusals.Zone row)
     ++ unless (follows form before (time_of columns)) (refusals.Order row))))))
-
--- each record keeps the rules of a record; they are numbered from here on
-abbrev pub breaks_records : Form → (zones : List (List ℕ)) → (row : ℕ) → (before : Option ℕ) → List (List (List ℕ)) → List StormRefusal
-breaks_records form zones row before [] = []
-breaks_records form zones row before (columns ∷ records) =
-    breaks_record form zones row before columns ++ breaks_records form zones (row + 1) (Some (time_of columns)) records
 
 -- there is none
 abbrev pub is_empty : {A : Type 0} → List A → Bool
@@ -43,7 +36,7 @@ breaks_empty records = unless (not (is_empty records)) refusals.Empty
 -- all rules on the records after the first, which told the form, or none
 abbrev pub broken_after : Option Form → (zones : List (List ℕ)) → List (List (List ℕ)) → List StormRefusal
 broken_after None zones records = refusals.Shape 0 ∷ []
-broken_after (Some form) zones records = breaks_records form zones 1 None records ++ breaks_empty records
+broken_after (Some form) zones records = breaks_records (breaks_record form zones) 1 None records ++ breaks_empty records
 
 -- all rules on the records, in their order
 abbrev pub broken : (zones : List (List ℕ)) → List (List (List ℕ)) → List StormRefusal

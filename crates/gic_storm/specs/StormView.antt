@@ -1,6 +1,7 @@
 -- What a storm is.
 use Rattle.std.specs.Prelude.{ℕ, ◌≤◌, ◌<◌, List, length, map, All, IfSome}
 use Rattle.std.specs.List.Sorted.{IsNonDecreasingBy}
+use Rattle.gic_base.specs.declared.limits.TheConstants.{MOST_ZONES, MOST_ROWS}
 use Rattle.gic_scale.specs.ZoneView.{ZoneView}
 use Rattle.gic_induce.specs.Voltage.{IsFieldWithin}
 use Rattle.gic_storm.specs.declared.row.Row.{Row}
@@ -16,11 +17,11 @@ pub record IsRow (zones : ℕ) (r : Row) : Type 0 where
   pub north : IsFieldWithin r.north
   pub east : IsFieldWithin r.east
 
--- what every storm keeps: 1 to 20000 rows, whose times do not fall
+-- what every storm keeps: 1 to `MOST_ROWS` rows, whose times do not fall
 pub record IsStorm (s : StormView) : Type 0 where
-  pub few_zones : s.zones ≤ 256
+  pub few_zones : s.zones ≤ MOST_ZONES
   pub some_row : 1 ≤ length s.rows
-  pub few_rows : length s.rows ≤ 20000
+  pub few_rows : length s.rows ≤ MOST_ROWS
   pub each_row : All (IsRow s.zones) s.rows
   pub ordered : IsNonDecreasingBy (λ r. r.time) s.rows
 

@@ -11,7 +11,6 @@ mod row;
 mod step_fields;
 mod storm;
 
-pub use column::time_in;
 pub use refusal::{StormField, StormRefusal};
 pub use row::Row;
 pub use step_fields::fill_fields;

@@ -1,26 +1,25 @@
 //! Records read as rows, one after another.
-ghost use Rattle.std.specs.Prelude.{◌≡◌, ◌≤◌, IfOk, length, vec_len, All, None};
+ghost use Rattle.std.specs.Prelude.{◌≡◌, ◌≤◌, IfOk, length, vec_len, All, unwrap_or};
 ghost use Rattle.std.specs.List.Sorted.{IsNonDecreasingBy};
 ghost use Rattle.csv.specs.Records.{fields_of};
 ghost use Rattle.gic_base.specs.Refusals.{Answers};
-ghost use Rattle.gic_storm.specs.declared.refusal.StormRefusal.TheVariants.{Memory};
-ghost use Rattle.gic_storm.specs.Pass.{row_in, rows_in};
+ghost use Rattle.gic_base.specs.declared.limits.TheConstants.{MOST_ZONES};
+ghost use Rattle.gic_storm.specs.declared.refusal.StormRefusal.TheVariants.{TooMany, Memory};
+ghost use Rattle.gic_storm.specs.Pass.{row_in, storm_rows};
 ghost use Rattle.gic_storm.specs.StormView.{IsRow, zone_names};
 
-use crate::column::{field_in, time_in, zone_in};
+use crate::column::{field_in, zone_in};
 use crate::form::Form;
 use crate::refusal::{StormField, StormRefusal};
 use crate::row::Row;
 use csv::ByteRecord;
-use gic_records::Records;
+use gic_base::limits::{MOST_ROWS, MOST_ZONES};
+use gic_records::{Records, RowReader, read_rows, time_in};
 use gic_scale::Zone;
 use std::alloc::Global;
 
-/// The most rows that a storm may have.
-const MOST_ROWS: u32 = 20000;
-
 /// The row that a record is, after a record of the time before.
-#[tactic(auto, unfolding(crate::specs::Pass::row_in))]
+#[tactic(auto, using(crate::proofs::Follows::follows_after), unfolding(crate::specs::Pass::row_in))]
 fn row_in(
     form: Form,
     zones: &[Zone],
@@ -28,8 +27,9 @@ fn row_in(
     before: Option<u32>,
     columns: &ByteRecord,
 ) -> Result<Row, StormRefusal>
-    requires { length zones.now ≤ 256 }
-    ensures value { Answers Memory (λ r. r) result (row_in form (zone_names zones.now) row before (fields_of columns.now)) }
+    requires { length zones.now ≤ MOST_ZONES }
+    ensures value { result ≡ row_in form (zone_names zones.now) row before (fields_of columns.now) }
+    ensures order { IfOk result (λ r. unwrap_or before 0 ≤ r.time) }
     ensures within { IfOk result (IsRow (length zones.now)) }
 {
     if columns.len() != form.width() {
@@ -59,48 +59,69 @@ fn row_in(
     })
 }
 
-/// The rows of the records that are left, whose times may come in any order that the form allows.
-fn read_rows(
-    alloc: Global,
+/// How the records of a storm of this form are read over these zones.
+#[derive(Drop)]
+struct StormRows<'a> {
     form: Form,
-    zones: &[Zone],
-    records: &mut Records<'_>,
-) -> Result<Vec<Row>, StormRefusal>
-    requires { length zones.now ≤ 256 }
-    ensures value { Answers Memory (λ v. v.items) result (rows_in form (zone_names zones.now) 1 None records.old) }
-    ensures within { IfOk result (λ v. All (IsRow (length zones.now)) v.items) }
-    ensures few { IfOk result (λ v. vec_len v ≤ 20000) }
-{
-    let mut rows = Vec::new(alloc);
-    let mut columns = ByteRecord::new(alloc);
-    let mut before = None;
-    for row in 1..MOST_ROWS + 1 {
-        if !records.read(&mut columns)? {
-            return Ok(rows);
-        }
-        let next = row_in(form, zones, row, before, &columns)?;
-        before = Some(next.time);
-        rows.push(next)?;
+    zones: &'a [Zone],
+    ghost few: { length zones.now ≤ MOST_ZONES },
+}
+
+impl RowReader for StormRows<'_> {
+    type Row = Row;
+
+    type Refusal = StormRefusal;
+
+    ghost reads = { λ s. row_in s.form (zone_names s.zones.now) };
+
+    ghost time_of = { λ r. r.time };
+
+    ghost keeps = { λ s. IsRow (length s.zones.now) };
+
+    ghost late = { TooMany };
+
+    ghost memory = { Memory };
+
+    fn read(
+        &self,
+        row: u32,
+        before: Option<u32>,
+        columns: &ByteRecord,
+    ) -> Result<Row, StormRefusal> {
+        row_in(self.form, self.zones, row, before, columns)
     }
-    if records.read(&mut columns)? {
-        return Err(StormRefusal::TooMany);
+
+    fn time(row: &Row) -> u32
+        ensures { result ≡ row.now.time }
+    {
+        row.time
     }
-    Ok(rows)
+
+    fn too_many() -> StormRefusal
+        ensures { result ≡ TooMany }
+    {
+        StormRefusal::TooMany
+    }
+
+    fn out_of_memory() -> StormRefusal
+        ensures { result ≡ Memory }
+    {
+        StormRefusal::Memory
+    }
 }
 
 /// The rows of the records that are left. Their times do not fall.
-#[tactic(auto, using(crate::proofs::Ordered::ordered_by))]
 pub(crate) fn rows_in(
     alloc: Global,
     form: Form,
     zones: &[Zone],
     records: &mut Records<'_>,
 ) -> Result<Vec<Row>, StormRefusal>
-    requires { length zones.now ≤ 256 }
-    ensures value { Answers Memory (λ v. v.items) result (rows_in form (zone_names zones.now) 1 None records.old) }
-    ensures within { IfOk result (λ v. All (IsRow (length zones.now)) v.items) }
-    ensures few { IfOk result (λ v. vec_len v ≤ 20000) }
+    requires { length zones.now ≤ MOST_ZONES }
+    ensures value { Answers Memory (λ v. v.items) result (storm_rows form (zone_names zones.now) records.old) }
+    ensures few { IfOk result (λ v. vec_len v ≤ MOST_ROWS) }
     ensures ordered { IfOk result (λ v. IsNonDecreasingBy (λ r. r.time) v.items) }
+    ensures within { IfOk result (λ v. All (IsRow (length zones.now)) v.items) }
 {
-    read_rows(alloc, form, zones, records)
+    read_rows(alloc, &StormRows { form, zones }, MOST_ROWS as u32, records)
 }

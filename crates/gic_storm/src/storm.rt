@@ -12,6 +12,7 @@ use crate::pass::rows_in;
 use crate::refusal::StormRefusal;
 use crate::row::Row;
 use csv::ByteRecord;
+use gic_base::limits::{MOST_ROWS, MOST_ZONES};
 use gic_case::Case;
 use gic_records::Records;
 use gic_scale::Zone;
@@ -50,7 +51,7 @@ fn is_new(before: Option<u32>, time: u32) -> bool
 
 /// The places of the rows that begin a step.
 fn starts_of(alloc: Global, rows: &[Row]) -> Result<Vec<u32>, AllocError>
-    requires { length rows.now ≤ 20000 }
+    requires { length rows.now ≤ MOST_ROWS }
     ensures { IfOk result (λ v. v.items ≡ starts_from 0 None rows.now) }
 {
     let mut starts = Vec::new(alloc);
@@ -71,7 +72,7 @@ fn storm_from(
     zones: &[Zone],
     mut records: Records<'_>,
 ) -> Result<Storm, StormRefusal>
-    requires { length zones.now ≤ 256 }
+    requires { length zones.now ≤ MOST_ZONES }
     ensures value { Answers Memory (λ s. s) result (storm_from (zone_names zones.now) records.entry) }
     ensures zones { IfOk result (λ s. s.zones ≡ length zones.now) }
 {
@@ -123,7 +124,7 @@ impl Storm {
     pub fn steps(&self) -> u32
         ensures value { result ≡ length (steps_in self.now.rows) }
         ensures least { 1 ≤ result }
-        ensures most { result ≤ 20000 }
+        ensures most { result ≤ MOST_ROWS }
         ensures sound { IsStorm self.now }
     {
         self.starts.len() as u32

@@ -2,15 +2,18 @@
 use Rattle.std.proofs.Common.{◌≡◌, ℕ, ◌+◌, ◌==◌, nat_le, List, [], ◌∷◌, ◌++◌, length, map, Option, Some, None, is_some, refl, append_assoc}
 use Rattle.gic_base.specs.Refusals.{unless, settle}
 use Rattle.gic_base.proofs.RefusalLaws.{then_law, last_law, value_law, test_law}
-use Rattle.gic_records.specs.Columns.{text_at}
+use Rattle.gic_records.specs.Columns.{text_at, time_in, time_of}
 use Rattle.gic_records.specs.Records.{records_of}
-use Rattle.gic_storm.specs.Columns.{time_in}
+use Rattle.gic_records.specs.Rows.{breaks_records}
+use Rattle.gic_records.proofs.RowLaws.{rows_law as all_rows_law}
+use Rattle.gic_base.specs.declared.limits.TheConstants.{MOST_SWITCHINGS}
+use Rattle.gic_model.specs.declared.parts.Switching.{Switching}
 use Rattle.gic_case.specs.Lists.{Lists}
 use Rattle.gic_model.specs.declared.parts.Item.TheVariants as items
 use Rattle.gic_switch.specs.Columns.{is_head, action_in, follows}
 use Rattle.gic_switch.specs.Items.{item_in}
-use Rattle.gic_switch.specs.Pass.{row_in, rows_in, switchings_from}
-use Rattle.gic_switch.specs.Rules.{time_of, action_of, breaks_record, breaks_records, broken, row_of, list_of, switchings_of}
+use Rattle.gic_switch.specs.Pass.{row_in, switching_rows, switchings_from}
+use Rattle.gic_switch.specs.Rules.{action_of, breaks_record, broken, row_of, list_of, switchings_of}
 use Rattle.gic_switch.specs.declared.action.Action.TheVariants.{Open}
 use Rattle.gic_switch.specs.declared.refusal.SwitchRefusal.{SwitchRefusal}
 use Rattle.gic_switch.specs.declared.refusal.SwitchRefusal.TheVariants as refusals
@@ -39,30 +42,18 @@ time_row : (case : Lists) (columns : List (List ℕ)) → (row_of case columns).
 unfolding row_of
 time_row case columns = refl
 
-parts_row : (case : Lists) (row : ℕ) (before : Option ℕ) (columns : List (List ℕ)) (more : List SwitchRefusal)
-    → breaks_record case row before columns ++ more ≡ unless (nat_le row 4096) refusals.TooMany ++ (breaks_columns case row before columns ++ more)
-unfolding breaks_record
-parts_row case row before columns more = append_assoc (unless (nat_le row 4096) refusals.TooMany) (breaks_columns case row before columns) more
-
 -- the records after the first
-rows_law : (case : Lists) (row : ℕ) (before : Option ℕ) (records : List (List (List ℕ)))
-    → rows_in case row before records ≡ settle (breaks_records case row before records) (map (row_of case) records)
-unfolding rows_in
-rows_law case row before [] = refl
-rows_law case row before (columns ∷ records) =
-    let more = breaks_records case (row + 1) (Some (time_of columns)) records in
-    let xs = map (row_of case) records in
-    let rest : rows_in case (row + 1) (Some (row_of case columns).time) records ≡ settle more xs = rw (time_row case columns) (rows_law case (row + 1) (Some (time_of columns)) records) in
-    rw (parts_row case row before columns more)
-    (then_law _ _ _ _ _ _ (test_law (nat_le row 4096) refusals.TooMany)
-    (then_law _ _ _ _ _ _ (row_law case row before columns)
-    (last_law _ _ _ (λ ys. row_of case columns ∷ ys) rest)))
+rows_law : (case : Lists) (records : List (List (List ℕ)))
+    → switching_rows case records ≡ settle (breaks_records (breaks_record case) 1 None records) (map (row_of case) records)
+unfolding breaks_record
+rows_law case records =
+    all_rows_law (row_in case) (λ (s : Switching). s.time) MOST_SWITCHINGS refusals.TooMany (breaks_columns case) (row_of case) (row_law case) (time_row case) 1 None records
 
 -- all records
 switchings_law : (case : Lists) (records : List (List (List ℕ))) → switchings_from case records ≡ settle (broken case records) (list_of case records)
 unfolding switchings_from
 switchings_law case [] = refl
-switchings_law case (first ∷ records) = then_law _ _ _ _ _ _ (test_law (is_head first) (refusals.Shape 0)) (rows_law case 1 None records)
+switchings_law case (first ∷ records) = then_law _ _ _ _ _ _ (test_law (is_head first) (refusals.Shape 0)) (rows_law case records)
 
 -- the switchings of bytes
 pub switchings_of_law : (case : Lists) (bytes : List ℕ) → switchings_from case (records_of bytes) ≡ switchings_of case bytes

@@ -1,6 +1,6 @@
 -- What the name in a row stands for, and the items that each action may have.
 use Rattle.std.specs.Prelude.{◌≡◌, ℕ, ◌<◌, List, length, map, slice_index_or, Bool, true, false, IsTrue, if◌then◌else◌, Option, Some, None, option_map, option_and_then, is_some, All}
-use Rattle.gic_case.specs.Lists.{Lists, IsSound}
+use Rattle.gic_case.specs.Lists.{Lists}
 use Rattle.gic_case.specs.Names.{place_in}
 use Rattle.gic_case.specs.declared.item.Neutral.{Neutral}
 use Rattle.gic_case.specs.declared.item.Neutral.TheVariants as devices
@@ -22,10 +22,9 @@ named case name =
     (or_else (option_map items.Transformer (place_in (map (λ t. t.name) case.transformers) name))
     (option_map items.Ground (place_in (map (λ s. s.name) case.substations) name)))
 
--- what is found by name in a case, which keeps its rules, is what is named
-pub record FindsNamed (case : Lists) (found : List ℕ → Option Item) : Type 0 where
-  pub sound : IsSound case
-  pub each : (name : List ℕ) → found name ≡ named case name
+-- what is found by name is what is named
+abbrev pub FindsNamed : Lists → (List ℕ → Option Item) → Type 0
+FindsNamed case found = (name : List ℕ) → found name ≡ named case name
 
 -- the substation at a place has a ground
 abbrev pub has_ground : Lists → ℕ → Bool

@@ -1,5 +1,4 @@
 pub mod Columns
-pub mod Epochs
 pub mod Items
 pub mod Pass
 pub mod Rules

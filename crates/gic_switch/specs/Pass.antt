@@ -1,8 +1,9 @@
 -- What one pass over the records reads, up to the first fault. Private functions are proved to read this; the contract of the reader speaks of the rules.
-use Rattle.std.specs.Prelude.{ℕ, ◌+◌, nat_le, ◌==◌, List, [], ◌∷◌, length, Option, Some, None, Result, Ok, Err}
+use Rattle.std.specs.Prelude.{ℕ, ◌==◌, List, [], ◌∷◌, length, Option, None, Result, Ok, Err}
+use Rattle.gic_base.specs.declared.limits.TheConstants.{MOST_SWITCHINGS}
 use Rattle.gic_base.specs.Passes.{◌>>=◌, or_refuse, test}
-use Rattle.gic_records.specs.Columns.{text_at}
-use Rattle.gic_storm.specs.Columns.{time_in}
+use Rattle.gic_records.specs.Columns.{text_at, time_in}
+use Rattle.gic_records.specs.RowPass.{rows_in}
 use Rattle.gic_case.specs.Lists.{Lists}
 use Rattle.gic_model.specs.declared.parts.Switching.{Switching}
 use Rattle.gic_switch.specs.Columns.{is_head, action_in, opens, follows}
@@ -20,16 +21,11 @@ row_in case row before columns = do
   item ← or_refuse (item_in case action (text_at columns 1)) (refusals.Item row)
   Ok (record { time = time; item = item; opens = opens action })
 
--- the switchings of the records, numbered from here on
-unfoldable pub rows_in : Lists → (row : ℕ) → (before : Option ℕ) → List (List (List ℕ)) → Result (List Switching) SwitchRefusal
-rows_in case row before [] = Ok []
-rows_in case row before (columns ∷ records) =
-    test (nat_le row 4096) refusals.TooMany
-    >>= (λ few. row_in case row before columns
-    >>= (λ x. rows_in case (row + 1) (Some x.time) records
-    >>= (λ xs. Ok (x ∷ xs))))
+-- the switchings of the records after the first
+abbrev pub switching_rows : Lists → List (List (List ℕ)) → Result (List Switching) SwitchRefusal
+switching_rows case = rows_in (row_in case) (λ s. s.time) MOST_SWITCHINGS refusals.TooMany 1 None
 
 -- the switchings that the records are, or the first broken rule
 unfoldable pub switchings_from : Lists → List (List (List ℕ)) → Result (List Switching) SwitchRefusal
 switchings_from case [] = Err (refusals.Shape 0)
-switchings_from case (first ∷ records) = test (is_head first) (refusals.Shape 0) >>= (λ head. rows_in case 1 None records)
+switchings_from case (first ∷ records) = test (is_head first) (refusals.Shape 0) >>= (λ head. switching_rows case records)

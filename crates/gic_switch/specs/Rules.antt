@@ -1,9 +1,10 @@
 -- The rules of a list of switchings, each read by itself on the list of records: the refusals for all places where the records break it, in order. The list is accepted where no rule gives one, and the first of all answers otherwise.
-use Rattle.std.specs.Prelude.{ℕ, ◌+◌, nat_le, ◌==◌, List, [], ◌∷◌, ◌++◌, length, map, Option, Some, None, unwrap_or, is_some, Result}
+use Rattle.std.specs.Prelude.{ℕ, nat_le, ◌==◌, List, [], ◌∷◌, ◌++◌, length, map, Option, Some, None, unwrap_or, is_some, Result}
+use Rattle.gic_base.specs.declared.limits.TheConstants.{MOST_SWITCHINGS}
 use Rattle.gic_base.specs.Refusals.{unless, settle}
-use Rattle.gic_records.specs.Columns.{text_at}
+use Rattle.gic_records.specs.Columns.{text_at, time_in, time_of}
 use Rattle.gic_records.specs.Records.{records_of}
-use Rattle.gic_storm.specs.Columns.{time_in}
+use Rattle.gic_records.specs.Rows.{breaks_records}
 use Rattle.gic_case.specs.Lists.{Lists}
 use Rattle.gic_model.specs.declared.parts.Item.TheVariants as items
 use Rattle.gic_model.specs.declared.parts.Switching.{Switching}
@@ -14,10 +15,6 @@ use Rattle.gic_switch.specs.declared.action.Action.TheVariants.{Open}
 use Rattle.gic_switch.specs.declared.refusal.SwitchRefusal.{SwitchRefusal}
 use Rattle.gic_switch.specs.declared.refusal.SwitchRefusal.TheVariants as refusals
 
--- the time of a record, 0 where it has none
-abbrev pub time_of : List (List ℕ) → ℕ
-time_of columns = unwrap_or (time_in columns) 0
-
 -- the action of a record, open where it has none
 abbrev pub action_of : List (List ℕ) → Action
 action_of columns = unwrap_or (action_in columns) Open
@@ -25,23 +22,17 @@ action_of columns = unwrap_or (action_in columns) Open
 -- the rules of one record, over a case, after a record of the time before
 unfoldable pub breaks_record : Lists → (row : ℕ) → (before : Option ℕ) → (columns : List (List ℕ)) → List SwitchRefusal
 breaks_record case row before columns =
-    unless (nat_le row 4096) refusals.TooMany
+    unless (nat_le row MOST_SWITCHINGS) refusals.TooMany
     ++ (unless (length columns == 3) (refusals.Shape row)
     ++ (unless (is_some (time_in columns)) (refusals.Number row)
     ++ (unless (follows before (time_of columns)) (refusals.Order row)
     ++ (unless (is_some (action_in columns)) (refusals.Action row)
     ++ unless (is_some (item_in case (action_of columns) (text_at columns 1))) (refusals.Item row)))))
 
--- each record keeps the rules of a record; they are numbered from here on
-abbrev pub breaks_records : Lists → (row : ℕ) → (before : Option ℕ) → List (List (List ℕ)) → List SwitchRefusal
-breaks_records case row before [] = []
-breaks_records case row before (columns ∷ records) =
-    breaks_record case row before columns ++ breaks_records case (row + 1) (Some (time_of columns)) records
-
 -- all rules on the records, in their order: the first one is time,item,action, and each further one keeps its rules
 abbrev pub broken : Lists → List (List (List ℕ)) → List SwitchRefusal
 broken case [] = refusals.Shape 0 ∷ []
-broken case (first ∷ records) = unless (is_head first) (refusals.Shape 0) ++ breaks_records case 1 None records
+broken case (first ∷ records) = unless (is_head first) (refusals.Shape 0) ++ breaks_records (breaks_record case) 1 None records
 
 -- the switching that a record is, a field that breaks its rule taken as nought
 unfoldable pub row_of : Lists → List (List ℕ) → Switching

@@ -89,6 +89,7 @@ fn named(case: &Case, items: &HashMap<Name, Item>, text: &[u8]) -> Option<Item>
     requires { FindsNamed case.now (get same items.now) }
     ensures { result ≡ named case.now text.now }
 {
+    case.keeps_rules();
     let name = Name::read(text)?;
     items.get(&name).copied()
 }

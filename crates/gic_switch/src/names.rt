@@ -7,6 +7,7 @@ ghost use Rattle.gic_model.specs.declared.parts.Item.TheVariants as items;
 ghost use Rattle.gic_switch.specs.Items.{or_else, FindsNamed};
 
 use gic_base::Name;
+use gic_base::limits::{MOST_LINES, MOST_SUBSTATIONS, MOST_TRANSFORMERS};
 use gic_case::{Case, Line, Substation, Transformer};
 use gic_model::Item;
 use std::alloc::{AllocError, Global};
@@ -24,7 +25,7 @@ fn enter(named: &mut HashMap<Name, Item>, name: Name, item: Item) -> Result<(), 
 
 /// Enters the lines.
 fn enter_lines(named: &mut HashMap<Name, Item>, lines: &[Line]) -> Result<(), AllocError>
-    requires { length lines.now ≤ 8192 }
+    requires { length lines.now ≤ MOST_LINES }
     ensures { IfOk result (λ done. (q : List ℕ) → get same named.new q ≡ or_else (get same named.old q) (option_map items.Line (place_in (map (λ l. l.name) lines.now) q))) }
 {
     for (place, line) in lines.iter().enumerate() {
@@ -38,7 +39,7 @@ fn enter_transformers(
     named: &mut HashMap<Name, Item>,
     transformers: &[Transformer],
 ) -> Result<(), AllocError>
-    requires { length transformers.now ≤ 3584 }
+    requires { length transformers.now ≤ MOST_TRANSFORMERS }
     ensures { IfOk result (λ done. (q : List ℕ) → get same named.new q ≡ or_else (get same named.old q) (option_map items.Transformer (place_in (map (λ t. t.name) transformers.now) q))) }
 {
     for (place, transformer) in transformers.iter().enumerate() {
@@ -52,7 +53,7 @@ fn enter_substations(
     named: &mut HashMap<Name, Item>,
     substations: &[Substation],
 ) -> Result<(), AllocError>
-    requires { length substations.now ≤ 1024 }
+    requires { length substations.now ≤ MOST_SUBSTATIONS }
     ensures { IfOk result (λ done. (q : List ℕ) → get same named.new q ≡ or_else (get same named.old q) (option_map items.Ground (place_in (map (λ s. s.name) substations.now) q))) }
 {
     for (place, substation) in substations.iter().enumerate() {

@@ -1,28 +1,25 @@
 //! Records read as switchings, one after another.
-ghost use Rattle.std.specs.Prelude.{◌≡◌, ◌≤◌, ℕ, List, IfOk, length, vec_len, All, None, unwrap_or};
+ghost use Rattle.std.specs.Prelude.{◌≡◌, ◌≤◌, IfOk, vec_len, unwrap_or};
 ghost use Rattle.std.specs.List.Sorted.{IsNonDecreasingBy};
 ghost use Rattle.std.specs.HashMap.{get};
 ghost use Rattle.csv.specs.Records.{fields_of};
 ghost use Rattle.gic_base.specs.Refusals.{Answers};
 ghost use Rattle.gic_case.specs.Keys.{same};
-ghost use Rattle.gic_switch.specs.declared.refusal.SwitchRefusal.TheVariants.{Memory};
+ghost use Rattle.gic_switch.specs.declared.refusal.SwitchRefusal.TheVariants.{TooMany, Memory};
 ghost use Rattle.gic_switch.specs.Items.{FindsNamed, IsItemOf, AreItemsOf};
-ghost use Rattle.gic_switch.specs.Pass.{row_in, rows_in};
+ghost use Rattle.gic_switch.specs.Pass.{row_in, switching_rows};
 
 use crate::action::{action_in, follows};
 use crate::item::item_in;
 use crate::refusal::SwitchRefusal;
 use csv::ByteRecord;
 use gic_base::Name;
+use gic_base::limits::MOST_SWITCHINGS;
 use gic_case::Case;
 use gic_model::{Item, Switching};
-use gic_records::{Records, text_at};
-use gic_storm::time_in;
+use gic_records::{Records, RowReader, read_rows, text_at, time_in};
 use std::alloc::Global;
 use std::collections::HashMap;
-
-/// The most rows that a list of switchings may have.
-const MOST_ROWS: u32 = 4096;
 
 /// The switching that a record is, after a record of the time before.
 #[tactic(auto, unfolding(crate::specs::Pass::row_in, crate::specs::Columns::follows))]
@@ -34,7 +31,7 @@ fn row_in(
     columns: &ByteRecord,
 ) -> Result<Switching, SwitchRefusal>
     requires { FindsNamed case.now (get same items.now) }
-    ensures value { Answers Memory (λ s. s) result (row_in case.now row before (fields_of columns.now)) }
+    ensures value { result ≡ row_in case.now row before (fields_of columns.now) }
     ensures order { IfOk result (λ s. unwrap_or before 0 ≤ s.time) }
     ensures item { IfOk result (λ s. IsItemOf case.now s.item) }
 {
@@ -56,7 +53,58 @@ fn row_in(
     })
 }
 
-/// The switchings of the records that are left.
+/// How the records of a list of switchings are read over a case, whose items are found by name.
+#[derive(Drop)]
+struct SwitchRows<'a> {
+    case: &'a Case,
+    items: &'a HashMap<Name, Item>,
+    ghost finds: { FindsNamed case.now (get same items.now) },
+}
+
+impl RowReader for SwitchRows<'_> {
+    type Row = Switching;
+
+    type Refusal = SwitchRefusal;
+
+    ghost reads = { λ s. row_in s.case.now };
+
+    ghost time_of = { λ r. r.time };
+
+    ghost keeps = { λ s r. IsItemOf s.case.now r.item };
+
+    ghost late = { TooMany };
+
+    ghost memory = { Memory };
+
+    fn read(
+        &self,
+        row: u32,
+        before: Option<u32>,
+        columns: &ByteRecord,
+    ) -> Result<Switching, SwitchRefusal> {
+        row_in(self.case, self.items, row, before, columns)
+    }
+
+    fn time(row: &Switching) -> u32
+        ensures { result ≡ row.now.time }
+    {
+        row.time
+    }
+
+    fn too_many() -> SwitchRefusal
+        ensures { result ≡ TooMany }
+    {
+        SwitchRefusal::TooMany
+    }
+
+    fn out_of_memory() -> SwitchRefusal
+        ensures { result ≡ Memory }
+    {
+        SwitchRefusal::Memory
+    }
+}
+
+/// The switchings of the records that are left. Their times do not fall.
 pub(crate) fn rows_in(
     alloc: Global,
     case: &Case,
@@ -64,24 +112,11 @@ pub(crate) fn rows_in(
     records: &mut Records<'_>,
 ) -> Result<Vec<Switching>, SwitchRefusal>
     requires { FindsNamed case.now (get same items.now) }
-    ensures value { Answers Memory (λ v. v.items) result (rows_in case.now 1 None records.old) }
-    ensures few { IfOk result (λ v. vec_len v ≤ 4096) }
+    ensures value { Answers Memory (λ v. v.items) result (switching_rows case.now records.old) }
+    ensures few { IfOk result (λ v. vec_len v ≤ MOST_SWITCHINGS) }
     ensures ordered { IfOk result (λ v. IsNonDecreasingBy (λ s. s.time) v.items) }
     ensures items { IfOk result (λ v. AreItemsOf case.now v.items) }
 {
-    let mut rows = Vec::new(alloc);
-    let mut columns = ByteRecord::new(alloc);
-    let mut before = None;
-    for row in 1..MOST_ROWS + 1 {
-        if !records.read(&mut columns)? {
-            return Ok(rows);
-        }
-        let next = row_in(case, items, row, before, &columns)?;
-        before = Some(next.time);
-        rows.push(next)?;
-    }
-    if records.read(&mut columns)? {
-        return Err(SwitchRefusal::TooMany);
-    }
-    Ok(rows)
+    let reader = SwitchRows { case, items };
+    read_rows(alloc, &reader, MOST_SWITCHINGS as u32, records)
 }

@@ -1,6 +1,5 @@
-use crate::{Epoch, Item, SwitchRefusal, Switching, epochs, read_switchings};
+use crate::{Item, SwitchRefusal, Switching, read_switchings};
 use gic_case::read_case;
-use gic_storm::read_storm;
 use std::test::Fail;
 
 /// Two substations with a ground, A and B, and one without, C; the line L; and the transformers TA, whose neutral has a
@@ -99,29 +98,6 @@ fn reads_each_kind_of_item(rt: HostRuntime) -> Result<(), Fail> {
     assert_eq!(rt; switchings.rows().len(), wanted.len());
     for ((time, item, opens), row) in wanted.into_iter().zip(switchings.rows()) {
         assert_eq!(rt; *row, Switching { time, item, opens });
-    }
-    Ok(())
-}
-
-#[test]
-fn cuts_a_storm_into_epochs(rt: HostRuntime) -> Result<(), Fail> {
-    let case = read_case(rt.alloc(), CASE.as_bytes())?;
-    let storm = "time,north,east\n0,-3000,0\n60,1000,0\n120,2000,0\n";
-    let rows = "time,item,action\n60,L,open\n60,L,open\n120,L,close\n";
-    let storm = read_storm(rt.alloc(), storm.as_bytes(), &case)?;
-    let switchings = read_switchings(rt.alloc(), rows.as_bytes(), &case)?;
-    let found = epochs(rt.alloc(), &storm, &switchings)?;
-    let wanted = [(1, 1, 0), (2, 2, 2), (3, 3, 3)];
-    assert_eq!(rt; found.len(), wanted.len());
-    for ((first, last, through), epoch) in wanted.into_iter().zip(found.as_slice()) {
-        assert_eq!(rt;
-            *epoch,
-            Epoch {
-                first,
-                last,
-                through
-            }
-        );
     }
     Ok(())
 }

@@ -11,9 +11,9 @@ use Rattle.gic_storm.specs.Steps.{steps_in, first_time, time_of_step}
 use Rattle.gic_storm.proofs.Rising.{times_rise_law}
 use Rattle.gic_model.specs.declared.parts.Switching.{Switching}
 use Rattle.gic_model.specs.Standing.{rows_in_force}
-use Rattle.gic_switch.specs.declared.epoch.Epoch.{Epoch}
-use Rattle.gic_switch.specs.Epochs.{AreInForce, AreEpochs, Cover, DifferFrom, Longest}
-use Rattle.gic_switch.proofs.InForce.{AreOrdered, in_force_law, no_fewer}
+use Rattle.gic_epoch.specs.declared.epoch.Epoch.{Epoch}
+use Rattle.gic_epoch.specs.Epochs.{AreInForce, AreEpochs, Cover, DifferFrom, Longest}
+use Rattle.gic_epoch.proofs.InForce.{AreOrdered, in_force_law, no_fewer}
 
 -- the runs of equal counts, the first of them from a step to a step at least
 abbrev pub runs_after : (first last through : ℕ) → List ℕ → List Epoch

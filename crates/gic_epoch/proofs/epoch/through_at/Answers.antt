@@ -1,7 +1,7 @@
 use Rattle.std.proofs.Common.{◌≤◌, length, arith}
 use Rattle.gic_model.specs.Standing.{rows_in_force}
-use Rattle.gic_switch.proofs.InForce.{within_rows, above_now, most_before}
-use Rattle.gic_switch.proofs.epoch.through_at.Goals as goal
+use Rattle.gic_epoch.proofs.InForce.{within_rows, above_now, most_before}
+use Rattle.gic_epoch.proofs.epoch.through_at.Goals as goal
 
 pub returns-then-time-rows : goal.returns-then-time-rows
 returns-then-time-rows c =

@@ -1,8 +1,8 @@
 use Rattle.std.proofs.Common.{◌≡◌, ◌+◌, ◌++◌, length, drop}
 use Rattle.gic_model.specs.Standing.{rows_in_force}
 use Rattle.gic_storm.specs.Steps.{time_of_step}
-use Rattle.gic_switch.proofs.Runs.{runs_after, all_runs, counts_of}
-use Rattle.gic_switch.proofs.epoch.epochs.Given as goal
+use Rattle.gic_epoch.proofs.Runs.{runs_after, all_runs, counts_of}
+use Rattle.gic_epoch.proofs.epoch.epochs.Given as goal
 
 -- the epochs so far and the runs of the counts that are left are all of them
 abbrev pub invariant-loop-number : goal.invariant-loop-number

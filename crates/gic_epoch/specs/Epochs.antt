@@ -5,7 +5,7 @@ use Rattle.gic_storm.specs.declared.row.Row.{Row}
 use Rattle.gic_storm.specs.Steps.{steps_in, time_of_step}
 use Rattle.gic_model.specs.declared.parts.Switching.{Switching}
 use Rattle.gic_model.specs.Standing.{rows_in_force}
-use Rattle.gic_switch.specs.declared.epoch.Epoch.{Epoch}
+use Rattle.gic_epoch.specs.declared.epoch.Epoch.{Epoch}
 
 -- the epochs follow one another and cover the steps from one to another, each once
 abbrev pub Cover : (from last : ℕ) → List Epoch → Type 0

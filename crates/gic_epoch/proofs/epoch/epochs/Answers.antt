@@ -1,9 +1,9 @@
 use Rattle.std.proofs.Common.{◌≡◌, ◌<◌, ◌+◌, ◌++◌, ◌∷◌, [], length, drop, arith, sym, ap, ◌∙◌, append_assoc, refl}
 use Rattle.gic_model.specs.Standing.{rows_in_force}
 use Rattle.gic_storm.specs.Steps.{steps_in, time_of_step}
-use Rattle.gic_switch.proofs.Runs.{runs_after, counts_of, same_run, next_run, last_run, next_no_fewer}
-use Rattle.gic_switch.proofs.epoch.epochs.Goals as goal
-use Rattle.gic_switch.proofs.epoch.epochs.Goals.{then-through-epoch, else-through-epoch+in_ok-push}
+use Rattle.gic_epoch.proofs.Runs.{runs_after, counts_of, same_run, next_run, last_run, next_no_fewer}
+use Rattle.gic_epoch.proofs.epoch.epochs.Goals as goal
+use Rattle.gic_epoch.proofs.epoch.epochs.Goals.{then-through-epoch, else-through-epoch+in_ok-push}
 
 pub through_at-through-requires-clause-least : goal.through_at-through-requires-clause-least
 through_at-through-requires-clause-least c =
@@ -27,7 +27,7 @@ loop-number-preserved c =
         count = sym w.if-through-epoch.true ∙ own;
         rest = ap (λ xs. l.epochs.items ++ xs) (same_run storm rows l.epoch.first l.epoch.last l.epoch.through within (sym own ∙ w.if-through-epoch.true)) ∙ l.invariant.rest;
       })
-      | else-through-epoch+in_ok-push w ↦ rw (w.epoch-is, w.epochs-is, w.in_ok-push.ensures, ← l.invariant.last) (record {
+      | else-through-epoch+in_ok-push w ↦ rw (w.epoch-is, w.epochs-is, w.in_ok-push.ensures.items, ← l.invariant.last) (record {
         last = refl;
         count = own;
         rest =
@@ -41,4 +41,4 @@ returns c =
     let l = c.loop-number in
     let steps = c.steps-steps.ensures in
     let end : l.epoch.last ≡ length (steps_in c.args.storm.now.rows) = omega arith in
-    rw c.in_ok-push-2.ensures (last_run c.args.storm.now.rows c.args.switchings.now l.epochs.items l.epoch c.rows-rows.ensures.sound.ordered end l.invariant.rest)
+    rw c.in_ok-push-2.ensures.items (last_run c.args.storm.now.rows c.args.switchings.now l.epochs.items l.epoch c.rows-rows.ensures.sound.ordered end l.invariant.rest)

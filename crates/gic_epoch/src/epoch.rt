@@ -1,14 +1,14 @@
 //! Epochs: the longest runs of steps with the same switchings in force.
-ghost use Rattle.std.specs.Prelude.{◌≡◌, ◌≤◌, [], ◌∷◌, ◌++◌, IfOk, length};
+ghost use Rattle.std.specs.Prelude.{◌≡◌, ◌≤◌, IfOk, length};
 ghost use Rattle.gic_model.specs.Standing.{rows_in_force};
 ghost use Rattle.gic_storm.specs.Steps.{steps_in, time_of_step};
 ghost use Rattle.gic_switch.specs.SwitchingsView.{AreSwitchings};
-ghost use Rattle.gic_switch.specs.Epochs.{AreEpochs};
+ghost use Rattle.gic_epoch.specs.Epochs.{AreEpochs};
 
-use crate::switchings::Switchings;
 use gic_base::OutOfMemory;
 use gic_model::Switching;
 use gic_storm::Storm;
+use gic_switch::Switchings;
 use std::alloc::Global;
 
 /// A longest run of steps of a storm with the same switchings in force.
@@ -70,7 +70,7 @@ pub fn epochs(
         if through == epoch.through {
             epoch.last = number;
         } else {
-            push(&mut epochs, epoch)?;
+            epochs.push(epoch)?;
             epoch = Epoch {
                 first: number,
                 last: number,
@@ -78,16 +78,6 @@ pub fn epochs(
             };
         }
     }
-    push(&mut epochs, epoch)?;
+    epochs.push(epoch)?;
     Ok(epochs)
-}
-
-/// Puts an epoch behind the others.
-fn push(epochs: &mut Vec<Epoch>, epoch: Epoch) -> Result<(), OutOfMemory>
-    ensures { IfOk result (λ done. epochs.new.items ≡ epochs.old.items ++ epoch ∷ []) }
-{
-    match epochs.push(epoch) {
-        Ok(()) => Ok(()),
-        Err(_) => Err(OutOfMemory),
-    }
 }

@@ -5,7 +5,7 @@ use Rattle.std.proofs.lemmas.Bool.Decides.{nat_tests}
 use Rattle.std.specs.List.Sorted.{IsNonDecreasingBy}
 use Rattle.gic_model.specs.declared.parts.Switching.{Switching}
 use Rattle.gic_model.specs.Standing.{rows_in_force}
-use Rattle.gic_switch.specs.Epochs.{AreInForce}
+use Rattle.gic_epoch.specs.Epochs.{AreInForce}
 
 -- the times of the rows do not fall
 abbrev pub AreOrdered : List Switching → Type 0

@@ -1,0 +1,8 @@
+//! The epochs of a storm under switchings: the longest runs of steps at which the same switchings are in force.
+#![tactic(auto)]
+
+mod epoch;
+#[cfg(test)]
+mod tests;
+
+pub use epoch::{Epoch, epochs};
