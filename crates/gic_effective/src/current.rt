@@ -52,6 +52,7 @@ pub fn current_na(net: &Net, volts: &Volts, potentials: &Potentials, element: El
     ensures narrow { (width : ℕ) → IsSharp (standing net.now) (number_at volts.now) (low_at potentials.now) (high_at potentials.now) width →
         IsAtMostWide width (floor_div result.lo (pos 1000000)) (ceil_div result.hi (pos 1000000)) }
 {
+    // Brings that the element is one of the standing ones, with its place.
     let _stands = net.stands(element);
     let row = net.element(element);
     let from = potentials.get(row.from);

@@ -103,6 +103,7 @@ fn effective_interval(
     requires place { transformer < length case.now.transformers }
     ensures { IsShownEffective case.now (standing net.now) (number_at volts.now) potentials.now transformer (ends_of result) }
 {
+    // Brings that the transformer's row is sound.
     let _row = &case.transformers()[transformer as usize];
     let weights = effective_weights(case, net.list(), transformer);
     let first = winding_current(net, volts, potentials, weights.first);
