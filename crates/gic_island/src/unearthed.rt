@@ -1,5 +1,5 @@
 //! The first node that is not earthed.
-ghost use Rattle.std.specs.Prelude.{◌≡◌, OnOk, IfErr};
+ghost use Rattle.std.specs.Prelude.{◌≡◌, ◌<◌, OnOk, IfErr};
 ghost use Rattle.gic_model.specs.Earthing.{AreEarthed, IsFirstUnearthed};
 ghost use Rattle.gic_net.specs.Net.{standing};
 
@@ -20,6 +20,7 @@ pub fn earthed(net: &Net, scratch: &mut Scratch) -> Result<(), Unearthed>
     requires { scratch.old.nodes ≡ net.now.network.nodes }
     ensures ok { OnOk result (AreEarthed (standing net.now)) }
     ensures unearthed { IfErr result (λ refusal. IsFirstUnearthed (standing net.now) refusal.node.0) }
+    ensures within { IfErr result (λ refusal. refusal.node.0 < net.now.network.nodes) }
     ensures scratch { scratch.new.nodes ≡ scratch.old.nodes }
 {
     scratch.clear();

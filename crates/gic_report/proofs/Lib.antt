@@ -1,17 +1,12 @@
 pub mod Written
 pub mod Framed
 pub mod CaseNames
-pub mod VoltsDetermined
-pub mod CheckDetermined
-pub mod StateLines
 pub mod RowsWritten
 pub mod ListParts
 pub mod NeutralNames
-pub mod ElementNames
 pub mod Transformers
 pub mod LinesWritten
 pub mod RowHeads
 pub mod RowCounts
 pub mod LinePlaces
 pub mod ViewDetermined
-pub mod FieldDetermined

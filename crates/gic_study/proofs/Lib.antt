@@ -1,10 +1,6 @@
 pub mod Spaced
-pub mod LineVolts
-pub mod Rooms
-pub mod Fits
-pub mod UniformFields
-pub mod Resolved
-pub mod TrueVerdicts
 pub mod Explained
-pub mod Passed
-pub mod CaseNodes
+pub mod MetNeeds
+pub mod Ended
+pub mod Statuses
+pub mod FirstBytes

@@ -1,16 +1,18 @@
 //! The line that tells a fault.
-ghost use Rattle.std.specs.Prelude.{◌≡◌, ◌∷◌, ◌++◌, [], OnOk, map};
+ghost use Rattle.std.specs.Prelude.{◌≡◌, ◌∷◌, ◌++◌, [], OnOk, map, codes};
 ghost use Rattle.std.specs.Io.KnownBytes.{Appends};
 ghost use Rattle.gic_base.specs.Causes.{HasCause};
 ghost use Rattle.gic_base.specs.Pieces.{AppendsPart};
 ghost use Rattle.gic_text.specs.Lines.{spaced};
-ghost use Rattle.gic_study.specs.Faults.{flag, file_word, part_word, row_words, field_words, switch_row_words, node_words, told_line, line_of_fault};
+ghost use Rattle.gic_study.specs.Faults.{usage_words, case_words, switch_words, input_words, network_words, memory_words, file_word, part_word, row_words, field_words, switch_row_words, node_words, told_line, line_of_fault};
 
-use crate::fault::{Fault, File};
+use crate::fault::Fault;
+use gic_ask::{File, InputFault, InputRefusal};
 use gic_base::{Name, Sink, WriteFailed, write_all};
 use gic_case::{CaseRefusal, Field, Part};
+use gic_stand::{NetworkRefusal, ReportFault};
 use gic_switch::SwitchRefusal;
-use gic_words::{Opt, Usage};
+use gic_words::Usage;
 
 /// Writes a space and a word.
 fn write_after_space<E: Sink>(word: &str, err: &mut E) -> Result<(), WriteFailed>
@@ -36,7 +38,8 @@ fn write_spaced<E: Sink>(words: &[&str], err: &mut E) -> Result<(), WriteFailed>
 
 /// Writes the line of the program's name, words and more words.
 fn write_joined<E: Sink>(words: &[&str], more: &[&str], err: &mut E) -> Result<(), WriteFailed>
-    ensures all { OnOk result (Appends (E.written err.old) (E.written err.new) (told_line (map (λ w. w.now) words.entry.now ++ map (λ w. w.now) more.entry.now))) }
+    ensures all { OnOk result (Appends (E.written err.old) (E.written err.new)
+        (told_line (map (λ w. w.now) words.entry.now ++ map (λ w. w.now) more.entry.now))) }
     ensures part { AppendsPart (E.written err.old) (E.written err.new) (told_line (map (λ w. w.now) words.entry.now ++ map (λ w. w.now) more.entry.now)) }
     ensures cause { HasCause (E.faults err.old) (E.faults err.new) result }
 {
@@ -53,20 +56,6 @@ fn write_line<E: Sink>(words: &[&str], err: &mut E) -> Result<(), WriteFailed>
     ensures cause { HasCause (E.faults err.old) (E.faults err.new) result }
 {
     write_joined(words, &[], err)
-}
-
-/// How an option is written.
-fn flag(option: Opt) -> &'static str
-    ensures { result.now ≡ flag option }
-{
-    match option {
-        Opt::Case => "--case",
-        Opt::North => "--north",
-        Opt::East => "--east",
-        Opt::Switch => "--switch",
-        Opt::Width => "--width",
-        Opt::Event => "--event",
-    }
 }
 
 /// How a fault line names a file.
@@ -95,17 +84,17 @@ fn part_word(list: Part) -> &'static str
 
 /// Writes the line of a fault of the words.
 fn write_usage<E: Sink>(usage: Usage, err: &mut E) -> Result<(), WriteFailed>
-    ensures all { OnOk result (Appends (E.written err.old) (E.written err.new) (line_of_fault (Fault.Usage usage))) }
-    ensures part { AppendsPart (E.written err.old) (E.written err.new) (line_of_fault (Fault.Usage usage)) }
+    ensures all { OnOk result (Appends (E.written err.old) (E.written err.new) (told_line (codes "usage:" ∷ usage_words usage))) }
+    ensures part { AppendsPart (E.written err.old) (E.written err.new) (told_line (codes "usage:" ∷ usage_words usage)) }
     ensures cause { HasCause (E.faults err.old) (E.faults err.new) result }
 {
     match usage {
         Usage::Words => write_line(&["usage:", "words"], err),
         Usage::Mode => write_line(&["usage:", "mode"], err),
-        Usage::Extra { option } => write_line(&["usage:", "extra", flag(option)], err),
-        Usage::Missing { option } => write_line(&["usage:", "missing", flag(option)], err),
-        Usage::Number { option } => write_line(&["usage:", "number", flag(option)], err),
-        Usage::Value { option } => write_line(&["usage:", "value", flag(option)], err),
+        Usage::Extra { option } => write_line(&["usage:", "extra", option.flag()], err),
+        Usage::Missing { option } => write_line(&["usage:", "missing", option.flag()], err),
+        Usage::Number { option } => write_line(&["usage:", "number", option.flag()], err),
+        Usage::Value { option } => write_line(&["usage:", "value", option.flag()], err),
     }
 }
 
@@ -166,8 +155,8 @@ fn write_named<E: Sink>(words: &[&str], name: Name, err: &mut E) -> Result<(), W
 
 /// Writes the line of a refused case.
 fn write_case<E: Sink>(refusal: CaseRefusal, err: &mut E) -> Result<(), WriteFailed>
-    ensures all { OnOk result (Appends (E.written err.old) (E.written err.new) (line_of_fault (Fault.Case refusal))) }
-    ensures part { AppendsPart (E.written err.old) (E.written err.new) (line_of_fault (Fault.Case refusal)) }
+    ensures all { OnOk result (Appends (E.written err.old) (E.written err.new) (told_line (case_words refusal))) }
+    ensures part { AppendsPart (E.written err.old) (E.written err.new) (told_line (case_words refusal)) }
     ensures cause { HasCause (E.faults err.old) (E.faults err.new) result }
 {
     match refusal {
@@ -218,8 +207,8 @@ fn write_switch_row<E: Sink>(what: &str, row: u32, err: &mut E) -> Result<(), Wr
 
 /// Writes the line of refused switchings.
 fn write_switchings<E: Sink>(refusal: SwitchRefusal, err: &mut E) -> Result<(), WriteFailed>
-    ensures all { OnOk result (Appends (E.written err.old) (E.written err.new) (line_of_fault (Fault.Switch refusal))) }
-    ensures part { AppendsPart (E.written err.old) (E.written err.new) (line_of_fault (Fault.Switch refusal)) }
+    ensures all { OnOk result (Appends (E.written err.old) (E.written err.new) (told_line (switch_words refusal))) }
+    ensures part { AppendsPart (E.written err.old) (E.written err.new) (told_line (switch_words refusal)) }
     ensures cause { HasCause (E.faults err.old) (E.faults err.new) result }
 {
     match refusal {
@@ -243,6 +232,41 @@ fn write_node<E: Sink>(what: &str, step: u32, node: Name, err: &mut E) -> Result
     write_named(&[what, "step", buffer.format(step), "node"], node, err)
 }
 
+/// Writes the line of refused words or files.
+fn write_input<E: Sink>(refusal: InputRefusal, err: &mut E) -> Result<(), WriteFailed>
+    ensures all { OnOk result (Appends (E.written err.old) (E.written err.new) (told_line (input_words refusal))) }
+    ensures part { AppendsPart (E.written err.old) (E.written err.new) (told_line (input_words refusal)) }
+    ensures cause { HasCause (E.faults err.old) (E.faults err.new) result }
+{
+    match refusal {
+        InputRefusal::Usage(usage) => write_usage(usage, err),
+        InputRefusal::TooLong(file) => write_line(&["too", "long:", file_word(file)], err),
+        InputRefusal::Case(refusal) => write_case(refusal, err),
+        InputRefusal::Switch(refusal) => write_switchings(refusal, err),
+    }
+}
+
+/// Writes the line of a refused network.
+fn write_network<E: Sink>(refusal: NetworkRefusal, err: &mut E) -> Result<(), WriteFailed>
+    ensures all { OnOk result (Appends (E.written err.old) (E.written err.new) (told_line (network_words refusal))) }
+    ensures part { AppendsPart (E.written err.old) (E.written err.new) (told_line (network_words refusal)) }
+    ensures cause { HasCause (E.faults err.old) (E.faults err.new) result }
+{
+    match refusal {
+        NetworkRefusal::Unearthed { step, node } => write_node("unearthed:", step, node, err),
+        NetworkRefusal::Unresolved { step, node } => write_node("unresolved:", step, node, err),
+    }
+}
+
+/// Writes the line of want of memory.
+fn write_memory<E: Sink>(err: &mut E) -> Result<(), WriteFailed>
+    ensures all { OnOk result (Appends (E.written err.old) (E.written err.new) (told_line memory_words)) }
+    ensures part { AppendsPart (E.written err.old) (E.written err.new) (told_line memory_words) }
+    ensures cause { HasCause (E.faults err.old) (E.faults err.new) result }
+{
+    write_line(&["out", "of", "memory"], err)
+}
+
 /// Writes the line that tells a fault. Takes no memory.
 pub(crate) fn write_fault<E: Sink>(fault: &Fault, err: &mut E) -> Result<(), WriteFailed>
     ensures all { OnOk result (Appends (E.written err.old) (E.written err.new) (line_of_fault fault.now)) }
@@ -250,14 +274,12 @@ pub(crate) fn write_fault<E: Sink>(fault: &Fault, err: &mut E) -> Result<(), Wri
     ensures cause { HasCause (E.faults err.old) (E.faults err.new) result }
 {
     match fault {
-        Fault::Usage(usage) => write_usage(*usage, err),
-        Fault::CannotRead(file) => write_line(&["cannot", "read", file_word(*file)], err),
-        Fault::CannotWrite => write_line(&["cannot", "write"], err),
-        Fault::Case(refusal) => write_case(*refusal, err),
-        Fault::Switch(refusal) => write_switchings(*refusal, err),
-        Fault::Unearthed { step, node } => write_node("unearthed:", *step, *node, err),
-        Fault::Unresolved { step, node } => write_node("unresolved:", *step, *node, err),
-        Fault::TooLong(file) => write_line(&["too", "long:", file_word(*file)], err),
-        Fault::Memory => write_line(&["out", "of", "memory"], err),
+        Fault::Input(InputFault::Refused(refusal)) => write_input(*refusal, err),
+        Fault::Input(InputFault::CannotRead(file)) => {
+            write_line(&["cannot", "read", file_word(*file)], err)
+        }
+        Fault::Report(ReportFault::Refused(refusal)) => write_network(*refusal, err),
+        Fault::Report(ReportFault::CannotWrite) => write_line(&["cannot", "write"], err),
+        Fault::Input(InputFault::Memory) | Fault::Report(ReportFault::Memory) => write_memory(err),
     }
 }

@@ -8,7 +8,8 @@ use Rattle.gic_words.specs.Table.{is_among, mode_of, use_of}
 use Rattle.gic_words.specs.Options.{options_of}
 use Rattle.gic_words.specs.declared.option.Opt.TheVariants.{Case, Switch, North, Width, Event}
 use Rattle.gic_screen.specs.declared.event.Event.TheVariants.{Benchmark, Supplemental}
-use Rattle.gic_words.specs.declared.options.Options.TheVariants as options
+use Rattle.gic_words.specs.declared.mode.Mode.TheVariants as mode
+use Rattle.gic_words.specs.Asked.{asked_by}
 use Rattle.gic_words.specs.declared.fault.Usage.TheVariants as usage
 
 pub no_words : options_of [] ≡ Err usage.Words
@@ -47,17 +48,9 @@ pub version : options_of (codes "--version" ∷ []) ≡ Err usage.Words
 unfolding clap_on_literals command_of_words faults_of options_of
 version = refl
 
-pub unknown_mode : options_of (codes "fly" ∷ []) ≡ Err usage.Mode
-unfolding clap_on_literals command_of_words faults_of matches_of_words options_of mode_of
-unknown_mode = refl
-
 pub mode_before_options : options_of (codes "fly" ∷ codes "--north=x" ∷ []) ≡ Err usage.Mode
 unfolding clap_on_literals command_of_words faults_of matches_of_words options_of mode_of
 mode_before_options = refl
-
-pub missing_case : options_of (codes "volts" ∷ []) ≡ Err (usage.Missing Case)
-unfolding clap_on_literals command_of_words faults_of matches_of_words options_of is_among mode_of use_of
-missing_case = refl
 
 pub case_before_north : options_of (codes "volts" ∷ codes "--north=x" ∷ []) ≡ Err (usage.Missing Case)
 unfolding clap_on_literals command_of_words faults_of matches_of_words options_of is_among mode_of use_of
@@ -95,31 +88,31 @@ pub north_before_east : options_of (codes "volts" ∷ codes "--east=x" ∷ codes
 unfolding clap_on_literals command_of_words faults_of matches_of_words options_of is_among mode_of use_of read_decimal whole_of
 north_before_east = refl
 
-pub both_fields : options_of (codes "volts" ∷ codes "--case=p" ∷ codes "--north=-500" ∷ codes "--east" ∷ codes "7" ∷ []) ≡ Ok (options.Volts (codes "p") (negsuc 499) (pos 7))
+pub both_fields : options_of (codes "volts" ∷ codes "--case=p" ∷ codes "--north=-500" ∷ codes "--east" ∷ codes "7" ∷ []) ≡ Ok (asked_by mode.Volts (codes "p") None (negsuc 499) (pos 7) 100 Benchmark)
 unfolding clap_on_literals command_of_words faults_of matches_of_words options_of is_among mode_of use_of read_decimal whole_of
 both_fields = refl
 
-pub mode_last : options_of (codes "--case=p" ∷ codes "volts" ∷ []) ≡ Ok (options.Volts (codes "p") (pos 0) (pos 0))
+pub mode_last : options_of (codes "--case=p" ∷ codes "volts" ∷ []) ≡ Ok (asked_by mode.Volts (codes "p") None (pos 0) (pos 0) 100 Benchmark)
 unfolding clap_on_literals command_of_words faults_of matches_of_words options_of is_among mode_of use_of
 mode_last = refl
 
-pub empty_case : options_of (codes "volts" ∷ codes "--case=" ∷ []) ≡ Ok (options.Volts [] (pos 0) (pos 0))
+pub empty_case : options_of (codes "volts" ∷ codes "--case=" ∷ []) ≡ Ok (asked_by mode.Volts [] None (pos 0) (pos 0) 100 Benchmark)
 unfolding clap_on_literals command_of_words faults_of matches_of_words options_of is_among mode_of use_of
 empty_case = refl
 
-pub list : options_of (codes "list" ∷ codes "--case=p" ∷ []) ≡ Ok (options.List (codes "p"))
+pub list : options_of (codes "list" ∷ codes "--case=p" ∷ []) ≡ Ok (asked_by mode.List (codes "p") None (pos 0) (pos 0) 100 Benchmark)
 unfolding clap_on_literals command_of_words faults_of matches_of_words options_of is_among mode_of use_of
 list = refl
 
-pub check : options_of (codes "check" ∷ codes "--case=p" ∷ []) ≡ Ok (options.Check (codes "p") None)
+pub check : options_of (codes "check" ∷ codes "--case=p" ∷ []) ≡ Ok (asked_by mode.Check (codes "p") None (pos 0) (pos 0) 100 Benchmark)
 unfolding clap_on_literals command_of_words faults_of matches_of_words options_of is_among mode_of use_of
 check = refl
 
-pub switched : options_of (codes "check" ∷ codes "--case=p" ∷ codes "--switch=s" ∷ []) ≡ Ok (options.Check (codes "p") (Some (codes "s")))
+pub switched : options_of (codes "check" ∷ codes "--case=p" ∷ codes "--switch=s" ∷ []) ≡ Ok (asked_by mode.Check (codes "p") (Some (codes "s")) (pos 0) (pos 0) 100 Benchmark)
 unfolding clap_on_literals command_of_words faults_of matches_of_words options_of is_among mode_of use_of
 switched = refl
 
-pub empty_switch : options_of (codes "check" ∷ codes "--switch=" ∷ codes "--case=p" ∷ []) ≡ Ok (options.Check (codes "p") (Some []))
+pub empty_switch : options_of (codes "check" ∷ codes "--switch=" ∷ codes "--case=p" ∷ []) ≡ Ok (asked_by mode.Check (codes "p") (Some []) (pos 0) (pos 0) 100 Benchmark)
 unfolding clap_on_literals command_of_words faults_of matches_of_words options_of is_among mode_of use_of
 empty_switch = refl
 
@@ -147,14 +140,14 @@ pub width_in_volts : options_of (codes "volts" ∷ codes "--case=p" ∷ codes "-
 unfolding clap_on_literals command_of_words faults_of matches_of_words options_of is_among mode_of use_of
 width_in_volts = refl
 
-pub field_by_default : options_of (codes "field" ∷ codes "--case=p" ∷ []) ≡ Ok (options.Field (codes "p") (pos 0) (pos 0) None 100 Benchmark)
+pub field_by_default : options_of (codes "field" ∷ codes "--case=p" ∷ []) ≡ Ok (asked_by mode.Field (codes "p") None (pos 0) (pos 0) 100 Benchmark)
 unfolding clap_on_literals command_of_words faults_of matches_of_words options_of is_among mode_of use_of
 field_by_default = refl
 
-pub whole_field : options_of (codes "field" ∷ codes "--case=p" ∷ codes "--north=8000" ∷ codes "--east=-1" ∷ codes "--switch=s" ∷ codes "--width=10" ∷ codes "--event=supplemental" ∷ []) ≡ Ok (options.Field (codes "p") (pos 8000) (negsuc 0) (Some (codes "s")) 10 Supplemental)
+pub whole_field : options_of (codes "field" ∷ codes "--case=p" ∷ codes "--north=8000" ∷ codes "--east=-1" ∷ codes "--switch=s" ∷ codes "--width=10" ∷ codes "--event=supplemental" ∷ []) ≡ Ok (asked_by mode.Field (codes "p") (Some (codes "s")) (pos 8000) (negsuc 0) 10 Supplemental)
 unfolding clap_on_literals command_of_words faults_of matches_of_words options_of is_among mode_of use_of read_decimal whole_of
 whole_field = refl
 
-pub benchmark : options_of (codes "field" ∷ codes "--case=p" ∷ codes "--event=benchmark" ∷ []) ≡ Ok (options.Field (codes "p") (pos 0) (pos 0) None 100 Benchmark)
+pub benchmark : options_of (codes "field" ∷ codes "--case=p" ∷ codes "--event=benchmark" ∷ []) ≡ Ok (asked_by mode.Field (codes "p") None (pos 0) (pos 0) 100 Benchmark)
 unfolding clap_on_literals command_of_words faults_of matches_of_words options_of is_among mode_of use_of
 benchmark = refl

@@ -1,9 +1,9 @@
 -- The options that words give, or their first fault.
-use Rattle.std.specs.Prelude.{◌≡◌, ◌≢◌, ◌≤◌, ℕ, true, List, [], ◌∷◌, ℤ, pos, unsigned_abs, Some, None, Ok, Err, Result, is_some, unwrap_or, option_map, option_and_then, if◌then◌else◌, ⊤}
+use Rattle.std.specs.Prelude.{ℕ, List, [], ◌∷◌, ℤ, pos, unsigned_abs, Some, None, Ok, Err, Result, is_some, unwrap_or, option_map, option_and_then, if◌then◌else◌}
 use Rattle.std.specs.declared.option.Option.{Option}
 use Rattle.clap.specs.Words.{Kinds, Row}
 use Rattle.gic_words.specs.Table.{all_options, form_of, mode_of, use_of}
-use Rattle.gic_words.specs.Command.{given, given_mode, faults_of, matches_of_words, is_taken}
+use Rattle.gic_words.specs.Command.{given, given_mode, faults_of, matches_of_words}
 use Rattle.gic_screen.specs.declared.event.Event.{Event as NamedEvent}
 use Rattle.gic_screen.specs.declared.event.Event.TheVariants.{Benchmark}
 use Rattle.gic_words.specs.Values.{event_of, number_in}
@@ -12,11 +12,8 @@ use Rattle.gic_words.specs.declared.option.Opt.TheVariants.{Case, Switch, North,
 use Rattle.gic_words.specs.declared.option.Form.{Form}
 use Rattle.gic_words.specs.declared.option.Form.TheVariants as form
 use Rattle.gic_words.specs.declared.mode.Mode.{Mode}
-use Rattle.gic_words.specs.declared.mode.Mode.TheVariants as mode
 use Rattle.gic_words.specs.declared.options.Options.{Options}
-use Rattle.gic_words.specs.declared.options.Options.TheVariants as options
-use Rattle.gic_words.specs.declared.fault.WordsRefusal.{WordsRefusal}
-use Rattle.gic_words.specs.declared.fault.WordsRefusal.TheVariants as refusal
+use Rattle.gic_question.specs.declared.asked.Question.{Question}
 use Rattle.gic_words.specs.declared.mode.Use.{Use}
 use Rattle.gic_words.specs.declared.mode.Use.TheVariants.{Required, Allowed, Unused}
 use Rattle.gic_words.specs.declared.fault.Usage.{Usage}
@@ -56,10 +53,6 @@ first_fault m rows (o ∷ os) = or_next (option_fault m o (given rows o)) (first
 
 -- ---- what the options are, where they have no fault
 
--- a name that is required
-abbrev pub text_of : List Row → Opt → List ℕ
-text_of rows o = unwrap_or (given rows o) []
-
 -- a number that may be given
 abbrev pub number_of : List Row → Opt → Option ℤ
 number_of rows o = option_and_then (number_in o) (given rows o)
@@ -76,19 +69,13 @@ width_of rows = unwrap_or (option_map unsigned_abs (number_of rows Width)) 100
 abbrev pub named_event : List Row → NamedEvent
 named_event rows = unwrap_or (option_and_then event_of (given rows Event)) Benchmark
 
--- the options of a mode
-abbrev pub options_by : Mode → List Row → Options
-options_by mode.Volts rows = options.Volts (text_of rows Case) (field_of rows North) (field_of rows East)
-options_by mode.List rows = options.List (text_of rows Case)
-options_by mode.Check rows = options.Check (text_of rows Case) (given rows Switch)
-options_by mode.Field rows = options.Field (text_of rows Case) (field_of rows North) (field_of rows East) (given rows Switch) (width_of rows) (named_event rows)
+-- the question of the words, with a default for what is not given
+abbrev pub question_of : List Row → Question
+question_of rows = record { north = field_of rows North; east = field_of rows East; width = width_of rows; event = named_event rows }
 
--- each part of a field that is asked for lies within 20000 mV/km, and a width is from 10 to 10000 mV or mA
-abbrev pub HasFieldsWithin : Options → Type 0
-HasFieldsWithin (options.Volts case north east) = (unsigned_abs north ≤ 20000) × (unsigned_abs east ≤ 20000)
-HasFieldsWithin (options.List case) = ⊤
-HasFieldsWithin (options.Check case switch) = ⊤
-HasFieldsWithin (options.Field case north east switch width event) = (unsigned_abs north ≤ 20000) × (unsigned_abs east ≤ 20000) × (10 ≤ width) × (width ≤ 10000)
+-- the options of a mode: the files that the words name, and the question
+abbrev pub options_by : Mode → List Row → Options
+options_by m rows = record { mode = m; case = given rows Case; switch = given rows Switch; question = question_of rows }
 
 -- ---- the words
 
@@ -118,13 +105,3 @@ unless_faulty (k ∷ ks) rows = Err usage.Words
 -- the options of the words, or the first usage fault
 unfoldable pub options_of : List (List ℕ) → Result Options Usage
 options_of words = unless_faulty (faults_of words) (matches_of_words words)
-
--- the answer is that of the words, want of memory aside
-abbrev pub ReadsWords : Result Options Usage → Result Options WordsRefusal → Type 0
-ReadsWords right (Ok o) = right ≡ Ok o
-ReadsWords right (Err (refusal.Usage u)) = right ≡ Err u
-ReadsWords right (Err refusal.Memory) = ⊤
-
--- words that clap's test takes are not refused as such
-abbrev pub KeepsTaken : List (List ℕ) → Result Options WordsRefusal → Type 0
-KeepsTaken words r = is_taken words ≡ true → r ≢ Err (refusal.Usage usage.Words)

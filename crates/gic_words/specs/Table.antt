@@ -1,5 +1,5 @@
 -- The tables of options and modes.
-use Rattle.std.specs.Prelude.{ℕ, ◌==◌, Bool, List, [], ◌∷◌, codes, pos, negsuc, if◌then◌else◌, find}
+use Rattle.std.specs.Prelude.{ℕ, ◌==◌, Bool, List, [], ◌∷◌, ◌++◌, codes, pos, negsuc, if◌then◌else◌, find}
 use Rattle.std.specs.declared.option.Option.{Option}
 use Rattle.std.specs.List.{list_any}
 use Rattle.std.specs.Str.{bytes_eq}
@@ -22,6 +22,10 @@ name_of North = codes "north"
 name_of East = codes "east"
 name_of Width = codes "width"
 name_of Event = codes "event"
+
+-- an option as it is written
+abbrev pub flag : Opt → List ℕ
+flag option = codes "--" ++ name_of option
 
 -- in the order in which their faults are found
 abbrev pub all_options : List Opt

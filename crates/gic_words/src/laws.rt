@@ -1,21 +1,27 @@
 //! Laws over the definitions, each the contract of a function that does nothing.
-ghost use Rattle.std.specs.Prelude.{◌≡◌, List, [], ◌∷◌, codes, pos, negsuc, Some, None, Ok, Err};
+ghost use Rattle.std.specs.Prelude.{◌≡◌, ℕ, IsSome, IfOk, List, [], ◌∷◌, codes, pos, negsuc, Some, None, Ok, Err};
 ghost use Rattle.clap.specs.Words.{Row};
 ghost use Rattle.gic_words.specs.declared.mode.Mode.{Mode};
 ghost use Rattle.gic_words.specs.declared.mode.Use.TheVariants.{Required};
 ghost use Rattle.gic_words.specs.declared.option.Opt.{Opt};
 ghost use Rattle.gic_words.specs.declared.option.Opt.TheVariants.{Case, Switch, North, Width, Event};
 ghost use Rattle.gic_screen.specs.declared.event.Event.TheVariants.{Benchmark, Supplemental};
-ghost use Rattle.gic_words.specs.declared.options.Options.TheVariants as options;
+ghost use Rattle.gic_words.specs.declared.mode.Mode.TheVariants as mode;
+ghost use Rattle.gic_words.specs.Asked.{asked_by};
 ghost use Rattle.gic_words.specs.declared.fault.Usage.TheVariants as usage;
 ghost use Rattle.gic_words.specs.Command.{given};
 ghost use Rattle.gic_words.specs.Table.{all_options, use_of};
-ghost use Rattle.gic_words.specs.Options.{first_fault, options_of, text_of};
+ghost use Rattle.gic_words.specs.Options.{first_fault, options_of};
 
 /// Where no fault is found, each option that the mode requires is given, so that no default stands for it.
 pub fn required_law()
     ensures { (m : Mode) (rows : List Row) (o : Opt) →
-        use_of m o ≡ Required → first_fault m rows all_options ≡ None → given rows o ≡ Some (text_of rows o) }
+        use_of m o ≡ Required → first_fault m rows all_options ≡ None → IsSome (given rows o) }
+{}
+
+/// Accepted words name a case.
+pub fn case_named_law()
+    ensures { (words : List (List ℕ)) → IfOk (options_of words) (λ o. IsSome o.case) }
 {}
 
 /// What some words give that are refused.
@@ -29,9 +35,7 @@ pub fn refused_words_law()
     ensures help { options_of (codes "--help" ∷ []) ≡ Err usage.Words }
     ensures short_help { options_of (codes "-h" ∷ []) ≡ Err usage.Words }
     ensures version { options_of (codes "--version" ∷ []) ≡ Err usage.Words }
-    ensures unknown_mode { options_of (codes "fly" ∷ []) ≡ Err usage.Mode }
     ensures mode_before_options { options_of (codes "fly" ∷ codes "--north=x" ∷ []) ≡ Err usage.Mode }
-    ensures missing_case { options_of (codes "volts" ∷ []) ≡ Err (usage.Missing Case) }
     ensures case_before_north { options_of (codes "volts" ∷ codes "--north=x" ∷ []) ≡ Err (usage.Missing Case) }
     ensures north_too_far { options_of (codes "volts" ∷ codes "--case=p" ∷ codes "--north=20001" ∷ []) ≡ Err (usage.Number North) }
     ensures missing_case_of_list { options_of (codes "list" ∷ codes "--north=0" ∷ []) ≡ Err (usage.Missing Case) }
@@ -52,17 +56,17 @@ pub fn refused_words_law()
 /// What some words give that are accepted.
 pub fn accepted_words_law()
     ensures both_fields { options_of (codes "volts" ∷ codes "--case=p" ∷ codes "--north=-500" ∷ codes "--east" ∷ codes "7" ∷ [])
-        ≡ Ok (options.Volts (codes "p") (negsuc 499) (pos 7)) }
-    ensures mode_last { options_of (codes "--case=p" ∷ codes "volts" ∷ []) ≡ Ok (options.Volts (codes "p") (pos 0) (pos 0)) }
-    ensures empty_case { options_of (codes "volts" ∷ codes "--case=" ∷ []) ≡ Ok (options.Volts [] (pos 0) (pos 0)) }
-    ensures list { options_of (codes "list" ∷ codes "--case=p" ∷ []) ≡ Ok (options.List (codes "p")) }
-    ensures check { options_of (codes "check" ∷ codes "--case=p" ∷ []) ≡ Ok (options.Check (codes "p") None) }
-    ensures switched { options_of (codes "check" ∷ codes "--case=p" ∷ codes "--switch=s" ∷ []) ≡ Ok (options.Check (codes "p") (Some (codes "s"))) }
-    ensures empty_switch { options_of (codes "check" ∷ codes "--switch=" ∷ codes "--case=p" ∷ []) ≡ Ok (options.Check (codes "p") (Some [])) }
+        ≡ Ok (asked_by mode.Volts (codes "p") None (negsuc 499) (pos 7) 100 Benchmark) }
+    ensures mode_last { options_of (codes "--case=p" ∷ codes "volts" ∷ []) ≡ Ok (asked_by mode.Volts (codes "p") None (pos 0) (pos 0) 100 Benchmark) }
+    ensures empty_case { options_of (codes "volts" ∷ codes "--case=" ∷ []) ≡ Ok (asked_by mode.Volts [] None (pos 0) (pos 0) 100 Benchmark) }
+    ensures list { options_of (codes "list" ∷ codes "--case=p" ∷ []) ≡ Ok (asked_by mode.List (codes "p") None (pos 0) (pos 0) 100 Benchmark) }
+    ensures check { options_of (codes "check" ∷ codes "--case=p" ∷ []) ≡ Ok (asked_by mode.Check (codes "p") None (pos 0) (pos 0) 100 Benchmark) }
+    ensures switched { options_of (codes "check" ∷ codes "--case=p" ∷ codes "--switch=s" ∷ []) ≡ Ok (asked_by mode.Check (codes "p") (Some (codes "s")) (pos 0) (pos 0) 100 Benchmark) }
+    ensures empty_switch { options_of (codes "check" ∷ codes "--switch=" ∷ codes "--case=p" ∷ []) ≡ Ok (asked_by mode.Check (codes "p") (Some []) (pos 0) (pos 0) 100 Benchmark) }
     ensures field_by_default { options_of (codes "field" ∷ codes "--case=p" ∷ [])
-        ≡ Ok (options.Field (codes "p") (pos 0) (pos 0) None 100 Benchmark) }
+        ≡ Ok (asked_by mode.Field (codes "p") None (pos 0) (pos 0) 100 Benchmark) }
     ensures whole_field { options_of (codes "field" ∷ codes "--case=p" ∷ codes "--north=8000" ∷ codes "--east=-1" ∷ codes "--switch=s" ∷ codes "--width=10" ∷ codes "--event=supplemental" ∷ [])
-        ≡ Ok (options.Field (codes "p") (pos 8000) (negsuc 0) (Some (codes "s")) 10 Supplemental) }
+        ≡ Ok (asked_by mode.Field (codes "p") (Some (codes "s")) (pos 8000) (negsuc 0) 10 Supplemental) }
     ensures benchmark { options_of (codes "field" ∷ codes "--case=p" ∷ codes "--event=benchmark" ∷ [])
-        ≡ Ok (options.Field (codes "p") (pos 0) (pos 0) None 100 Benchmark) }
+        ≡ Ok (asked_by mode.Field (codes "p") None (pos 0) (pos 0) 100 Benchmark) }
 {}

@@ -13,6 +13,7 @@ mod tests;
 mod value;
 
 pub use fault::{Usage, WordsRefusal};
+pub use mode::Mode;
 pub use name::FileName;
 pub use option::Opt;
 pub use options::{Options, read_words};

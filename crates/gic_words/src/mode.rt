@@ -5,8 +5,8 @@ ghost use Rattle.gic_words.specs.Table.{word_of, all_modes, mode_of, required_by
 use crate::option::Opt;
 
 /// What words may ask for.
-#[derive(Clone, Copy, Debug)]
-pub(crate) enum Mode {
+#[derive(Clone, Copy, Debug, PartialEq, Eq)]
+pub enum Mode {
     /// The voltage of each line in one field.
     Volts,
     /// The elements of the direct-current network.

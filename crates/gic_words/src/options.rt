@@ -1,10 +1,12 @@
 //! The options of the modes.
 ghost use Rattle.std.specs.Prelude.{◌≡◌, ◌≤◌, IfOk, IfSome, map, string_bytes, unsigned_abs};
 ghost use Rattle.clap.specs.Words.{rows_of, found_of};
+ghost use Rattle.gic_question.specs.Ranges.{IsWithinRanges};
 ghost use Rattle.gic_words.specs.Command.{given};
-ghost use Rattle.gic_words.specs.Values.{IsWithin};
-ghost use Rattle.gic_words.specs.Options.{text_of, number_of, field_of, width_of, named_event, options_by, mode_in};
-ghost use Rattle.gic_words.specs.Options.{options_of, options_of_rows, ReadsWords, KeepsTaken, HasFieldsWithin};
+ghost use Rattle.gic_words.specs.Within.{IsWithin};
+ghost use Rattle.gic_words.specs.Options.{number_of, field_of, width_of, named_event, question_of, options_by, mode_in};
+ghost use Rattle.gic_words.specs.Options.{options_of, options_of_rows};
+ghost use Rattle.gic_words.specs.Reads.{ReadsWords, KeepsTaken};
 
 use crate::command::{ParseRefusal, mode_word, parse, value_of};
 use crate::fault::{Usage, WordsRefusal, first_fault};
@@ -13,50 +15,24 @@ use crate::name::FileName;
 use crate::option::Opt;
 use crate::value::{read_event, read_number};
 use clap::ArgMatches;
+use gic_question::Question;
 use gic_screen::Event;
 use std::alloc::{AllocError, Global};
 
-/// What words ask for: a mode with its options.
+/// What words ask for: a mode, the names of the files that it reads, and what is asked of the network. What a mode
+/// has no use for stands at its default.
 #[derive(Drop)]
-pub enum Options {
-    /// The voltage of each line of a case, in a field of so many mV/km to the north and to the east, each from -20000
-    /// to 20000, and 0 where it is not given.
-    Volts {
-        case: FileName,
-        north: i32,
-        east: i32,
-    },
-    /// The elements of the network of a case.
-    List {
-        case: FileName,
-    },
-    /// The live and the dead nodes of a case after the switchings of a file, or without any.
-    Check {
-        case: FileName,
-        switch: Option<FileName>,
-    },
-    /// Potentials and currents in a field of so many mV/km to the north and to the east, each from -20000 to 20000, and 0
-    /// where it is not given; after the switchings of a file, or without any. Intervals are no wider than `width`, from 10
-    /// to 10000 mV or mA, and 100 where it is not given. The event is the benchmark one where none is given.
-    Field {
-        case: FileName,
-        north: i32,
-        east: i32,
-        switch: Option<FileName>,
-        width: u32,
-        event: Event,
-    },
+pub struct Options {
+    pub mode: Mode,
+    /// The name of the case's file; each mode requires it.
+    pub case: Option<FileName>,
+    /// The name of the switchings' file.
+    pub switch: Option<FileName>,
+    pub question: Question,
 }
 
-/// A name that is required.
-fn file(alloc: Global, matches: &ArgMatches<'_>, option: Opt) -> Result<FileName, AllocError>
-    ensures { IfOk result (λ name. name ≡ text_of (rows_of (found_of matches.now)) option) }
-{
-    FileName::copy(alloc, value_of(matches, option).unwrap_or(""))
-}
-
-/// A name that may be given.
-fn optional_file(
+/// The name of a file, where it is given.
+fn file(
     alloc: Global,
     matches: &ArgMatches<'_>,
     option: Opt,
@@ -127,62 +103,32 @@ fn event(matches: &ArgMatches<'_>) -> Event
     }
 }
 
-fn volts(alloc: Global, matches: &ArgMatches<'_>) -> Result<Options, AllocError>
-    ensures value { IfOk result (λ o. o ≡ options_by Mode.Volts (rows_of (found_of matches.now))) }
-    ensures fields { IfOk result HasFieldsWithin }
+/// The question of the matches.
+fn question_in(matches: &ArgMatches<'_>) -> Question
+    ensures value { result ≡ question_of (rows_of (found_of matches.now)) }
+    ensures within { IsWithinRanges result }
 {
-    let case = file(alloc, matches, Opt::Case)?;
-    Ok(Options::Volts {
-        case,
+    Question {
         north: north(matches),
         east: east(matches),
-    })
-}
-
-fn list(alloc: Global, matches: &ArgMatches<'_>) -> Result<Options, AllocError>
-    ensures value { IfOk result (λ o. o ≡ options_by Mode.List (rows_of (found_of matches.now))) }
-    ensures fields { IfOk result HasFieldsWithin }
-{
-    let case = file(alloc, matches, Opt::Case)?;
-    Ok(Options::List { case })
-}
-
-fn check(alloc: Global, matches: &ArgMatches<'_>) -> Result<Options, AllocError>
-    ensures value { IfOk result (λ o. o ≡ options_by Mode.Check (rows_of (found_of matches.now))) }
-    ensures fields { IfOk result HasFieldsWithin }
-{
-    let case = file(alloc, matches, Opt::Case)?;
-    let switch = optional_file(alloc, matches, Opt::Switch)?;
-    Ok(Options::Check { case, switch })
-}
-
-fn field(alloc: Global, matches: &ArgMatches<'_>) -> Result<Options, AllocError>
-    ensures value { IfOk result (λ o. o ≡ options_by Mode.Field (rows_of (found_of matches.now))) }
-    ensures fields { IfOk result HasFieldsWithin }
-{
-    let case = file(alloc, matches, Opt::Case)?;
-    let switch = optional_file(alloc, matches, Opt::Switch)?;
-    Ok(Options::Field {
-        case,
-        north: north(matches),
-        east: east(matches),
-        switch,
         width: width(matches),
         event: event(matches),
-    })
+    }
 }
 
-/// The options that a mode takes from the matches.
+/// The options that the matches give for a mode.
 fn options_by(alloc: Global, mode: Mode, matches: &ArgMatches<'_>) -> Result<Options, AllocError>
     ensures value { IfOk result (λ o. o ≡ options_by mode (rows_of (found_of matches.now))) }
-    ensures fields { IfOk result HasFieldsWithin }
+    ensures within { IfOk result (λ o. IsWithinRanges o.question) }
 {
-    match mode {
-        Mode::Volts => volts(alloc, matches),
-        Mode::List => list(alloc, matches),
-        Mode::Check => check(alloc, matches),
-        Mode::Field => field(alloc, matches),
-    }
+    let case = file(alloc, matches, Opt::Case)?;
+    let switch = file(alloc, matches, Opt::Switch)?;
+    Ok(Options {
+        mode,
+        case,
+        switch,
+        question: question_in(matches),
+    })
 }
 
 /// The mode of the matches.
@@ -195,7 +141,7 @@ fn mode_of(matches: &ArgMatches<'_>) -> Option<Mode>
 /// The options of the matches.
 fn read_matches(alloc: Global, matches: &ArgMatches<'_>) -> Result<Options, WordsRefusal>
     ensures right { ReadsWords (options_of_rows (rows_of (found_of matches.now))) result }
-    ensures fields { IfOk result HasFieldsWithin }
+    ensures within { IfOk result (λ o. IsWithinRanges o.question) }
 {
     let Some(mode) = mode_of(matches) else {
         return Err(WordsRefusal::Usage(Usage::Mode));
@@ -212,8 +158,8 @@ fn read_matches(alloc: Global, matches: &ArgMatches<'_>) -> Result<Options, Word
 pub fn read_words(alloc: Global, words: &[String]) -> Result<Options, WordsRefusal>
     ensures right { ReadsWords (options_of (map string_bytes words.now)) result }
     ensures taken { KeepsTaken (map string_bytes words.now) result }
-    // The options' fields are in their ranges.
-    ensures fields { IfOk result HasFieldsWithin }
+    // The numbers are in their ranges.
+    ensures within { IfOk result (λ o. IsWithinRanges o.question) }
 {
     match parse(alloc, words) {
         Ok(matches) => read_matches(alloc, &matches),

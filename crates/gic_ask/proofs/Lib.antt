@@ -1,0 +1,3 @@
+pub mod Exits
+pub mod Told
+pub mod OfWords

@@ -1,0 +1,122 @@
+-- A library that tells its files is answered by them.
+use Rattle.std.proofs.Common.{◌≡◌, ℕ, ◌<◌, ◌≤◌, ◌⊎◌, inl, inr, List, Bool, true, false, length, nat_lt, Option, Some, None, Result, Ok, Err, refl, sym, ap, subst, ◌∙◌, arith}
+use Rattle.std.specs.Prelude.{IsSomeAnd, IfSome, IfOk}
+use Rattle.std.proofs.lemmas.Bool.{ltb-true, ltb-false}
+use Rattle.std.specs.FinMap.{get}
+use Rattle.gic_base.specs.Files.{Files}
+use Rattle.gic_base.specs.declared.limits.TheConstants.{LIMIT}
+use Rattle.gic_case.specs.Lists.{Lists}
+use Rattle.gic_case.specs.Rules.{case_of}
+use Rattle.gic_case.specs.declared.refusal.CaseRefusal.{CaseRefusal}
+use Rattle.gic_model.specs.declared.parts.Switching.{Switching}
+use Rattle.gic_words.specs.Options.{options_of}
+use Rattle.gic_words.specs.declared.options.Options.{Options}
+use Rattle.gic_words.specs.declared.fault.Usage.{Usage}
+use Rattle.gic_ask.specs.Asks.{Asks, IsAnswer, CouldNotRead}
+use Rattle.gic_ask.specs.Contents.{Given, Nothing, Long, Whole, Contents, MayGive, MayHandOut, name_of_file}
+use Rattle.gic_ask.specs.Held.{held, held_bytes, held_by_length, held_for, AnswersOfFiles}
+use Rattle.gic_ask.specs.Outcome.{Outcome, Refuses, Lacks, Accepts, reading, reading_case, reading_switchings, reading_files, outcome}
+use Rattle.gic_ask.specs.declared.fault.File.{File}
+use Rattle.gic_ask.specs.declared.fault.File.TheVariants as file
+use Rattle.gic_ask.specs.declared.fault.InputFault.{InputFault}
+use Rattle.gic_ask.specs.declared.fault.InputFault.TheVariants.{Refused, CannotRead, Memory}
+use Rattle.gic_ask.specs.declared.fault.InputRefusal.TheVariants.{Usage as UsageRefusal, Case as CaseRefused}
+use Rattle.gic_ask.specs.declared.request.Asked.{Asked}
+
+-- what may be given of a length is what is held
+long_held : (b : Bool) (n : ℕ) (bytes : List ℕ) → LIMIT < n → nat_lt LIMIT n ≡ b → held_by_length b bytes ≡ Long
+long_held true n bytes more e = refl
+long_held false n bytes more e = absurd (omega (arith, more, ltb-false LIMIT n e))
+
+whole_held : (b : Bool) (n : ℕ) (bytes : List ℕ) → n ≤ LIMIT → nat_lt LIMIT n ≡ b → held_by_length b bytes ≡ Whole bytes
+whole_held false n bytes few e = refl
+whole_held true n bytes few e = absurd (omega (arith, few, ltb-true LIMIT n e))
+
+long_bytes : (o : Option (List ℕ)) → IsSomeAnd o (λ bytes. LIMIT < length bytes) → held_bytes o ≡ Long
+long_bytes None h = absurd h
+long_bytes (Some bytes) h = long_held (nat_lt LIMIT (length bytes)) (length bytes) bytes h refl
+
+-- a library that tells its files gives nothing, or what it has
+given_or_held : (files : Files) (name : List ℕ) (g : Given) → MayGive (Some files) name g → (g ≡ Nothing) ⊎ (held files (Some name) ≡ g)
+given_or_held files name Nothing h = inl refl
+given_or_held files name Long h = inr (long_bytes (get files name) h)
+given_or_held files name (Whole bytes) h = inr (ap held_bytes h.1 ∙ whole_held (nat_lt LIMIT (length bytes)) (length bytes) bytes h.0 refl)
+
+-- two outcomes that are the same, or the first lacks a file
+abbrev IsSameOrLacks : Outcome → Outcome → Type 0
+IsSameOrLacks o other = (o ≡ other) ⊎ ((f : File) × (o ≡ Lacks f))
+
+after_reading : (r : Result Lists CaseRefusal) (next other : Lists → Outcome) → ((case : Lists) → IsSameOrLacks (next case) (other case))
+    → IsSameOrLacks (reading r CaseRefused next) (reading r CaseRefused other)
+after_reading (Ok case) next other h = h case
+after_reading (Err e) next other h = inl refl
+
+after_case : (name : List ℕ) (g : Given) (next other : Lists → Outcome) → ((case : Lists) → IsSameOrLacks (next case) (other case))
+    → IsSameOrLacks (reading_case (Some name) g next) (reading_case (Some name) g other)
+after_case name Nothing next other h = inl refl
+after_case name Long next other h = inl refl
+after_case name (Whole bytes) next other h = after_reading (case_of bytes) next other h
+
+same_switchings : (case : Lists) (name : List ℕ) (g other : Given) (next : Option (List Switching) → Outcome) → (g ≡ Nothing) ⊎ (other ≡ g)
+    → IsSameOrLacks (reading_switchings case (Some name) g next) (reading_switchings case (Some name) other next)
+same_switchings case name g other next (inl none) = inr (file.Switch, ap (λ (x : Given). reading_switchings case (Some name) x next) none)
+same_switchings case name g other next (inr same) = inl (ap (λ (x : Given). reading_switchings case (Some name) x next) (sym same))
+
+after_switchings : (files : Files) (case : Lists) (name : Option (List ℕ)) (g : Given) (next : Option (List Switching) → Outcome)
+    → ((text : List ℕ) → name ≡ Some text → MayGive (Some files) text g)
+    → IsSameOrLacks (reading_switchings case name g next) (reading_switchings case name (held files name) next)
+after_switchings files case None g next may = inl refl
+after_switchings files case (Some name) g next may = same_switchings case name g (held files (Some name)) next (given_or_held files name g (may name refl))
+
+same_case : (files : Files) (name : List ℕ) (g : Given) (next other : Lists → Outcome) → (g ≡ Nothing) ⊎ (held files (Some name) ≡ g)
+    → ((case : Lists) → IsSameOrLacks (next case) (other case)) → IsSameOrLacks (reading_case (Some name) g next) (reading_case (Some name) (held files (Some name)) other)
+same_case files name g next other (inl none) h = inr (file.Case, ap (λ (x : Given). reading_case (Some name) x next) none)
+same_case files name g next other (inr same) h =
+    subst (λ (x : Given). IsSameOrLacks (reading_case (Some name) g next) (reading_case (Some name) x other)) (sym same) (after_case name g next other h)
+
+named_case : (files : Files) (name : Option (List ℕ)) (g : Given) (next other : Lists → Outcome)
+    → ((text : List ℕ) → name ≡ Some text → MayGive (Some files) text g)
+    → ((case : Lists) → IsSameOrLacks (next case) (other case)) → IsSameOrLacks (reading_case name g next) (reading_case name (held files name) other)
+named_case files None g next other may h = inl refl
+named_case files (Some name) g next other may h = same_case files name g next other (given_or_held files name g (may name refl)) h
+
+-- what may be given for a name, if there is one
+abbrev IfNamed : Files → Option (List ℕ) → Given → Type 0
+IfNamed files name g = IfSome name (λ n. MayGive (Some files) n g)
+
+named : (files : Files) (name : Option (List ℕ)) (g : Given) (text : List ℕ) → name ≡ Some text → IfNamed files name g → MayGive (Some files) text g
+named files name g text e h = subst (λ (n : Option (List ℕ)). IfNamed files n g) e h
+
+same_files : (files : Files) (o : Options) (contents : Contents) → MayHandOut (Some files) o contents
+    → IsSameOrLacks (reading_files o contents) (reading_files o (held_for files (Ok o)))
+same_files files o contents may =
+    let last : Lists → Option (List Switching) → Outcome = λ case rows. Accepts (record { mode = o.mode; inputs = record { case = case; switchings = rows; question = o.question } }) in
+    named_case files o.case (contents file.Case)
+    (λ case. reading_switchings case o.switch (contents file.Switch) (last case))
+    (λ case. reading_switchings case o.switch (held files o.switch) (last case))
+    (λ text e. named files o.case (contents file.Case) text e (may file.Case))
+    (λ case. after_switchings files case o.switch (contents file.Switch) (last case)
+    (λ text e. named files o.switch (contents file.Switch) text e (may file.Switch)))
+
+same_words : (files : Files) (r : Result Options Usage) (contents : Contents) → IfOk r (λ o. MayHandOut (Some files) o contents)
+    → IsSameOrLacks (reading r UsageRefusal (λ o. reading_files o contents)) (reading r UsageRefusal (λ o. reading_files o (held_for files r)))
+same_words files (Ok o) contents may = same_files files o contents may
+same_words files (Err u) contents may = inl refl
+
+-- an answer to a file that is lacking is that it can't be read, or want of memory
+lacking : (o other : Outcome) (f : File) (answer : Result Asked InputFault) → o ≡ Lacks f → IsAnswer o answer
+    → ((file : File) → ¬ (answer ≡ Err (CannotRead file))) → IsAnswer other answer
+lacking o other f (Ok inputs) is h read = absurd (grind (arith, sym is ∙ h))
+lacking o other f (Err (Refused r)) is h read = absurd (grind (arith, sym is ∙ h))
+lacking o other f (Err (CannotRead file)) is h read = absurd (read file refl)
+lacking o other f (Err Memory) is h read = tt
+
+either : (o other : Outcome) (answer : Result Asked InputFault) → IsSameOrLacks o other → IsAnswer o answer
+    → ((file : File) → ¬ (answer ≡ Err (CannotRead file))) → IsAnswer other answer
+either o other answer (inl same) h read = subst (λ (x : Outcome). IsAnswer x answer) same h
+either o other answer (inr lacks) h read = lacking o other lacks.0 answer lacks.1 h read
+
+pub answers_of_files : AnswersOfFiles
+answers_of_files words files before now answer a can =
+    either (outcome words a.contents) (outcome words (held_for files (options_of words))) answer
+    (same_words files (options_of words) a.contents a.handed) a.asked (λ file e. can file (a.failed file e))

@@ -1,0 +1,34 @@
+-- What a library hands out of the files that are named.
+use Rattle.std.specs.Prelude.{◌≡◌, ℕ, ◌≤◌, ◌<◌, List, length, Some, IfSome, IsSomeAnd, ⊤}
+use Rattle.std.specs.declared.option.Option.{Option}
+use Rattle.std.specs.FinMap.{get}
+use Rattle.gic_base.specs.Files.{Files}
+use Rattle.gic_base.specs.declared.limits.TheConstants.{LIMIT}
+use Rattle.gic_words.specs.declared.options.Options.{Options}
+use Rattle.gic_ask.specs.declared.fault.File.{File}
+use Rattle.gic_ask.specs.declared.fault.File.TheVariants.{Case, Switch}
+
+-- the name that the options give for a file
+abbrev pub name_of_file : File → Options → Option (List ℕ)
+name_of_file Case o = o.case
+name_of_file Switch o = o.switch
+
+-- of a file: nothing, that it is longer than 16777216 bytes, `LIMIT`, or its bytes
+pub data Given : Type 0 where
+  Nothing : Given
+  Long : Given
+  Whole : List ℕ → Given
+
+-- a library may hand this out for a name: what it has, where it tells its files
+abbrev pub MayGive : Option Files → (name : List ℕ) → Given → Type 0
+MayGive files name Nothing = ⊤
+MayGive files name Long = IfSome files (λ f. IsSomeAnd (get f name) (λ bytes. LIMIT < length bytes))
+MayGive files name (Whole bytes) = (length bytes ≤ LIMIT) × IfSome files (λ f. get f name ≡ Some bytes)
+
+-- what was handed out of each file
+abbrev pub Contents : Type 0
+Contents = File → Given
+
+-- each file that the options name
+abbrev pub MayHandOut : Option Files → Options → Contents → Type 0
+MayHandOut files o contents = (file : File) → IfSome (name_of_file file o) (λ name. MayGive files name (contents file))

@@ -1,0 +1,37 @@
+-- What a library that tells its files has of the files that words name.
+use Rattle.std.specs.Prelude.{ℕ, List, Result, Ok, Err, None, Some, Bool, true, false, length, nat_lt}
+use Rattle.std.specs.declared.option.Option.{Option}
+use Rattle.std.specs.FinMap.{get}
+use Rattle.gic_base.specs.Files.{Files}
+use Rattle.gic_base.specs.declared.limits.TheConstants.{LIMIT}
+use Rattle.gic_words.specs.Options.{options_of}
+use Rattle.gic_words.specs.declared.options.Options.{Options}
+use Rattle.gic_words.specs.declared.fault.Usage.{Usage}
+use Rattle.gic_ask.specs.Asks.{Asks, IsAnswer, CouldNotRead}
+use Rattle.gic_ask.specs.Contents.{Given, Nothing, Long, Whole, Contents, name_of_file}
+use Rattle.gic_ask.specs.Outcome.{outcome}
+use Rattle.gic_ask.specs.declared.fault.File.{File}
+use Rattle.gic_ask.specs.declared.fault.InputFault.{InputFault}
+use Rattle.gic_ask.specs.declared.request.Asked.{Asked}
+
+abbrev pub held_by_length : Bool → List ℕ → Given
+held_by_length true bytes = Long
+held_by_length false bytes = Whole bytes
+
+abbrev pub held_bytes : Option (List ℕ) → Given
+held_bytes None = Nothing
+held_bytes (Some bytes) = held_by_length (nat_lt LIMIT (length bytes)) bytes
+
+abbrev pub held : Files → (name : Option (List ℕ)) → Given
+held files None = Nothing
+held files (Some name) = held_bytes (get files name)
+
+abbrev pub held_for : Files → Result Options Usage → Contents
+held_for files (Ok o) file = held files (name_of_file file o)
+held_for files (Err u) file = Nothing
+
+-- where no fetch of a named file failed, the answer is that of the files
+abbrev pub AnswersOfFiles : Type 0
+AnswersOfFiles = (words : List (List ℕ)) (files : Files) (before now : List (List ℕ)) (answer : Result Asked InputFault) →
+    Asks words (Some files) before now answer → ((file : File) → ¬ CouldNotRead words file before now) →
+    IsAnswer (outcome words (held_for files (options_of words))) answer

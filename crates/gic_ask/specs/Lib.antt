@@ -1,0 +1,6 @@
+pub mod Contents
+pub mod Outcome
+pub mod Asks
+pub mod Steps
+pub mod Held
+pub mod WordsRefused

@@ -1,0 +1,17 @@
+//! What follows of how asking ends.
+ghost use Rattle.gic_ask.specs.Held.{AnswersOfFiles};
+ghost use Rattle.gic_ask.specs.WordsRefused.{UsageIsOfWords};
+
+use gic_words::laws::case_named_law;
+
+/// A library that tells its files, and of which no named file fails, is answered by its files, want of memory aside.
+pub fn answers_of_files_law()
+    ensures { AnswersOfFiles }
+{}
+
+/// Words are refused for a fault of their own alone.
+pub fn usage_is_of_words_law()
+    ensures { UsageIsOfWords }
+{
+    case_named_law();
+}

@@ -1,0 +1,9 @@
+//! The mode `check`: which nodes of a case are live, where each of them is earthed.
+#![tactic(auto)]
+
+pub mod laws;
+mod live;
+mod mode;
+mod text;
+
+pub use mode::check;

@@ -1,0 +1,5 @@
+pub mod Rooms
+pub mod Fits
+pub mod UniformFields
+pub mod TrueVerdicts
+pub mod FieldDetermined

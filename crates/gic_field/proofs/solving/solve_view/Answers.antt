@@ -1,0 +1,38 @@
+use Rattle.std.proofs.Common.{◌≡◌, ℕ, length, ap, sym, ◌∙◌}
+use Rattle.gic_model.specs.Network.{Network}
+use Rattle.gic_winding.specs.ElementList.{elements_of}
+use Rattle.gic_stand.proofs.CaseNodes.{nodes_named}
+use Rattle.gic_field.proofs.Fits.{have_absolutes}
+use Rattle.gic_field.proofs.solving.solve_view.Goals as goal
+
+pub solve_uncounted-requires-together : goal.solve_uncounted-requires-together
+solve_uncounted-requires-together c =
+    let nodes : (elements_of c.args.case.now).nodes ≡ c.args.net.now.network.nodes = ap (λ (n : Network). n.nodes) (sym c.requires.net) in
+    record {
+      volt_count = c.requires.volts;
+      guess_count = c.requires.room.solver ∙ nodes;
+      entry_count = c.in_ok-expect_resolved.ensures.entries ∙ c.requires.room.vector ∙ nodes;
+      interval_count = c.requires.room.potentials ∙ nodes;
+    }
+
+pub fill_view-requires-together : goal.fill_view-requires-together
+fill_view-requires-together c = record {
+  a_volt_each = c.requires.volts;
+  a_potential_each = c.solve_uncounted.ensures.together.interval_count;
+}
+
+pub fill_view-requires-room : goal.fill_view-requires-room
+fill_view-requires-room c = record {
+  nodes = c.requires.room.view_nodes ∙ nodes_named c.args.case.now;
+  elements = c.requires.room.view_elements;
+  transformers = c.requires.room.view_transformers;
+}
+
+pub returns-clause-right : goal.returns-clause-right
+returns-clause-right c = c.fill_view.ensures.right (λ s solves k live. (c.solve_uncounted.ensures.solved.certain k).live live s solves)
+
+pub returns-clause-narrow : goal.returns-clause-narrow
+returns-clause-narrow c = c.fill_view.ensures.narrow c.args.width c.requires.width.least c.solve_uncounted.ensures.solved.sharp
+
+pub returns-clause-absolutes : goal.returns-clause-absolutes
+returns-clause-absolutes c = have_absolutes c.fill_view.new.out c.fill_view.ensures.small

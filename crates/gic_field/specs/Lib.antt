@@ -1,0 +1,4 @@
+pub mod FieldText
+pub mod RightField
+pub mod RoomFor
+pub mod Determines

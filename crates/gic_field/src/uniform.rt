@@ -1,0 +1,47 @@
+//! One field for all zones of a case.
+ghost use Rattle.std.specs.Prelude.{◌≡◌, IfOk};
+ghost use Rattle.gic_induce.specs.LineVolts.{volts_of};
+ghost use Rattle.gic_induce.specs.Voltage.{IsFieldWithin};
+ghost use Rattle.gic_winding.specs.ElementList.{elements_of};
+ghost use Rattle.gic_field.specs.RightField.{uniform_field};
+
+use gic_base::OutOfMemory;
+use gic_case::Case;
+use gic_effective::laws::line_items_law;
+use gic_induce::{Fields, fill_volts};
+use gic_model::{Elements, Volts};
+use std::alloc::Global;
+
+/// One field for all zones of a case, in mV/km.
+fn uniform_field(alloc: Global, case: &Case, north: i32, east: i32) -> Result<Fields, OutOfMemory>
+    requires north { IsFieldWithin north }
+    requires east { IsFieldWithin east }
+    ensures { IfOk result (λ fields. fields ≡ uniform_field case.now north east) }
+{
+    let zones = case.zones().len() as u16;
+    let mut fields = Fields::new(alloc, zones)?;
+    for zone in 0..zones {
+        fields.set(zone, north, east);
+    }
+    Ok(fields)
+}
+
+/// The voltages of the elements of a case in one field for all zones, in nanovolts.
+pub(crate) fn uniform_volts(
+    alloc: Global,
+    case: &Case,
+    elements: &Elements,
+    north: i32,
+    east: i32,
+) -> Result<Volts, OutOfMemory>
+    requires elements { elements.now ≡ elements_of case.now }
+    requires north { IsFieldWithin north }
+    requires east { IsFieldWithin east }
+    ensures { IfOk result (λ volts. volts ≡ volts_of case.now (uniform_field case.now north east) (elements_of case.now).list) }
+{
+    line_items_law();
+    let fields = uniform_field(alloc, case, north, east)?;
+    let mut volts = Volts::new(alloc, elements)?;
+    fill_volts(case, elements.list(), &fields, &mut volts);
+    Ok(volts)
+}

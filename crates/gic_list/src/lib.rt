@@ -1,0 +1,8 @@
+//! The mode `list`: the elements of the network of a case.
+#![tactic(auto)]
+
+mod mode;
+mod names;
+mod text;
+
+pub use mode::list;

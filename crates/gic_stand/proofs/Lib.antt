@@ -1,0 +1,2 @@
+pub mod CaseNodes
+pub mod Served

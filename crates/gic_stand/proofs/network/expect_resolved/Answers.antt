@@ -1,0 +1,25 @@
+use Rattle.std.proofs.Common.{ℕ, ◌≡◌, ◌<◌, length, refl, ap, subst, ◌∙◌, arith}
+use Rattle.std.specs.Prelude.{slice_index}
+use Rattle.gic_case.specs.Lists.{node_names}
+use Rattle.gic_model.specs.Network.{Network}
+use Rattle.gic_net.specs.Net.{standing}
+use Rattle.gic_stand.specs.Standing.{IsFirstUnresolved}
+use Rattle.gic_stand.proofs.CaseNodes.{nodes_named, within_by_index}
+use Rattle.gic_stand.proofs.network.expect_resolved.Goals as goal
+
+pub node_name-node-requires : goal.node_name-node-requires
+node_name-node-requires c =
+    let nodes : length c.bound.new.out ≡ length (node_names c.args.case.now) =
+    c.bound.ensures.same_length ∙ c.requires.entries ∙ ap (λ (n : Network). n.nodes) c.requires.network ∙ nodes_named c.args.case.now in
+    subst (λ (n : ℕ). c.in-Err.refusal.node.0 < n) nodes (within_by_index c.bound.new.out c.in-Err.refusal.node.0 4096 c.in-Err.ensures.full)
+
+pub returns-in-Err-clause-err : goal.returns-in-Err-clause-err
+returns-in-Err-clause-err c =
+    let node = c.in-Err.refusal.node.0 in
+    let first : IsFirstUnresolved (standing c.args.net.now) node = record {
+      entries = slice_index c.bound.new.out;
+      least = c.in-Err.ensures.least;
+      full = c.in-Err.ensures.full;
+      first = λ j below full. omega (arith, c.in-Err.ensures.first j below, full);
+    } in
+    (refl, record { earthed = c.requires.earthed; node = node; unresolved = first; named = c.node_name-node.ensures })

@@ -1,0 +1,103 @@
+//! The network of a case that stands, whether it is earthed, and whether it can be solved.
+ghost use Rattle.std.specs.Prelude.{◌≡◌, length, slice_index, IfOk, IfErr, OnOk};
+ghost use Rattle.gic_base.specs.declared.limits.TheConstants.{MOST_WALK};
+ghost use Rattle.gic_model.specs.Bound.{IsEarthedWithin};
+ghost use Rattle.gic_model.specs.Earthing.{AreEarthed};
+ghost use Rattle.gic_model.specs.Standing.{standing_elements, stands_after};
+ghost use Rattle.gic_net.specs.Net.{standing, net_after};
+ghost use Rattle.gic_bound.specs.Entries.{IsBoundWithin};
+ghost use Rattle.gic_winding.specs.ElementList.{elements_of};
+ghost use Rattle.gic_stand.specs.Standing.{rows_in};
+ghost use Rattle.gic_stand.specs.Needs.{Earthed, Solved, Fails};
+
+use crate::fault::NetworkRefusal;
+use gic_base::OutOfMemory;
+use gic_bound::{BoundVector, bound};
+use gic_case::{Case, node_name};
+use gic_island::{Scratch, earthed};
+use gic_model::{Elements, Switching};
+use gic_net::Net;
+use gic_net::laws::net_switching_law;
+use gic_switch::Switchings;
+use std::alloc::Global;
+
+/// Opens and closes items, row by row.
+fn switch_all(net: &mut Net, rows: &[Switching])
+    ensures { net.new ≡ net_after net.old rows.entry.now }
+{
+    for row in rows {
+        net.switch(row.item, row.opens);
+    }
+}
+
+/// Opens and closes items by all rows of the switchings, where there are any.
+fn switch_by(net: &mut Net, switchings: &Option<Switchings>)
+    ensures { net.new ≡ net_after net.old (rows_in switchings.now) }
+{
+    match switchings {
+        Some(switchings) => switch_all(net, switchings.rows()),
+        None => {}
+    }
+}
+
+/// The network of these elements with all rows of the switchings in force.
+pub fn standing_net(
+    alloc: Global,
+    elements: &Elements,
+    switchings: &Option<Switchings>,
+) -> Result<Net, OutOfMemory>
+    ensures network { IfOk result (λ net. net.network ≡ elements.now) }
+    ensures standing { IfOk result (λ net. standing net ≡ standing_elements elements.now (stands_after (rows_in switchings.now))) }
+{
+    net_switching_law();
+    let mut net = Net::build(alloc, elements)?;
+    switch_by(&mut net, switchings);
+    Ok(net)
+}
+
+/// Whether each live node is earthed at the step of this number. Takes no memory.
+pub fn expect_earthed(
+    case: &Case,
+    net: &Net,
+    step: u32,
+    scratch: &mut Scratch,
+) -> Result<(), NetworkRefusal>
+    requires network { net.now.network ≡ elements_of case.now }
+    requires scratch { scratch.old.nodes ≡ net.now.network.nodes }
+    ensures earthed { OnOk result (AreEarthed (standing net.now)) }
+    ensures err { IfErr result (Fails Earthed case.now step (standing net.now)) }
+    ensures scratch { scratch.new.nodes ≡ scratch.old.nodes }
+{
+    match earthed(net, scratch) {
+        Ok(()) => Ok(()),
+        Err(refusal) => {
+            let node = node_name(case, refusal.node);
+            Err(NetworkRefusal::Unearthed { step, node })
+        }
+    }
+}
+
+/// Whether the network is earthed within 4096 at the step of this number, where each live node is earthed; its least
+/// capped vector is left in `vector`. Takes no memory.
+pub fn expect_resolved(
+    case: &Case,
+    net: &Net,
+    step: u32,
+    vector: &mut BoundVector,
+) -> Result<(), NetworkRefusal>
+    requires network { net.now.network ≡ elements_of case.now }
+    requires entries { length vector.old ≡ net.now.network.nodes }
+    requires earthed { AreEarthed (standing net.now) }
+    ensures within { OnOk result (IsEarthedWithin (standing net.now) MOST_WALK) }
+    ensures bound { OnOk result (IsBoundWithin (standing net.now) MOST_WALK (slice_index vector.new)) }
+    ensures err { IfErr result (Fails Solved case.now step (standing net.now)) }
+    ensures entries { length vector.new ≡ length vector.old }
+{
+    match bound(net, vector) {
+        Ok(()) => Ok(()),
+        Err(refusal) => {
+            let node = node_name(case, refusal.node);
+            Err(NetworkRefusal::Unresolved { step, node })
+        }
+    }
+}

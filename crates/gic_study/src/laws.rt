@@ -1,0 +1,35 @@
+//! What follows of how a call ended.
+ghost use Rattle.gic_study.specs.Laws.{RefusalsAreAnswered, UnmetNeedsAreAnswered, AcceptedIsReported, StatusesSay, TextsTellModes};
+
+use gic_ask::laws::answers_of_files_law;
+
+/// A refusal by the words and the files is answered.
+pub fn refusals_are_answered_law()
+    ensures { RefusalsAreAnswered }
+{
+    answers_of_files_law();
+}
+
+/// A network that doesn't meet the need of its mode is refused.
+pub fn unmet_needs_are_answered_law()
+    ensures { UnmetNeedsAreAnswered }
+{
+    answers_of_files_law();
+}
+
+/// What is accepted is reported.
+pub fn accepted_is_reported_law()
+    ensures { AcceptedIsReported }
+{
+    answers_of_files_law();
+}
+
+/// What each status says.
+pub fn statuses_say_law()
+    ensures { StatusesSay }
+{}
+
+/// Reports of two modes are never equal.
+pub fn texts_tell_modes_law()
+    ensures { TextsTellModes }
+{}

@@ -1,0 +1,3 @@
+pub mod VoltsText
+pub mod RightVolts
+pub mod Determines

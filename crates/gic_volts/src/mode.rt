@@ -1,0 +1,57 @@
+//! The report of the mode.
+ghost use Rattle.std.specs.Prelude.{OnOk};
+ghost use Rattle.std.specs.Io.KnownBytes.{Appends};
+ghost use Rattle.gic_base.specs.Causes.{HasCause};
+ghost use Rattle.gic_base.specs.Pieces.{AppendsPart};
+ghost use Rattle.gic_text.specs.Lines.{lines_text};
+ghost use Rattle.gic_volts.specs.VoltsText.{volts_report};
+ghost use Rattle.gic_question.specs.Ranges.{IsWithinRanges};
+ghost use Rattle.gic_stand.specs.Needs.{Nothing};
+ghost use Rattle.gic_stand.specs.Serves.{Serves, shown};
+ghost use Rattle.gic_stand.specs.Standing.{steps_of};
+ghost use Rattle.gic_volts.specs.RightVolts.{IsRightVolts};
+
+use crate::lines::line_volts;
+use crate::text::write_volts;
+use gic_base::{Sink, WriteFailed};
+use gic_case::Case;
+use gic_question::Question;
+use gic_stand::{Inputs, ReportFault, ended};
+use gic_text::LineBuilder;
+use std::alloc::Global;
+
+/// Writes the report of these voltages.
+fn write_lines<S: Sink>(
+    case: &Case,
+    question: &Question,
+    nanovolts: &[i64],
+    line: &mut LineBuilder,
+    out: &mut S,
+) -> Result<(), WriteFailed>
+    ensures all { OnOk result (Appends (S.written out.old) (S.written out.new)
+        (lines_text (volts_report case.now.lines question.now.north question.now.east nanovolts.now))) }
+    ensures part { AppendsPart (S.written out.old) (S.written out.new)
+        (lines_text (volts_report case.now.lines question.now.north question.now.east nanovolts.now)) }
+    ensures cause { HasCause (S.faults out.old) (S.faults out.new) result }
+{
+    write_volts(
+        case.lines(),
+        question.north,
+        question.east,
+        nanovolts,
+        line,
+        out,
+    )
+}
+
+/// Writes the voltage of each line, in the field that is asked for.
+pub fn volts<S: Sink>(alloc: Global, inputs: &Inputs, out: &mut S) -> Result<(), ReportFault>
+    requires { IsWithinRanges inputs.now.question }
+    ensures { Serves Nothing inputs.now.case (steps_of inputs.now) (IsRightVolts inputs.now)
+        (shown S.written S.faults out.old) (shown S.written S.faults out.new) result }
+{
+    let mut line = LineBuilder::new(alloc)?;
+    let volts = line_volts(alloc, &inputs.case, &inputs.question)?;
+    let writing = write_lines(&inputs.case, &inputs.question, &volts, &mut line, out);
+    ended(writing)
+}
