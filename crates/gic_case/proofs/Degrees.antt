@@ -1,5 +1,5 @@
 -- The ends of elements, and their counts.
-use Rattle.std.proofs.Common.{◌≡◌, ◌≢◌, ℕ, suc, ◌+◌, ◌*◌, ◌≤◌, ◌<◌, List, [], ◌∷◌, ◌++◌, Option, Some, None, refl, length, take, drop, get_or, true, nat_le, sym, ap, ◌∙◌, arith, inl, inr, add-one, drop-cons, length-append, length-take-le, is_some}
+use Rattle.std.proofs.Common.{◌≡◌, ◌≢◌, ℕ, ◌+◌, ◌*◌, ◌≤◌, ◌<◌, List, [], ◌∷◌, ◌++◌, Option, Some, None, refl, length, take, drop, get_or, true, nat_le, sym, ap, ◌∙◌, arith, inl, inr, add-one, drop-cons, length-append, length-take-le, is_some}
 use Rattle.std.proofs.Math.ListN.{set}
 use Rattle.std.proofs.lemmas.Bool.{cases_Bool, cases_eq}
 use Rattle.std.proofs.lemmas.Bool.Decides.{nat_tests}

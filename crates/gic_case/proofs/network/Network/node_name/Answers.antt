@@ -1,6 +1,6 @@
-use Rattle.std.proofs.Common.{◌≡◌, ◌-◌, ◌<◌, slice_get, arith, ap, sym, ◌∙◌}
+use Rattle.std.proofs.Common.{◌<◌, arith, sym, ◌∙◌}
 use Rattle.gic_case.specs.NodeNames.{names_left}
-use Rattle.gic_case.proofs.Passed.{passed_one, next_is_first}
+use Rattle.gic_case.proofs.Passed.{passed_one}
 use Rattle.gic_case.proofs.network.Network.node_name.Goals as goal
 
 pub loop-passed-preserved : goal.loop-passed-preserved
