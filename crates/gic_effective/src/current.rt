@@ -2,6 +2,7 @@
 ghost use Rattle.std.specs.Prelude.{◌≡◌, ℕ, ◌*◌, ◌^◌, ◌<◌, length, ℤ, pos, IsTrue, unsigned_abs, ◌≤◌};
 ghost use Rattle.gic_fixed.specs.Rounding.{floor_div, ceil_div};
 ghost use Rattle.gic_fixed.specs.Encloses.{Encloses, IsWithin};
+ghost use Rattle.gic_model.specs.Guess.{most_guess};
 ghost use Rattle.gic_model.specs.Network.{IsEndWithin};
 ghost use Rattle.gic_model.specs.Standing.{value_at, is_standing};
 ghost use Rattle.gic_model.specs.Solution.{Solution, IsSolution};
@@ -25,7 +26,7 @@ fn at_end(potentials: &Potentials, end: End) -> Interval
     requires { IsEndWithin (length potentials.now) end }
     ensures low { result.lo ≡ value_at (low_at potentials.now) end }
     ensures high { result.hi ≡ value_at (high_at potentials.now) end }
-    ensures small { IsWithin (2 ^ 96) result.lo result.hi }
+    ensures small { IsWithin most_guess result.lo result.hi }
 {
     match end {
         End::Node(node) => potentials.get(node),

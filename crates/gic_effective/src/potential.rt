@@ -7,10 +7,10 @@ ghost use Rattle.gic_model.specs.Solution.{Solution};
 ghost use Rattle.gic_enclose.specs.Ends.{low_at, high_at};
 ghost use Rattle.gic_effective.specs.Holds.{HoldsAt};
 
-use crate::ohm::GRAINS;
 use gic_base::NodeId;
 use gic_enclose::Potentials;
 use gic_fixed::Interval;
+use gic_sweep::GRAINS;
 
 /// The potential of a node in millivolts, rounded outward from the grains of its interval. It holds the node's potential
 /// in every solution in which the interval does.

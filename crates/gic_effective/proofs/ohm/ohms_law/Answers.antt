@@ -7,18 +7,18 @@ use Rattle.gic_effective.proofs.ohm.ohms_law.Goals as goal
 
 low_is : (c : goal.After-div_out) → c.div_out.result.lo ≡ current_low c.args.times c.args.divisor (drive_of c.args.from.lo c.args.to.hi c.args.volts)
 low_is c =
-    let r = c.raised.result.lo in
+    let r = c.raised-product.result.lo in
     let whole : c.div_out.result.lo ≡ floor_div c.over_ohms.result.lo (pos (2 ^ 36)) = search (rules, c.div_out.ensures.low) in
     let over : c.over_ohms.result.lo ≡ floor_div r (pos c.args.divisor) = search (rules, c.over_ohms.ensures.low) in
-    let product : r ≡ pos (c.args.times * 1000000) *ℤ drive_of c.args.from.lo c.args.to.hi c.args.volts = search (rules, c.raised.ensures.low) in
+    let product : r ≡ pos (c.args.times * 1000000) *ℤ drive_of c.args.from.lo c.args.to.hi c.args.volts = search (rules, c.raised-product.ensures.low) in
     whole ∙ ap (λ (z : ℤ). floor_div z (pos (2 ^ 36))) over ∙ floor-floor r c.args.divisor (2 ^ 36) ∙ ap (λ (z : ℤ). floor_div z (pos (c.args.divisor * 2 ^ 36))) product
 
 high_is : (c : goal.After-div_out) → c.div_out.result.hi ≡ current_high c.args.times c.args.divisor (drive_of c.args.from.hi c.args.to.lo c.args.volts)
 high_is c =
-    let r = c.raised.result.hi in
+    let r = c.raised-product.result.hi in
     let whole : c.div_out.result.hi ≡ ceil_div c.over_ohms.result.hi (pos (2 ^ 36)) = search (rules, c.div_out.ensures.high) in
     let over : c.over_ohms.result.hi ≡ ceil_div r (pos c.args.divisor) = search (rules, c.over_ohms.ensures.high) in
-    let product : r ≡ pos (c.args.times * 1000000) *ℤ drive_of c.args.from.hi c.args.to.lo c.args.volts = search (rules, c.raised.ensures.high) in
+    let product : r ≡ pos (c.args.times * 1000000) *ℤ drive_of c.args.from.hi c.args.to.lo c.args.volts = search (rules, c.raised-product.ensures.high) in
     whole ∙ ap (λ (z : ℤ). ceil_div z (pos (2 ^ 36))) over ∙ ceil-ceil r c.args.divisor (2 ^ 36) ∙ ap (λ (z : ℤ). ceil_div z (pos (c.args.divisor * 2 ^ 36))) product
 
 pub returns-clause-low : goal.returns-clause-low
