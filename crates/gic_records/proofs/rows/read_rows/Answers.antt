@@ -1,7 +1,6 @@
-use Rattle.std.proofs.Common.{◌≢◌, Err, None, ◌≡◌, ◌∙◌, ap, sym, arith, rules}
+use Rattle.std.proofs.Common.{Err, ◌≡◌, ◌∙◌, ap, sym, arith}
 use Rattle.std.proofs.lemmas.List.Elements.{All-push}
 use Rattle.std.proofs.lemmas.List.Sorted.{IsNonDecreasingBy-push}
-use Rattle.gic_records.specs.RowPass.{rows_in}
 use Rattle.gic_records.proofs.ReadRows.{read_end, read_row, read_bad, read_late, last_time}
 use Rattle.gic_records.proofs.rows.read_rows.Goals as goal
 
