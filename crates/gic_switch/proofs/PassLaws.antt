@@ -1,5 +1,5 @@
 -- One pass over the records answers the first refusal of all rules.
-use Rattle.std.proofs.Common.{◌≡◌, ℕ, ◌+◌, ◌==◌, nat_le, List, [], ◌∷◌, ◌++◌, length, map, Option, Some, None, is_some, refl, append_assoc}
+use Rattle.std.proofs.Common.{◌≡◌, ℕ, ◌==◌, List, [], ◌∷◌, ◌++◌, length, map, Option, None, is_some, refl}
 use Rattle.gic_base.specs.Refusals.{unless, settle}
 use Rattle.gic_base.proofs.RefusalLaws.{then_law, last_law, value_law, test_law}
 use Rattle.gic_records.specs.Columns.{text_at, time_in, time_of}

@@ -1,5 +1,5 @@
 -- The rules of a list of switchings, each read by itself on the list of records: the refusals for all places where the records break it, in order. The list is accepted where no rule gives one, and the first of all answers otherwise.
-use Rattle.std.specs.Prelude.{ℕ, nat_le, ◌==◌, List, [], ◌∷◌, ◌++◌, length, map, Option, Some, None, unwrap_or, is_some, Result}
+use Rattle.std.specs.Prelude.{ℕ, nat_le, ◌==◌, List, [], ◌∷◌, ◌++◌, length, map, Option, None, unwrap_or, is_some, Result}
 use Rattle.gic_base.specs.declared.limits.TheConstants.{MOST_SWITCHINGS}
 use Rattle.gic_base.specs.Refusals.{unless, settle}
 use Rattle.gic_records.specs.Columns.{text_at, time_in, time_of}
