@@ -1,18 +1,18 @@
 -- The lines of a view show the intervals at their places.
-use Rattle.std.proofs.Common.{◌≡◌, ◌∙◌, ℕ, ◌+◌, zero, suc, true, false, not, Option, None, List, [], ◌∷◌, ◌++◌, map, length, drop, get_or, refl, sym, ap, ap₂, add-one, All, IsTrue, IsFalse}
+use Rattle.std.proofs.Common.{◌≡◌, ◌∙◌, ℕ, ◌+◌, zero, suc, true, false, not, Option, None, List, [], ◌∷◌, ◌++◌, map, length, drop, get_or, refl, sym, ap, ap₂, add-one, IsTrue}
 use Rattle.std.specs.Prelude.{codes, if◌then◌else◌}
 use Rattle.std.specs.List.{AllByRecursion, enumerate_from, filter, zip}
 use Rattle.std.proofs.lemmas.List.Elements.{All-from_recursion}
 use Rattle.gic_case.specs.declared.item.Transformer.{Transformer}
 use Rattle.gic_case.specs.Lists.{Lists, node_names}
 use Rattle.gic_model.specs.declared.parts.Element.{Element}
-use Rattle.gic_monitor.specs.View.{Ends, View, nought}
+use Rattle.gic_monitor.specs.View.{Ends, nought}
 use Rattle.gic_winding.specs.ElementList.{elements_of}
 use Rattle.gic_report.specs.SharedLines.{Words}
 use Rattle.gic_report.specs.declared.rows.ItemRow.{ItemRow}
 use Rattle.gic_report.specs.Cells.{first_cell, first_ends}
 use Rattle.gic_report.specs.ItemText.{cell_words, effective_line, left_behind, node_line, node_lines, per_transformer, row_lines, row_words, rows_of, shown_words}
-use Rattle.gic_report.specs.Places.{LinesShowPlaces, ShowsPlaces, element_words, unblocked_lines}
+use Rattle.gic_report.specs.Places.{LinesShowPlaces, element_words, unblocked_lines}
 use Rattle.gic_report.proofs.RowHeads.{elements_named, heads}
 
 -- the first item behind a place, and what follows it

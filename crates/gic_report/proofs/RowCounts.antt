@@ -19,7 +19,7 @@ use Rattle.gic_winding.specs.ElementList.{elements_of}
 use Rattle.gic_report.specs.declared.rows.ItemRow.{ItemRow}
 use Rattle.gic_report.specs.Fits.{HasNames}
 use Rattle.gic_report.specs.RoleWord.{role_word}
-use Rattle.gic_report.specs.ItemText.{all_ground_rows, all_line_rows, all_neutral_rows, all_winding_rows, ground_rows, named_as, neutral_rows, row_words, rows_of, winding_rows}
+use Rattle.gic_report.specs.ItemText.{all_ground_rows, all_line_rows, all_neutral_rows, all_winding_rows, ground_rows, neutral_rows, row_words, rows_of, winding_rows}
 use Rattle.gic_report.specs.Places.{element_words}
 use Rattle.gic_report.proofs.CaseNames.{line_names, substation_names, transformer_names}
 use Rattle.gic_report.proofs.ListParts.{all_append}

@@ -1,5 +1,5 @@
 -- Where in a view the lines of a report take their intervals from.
-use Rattle.std.specs.Prelude.{◌≡◌, List, [], ◌∷◌, ◌++◌, ℕ, map, not, codes, length, All, IsTrue}
+use Rattle.std.specs.Prelude.{◌≡◌, List, [], ◌∷◌, ◌++◌, map, not, codes, length, All, IsTrue}
 use Rattle.std.specs.List.{enumerate_from, filter, zip}
 use Rattle.gic_case.specs.Lists.{Lists, node_names}
 use Rattle.gic_model.specs.declared.parts.Element.{Element}
