@@ -1,5 +1,5 @@
 -- One pass over the records answers the first refusal of all rules.
-use Rattle.std.proofs.Common.{◌≡◌, ℕ, ◌+◌, ◌==◌, pos, nat_le, List, [], ◌∷◌, ◌++◌, length, map, Option, Some, None, is_some, Ok, refl, append_assoc}
+use Rattle.std.proofs.Common.{◌≡◌, ℕ, ◌==◌, pos, List, [], ◌∷◌, ◌++◌, length, map, Option, Some, None, is_some, Ok, refl}
 use Rattle.gic_base.specs.Refusals.{unless, settle}
 use Rattle.gic_base.specs.Passes.{◌>>=◌, or_refuse}
 use Rattle.gic_base.proofs.RefusalLaws.{then_law, last_law, value_law, test_law}
