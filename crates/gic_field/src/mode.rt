@@ -76,7 +76,7 @@ fn field_net<S: Sink>(
     ensures memory { result ≢ Err Memory }
 {
     verdict_law();
-    let _transformers = case.transformers();
+    case.keeps_rules();
     solve_view(case, net, volts, question.width, room)?;
     let writing = write_view(case, question, &room.view, line, out);
     ended(writing)

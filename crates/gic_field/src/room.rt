@@ -24,7 +24,7 @@ pub(crate) struct Room {
 }
 
 /// Room for the view of a case.
-#[tactic(auto, using(crate::proofs::Rooms::room_for))]
+#[tactic(auto, using(gic_stand::proofs::Rooms::room_for))]
 fn blank_view(alloc: Global, case: &Case, elements: &Elements) -> Result<StepView, OutOfMemory>
     requires { elements.now ≡ elements_of case.now }
     ensures nodes { IfOk result (λ view. length view.nodes ≡ elements.now.nodes) }
@@ -37,7 +37,7 @@ fn blank_view(alloc: Global, case: &Case, elements: &Elements) -> Result<StepVie
 }
 
 /// Room for the network of a case.
-#[tactic(auto, using(crate::proofs::Rooms::room_for))]
+#[tactic(auto, using(gic_stand::proofs::Rooms::room_for))]
 pub(crate) fn make_room(
     alloc: Global,
     case: &Case,

@@ -1,2 +1,3 @@
 pub mod CaseNodes
+pub mod Rooms
 pub mod Served

@@ -27,7 +27,7 @@ returns-clause-serves g c =
       absolutes = right_absolutes case stands volts question.width view right narrow;
       verdicts = true_verdicts case stands volts (threshold_of question.event) view
           c.verdict_law.ensures.below c.verdict_law.ensures.reaches c.verdict_law.ensures.undecided
-          c.transformers-transformers.ensures.sound right;
+          c.keeps_rules.ensures right;
     } in
     served Solved case _ (ShowsRightView case stands volts question) _ _ _ c.write_view-writing.result c.ended.result
     (met_once Solved stands c.in_ok-solve_view.ensures.solvable)
