@@ -9,8 +9,8 @@ use Rattle.gic_field.specs.RightField.{IsRightAnswer, ShowsRightView}
 use Rattle.gic_field.proofs.TrueVerdicts.{right_absolutes, true_verdicts}
 use Rattle.gic_field.proofs.mode.field_net.Goals as goal
 
-pub solve_view-requires-width : goal.solve_view-requires-width
-solve_view-requires-width g c = record { least = omega (arith, c.requires.ranges.width_least); most = c.requires.ranges.width_most }
+pub solve_view-requires-clause-width : goal.solve_view-requires-clause-width
+solve_view-requires-clause-width g c = record { least = omega (arith, c.requires.ranges.width_least); most = c.requires.ranges.width_most }
 
 pub returns-clause-serves : goal.returns-clause-serves
 returns-clause-serves g c =

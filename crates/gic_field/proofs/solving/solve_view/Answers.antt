@@ -5,8 +5,8 @@ use Rattle.gic_stand.proofs.CaseNodes.{nodes_named}
 use Rattle.gic_field.proofs.Fits.{have_absolutes}
 use Rattle.gic_field.proofs.solving.solve_view.Goals as goal
 
-pub solve_uncounted-requires-together : goal.solve_uncounted-requires-together
-solve_uncounted-requires-together c =
+pub solve_uncounted-requires-clause-together : goal.solve_uncounted-requires-clause-together
+solve_uncounted-requires-clause-together c =
     let nodes : (elements_of c.args.case.now).nodes ≡ c.args.net.now.network.nodes = ap (λ (n : Network). n.nodes) (sym c.requires.net) in
     record {
       volt_count = c.requires.volts;
@@ -15,14 +15,14 @@ solve_uncounted-requires-together c =
       interval_count = c.requires.room.potentials ∙ nodes;
     }
 
-pub fill_view-requires-together : goal.fill_view-requires-together
-fill_view-requires-together c = record {
+pub fill_view-requires-clause-together : goal.fill_view-requires-clause-together
+fill_view-requires-clause-together c = record {
   a_volt_each = c.requires.volts;
   a_potential_each = c.solve_uncounted.ensures.together.interval_count;
 }
 
-pub fill_view-requires-room : goal.fill_view-requires-room
-fill_view-requires-room c = record {
+pub fill_view-requires-clause-room : goal.fill_view-requires-clause-room
+fill_view-requires-clause-room c = record {
   nodes = c.requires.room.view_nodes ∙ nodes_named c.args.case.now;
   elements = c.requires.room.view_elements;
   transformers = c.requires.room.view_transformers;
