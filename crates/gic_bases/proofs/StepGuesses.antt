@@ -5,13 +5,15 @@ use Rattle.std.proofs.lemmas.List.{get_or_past}
 use Rattle.gic_fixed.specs.Rounding.{floor_div}
 use Rattle.gic_model.specs.declared.parts.Item.{Item}
 use Rattle.gic_model.specs.declared.parts.Element.{Element}
-use Rattle.gic_model.specs.Network.{Network, IsWithinLimits}
-use Rattle.gic_model.specs.Voltages.{number_at, AreVolts}
+use Rattle.gic_model.specs.Network.{Network}
+use Rattle.gic_model.specs.Limits.{IsWithinLimits, AreVolts}
+use Rattle.gic_model.specs.Voltages.{number_at}
 use Rattle.gic_model.specs.Standing.{IsLive, standing_elements}
 use Rattle.gic_model.specs.Bound.{IsEarthedWithin}
 use Rattle.gic_model.specs.Guess.{IsSettledWithin, cut}
 use Rattle.gic_model.specs.Sums.{Placed}
-use Rattle.gic_case.specs.Lists.{Lists, IsSound}
+use Rattle.gic_case.specs.Lists.{Lists}
+use Rattle.gic_case.specs.Sound.{IsSound}
 use Rattle.gic_induce.specs.Fields.{IsField, no_field, field_at}
 use Rattle.gic_induce.specs.LineVolts.{volts_of}
 use Rattle.gic_converge.proofs.Cuts.{cut_same}

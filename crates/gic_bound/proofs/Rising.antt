@@ -7,7 +7,7 @@ use Rattle.std.proofs.lemmas.List.{get_or_past, get_or-set_same, get_or-set_othe
 use Rattle.std.proofs.lemmas.List.Elements.{All-from_get_or}
 use Rattle.std.proofs.lemmas.List.FromFn.{length-map-range_with_len, get_or-map-range_with_len}
 use Rattle.std.proofs.lemmas.List.Sums.{sum_by-set, sum_by-le}
-use Rattle.gic_model.specs.Network.{IsElementWithin}
+use Rattle.gic_model.specs.Limits.{IsElementWithin}
 use Rattle.gic_model.specs.Standing.{is_live, IsLive, elements_at}
 use Rattle.gic_model.specs.Sums.{Placed, sum_of}
 use Rattle.gic_model.specs.Bound.{row_part, IsRowPositive, IsCappedVector, IsLeastCappedVector}

@@ -6,7 +6,8 @@ use Rattle.std.proofs.lemmas.List.Elements.{recursion_from_All, All-from_recursi
 use Rattle.std.specs.List.{AllByRecursion}
 use Rattle.gic_case.specs.declared.item.Bus.{Bus}
 use Rattle.gic_case.specs.declared.item.Transformer.{Transformer}
-use Rattle.gic_case.specs.Lists.{Lists, IsSound, IsSoundTransformer, neutrals_from, neutrals_of}
+use Rattle.gic_case.specs.Lists.{Lists, neutrals_from, neutrals_of}
+use Rattle.gic_case.specs.Sound.{IsSound, IsSoundTransformer}
 
 -- no transformer is left out
 pub transformers-neutrals_from : (buses : List Bus) (own : ℕ) (ts : List Transformer) → map (λ p. p.1) (neutrals_from buses own ts) ≡ ts

@@ -15,7 +15,7 @@ use Rattle.gic_case.specs.declared.refusal.CaseRefusal.{CaseRefusal}
 use Rattle.gic_case.specs.Keys.{key_of, same, is_among, has, has_only, has_all, fits}
 use Rattle.gic_case.specs.Values.{whole_within, natural_within, near_nought, span_within, read_name, value_at}
 use Rattle.gic_case.specs.Rows.{members_in, breaks_keys, breaks_value, breaks_optional, ohm_within, metres_within, device_in, read_neutral, zone_fields, breaks_zone, zone_of, breaks_substation, substation_of, bus_fields, breaks_bus, bus_of, line_fields, breaks_line, line_of}
-use Rattle.gic_case.specs.Lists.{IsOhm, IsRated, IsSoundDevice}
+use Rattle.gic_case.specs.Sound.{IsOhm, IsRated, IsSoundDevice}
 use Rattle.gic_case.specs.Transformers.{read_kind, fields_of, others_of, kind_of, breaks_bus_name, breaks_ohm, breaks_volts, breaks_own, breaks_transformer, ohm_in, volts_in, own_of, transformer_of}
 use Rattle.gic_case.specs.declared.field.Field.{Field}
 use Rattle.gic_case.specs.declared.field.Field.TheVariants as fields

@@ -16,7 +16,8 @@ use Rattle.gic_base.specs.Refusals.{unless}
 use Rattle.gic_base.proofs.RefusalLaws.{none_of_both, none_settled, unless_holds}
 use Rattle.gic_case.specs.Keys.{same}
 use Rattle.gic_case.specs.Names.{is_repeat, place_from, place_in}
-use Rattle.gic_case.specs.Lists.{Lists, names_of, node_names, substation_at, ends_of, degree_of, has_windings, IsRated, IsSoundSubstation, IsSoundLine, AreSides, IsSoundKind, IsSoundTransformer, IsSound}
+use Rattle.gic_case.specs.Lists.{Lists, node_names, substation_at, ends_of, degree_of, has_windings}
+use Rattle.gic_case.specs.Sound.{names_of, IsRated, IsSoundSubstation, IsSoundLine, AreSides, IsSoundKind, IsSoundTransformer, IsSound}
 use Rattle.gic_case.specs.Sides.{sides_of, sides_differ, are_together, are_ordered}
 use Rattle.gic_case.specs.Transformers.{breaks_transformer, transformer_of}
 use Rattle.gic_case.specs.Rows.{members_in, breaks_zone, zone_of, breaks_substation, substation_of, breaks_bus, bus_of, breaks_line, line_of}

@@ -1,6 +1,7 @@
 -- What the law says of cases that are accepted.
 use Rattle.std.specs.Prelude.{◌≡◌, ℕ, List, Ok}
-use Rattle.gic_case.specs.Lists.{Lists, IsSound}
+use Rattle.gic_case.specs.Lists.{Lists}
+use Rattle.gic_case.specs.Sound.{IsSound}
 use Rattle.gic_case.specs.Rules.{case_of}
 
 -- every case that breaks no rule is sound

@@ -1,6 +1,7 @@
 pub mod Accepted
 pub mod Keys
 pub mod Lists
+pub mod Sound
 pub mod Names
 pub mod NodeNames
 pub mod OneByOne

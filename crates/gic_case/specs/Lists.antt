@@ -1,9 +1,7 @@
 -- A case as contracts see it, and what every case keeps.
-use Rattle.std.specs.Prelude.{◌≡◌, ◌≢◌, ◌≤◌, ◌<◌, ◌+◌, ◌==◌, ℕ, List, [], ◌∷◌, ◌++◌, length, map, flat_map, slice_index_or, Bool, true, false, if◌then◌else◌, Option, Some, None, is_some, IfSome, All, AllPairs, IsTrue, count_by, unsigned_abs}
+use Rattle.std.specs.Prelude.{◌+◌, ◌==◌, ℕ, List, [], ◌∷◌, ◌++◌, length, map, flat_map, slice_index_or, Bool, true, false, if◌then◌else◌, Option, Some, None, is_some, count_by}
 use Rattle.std.specs.List.{enumerate_from, filter}
-use Rattle.gic_base.specs.Name.{is_name}
-use Rattle.gic_base.specs.declared.limits.TheConstants.{MOST_ZONES, MOST_SUBSTATIONS, MOST_BUSES, MOST_LINES, MOST_TRANSFORMERS, MOST_AT_A_NODE}
-use Rattle.gic_scale.specs.ZoneView.{ZoneView, IsZone}
+use Rattle.gic_scale.specs.ZoneView.{ZoneView}
 use Rattle.gic_case.specs.declared.item.Substation.{Substation}
 use Rattle.gic_case.specs.declared.item.Bus.{Bus}
 use Rattle.gic_case.specs.declared.item.Line.{Line}
@@ -20,14 +18,6 @@ pub record Lists : Type 0 where
   pub buses : List Bus
   pub lines : List Line
   pub transformers : List Transformer
-
--- the lists with these rows
-abbrev pub lists_with : List ZoneView → List Substation → List Bus → List Line → List Transformer → Lists
-lists_with zones substations buses lines transformers = record { zones = zones; substations = substations; buses = buses; lines = lines; transformers = transformers }
-
--- the names of all rows, list after list
-abbrev pub names_of : Lists → List (List ℕ)
-names_of c = map (λ z. z.name) c.zones ++ (map (λ s. s.name) c.substations ++ (map (λ b. b.name) c.buses ++ (map (λ l. l.name) c.lines ++ map (λ t. t.name) c.transformers)))
 
 -- the transformers that have a neutral device, and with it a neutral node of their own
 abbrev pub with_device : List Transformer → List Transformer
@@ -92,76 +82,9 @@ ends_of c = earthing_ends c.substations ++ (line_ends (length c.substations) c.l
 abbrev pub degree_of : List ℕ → ℕ → ℕ
 degree_of ends k = count_by (λ n. n == k) ends
 
--- a resistance in micro-ohm within its range
-abbrev pub IsOhm : ℕ → Type 0
-IsOhm ohm = (1000 ≤ ohm) × (ohm ≤ 1000000000)
-
--- a rated voltage in V within its range
-abbrev pub IsRated : ℕ → Type 0
-IsRated volts = (1000 ≤ volts) × (volts ≤ 2000000)
-
--- what every substation keeps: an earthing within the range, if any
-abbrev pub IsSoundSubstation : Substation → Type 0
-IsSoundSubstation s = IfSome s.ground IsOhm
-
--- what every line keeps: two different buses and a zone of the case, a resistance and a span within their ranges
-pub record IsSoundLine (c : Lists) (l : Line) : Type 0 where
-  pub from_within : l.from < length c.buses
-  pub to_within : l.to < length c.buses
-  pub zone_within : l.zone < length c.zones
-  pub ends_differ : l.from ≢ l.to
-  pub resistance_least : 1000 ≤ l.resistance
-  pub resistance_most : l.resistance ≤ 1000000000
-  pub north_within : unsigned_abs l.north ≤ 1000000
-  pub east_within : unsigned_abs l.east ≤ 1000000
-
--- the two sides of a unit: two different buses of one substation, and a low voltage within its range that is not above the high one
-pub record AreSides (c : Lists) (high low high_volts low_volts : ℕ) : Type 0 where
-  pub high_within : high < length c.buses
-  pub low_within : low < length c.buses
-  pub ends_differ : high ≢ low
-  pub together : substation_at c.buses high ≡ substation_at c.buses low
-  pub low_rated : IsRated low_volts
-  pub order : low_volts ≤ high_volts
-
--- what the kind of a transformer of this high voltage keeps
-abbrev pub IsSoundKind : Lists → (high_volts : ℕ) → Kind → Type 0
-IsSoundKind c volts (kinds.DeltaWye high high_resistance) = (high < length c.buses) × IsOhm high_resistance
-IsSoundKind c volts (kinds.WyeWye high low low_volts high_resistance low_resistance) = AreSides c high low volts low_volts × (IsOhm high_resistance × IsOhm low_resistance)
-IsSoundKind c volts (kinds.Auto high low low_volts series_resistance common_resistance) = AreSides c high low volts low_volts × (IsOhm series_resistance × IsOhm common_resistance)
-IsSoundKind c volts kinds.DeltaDelta = Unit {0}
-
--- a neutral resistor is within the range
-abbrev pub IsSoundDevice : Neutral → Type 0
-IsSoundDevice (devices.Resistor ohm) = IsOhm ohm
-IsSoundDevice devices.Blocked = Unit {0}
-
 -- whether a kind has windings in the network
 abbrev pub has_windings : Kind → Bool
 has_windings (kinds.DeltaWye high high_resistance) = true
 has_windings (kinds.WyeWye high low low_volts high_resistance low_resistance) = true
 has_windings (kinds.Auto high low low_volts series_resistance common_resistance) = true
 has_windings kinds.DeltaDelta = false
-
--- what every transformer keeps: a rated voltage, a sound kind, and a sound neutral device if any, which a delta-delta unit hasn't
-pub record IsSoundTransformer (c : Lists) (t : Transformer) : Type 0 where
-  pub rated : IsRated t.high_volts
-  pub kind_sound : IsSoundKind c t.high_volts t.kind
-  pub device_sound : IfSome t.neutral IsSoundDevice
-  pub no_device : has_windings t.kind ≡ false → is_some t.neutral ≡ false
-
--- what every case keeps
-pub record IsSound (c : Lists) : Type 0 where
-  pub few_zones : length c.zones ≤ MOST_ZONES
-  pub few_substations : length c.substations ≤ MOST_SUBSTATIONS
-  pub few_buses : length c.buses ≤ MOST_BUSES
-  pub few_lines : length c.lines ≤ MOST_LINES
-  pub few_transformers : length c.transformers ≤ MOST_TRANSFORMERS
-  pub zones_sound : All IsZone c.zones
-  pub substations_sound : All IsSoundSubstation c.substations
-  pub buses_within : All (λ b. b.substation < length c.substations) c.buses
-  pub lines_sound : All (IsSoundLine c) c.lines
-  pub transformers_sound : All (IsSoundTransformer c) c.transformers
-  pub names_sound : All (λ n. IsTrue (is_name n)) (names_of c)
-  pub names_differ : AllPairs (λ x y. x ≢ y) (names_of c)
-  pub few_ends : (k : ℕ) → k < length (node_names c) → degree_of (ends_of c) k ≤ MOST_AT_A_NODE

@@ -28,7 +28,8 @@ pub struct Case {
 }
 
 impl Model for Case {
-    ghost use Rattle.gic_case.specs.Lists.{Lists, IsSound};
+    ghost use Rattle.gic_case.specs.Lists.{Lists};
+    ghost use Rattle.gic_case.specs.Sound.{IsSound};
 
     ghost Value = { Lists };
 
@@ -38,7 +39,7 @@ impl Model for Case {
 }
 
 impl Case {
-    ghost use Rattle.gic_case.specs.Lists.{IsSound, lists_with};
+    ghost use Rattle.gic_case.specs.Sound.{IsSound, lists_with};
 
     /// The lists.
     pub(crate) fn network(&self) -> &Network

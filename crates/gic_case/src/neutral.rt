@@ -1,6 +1,7 @@
 //! The ground grids and the neutrals of transformers, and the ends of the elements at them.
 ghost use Rattle.std.specs.Prelude.{◌≡◌, ◌<◌, ◌^◌, ◌++◌, flat_map, if◌then◌else◌, is_some, IfOk, OnOk, All, ◌≤◌, vec_len};
-ghost use Rattle.gic_case.specs.Lists.{IsSoundTransformer, substation_at, grid_of, neutrals_of, winding_ends, device_ends};
+ghost use Rattle.gic_case.specs.Sound.{IsSoundTransformer};
+ghost use Rattle.gic_case.specs.Lists.{substation_at, grid_of, neutrals_of, winding_ends, device_ends};
 
 use crate::case::Case;
 use crate::item::{Bus, Kind, Neutral, Transformer};

@@ -1,7 +1,8 @@
 //! The nodes of a case: how many there are, and their names.
 ghost use Rattle.std.specs.Prelude.{◌≡◌, ◌<◌, ◌≤◌, [], ◌∷◌, length, map, MatchOption, slice_index_or};
 ghost use Rattle.std.specs.Iterator.{YieldsFirst, item_count};
-ghost use Rattle.gic_case.specs.Lists.{IsSound, node_names, with_device};
+ghost use Rattle.gic_case.specs.Sound.{IsSound};
+ghost use Rattle.gic_case.specs.Lists.{node_names, with_device};
 ghost use Rattle.gic_case.specs.NodeNames.{names_left};
 
 use crate::case::Case;

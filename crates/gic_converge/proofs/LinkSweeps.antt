@@ -1,6 +1,6 @@
 -- Sweeps over rows, and what is said of two successive lists of guesses.
 use Rattle.std.proofs.Common.{◌≡◌, ℕ, ◌+◌, ◌*◌, ◌^◌, ◌≤◌, List, length, Option, Some, None, ℤ, pos, ◌+ℤ◌, ◌-ℤ◌, ◌*ℤ◌, All, unsigned_abs}
-use Rattle.gic_model.specs.Voltages.{most_volts}
+use Rattle.gic_model.specs.Limits.{most_volts}
 use Rattle.gic_model.specs.Guess.{cut}
 use Rattle.gic_converge.proofs.Links.{Link, IsLiveRow, denominator, conductance, residual, diagonal, guess_at, IsLinkWithin}
 

@@ -1,8 +1,8 @@
 -- Sweeps over a standing network settle.
 use Rattle.std.proofs.Common.{ℕ, ◌+◌, ◌*◌, ◌^◌, ◌≤◌, ◌-◌, Bool, ℤ}
 use Rattle.gic_model.specs.declared.parts.Item.{Item}
-use Rattle.gic_model.specs.Network.{Network, IsWithinLimits}
-use Rattle.gic_model.specs.Voltages.{AreVolts}
+use Rattle.gic_model.specs.Network.{Network}
+use Rattle.gic_model.specs.Limits.{IsWithinLimits, AreVolts}
 use Rattle.gic_model.specs.Standing.{standing_elements}
 use Rattle.gic_model.specs.Guess.{IsSettled}
 use Rattle.gic_sweep.specs.Guesses.{AreCut}

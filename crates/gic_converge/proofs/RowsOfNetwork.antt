@@ -6,7 +6,8 @@ use Rattle.std.specs.List.{AllByRecursion, filter, list_any}
 use Rattle.gic_model.specs.declared.parts.End.{End}
 use Rattle.gic_model.specs.declared.parts.End.TheVariants.{Node, Earth}
 use Rattle.gic_model.specs.declared.parts.Item.{Item}
-use Rattle.gic_model.specs.Network.{Network, IsWithinLimits, IsElementWithin, ends_at}
+use Rattle.gic_model.specs.Network.{Network, ends_at}
+use Rattle.gic_model.specs.Limits.{IsWithinLimits, IsElementWithin, AreVolts}
 use Rattle.gic_model.specs.Standing.{standing_elements, is_live, IsLive, elements_at, other_end, leaving}
 use Rattle.gic_model.specs.Sums.{Placed}
 use Rattle.gic_model.specs.Guess.{residual as residual_of, IsSettledAt}
@@ -16,7 +17,6 @@ use Rattle.gic_converge.proofs.Links.{Link, IsLiveRow, IsLinkWithin, AreRowsBoun
 use Rattle.gic_converge.proofs.LinkSweeps.{IsRowSweep, IsRowTarget, AreRowsWithin, IsPushWithin, IsFarLive, most_push}
 use Rattle.gic_sweep.specs.Sweep.{IsSweep, IsTarget}
 use Rattle.gic_bound.specs.Entries.{IsBoundWithin}
-use Rattle.gic_model.specs.Voltages.{AreVolts}
 use Rattle.gic_converge.proofs.LinksOfElements.{far_of, link_of, row_of, length_is, denominator_is, diagonal_is, conductance_is, row_sum_is, residual_is}
 
 -- what a filter keeps is none exactly where no element passes

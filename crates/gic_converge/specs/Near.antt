@@ -3,8 +3,8 @@ use Rattle.std.specs.Prelude.{ℕ, ◌+◌, ◌-◌, ◌*◌, ◌^◌, ◌≤◌
 use Rattle.gic_base.specs.declared.limits.TheConstants.{MOST_WALK}
 use Rattle.gic_converge.specs.declared.phases.TheConstants.{PHASE, PHASES}
 use Rattle.gic_model.specs.declared.parts.Item.{Item}
-use Rattle.gic_model.specs.Network.{Network, IsWithinLimits}
-use Rattle.gic_model.specs.Voltages.{most_volts, AreVolts}
+use Rattle.gic_model.specs.Network.{Network}
+use Rattle.gic_model.specs.Limits.{IsWithinLimits, most_volts, AreVolts}
 use Rattle.gic_model.specs.Standing.{IsLive, standing_elements}
 use Rattle.gic_model.specs.Guess.{IsSettled}
 use Rattle.gic_model.specs.Sums.{Placed}

@@ -7,7 +7,7 @@ use Rattle.gic_fixed.specs.Encloses.{Encloses, IsWithin}
 use Rattle.gic_fixed.proofs.Integers.{linear, *ℤ-+ℤ, *ℤ--ℤ, *ℤ-neg_ℤ, *ℤ_assoc, *ℤ_left_comm, abs-neg_ℤ}
 use Rattle.gic_fixed.proofs.Divisions.{positive_product, floor_ge, floor_le}
 use Rattle.gic_fixed.proofs.Enclosures.{Encloses-neg, Encloses-add, Encloses-point, Encloses-times, Encloses-div_out, Encloses-cancel}
-use Rattle.gic_model.specs.Voltages.{most_volts}
+use Rattle.gic_model.specs.Limits.{most_volts}
 use Rattle.gic_effective.specs.Ohm.{OhmsLaw, drive_of, current_low, current_high}
 use lib.IntN.{*ℤ_comm}
 

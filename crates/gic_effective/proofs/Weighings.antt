@@ -8,7 +8,8 @@ use Rattle.gic_base.specs.declared.id.ElementId.{ElementId}
 use Rattle.gic_case.specs.declared.item.Kind.{Kind}
 use Rattle.gic_case.specs.declared.item.Kind.TheVariants as kinds
 use Rattle.gic_case.specs.declared.item.Transformer.{Transformer}
-use Rattle.gic_case.specs.Lists.{Lists, IsSoundKind}
+use Rattle.gic_case.specs.Lists.{Lists}
+use Rattle.gic_case.specs.Sound.{IsSoundKind}
 use Rattle.gic_enclose.specs.Ends as grains
 use Rattle.gic_fixed.specs.Encloses.{Encloses}
 use Rattle.gic_fixed.specs.Rounding.{floor_div, ceil_div}
@@ -24,7 +25,7 @@ use Rattle.gic_winding.specs.Weights.{low_volts_of, weight_of}
 use Rattle.gic_effective.specs.Holds.{HoldsSolution}
 use Rattle.gic_effective.specs.Narrow.{IsAtMostWide}
 use Rattle.gic_effective.specs.Shown.{AreSharp, IsShownWinding}
-use Rattle.gic_effective.specs.Weighted.{weighted, weight_in}
+use Rattle.gic_effective.specs.WeightedPair.{weighted, weight_in}
 use Rattle.gic_effective.proofs.Currents.{Encloses-same}
 use Rattle.gic_effective.proofs.Widths.{same_width}
 

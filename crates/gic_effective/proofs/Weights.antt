@@ -5,7 +5,7 @@ use Rattle.gic_fixed.specs.Rounding.{floor_div, ceil_div}
 use Rattle.gic_fixed.specs.Encloses.{Encloses}
 use Rattle.gic_fixed.proofs.Enclosures.{Encloses-add, Encloses-times, Encloses-div_out}
 use Rattle.gic_base.specs.declared.id.ElementId.{ElementId}
-use Rattle.gic_effective.specs.Weighted.{weighted}
+use Rattle.gic_effective.specs.WeightedPair.{weighted}
 
 pub part_holds : (winding : Option (ElementId × ℕ)) (lo hi n : ℤ) (d : ℕ) → Encloses lo hi n d → Encloses (weighted winding lo) (weighted winding hi) (weighted winding n) d
 part_holds None lo hi n d e = record { above_lo = omega (arith, ints); below_hi = omega (arith, ints) }

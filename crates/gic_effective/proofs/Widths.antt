@@ -8,7 +8,7 @@ use Rattle.gic_fixed.proofs.Divisions.{outward_width, floor_below, ceil_above, f
 use Rattle.gic_base.specs.declared.id.ElementId.{ElementId}
 use Rattle.gic_effective.specs.Ohm.{current_low, current_high}
 use Rattle.gic_effective.specs.Narrow.{IsAtMostWide}
-use Rattle.gic_effective.specs.Weighted.{weighted, weight_in}
+use Rattle.gic_effective.specs.WeightedPair.{weighted, weight_in}
 
 -- an interval is at most as wide as its outward quotient, times the divisor
 pub inner_width : (lo hi : ℤ) (d k : ℕ) → 0 < d → IsAtMostWide k (floor_div lo (pos d)) (ceil_div hi (pos d)) → IsAtMostWide (d * k) lo hi

@@ -3,7 +3,7 @@ ghost use Rattle.std.specs.Prelude.{◌≡◌, ℕ, ◌*◌, ◌^◌, ◌<◌, l
 ghost use Rattle.gic_fixed.specs.Rounding.{floor_div, ceil_div};
 ghost use Rattle.gic_fixed.specs.Encloses.{Encloses, IsWithin};
 ghost use Rattle.gic_model.specs.Guess.{most_guess};
-ghost use Rattle.gic_model.specs.Network.{IsEndWithin};
+ghost use Rattle.gic_model.specs.Limits.{IsEndWithin};
 ghost use Rattle.gic_model.specs.Standing.{value_at, is_standing};
 ghost use Rattle.gic_model.specs.Solution.{Solution, IsSolution};
 ghost use Rattle.gic_model.specs.Sharp.{IsSharp};

@@ -2,7 +2,7 @@
 ghost use Rattle.std.specs.Prelude.{◌≡◌, ℕ, ◌+◌, ◌*◌, ◌^◌, ◌≤◌, ℤ, pos, ◌+ℤ◌};
 ghost use Rattle.gic_fixed.specs.Rounding.{floor_div, ceil_div};
 ghost use Rattle.gic_fixed.specs.Encloses.{Encloses, IsWithin};
-ghost use Rattle.gic_effective.specs.Weighted.{weighted, weighted_sum, weight_in};
+ghost use Rattle.gic_effective.specs.WeightedPair.{weighted, weighted_sum, weight_in};
 ghost use Rattle.gic_effective.specs.Narrow.{IsAtMostWide};
 
 use gic_base::ElementId;

@@ -3,7 +3,7 @@ ghost use Rattle.std.specs.Prelude.{◌≡◌, ℕ, ◌*◌, ◌^◌, ◌<◌, �
 ghost use Rattle.gic_fixed.specs.Encloses.{Encloses, IsWithin};
 ghost use Rattle.gic_fixed.specs.Rounding.{floor_div, ceil_div};
 ghost use Rattle.gic_model.specs.Guess.{most_guess};
-ghost use Rattle.gic_model.specs.Voltages.{most_volts};
+ghost use Rattle.gic_model.specs.Limits.{most_volts};
 ghost use Rattle.gic_effective.specs.Ohm.{OhmsLaw, drive_of, current_low, current_high};
 
 use gic_divide::Divisor;

@@ -4,7 +4,7 @@ use Rattle.std.proofs.lemmas.Int.{ints, clamps, unsigned_abs-mul}
 use Rattle.std.proofs.lemmas.Bool.{cases_lt}
 use Rattle.gic_fixed.proofs.Integers.{linear}
 use Rattle.gic_fixed.proofs.Enclosures.{≤ℤ-times}
-use Rattle.gic_model.specs.Encloses.{Encloses}
+use Rattle.gic_fixed.specs.Encloses.{Encloses}
 use Rattle.gic_model.specs.Guess.{cut}
 
 cut_low : (a : ℤ) → (cut a ≤ℤ a) ⊎ (cut a ≤ℤ neg_ℤ (pos (2 ^ 94)))

@@ -7,7 +7,7 @@ use Rattle.gic_fixed.specs.Rounding.{floor_div, ceil_div}
 use Rattle.gic_fixed.proofs.Divisions.{outward_width}
 use Rattle.gic_model.specs.declared.parts.End.{End}
 use Rattle.gic_model.specs.declared.parts.End.TheVariants.{Node, Earth}
-use Rattle.gic_model.specs.Network.{IsElementWithin}
+use Rattle.gic_model.specs.Limits.{IsElementWithin}
 use Rattle.gic_model.specs.Standing.{value_at}
 use Rattle.gic_model.specs.Sharp.{IsSharp, least_current, most_current}
 use Rattle.gic_model.specs.Sums.{Placed}

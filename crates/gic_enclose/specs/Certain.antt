@@ -2,7 +2,7 @@
 use Rattle.std.specs.Prelude.{ℕ, ◌≡◌, ◌^◌, List, IsFalse, ℤ, pos, ◌-ℤ◌, ◌*ℤ◌, ◌≤ℤ◌}
 use Rattle.gic_model.specs.Standing.{IsLive, is_live}
 use Rattle.gic_model.specs.Solution.{Solution, IsSolution}
-use Rattle.gic_model.specs.Encloses.{Encloses}
+use Rattle.gic_fixed.specs.Encloses.{Encloses}
 use Rattle.gic_model.specs.Sums.{Placed}
 use Rattle.gic_enclose.specs.Ends.{Ends, no_ends, ends_at}
 

@@ -8,7 +8,8 @@ use Rattle.gic_model.specs.declared.parts.End.TheVariants.{Node, Earth}
 use Rattle.gic_model.specs.declared.parts.Element.{Element}
 use Rattle.gic_model.specs.Network.{ends_at}
 use Rattle.gic_model.specs.Standing.{IsLive, elements_at, value_at, leaving}
-use Rattle.gic_model.specs.Sums.{Placed, sum_of, product_of_ohms, sum_over_ohms}
+use Rattle.gic_model.specs.Sums.{Placed, sum_of}
+use Rattle.gic_model.specs.Ohms.{product_of_ohms, sum_over_ohms}
 use Rattle.gic_model.specs.Solution.{Solution, IsOhm, IsSolution}
 use Rattle.gic_fixed.proofs.Divisions.{positive_product}
 use Rattle.gic_fixed.proofs.Integers.{linear, nothing_from, *ℤ_assoc, *ℤ-+ℤ, *ℤ--ℤ, *ℤ-neg_ℤ, *ℤ_left_comm}

@@ -5,11 +5,13 @@ use Rattle.std.specs.List.{AllByRecursion}
 use Rattle.std.proofs.lemmas.List.Elements.{recursion_from_All}
 use Rattle.gic_model.specs.declared.parts.End.{End}
 use Rattle.gic_model.specs.declared.parts.End.TheVariants.{Node, Earth}
-use Rattle.gic_model.specs.Network.{IsElementWithin, ends_at}
+use Rattle.gic_model.specs.Network.{ends_at}
+use Rattle.gic_model.specs.Limits.{IsElementWithin}
 use Rattle.gic_model.specs.Standing.{is_live, IsLive, is_standing, value_at}
 use Rattle.gic_model.specs.Earthing.{IsEarthed}
 use Rattle.gic_model.specs.Sums.{Placed}
-use Rattle.gic_model.specs.Solution.{Solution, IsOhm, IsSolution, combined}
+use Rattle.gic_model.specs.Solution.{Solution, IsOhm, IsSolution}
+use Rattle.gic_model.specs.SolutionLaws.{combined}
 use Rattle.gic_fixed.proofs.Integers.{linear, nothing_from}
 use Rattle.gic_model.proofs.Row.{weight}
 use Rattle.gic_model.proofs.Members.{weaker, both, any_of_each, by_any, for_each}

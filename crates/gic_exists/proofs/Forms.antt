@@ -7,7 +7,8 @@ use Rattle.gic_model.specs.declared.parts.End.{End}
 use Rattle.gic_model.specs.declared.parts.End.TheVariants.{Node, Earth}
 use Rattle.gic_model.specs.declared.parts.Element.{Element}
 use Rattle.gic_model.specs.Standing.{is_live, elements_at, value_at, leaving}
-use Rattle.gic_model.specs.Sums.{Placed, sum_over_ohms}
+use Rattle.gic_model.specs.Sums.{Placed}
+use Rattle.gic_model.specs.Ohms.{sum_over_ohms}
 use Rattle.gic_fixed.proofs.Integers.{linear, *ℤ-+ℤ, *ℤ--ℤ, *ℤ-neg_ℤ, *ℤ_left_comm}
 use Rattle.gic_model.proofs.SumLaws.{sum_over_ohms-same, sum_over_ohms-*ℤ, sum_over_ohms-+ℤ}
 use Rattle.gic_model.proofs.Row.{weight}

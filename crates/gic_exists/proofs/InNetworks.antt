@@ -1,7 +1,8 @@
 -- The laws over a network and a test of its items.
 use Rattle.std.proofs.Common.{ℕ, Bool, ℤ}
 use Rattle.gic_model.specs.declared.parts.Item.{Item}
-use Rattle.gic_model.specs.Network.{Network, IsWithinLimits}
+use Rattle.gic_model.specs.Network.{Network}
+use Rattle.gic_model.specs.Limits.{IsWithinLimits}
 use Rattle.gic_model.specs.Standing.{standing_elements}
 use Rattle.gic_model.proofs.Ends.{standing_within}
 use Rattle.gic_model.specs.Earthing.{AreEarthed}

@@ -5,7 +5,8 @@ use Rattle.std.proofs.Math.Nat.{mul-div_cancel_left}
 use Rattle.std.proofs.lemmas.Bool.{ne_eqb}
 use Rattle.gic_model.specs.declared.parts.Element.{Element}
 use Rattle.gic_model.specs.Standing.{is_standing}
-use Rattle.gic_model.specs.Sums.{Placed, product_of_ohms}
+use Rattle.gic_model.specs.Sums.{Placed}
+use Rattle.gic_model.specs.Ohms.{product_of_ohms}
 use Rattle.gic_model.proofs.SumLaws.{HasOhms}
 use Rattle.gic_model.proofs.Members.{kept, weaker, both}
 

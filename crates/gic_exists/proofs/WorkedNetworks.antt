@@ -3,7 +3,8 @@ use Rattle.std.proofs.Common.{[], ◌∷◌, ◌≡◌, ℕ, zero, suc, ◌<◌,
 use Rattle.std.specs.List.{list_any}
 use Rattle.gic_model.specs.declared.parts.Item.{Item}
 use Rattle.gic_model.specs.declared.parts.Item.TheVariants.{Ground}
-use Rattle.gic_model.specs.Network.{Network, IsWithinLimits}
+use Rattle.gic_model.specs.Network.{Network}
+use Rattle.gic_model.specs.Limits.{IsWithinLimits}
 use Rattle.gic_model.specs.Standing.{is_item}
 use Rattle.gic_model.specs.Earthing.{IsEarthed, AreEarthed}
 use Rattle.gic_model.specs.Solution.{Solution, IsSolution}

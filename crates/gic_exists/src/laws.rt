@@ -1,7 +1,7 @@
 //! The laws behind existence, each the contract of a function that does nothing.
 ghost use Rattle.std.specs.Prelude.{[], ◌∷◌, ℤ};
 ghost use Rattle.gic_model.specs.declared.parts.Item.TheVariants.{Ground};
-ghost use Rattle.gic_model.specs.Network.{IsWithinLimits};
+ghost use Rattle.gic_model.specs.Limits.{IsWithinLimits};
 ghost use Rattle.gic_model.specs.Solution.{IsSolution};
 ghost use Rattle.gic_model.specs.Earthing.{AreEarthed};
 ghost use Rattle.gic_model.specs.WorkedLoop.{loop, loop_volts, loop_solution};

@@ -3,8 +3,10 @@ use Rattle.std.proofs.Common.{◌≡◌, ◌∙◌, ℕ, ◌<◌, ◌^◌, Optio
 use Rattle.std.specs.Prelude.{codes}
 use Rattle.std.specs.List.{AllByRecursion}
 use Rattle.std.proofs.lemmas.List.Elements.{recursion_from_All}
-use Rattle.gic_monitor.specs.View.{Ends, View}
-use Rattle.gic_text.specs.Lines.{IsWord, IsLine, lines_text}
+use Rattle.gic_monitor.specs.View.{View}
+use Rattle.gic_fixed.specs.Ends.{Ends}
+use Rattle.gic_text.specs.Words.{IsWord, IsLine}
+use Rattle.gic_text.specs.Lines.{lines_text}
 use Rattle.gic_text.proofs.Injective.{lines_injective}
 use Rattle.gic_text.proofs.Words.{word_from_test, word_decimal, word_signed, signed_decimal_injective_wide}
 use Rattle.gic_case.specs.declared.item.Transformer.{Transformer}

@@ -6,7 +6,8 @@ use Rattle.gic_fixed.proofs.Divisions.{positive_product}
 use Rattle.gic_fixed.proofs.Enclosures.{Encloses-abs}
 use Rattle.gic_fixed.specs.Encloses.{EnclosesAbsolute}
 use Rattle.gic_fixed.specs.Rounding.{least_abs, greatest_abs}
-use Rattle.gic_case.specs.Lists.{Lists, IsSound, IsSoundTransformer}
+use Rattle.gic_case.specs.Lists.{Lists}
+use Rattle.gic_case.specs.Sound.{IsSound, IsSoundTransformer}
 use Rattle.gic_model.specs.Solution.{Solution, IsSolution}
 use Rattle.gic_model.specs.Sums.{Placed}
 use Rattle.gic_monitor.specs.View.{View, effective_at}

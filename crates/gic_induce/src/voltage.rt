@@ -1,6 +1,6 @@
 //! The voltage of one line.
 ghost use Rattle.std.specs.Prelude.{◌≡◌, ◌<◌, ◌≤◌, length, ◌*ℤ◌, ◌+ℤ◌, pos, unsigned_abs};
-ghost use Rattle.gic_model.specs.Voltages.{most_volts};
+ghost use Rattle.gic_model.specs.Limits.{most_volts};
 ghost use Rattle.gic_induce.specs.LineVolts.{zone_among};
 ghost use Rattle.gic_induce.specs.Voltage.{line_nanovolts, IsFieldWithin, IsSpanWithin};
 

@@ -4,7 +4,8 @@ use Rattle.std.proofs.lemmas.Bool.{cases_eq}
 use Rattle.gic_base.specs.declared.id.NodeId.{NodeId}
 use Rattle.gic_model.specs.declared.parts.End.{End}
 use Rattle.gic_model.specs.declared.parts.End.TheVariants.{Node, Earth}
-use Rattle.gic_model.specs.Network.{IsWithinLimits, ends_at}
+use Rattle.gic_model.specs.Network.{ends_at}
+use Rattle.gic_model.specs.Limits.{IsWithinLimits}
 use Rattle.gic_model.specs.Standing.{other_end, IsLive}
 use Rattle.gic_model.specs.Earthing.{IsJoined, LeadsToEarth, IsEarthed}
 use Rattle.gic_model.specs.Sums.{Placed}

@@ -10,7 +10,8 @@ use Rattle.gic_case.specs.declared.item.Kind.TheVariants as kinds
 use Rattle.gic_case.specs.declared.item.Neutral.{Neutral}
 use Rattle.gic_case.specs.declared.item.Neutral.TheVariants as devices
 use Rattle.gic_case.specs.declared.item.Transformer.{Transformer}
-use Rattle.gic_case.specs.Lists.{Lists, IsSound, IsSoundKind, IsSoundLine, IsSoundTransformer, grid_of, neutrals_of, node_names, has_windings}
+use Rattle.gic_case.specs.Lists.{Lists, grid_of, neutrals_of, node_names, has_windings}
+use Rattle.gic_case.specs.Sound.{IsSound, IsSoundKind, IsSoundLine, IsSoundTransformer}
 use Rattle.gic_model.specs.declared.parts.End.{End}
 use Rattle.gic_model.specs.declared.parts.End.TheVariants.{Node, Earth}
 use Rattle.gic_model.specs.declared.parts.Item.{Item}

@@ -8,11 +8,14 @@ use Rattle.std.proofs.lemmas.List.Elements.{recursion_from_All}
 use Rattle.gic_model.specs.declared.parts.End.{End}
 use Rattle.gic_model.specs.declared.parts.End.TheVariants.{Node, Earth}
 use Rattle.gic_model.specs.declared.parts.Element.{Element}
-use Rattle.gic_model.specs.Network.{IsElementWithin, is_node, ends_at}
+use Rattle.gic_model.specs.Network.{is_node, ends_at}
+use Rattle.gic_model.specs.Limits.{IsElementWithin}
 use Rattle.gic_model.specs.Standing.{is_live, IsLive, elements_at, other_end, value_at, leaving}
 use Rattle.gic_model.specs.Earthing.{joins, is_earth, IsChainToEarth, IsEarthed}
-use Rattle.gic_model.specs.Sums.{Placed, product_of_ohms}
-use Rattle.gic_model.specs.Solution.{Solution, IsOhm, IsSolution, combined}
+use Rattle.gic_model.specs.Sums.{Placed}
+use Rattle.gic_model.specs.Ohms.{product_of_ohms}
+use Rattle.gic_model.specs.Solution.{Solution, IsOhm, IsSolution}
+use Rattle.gic_model.specs.SolutionLaws.{combined}
 use Rattle.gic_fixed.proofs.Integers.{linear, nothing_from, *ℤ-≤ℤ, *ℤ-neg_ℤ}
 use Rattle.gic_model.proofs.SumLaws.{sum_over_ohms-same, sum_over_ohms-whole, each_nothing}
 use Rattle.gic_model.proofs.Row.{weight, fall, carried, signed}

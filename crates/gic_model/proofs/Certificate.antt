@@ -5,9 +5,11 @@ use Rattle.std.specs.List.{AllByRecursion}
 use Rattle.std.proofs.lemmas.List.Elements.{recursion_from_All}
 use Rattle.std.proofs.lemmas.Int.{unsigned_abs-mul}
 use Rattle.std.proofs.Math.Nat.{mul-le-mul_right, mul-le-mul_left, le_of_mul-le-mul_right}
-use Rattle.gic_model.specs.Network.{IsElementWithin, ends_at}
+use Rattle.gic_model.specs.Network.{ends_at}
+use Rattle.gic_model.specs.Limits.{IsElementWithin}
 use Rattle.gic_model.specs.Standing.{IsLive, elements_at}
-use Rattle.gic_model.specs.Sums.{Placed, sum_over_ohms}
+use Rattle.gic_model.specs.Sums.{Placed}
+use Rattle.gic_model.specs.Ohms.{sum_over_ohms}
 use Rattle.gic_model.specs.Solution.{Solution, IsOhm, IsSolution}
 use Rattle.gic_model.specs.Bound.{IsBoundVector}
 use Rattle.gic_model.specs.Guess.{residual, conductance, IsSettledWithin}

@@ -2,8 +2,9 @@
 use Rattle.std.proofs.Common.{◌≡◌, ℕ, ◌+◌, ◌*◌, ◌<◌, Bool, true, false, cond, ◌||◌, List, [], ◌∷◌, pos, ◌+ℤ◌, ◌*ℤ◌, arith, refl, ap, sym, ◌∙◌}
 use Rattle.std.specs.List.{AllByRecursion, filter, list_any}
 use Rattle.gic_fixed.proofs.Divisions.{positive_product}
-use Rattle.gic_model.specs.Network.{IsElementWithin}
-use Rattle.gic_model.specs.Sums.{Placed, product_of_ohms, sum_over_ohms}
+use Rattle.gic_model.specs.Limits.{IsElementWithin}
+use Rattle.gic_model.specs.Sums.{Placed}
+use Rattle.gic_model.specs.Ohms.{product_of_ohms, sum_over_ohms}
 use Rattle.gic_model.proofs.SumLaws.{HasOhms, product_positive}
 use Rattle.gic_model.proofs.Ends.{some_times}
 use Rattle.gic_model.proofs.Row.{weight}

@@ -6,7 +6,8 @@ use Rattle.gic_model.specs.declared.parts.End.{End}
 use Rattle.gic_model.specs.declared.parts.End.TheVariants.{Node, Earth}
 use Rattle.gic_model.specs.declared.parts.Item.{Item}
 use Rattle.gic_model.specs.declared.parts.Element.{Element}
-use Rattle.gic_model.specs.Network.{Network, IsWithinLimits, IsElementWithin, IsEndWithin, is_node, ends_at}
+use Rattle.gic_model.specs.Network.{Network, is_node, ends_at}
+use Rattle.gic_model.specs.Limits.{IsWithinLimits, IsElementWithin, IsEndWithin}
 use Rattle.gic_model.specs.Standing.{standing_elements, is_live, IsLive, elements_at, other_end}
 use Rattle.gic_model.specs.Sums.{Placed}
 use Rattle.gic_model.proofs.Members.{or_cases, kept, placed, any_of_each, by_any, for_each}

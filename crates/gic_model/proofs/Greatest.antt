@@ -4,7 +4,7 @@ use lib.IntN.{*ℤ-zero}
 use Rattle.std.specs.List.{AllByRecursion}
 use Rattle.gic_model.specs.declared.parts.End.{End}
 use Rattle.gic_model.specs.declared.parts.End.TheVariants.{Node, Earth}
-use Rattle.gic_model.specs.Network.{IsElementWithin}
+use Rattle.gic_model.specs.Limits.{IsElementWithin}
 use Rattle.gic_model.specs.Standing.{is_live, IsLive, elements_at, other_end, value_at}
 use Rattle.gic_model.specs.Sums.{Placed}
 use Rattle.gic_fixed.proofs.Integers.{linear, abs-parts, abs-neg_ℤ, *ℤ-≤ℤ, *ℤ--ℤ, *ℤ-neg_ℤ, *ℤ_left_comm, *ℤ_turn}

@@ -7,10 +7,10 @@ use Rattle.std.proofs.lemmas.Int.{ints, unsigned_abs-mul}
 use Rattle.gic_model.specs.declared.parts.End.{End}
 use Rattle.gic_model.specs.declared.parts.End.TheVariants.{Node, Earth}
 use Rattle.gic_model.specs.declared.parts.Element.{Element}
-use Rattle.gic_model.specs.Network.{IsElementWithin}
-use Rattle.gic_model.specs.Voltages.{most_volts, AreVolts}
+use Rattle.gic_model.specs.Limits.{IsElementWithin, most_volts, AreVolts}
 use Rattle.gic_model.specs.Standing.{IsLive, elements_at, value_at, leaving}
-use Rattle.gic_model.specs.Sums.{Placed, sum_over_ohms}
+use Rattle.gic_model.specs.Sums.{Placed}
+use Rattle.gic_model.specs.Ohms.{sum_over_ohms}
 use Rattle.gic_model.specs.Solution.{Solution, IsSolution}
 use Rattle.gic_model.specs.Bound.{IsEarthedWithin}
 use Rattle.gic_model.specs.Guess.{guessed_current, IsSettledWithin}

@@ -3,7 +3,8 @@ use Rattle.std.proofs.Common.{List, [], ◌∷◌, length, ℤ, pos, ◌-ℤ◌,
 use lib.IntN.{*ℤ_comm}
 use Rattle.std.specs.List.{AllByRecursion}
 use Rattle.gic_fixed.specs.Rounding.{floor_div, ceil_div}
-use Rattle.gic_model.specs.Sums.{Placed, sum_of, product_of_ohms, sum_over_ohms}
+use Rattle.gic_model.specs.Sums.{Placed, sum_of}
+use Rattle.gic_model.specs.Ohms.{product_of_ohms, sum_over_ohms}
 use Rattle.gic_fixed.proofs.Integers.{linear}
 use Rattle.gic_fixed.proofs.Divisions.{floor_below, ceil_above, ceil-floor}
 use Rattle.gic_model.proofs.SumLaws.{sum_over_ohms-≤ℤ, sum_over_ohms-*ℤ, sum_over_ohms-whole, HasOhms}

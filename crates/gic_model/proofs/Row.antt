@@ -3,7 +3,8 @@ use Rattle.std.proofs.Common.{◌≡◌, ℕ, ◌*◌, ◌^◌, List, [], ◌∷
 use lib.IntN.{*ℤ-zero}
 use Rattle.std.specs.List.{AllByRecursion}
 use Rattle.gic_model.specs.Standing.{other_end, value_at}
-use Rattle.gic_model.specs.Sums.{Placed, sum_of, product_of_ohms, sum_over_ohms}
+use Rattle.gic_model.specs.Sums.{Placed, sum_of}
+use Rattle.gic_model.specs.Ohms.{product_of_ohms, sum_over_ohms}
 use Rattle.gic_model.specs.Bound.{row_part}
 use Rattle.gic_fixed.proofs.Integers.{linear, *ℤ-≤ℤ, ≤ℤ-from_*ℤ, *ℤ_assoc, *ℤ--ℤ}
 use Rattle.gic_fixed.proofs.Divisions.{floor_below}

@@ -5,8 +5,9 @@ use Rattle.std.specs.Int.{div_ceil}
 use Rattle.gic_fixed.proofs.Sums.{sum_of-pos}
 use Rattle.std.proofs.lemmas.Grind.{div_ceil_times}
 use Rattle.std.proofs.Math.Nat.{mul-le-mul_left, mul-le-mul_right, mul-div-le}
-use Rattle.gic_model.specs.Network.{IsElementWithin}
-use Rattle.gic_model.specs.Sums.{Placed, product_of_ohms, sum_over_ohms}
+use Rattle.gic_model.specs.Limits.{IsElementWithin}
+use Rattle.gic_model.specs.Sums.{Placed}
+use Rattle.gic_model.specs.Ohms.{product_of_ohms, sum_over_ohms}
 use Rattle.gic_fixed.proofs.Integers.{linear}
 use Rattle.gic_model.proofs.SumLaws.{sum_over_ohms-≤ℤ, sum_over_ohms-*ℤ, sum_over_ohms-whole}
 use Rattle.gic_model.proofs.Ends.{some_times}

@@ -2,7 +2,8 @@
 use Rattle.std.proofs.Common.{◌≡◌, ◌<◌, ℤ, pos, ◌+ℤ◌, ◌*ℤ◌, neg_ℤ, ◌≤ℤ◌, List, [], ◌∷◌, arith, refl, ap, sym}
 use lib.IntN.{*ℤ_comm, *ℤ-zero}
 use Rattle.std.specs.List.{AllByRecursion}
-use Rattle.gic_model.specs.Sums.{Placed, sum_of, product_of_ohms, sum_over_ohms}
+use Rattle.gic_model.specs.Sums.{Placed, sum_of}
+use Rattle.gic_model.specs.Ohms.{product_of_ohms, sum_over_ohms}
 use Rattle.gic_fixed.proofs.Divisions.{positive_product}
 use Rattle.gic_fixed.proofs.Integers.{linear, nothing_from, *ℤ-≤ℤ, *ℤ_assoc, *ℤ-+ℤ, +ℤ-*ℤ, *ℤ_left_comm, *ℤ-neg_ℤ}
 

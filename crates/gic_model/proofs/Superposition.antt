@@ -9,7 +9,8 @@ use Rattle.gic_model.specs.declared.parts.End.TheVariants.{Node, Earth}
 use Rattle.gic_model.specs.declared.parts.Element.{Element}
 use Rattle.gic_model.specs.Standing.{value_at, leaving, elements_at}
 use Rattle.gic_model.specs.Sums.{Placed, sum_of}
-use Rattle.gic_model.specs.Solution.{Solution, IsOhm, IsSolution, combined}
+use Rattle.gic_model.specs.Solution.{Solution, IsOhm, IsSolution}
+use Rattle.gic_model.specs.SolutionLaws.{combined}
 use Rattle.gic_fixed.proofs.Integers.{linear, *ℤ_assoc, *ℤ-+ℤ, *ℤ-neg_ℤ, *ℤ_left_comm}
 
 -- one number of the one solution, and one of the other

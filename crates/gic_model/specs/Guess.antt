@@ -3,7 +3,8 @@ use Rattle.std.specs.Prelude.{ℕ, ◌*◌, ◌^◌, ◌≤◌, List, ℤ, pos, 
 use Rattle.std.specs.List.{sum_by}
 use Rattle.std.specs.Int.{int_min, int_max}
 use Rattle.gic_model.specs.Standing.{IsLive, elements_at, value_at, leaving}
-use Rattle.gic_model.specs.Sums.{Placed, sum_of, product_of_ohms, sum_over_ohms}
+use Rattle.gic_model.specs.Sums.{Placed, sum_of}
+use Rattle.gic_model.specs.Ohms.{product_of_ohms, sum_over_ohms}
 use Rattle.gic_model.specs.Conductance.{conductance_down, conductance_up}
 use Rattle.gic_fixed.specs.Rounding.{floor_div, ceil_div}
 

@@ -7,7 +7,6 @@ pub mod Earthing
 pub mod Bound
 pub mod Conductance
 pub mod Guess
-pub mod Encloses
 pub mod Sharp
 pub mod SolutionLaws
 pub mod CertificateLaws
@@ -15,3 +14,5 @@ pub mod BoundLaws
 pub mod ItemLaws
 pub mod WorkedLoop
 pub mod WorkedNeutral
+pub mod Limits
+pub mod Ohms

@@ -26,11 +26,3 @@ pub record IsSolution (standing : List Placed) (volts : ℕ → ℤ) (s : Soluti
   pub ohm : All (IsOhm volts s) standing
   pub none_if_open : (place : ℕ) → IsFalse (is_standing standing place) → s.current place ≡ pos 0
   pub kirchhoff : (k : ℕ) → IsLive standing k → IsKirchhoff standing s k
-
--- c times the one solution and d times the other, over the product of their denominators
-abbrev pub combined : ℤ → Solution → ℤ → Solution → Solution
-combined c one d other = record {
-  potential = λ m. c *ℤ (pos other.denominator *ℤ one.potential m) +ℤ d *ℤ (pos one.denominator *ℤ other.potential m);
-  current = λ p. c *ℤ (pos other.denominator *ℤ one.current p) +ℤ d *ℤ (pos one.denominator *ℤ other.current p);
-  denominator = one.denominator * other.denominator;
-}

@@ -2,12 +2,20 @@
 use Rattle.std.specs.Prelude.{◌≡◌, ℕ, ◌*◌, ◌≤◌, Bool, ℤ, pos, ◌+ℤ◌, ◌*ℤ◌, unsigned_abs}
 use Rattle.gic_base.specs.declared.limits.TheConstants.{MOST_WALK}
 use Rattle.gic_model.specs.declared.parts.Item.{Item}
-use Rattle.gic_model.specs.Network.{Network, IsWithinLimits}
-use Rattle.gic_model.specs.Voltages.{most_volts, AreVolts}
+use Rattle.gic_model.specs.Network.{Network}
+use Rattle.gic_model.specs.Limits.{IsWithinLimits, most_volts, AreVolts}
 use Rattle.gic_model.specs.Standing.{IsLive, standing_elements}
-use Rattle.gic_model.specs.Solution.{Solution, IsSolution, combined}
+use Rattle.gic_model.specs.Solution.{Solution, IsSolution}
 use Rattle.gic_model.specs.Earthing.{AreEarthed}
 use Rattle.gic_model.specs.Bound.{IsEarthedWithin}
+
+-- c times the one solution and d times the other, over the product of their denominators
+abbrev pub combined : ℤ → Solution → ℤ → Solution → Solution
+combined c one d other = record {
+  potential = λ m. c *ℤ (pos other.denominator *ℤ one.potential m) +ℤ d *ℤ (pos one.denominator *ℤ other.potential m);
+  current = λ p. c *ℤ (pos other.denominator *ℤ one.current p) +ℤ d *ℤ (pos one.denominator *ℤ other.current p);
+  denominator = one.denominator * other.denominator;
+}
 
 -- c times a solution for the one voltages and d times one for the others solve the network for c times the one voltages and d times the others
 abbrev pub SolutionsCombine : Type 0

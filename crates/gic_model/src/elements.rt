@@ -12,7 +12,8 @@ pub struct Elements {
 }
 
 impl Model for Elements {
-    ghost use Rattle.gic_model.specs.Network.{Network, IsWithinLimits};
+    ghost use Rattle.gic_model.specs.Network.{Network};
+    ghost use Rattle.gic_model.specs.Limits.{IsWithinLimits};
 
     ghost Value = { Network };
 
@@ -23,7 +24,7 @@ impl Model for Elements {
 
 impl Elements {
     ghost use Rattle.std.specs.Prelude.{◌≡◌};
-    ghost use Rattle.gic_model.specs.Network.{IsWithinLimits};
+    ghost use Rattle.gic_model.specs.Limits.{IsWithinLimits};
 
     /// The elements of this list, over this many nodes.
     pub fn new(nodes: u16, list: Vec<Element>) -> Elements

@@ -1,7 +1,7 @@
 //! Laws over the definitions, each the contract of a function that does nothing: a function whose proof rests on a
 //! law calls it.
 ghost use Rattle.std.specs.Prelude.{◌≡◌, ◌*◌, ◌^◌, IsFalse};
-ghost use Rattle.gic_model.specs.Network.{IsWithinLimits};
+ghost use Rattle.gic_model.specs.Limits.{IsWithinLimits};
 ghost use Rattle.gic_model.specs.declared.parts.Item.TheVariants.{Neutral};
 ghost use Rattle.gic_model.specs.Standing.{is_live, stands_after, rows_in_force};
 ghost use Rattle.gic_model.specs.Solution.{IsSolution};

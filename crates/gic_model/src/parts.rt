@@ -69,7 +69,7 @@ pub struct Element {
 
 impl Element {
     ghost use Rattle.std.specs.Prelude.{◌≡◌, ℕ};
-    ghost use Rattle.gic_model.specs.Network.{IsElementWithin, IsEndWithin};
+    ghost use Rattle.gic_model.specs.Limits.{IsElementWithin, IsEndWithin};
     ghost use Rattle.gic_model.specs.Standing.{other_end};
 
     /// The other end of an element that ends at this node.

@@ -13,7 +13,8 @@ pub struct Volts {
 
 impl Model for Volts {
     ghost use Rattle.std.specs.Prelude.{List, ℤ};
-    ghost use Rattle.gic_model.specs.Voltages.{number_at, AreVolts};
+    ghost use Rattle.gic_model.specs.Voltages.{number_at};
+    ghost use Rattle.gic_model.specs.Limits.{AreVolts};
 
     ghost Value = { List ℤ };
 
@@ -24,7 +25,8 @@ impl Model for Volts {
 
 impl Volts {
     ghost use Rattle.std.specs.Prelude.{◌≡◌, ◌≤◌, ◌<◌, pos, length, replicate, slice_set, unsigned_abs, IfOk};
-    ghost use Rattle.gic_model.specs.Voltages.{number_at, most_volts, AreVolts};
+    ghost use Rattle.gic_model.specs.Voltages.{number_at};
+    ghost use Rattle.gic_model.specs.Limits.{most_volts, AreVolts};
 
     /// No voltage in any element.
     pub fn new(alloc: Global, elements: &Elements) -> Result<Volts, OutOfMemory>

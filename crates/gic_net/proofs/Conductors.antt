@@ -3,7 +3,8 @@ use Rattle.std.proofs.Common.{◌≡◌, ℕ, ◌<◌, List, length, map, get_or
 use Rattle.std.proofs.lemmas.List.{get_or-map, length-map}
 use Rattle.std.proofs.lemmas.List.Elements.{All-from_recursion}
 use Rattle.gic_model.specs.declared.parts.Element.{Element}
-use Rattle.gic_model.specs.Network.{Network, IsWithinLimits, IsElementWithin}
+use Rattle.gic_model.specs.Network.{Network}
+use Rattle.gic_model.specs.Limits.{IsWithinLimits, IsElementWithin}
 use Rattle.gic_net.specs.declared.conductor.Conductor.{Conductor}
 use Rattle.gic_net.specs.Conductor.{conductor_of}
 use Rattle.gic_net.specs.Net.{no_element}

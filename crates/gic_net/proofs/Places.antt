@@ -9,7 +9,8 @@ use Rattle.std.proofs.lemmas.List.Sums.{sum_by-cons}
 use Rattle.std.proofs.lemmas.List.FromFn.{length-enumerate_from, get_or-enumerate_from}
 use Rattle.std.specs.List.{AllByRecursion, Contains, filter, list_any, enumerate_from, count_by}
 use Rattle.gic_model.specs.declared.parts.Element.{Element}
-use Rattle.gic_model.specs.Network.{Network, IsWithinLimits, IsElementWithin, ends_at}
+use Rattle.gic_model.specs.Network.{Network, ends_at}
+use Rattle.gic_model.specs.Limits.{IsWithinLimits, IsElementWithin}
 use Rattle.gic_model.specs.Standing.{is_standing}
 use Rattle.gic_model.specs.Sums.{Placed}
 use Rattle.gic_net.specs.Switched.{stands_without}

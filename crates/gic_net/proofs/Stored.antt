@@ -9,7 +9,8 @@ use Rattle.std.proofs.lemmas.Bool.Decides.{nat_tests}
 use Rattle.std.specs.FinSet.{insert, remove}
 use Rattle.gic_model.specs.declared.parts.Element.{Element}
 use Rattle.gic_model.specs.declared.parts.Item.{Item}
-use Rattle.gic_model.specs.Network.{Network, IsWithinLimits}
+use Rattle.gic_model.specs.Network.{Network}
+use Rattle.gic_model.specs.Limits.{IsWithinLimits}
 use Rattle.gic_model.specs.Standing.{item_number}
 use Rattle.gic_net.specs.Switched.{Items, has_element, switched}
 use Rattle.gic_model.proofs.Members.{weaker, filter_same}

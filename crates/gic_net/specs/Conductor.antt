@@ -1,6 +1,6 @@
 -- What is worked out once of an element.
 use Rattle.gic_model.specs.declared.parts.Element.{Element}
-pub use Rattle.gic_model.specs.Conductance.{conductance_down, conductance_up}
+use Rattle.gic_model.specs.Conductance.{conductance_down, conductance_up}
 use Rattle.gic_net.specs.declared.conductor.Conductor.{Conductor}
 
 -- the resistance of an element, which a divisor is seen as, and its conductance

@@ -2,7 +2,8 @@
 use Rattle.std.specs.Prelude.{ℕ, ◌≡◌, ◌<◌, ◌⊎◌, Bool, false, List, [], ◌∷◌, ◌++◌, length, map, slice_index_or, if◌then◌else◌}
 use Rattle.std.specs.List.{filter, enumerate_from}
 use Rattle.gic_model.specs.declared.parts.Element.{Element}
-use Rattle.gic_model.specs.Network.{Network, IsWithinLimits, ends_at}
+use Rattle.gic_model.specs.Network.{Network, ends_at}
+use Rattle.gic_model.specs.Limits.{IsWithinLimits}
 use Rattle.gic_net.specs.Net.{no_element}
 use Rattle.gic_net.specs.Row.{NodeRow, full_row, item_number_at, stands_by, gathered}
 use Rattle.gic_net.specs.ItemIndex.{IsItemIndex}

@@ -52,7 +52,8 @@ impl Model for Net {
 impl Net {
     ghost use Rattle.std.specs.Prelude.{◌≡◌, ◌<◌, ◌≤◌, length, true, IfOk, IsTrue};
     ghost use Rattle.std.specs.List.{Contains};
-    ghost use Rattle.gic_model.specs.Network.{IsWithinLimits, IsElementWithin, ends_at};
+    ghost use Rattle.gic_model.specs.Network.{ends_at};
+    ghost use Rattle.gic_model.specs.Limits.{IsWithinLimits, IsElementWithin};
     ghost use Rattle.gic_model.specs.Standing.{is_live, is_standing};
     ghost use Rattle.gic_model.specs.Conductance.{conductance_down, conductance_up};
     ghost use Rattle.gic_net.specs.Conductor.{conductor_of};

@@ -1,7 +1,7 @@
 //! The rows of all nodes together.
 ghost use Rattle.std.specs.Prelude.{◌≡◌, ℕ, ◌≤◌, ◌<◌, [], length, replicate, IfOk, OnOk};
 ghost use Rattle.std.specs.List.{All};
-ghost use Rattle.gic_model.specs.Network.{IsElementWithin};
+ghost use Rattle.gic_model.specs.Limits.{IsElementWithin};
 ghost use Rattle.gic_net.specs.Row.{full_row, AreMarked};
 ghost use Rattle.gic_net.specs.ItemIndex.{IsItemIndex};
 ghost use Rattle.gic_net.specs.Rows.{AreFull, AreFullRows, ArePushedAt, AreGatheredAt, AreGatheredFor, row_in};

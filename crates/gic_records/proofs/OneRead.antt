@@ -10,7 +10,7 @@ use Rattle.csv.specs.declared.error.Error.{Error}
 use Rattle.csv.specs.declared.error.ErrorKind.{ErrorKind}
 use Rattle.csv.specs.declared.error.ErrorKind.TheVariants as kind
 use Rattle.csv.proofs.ReadFacts.{rows-more, rows-end}
-use Rattle.gic_records.specs.Records.{records_left, bytes_left, IsReading, with_found}
+use Rattle.gic_records.specs.Reading.{records_left, bytes_left, IsReading, with_found}
 use Rattle.gic_records.proofs.Turns.{left_none, left_more}
 
 -- the first record of a run of reads

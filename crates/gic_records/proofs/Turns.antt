@@ -6,7 +6,7 @@ use Rattle.csv.specs.Reading.{default_config, records_from, records_next}
 use Rattle.csv.specs.declared.parser.Config.{Config}
 use Rattle.csv.specs.declared.parser.State.{State}
 use Rattle.csv.specs.declared.parser.State.TheVariants as st
-use Rattle.gic_records.specs.Records.{records_left}
+use Rattle.gic_records.specs.Reading.{records_left}
 use Rattle.gic_records.proofs.EndsOfRecords.{step_clean}
 
 -- how many more records there can be

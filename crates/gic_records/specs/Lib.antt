@@ -1,4 +1,5 @@
 pub mod Columns
 pub mod Records
+pub mod Reading
 pub mod Rows
 pub mod RowPass

@@ -1,7 +1,8 @@
 //! A reader that gives one record after another.
 ghost use Rattle.std.specs.Prelude.{◌≡◌, IfOk, Ok, MatchResult, IsErr};
 ghost use Rattle.csv.specs.Records.{fields_of};
-ghost use Rattle.gic_records.specs.Records.{records_of, with_found};
+ghost use Rattle.gic_records.specs.Records.{records_of};
+ghost use Rattle.gic_records.specs.Reading.{with_found};
 
 use csv::{ByteRecord, Error, Reader, ReaderBuilder};
 use std::alloc::{AllocError, Global};
@@ -17,7 +18,7 @@ pub struct Records<'a> {
 impl<'a> Model for Records<'a> {
     ghost use Rattle.std.specs.Prelude.{◌≡◌, ℕ, List, false};
     ghost use Rattle.csv.specs.Reading.{has_failed, reader_state};
-    ghost use Rattle.gic_records.specs.Records.{records_left, bytes_left, IsReading};
+    ghost use Rattle.gic_records.specs.Reading.{records_left, bytes_left, IsReading};
 
     ghost Value = { List (List (List ℕ)) };
 

@@ -4,10 +4,11 @@ use Rattle.std.specs.Prelude.{if◌then◌else◌, is_some}
 use Rattle.std.specs.List.{AllByRecursion}
 use Rattle.std.proofs.lemmas.List.Elements.{recursion_from_All}
 use Rattle.gic_base.specs.Name.{is_name}
-use Rattle.gic_text.specs.Lines.{IsWord}
+use Rattle.gic_text.specs.Words.{IsWord}
 use Rattle.gic_text.proofs.Words.{word_name}
 use Rattle.gic_case.specs.declared.item.Transformer.{Transformer}
-use Rattle.gic_case.specs.Lists.{Lists, names_of, node_names, with_device}
+use Rattle.gic_case.specs.Lists.{Lists, node_names, with_device}
+use Rattle.gic_case.specs.Sound.{names_of}
 use Rattle.gic_report.specs.Fits.{HasNames}
 
 are_words : (names : List (List ℕ)) → AllByRecursion (λ name. IsTrue (is_name name)) names → AllByRecursion IsWord names

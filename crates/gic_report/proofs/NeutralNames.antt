@@ -8,7 +8,8 @@ use Rattle.gic_case.specs.declared.item.Bus.{Bus}
 use Rattle.gic_case.specs.declared.item.Kind.{Kind}
 use Rattle.gic_case.specs.declared.item.Kind.TheVariants as kinds
 use Rattle.gic_case.specs.declared.item.Transformer.{Transformer}
-use Rattle.gic_case.specs.Lists.{Lists, IsSound, IsSoundKind, IsSoundTransformer, node_names, with_device, grid_of, substation_at, neutrals_from, neutrals_of, has_windings}
+use Rattle.gic_case.specs.Lists.{Lists, node_names, with_device, grid_of, substation_at, neutrals_from, neutrals_of, has_windings}
+use Rattle.gic_case.specs.Sound.{IsSound, IsSoundKind, IsSoundTransformer}
 use Rattle.gic_report.proofs.ListParts.{drop_first, drop_two}
 
 -- how many nodes come before the neutral ones

@@ -3,7 +3,7 @@ use Rattle.std.proofs.Common.{◌≡◌, ◌∙◌, ℕ, suc, Bool, true, false,
 use Rattle.std.proofs.lemmas.List.{length-map}
 use Rattle.std.specs.Prelude.{codes, if◌then◌else◌}
 use Rattle.std.specs.List.{AllByRecursion, filter}
-use Rattle.gic_text.specs.Lines.{IsLine, IsWord}
+use Rattle.gic_text.specs.Words.{IsLine, IsWord}
 use Rattle.gic_text.proofs.Words.{word_from_test}
 use Rattle.gic_model.specs.declared.parts.Role.{Role}
 use Rattle.gic_model.specs.declared.parts.Role.TheVariants as role

@@ -2,7 +2,7 @@
 use Rattle.std.proofs.Common.{◌≡◌, ◌∙◌, ℕ, Option, List, [], ◌∷◌, ◌++◌, drop, sym, ap, append-nil}
 use Rattle.std.specs.Io.KnownBytes.{Appends}
 use Rattle.gic_base.specs.Pieces.{AppendsPart}
-use Rattle.gic_monitor.specs.View.{Ends}
+use Rattle.gic_fixed.specs.Ends.{Ends}
 use Rattle.gic_text.specs.Lines.{line_text, lines_text}
 use Rattle.gic_report.specs.Cells.{first_cell}
 use Rattle.gic_report.specs.declared.rows.ItemRow.{ItemRow}

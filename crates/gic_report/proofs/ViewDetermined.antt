@@ -6,8 +6,8 @@ use Rattle.std.specs.Int.{w128, int_max}
 use Rattle.std.specs.List.{AllByRecursion}
 use lib.Signed.{mag}
 use Rattle.gic_fixed.specs.Rounding.{least_abs, greatest_abs}
-use Rattle.gic_monitor.specs.View.{Ends}
-use Rattle.gic_text.specs.Lines.{IsWord, IsLine}
+use Rattle.gic_fixed.specs.Ends.{Ends}
+use Rattle.gic_text.specs.Words.{IsWord, IsLine}
 use Rattle.gic_text.proofs.Words.{word_from_test, word_signed, signed_decimal_injective_wide}
 use Rattle.gic_case.specs.declared.item.Transformer.{Transformer}
 use Rattle.gic_screen.specs.declared.criterion.Verdict.{Verdict}

@@ -2,8 +2,10 @@
 use Rattle.std.specs.Prelude.{IfSome, IsTrue, All, FitsSigned, neg_ℤ}
 use Rattle.std.specs.Int.{w128}
 use Rattle.gic_base.specs.Name.{is_name}
-use Rattle.gic_monitor.specs.View.{View, Ends}
-use Rattle.gic_case.specs.Lists.{Lists, names_of}
+use Rattle.gic_monitor.specs.View.{View}
+use Rattle.gic_fixed.specs.Ends.{Ends}
+use Rattle.gic_case.specs.Lists.{Lists}
+use Rattle.gic_case.specs.Sound.{names_of}
 
 -- the interval has an absolute value of 128 bits: it doesn't begin at -2^127
 abbrev pub HasAbsolute : Ends → Type 0

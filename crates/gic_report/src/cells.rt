@@ -1,6 +1,7 @@
 //! The intervals of a view, one after another. Past the last there is none.
 ghost use Rattle.std.specs.Prelude.{◌≡◌, drop};
-ghost use Rattle.gic_monitor.specs.View.{ends_of, optional_ends};
+ghost use Rattle.gic_fixed.specs.Ends.{ends_of};
+ghost use Rattle.gic_monitor.specs.Kept.{optional_ends};
 ghost use Rattle.gic_report.specs.Cells.{first_cell, first_ends};
 
 use gic_base::{ElementId, NodeId};
@@ -17,7 +18,7 @@ pub struct NodeCells<'a> {
 
 impl<'a> Model for NodeCells<'a> {
     ghost use Rattle.std.specs.Prelude.{List, Option, drop};
-    ghost use Rattle.gic_monitor.specs.View.{Ends};
+    ghost use Rattle.gic_fixed.specs.Ends.{Ends};
 
     ghost Value = { List (Option Ends) };
 
@@ -56,7 +57,7 @@ pub struct ElementCells<'a> {
 
 impl<'a> Model for ElementCells<'a> {
     ghost use Rattle.std.specs.Prelude.{List, Option, drop};
-    ghost use Rattle.gic_monitor.specs.View.{Ends};
+    ghost use Rattle.gic_fixed.specs.Ends.{Ends};
 
     ghost Value = { List (Option Ends) };
 
@@ -95,7 +96,7 @@ pub struct EffectiveCells<'a> {
 
 impl<'a> Model for EffectiveCells<'a> {
     ghost use Rattle.std.specs.Prelude.{List, drop};
-    ghost use Rattle.gic_monitor.specs.View.{Ends};
+    ghost use Rattle.gic_fixed.specs.Ends.{Ends};
 
     ghost Value = { List Ends };
 

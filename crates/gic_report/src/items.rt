@@ -3,7 +3,8 @@ ghost use Rattle.std.specs.Prelude.{◌≡◌, ◌+◌, ◌≤◌, length, OnOk}
 ghost use Rattle.std.specs.Io.KnownBytes.{Appends};
 ghost use Rattle.gic_base.specs.Causes.{HasCause};
 ghost use Rattle.gic_base.specs.Pieces.{AppendsPart};
-ghost use Rattle.gic_monitor.specs.View.{ends_of, optional_ends};
+ghost use Rattle.gic_fixed.specs.Ends.{ends_of};
+ghost use Rattle.gic_monitor.specs.Kept.{optional_ends};
 ghost use Rattle.gic_text.specs.Lines.{with_words, line_text, lines_text};
 ghost use Rattle.gic_case.specs.Lists.{node_names};
 ghost use Rattle.gic_report.specs.ItemText.{ends_words, cell_words, shown_words, left_behind};

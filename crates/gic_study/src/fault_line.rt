@@ -3,7 +3,7 @@ ghost use Rattle.std.specs.Prelude.{◌≡◌, ◌∷◌, ◌++◌, [], OnOk, ma
 ghost use Rattle.std.specs.Io.KnownBytes.{Appends};
 ghost use Rattle.gic_base.specs.Causes.{HasCause};
 ghost use Rattle.gic_base.specs.Pieces.{AppendsPart};
-ghost use Rattle.gic_text.specs.Lines.{spaced};
+ghost use Rattle.gic_text.specs.Words.{spaced};
 ghost use Rattle.gic_study.specs.Faults.{usage_words, case_words, switch_words, input_words, network_words, memory_words, file_word, part_word, row_words, field_words, switch_row_words, node_words, told_line, line_of_fault};
 
 use crate::fault::Fault;

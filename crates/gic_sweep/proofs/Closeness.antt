@@ -4,7 +4,7 @@ use Rattle.std.specs.List.{sum_by}
 use Rattle.std.proofs.lemmas.Int.{ints, unsigned_abs-mul}
 use Rattle.std.proofs.lemmas.List.Sums.{sum_by-cons}
 use lib.IntN.{*ℤ_comm}
-use Rattle.gic_model.specs.Network.{IsWithinLimits}
+use Rattle.gic_model.specs.Limits.{IsWithinLimits}
 use Rattle.gic_model.specs.Sums.{Placed}
 use Rattle.gic_model.specs.Guess.{diagonal, least_conductance, residual, conductance, ohms_at, HoldsResidual, IsSettledAt}
 use Rattle.gic_model.proofs.Conductance.{natural}

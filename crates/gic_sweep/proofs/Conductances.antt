@@ -6,8 +6,9 @@ use Rattle.std.proofs.lemmas.List.Sums.{sum_by-cons, sum_by_more, sum_by_more_le
 use Rattle.std.proofs.lemmas.List.Elements.{All-from_recursion}
 use Rattle.gic_model.specs.Conductance.{conductance_down}
 use Rattle.gic_model.specs.declared.parts.Element.{Element}
-use Rattle.gic_model.specs.Network.{IsWithinLimits, IsElementWithin}
-use Rattle.gic_model.specs.Sums.{Placed, product_of_ohms}
+use Rattle.gic_model.specs.Limits.{IsWithinLimits, IsElementWithin}
+use Rattle.gic_model.specs.Sums.{Placed}
+use Rattle.gic_model.specs.Ohms.{product_of_ohms}
 use Rattle.gic_model.specs.Standing.{IsLive}
 use Rattle.gic_model.specs.Guess.{least_conductance}
 use Rattle.gic_model.proofs.Members.{weaker}

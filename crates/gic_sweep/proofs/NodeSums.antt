@@ -9,7 +9,8 @@ use Rattle.std.proofs.lemmas.List.Sums.{sum_by_more, sum_by_more_le, sum_by-le}
 use Rattle.std.proofs.lemmas.List.Elements.{All-from_recursion}
 use Rattle.gic_fixed.proofs.Sums.{sum_of-++}
 use Rattle.gic_model.specs.declared.parts.Element.{Element}
-use Rattle.gic_model.specs.Network.{IsWithinLimits, IsElementWithin, ends_at}
+use Rattle.gic_model.specs.Network.{ends_at}
+use Rattle.gic_model.specs.Limits.{IsWithinLimits, IsElementWithin}
 use Rattle.gic_model.specs.Sums.{Placed, sum_of}
 use Rattle.gic_model.specs.Standing.{IsLive}
 use Rattle.gic_model.specs.Guess.{diagonal}

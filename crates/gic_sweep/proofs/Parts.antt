@@ -7,7 +7,7 @@ use Rattle.gic_fixed.specs.Encloses.{IsWithin}
 use Rattle.gic_fixed.specs.Rounding.{floor_div, ceil_div}
 use Rattle.gic_fixed.proofs.Integers.{*ℤ_assoc, *ℤ-neg_ℤ}
 use Rattle.gic_model.specs.declared.parts.Element.{Element}
-use Rattle.gic_model.specs.Network.{IsElementWithin}
+use Rattle.gic_model.specs.Limits.{IsElementWithin}
 use Rattle.gic_model.specs.Standing.{leaving, value_at}
 use Rattle.gic_model.specs.Guess.{part_times_ohms}
 

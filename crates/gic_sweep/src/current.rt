@@ -3,7 +3,7 @@ ghost use Rattle.std.specs.Prelude.{◌≡◌, ◌+◌, ◌*◌, ◌/◌, ◌^�
 ghost use Rattle.gic_fixed.specs.Encloses.{IsWithin};
 ghost use Rattle.gic_fixed.specs.Rounding.{floor_div, ceil_div};
 ghost use Rattle.gic_model.specs.Conductance.{conductance_up};
-ghost use Rattle.gic_model.specs.Network.{IsEndWithin, IsElementWithin};
+ghost use Rattle.gic_model.specs.Limits.{IsEndWithin, IsElementWithin};
 ghost use Rattle.gic_model.specs.Standing.{value_at, leaving as leaving_of};
 ghost use Rattle.gic_model.specs.Voltages.{number_at};
 ghost use Rattle.gic_model.specs.Guess.{part_times_ohms};

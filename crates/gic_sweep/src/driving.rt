@@ -1,7 +1,7 @@
 //! What drives the current of an element, in grains of 2^-36 nanovolt.
 ghost use Rattle.std.specs.Prelude.{◌≡◌, ◌+◌, ◌*◌, ◌^◌, ◌≤◌, pos, ◌+ℤ◌, ◌-ℤ◌, ◌*ℤ◌, unsigned_abs};
 ghost use Rattle.gic_model.specs.Guess.{most_guess};
-ghost use Rattle.gic_model.specs.Voltages.{most_volts};
+ghost use Rattle.gic_model.specs.Limits.{most_volts};
 
 /// Grains in a nanovolt.
 pub const GRAINS: i128 = 1 << 36;

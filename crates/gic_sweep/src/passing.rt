@@ -1,7 +1,7 @@
 //! The residuals at all nodes at once: each element's current is worked out once, for both its ends.
 ghost use Rattle.std.specs.Prelude.{◌≡◌, ℕ, ◌+◌, ◌*◌, ◌^◌, ◌<◌, ◌≤◌, ◌==◌, length, pos, neg_ℤ, ◌+ℤ◌, unsigned_abs, cond};
 ghost use Rattle.gic_fixed.specs.Encloses.{IsWithin};
-ghost use Rattle.gic_model.specs.Network.{IsElementWithin};
+ghost use Rattle.gic_model.specs.Limits.{IsElementWithin};
 ghost use Rattle.gic_model.specs.Voltages.{number_at};
 ghost use Rattle.gic_model.specs.Guess.{diagonal, residual_down, residual_up};
 ghost use Rattle.gic_net.specs.Net.{standing};

@@ -13,7 +13,8 @@ use Rattle.gic_model.specs.declared.parts.Item.{Item}
 use Rattle.gic_model.specs.declared.parts.Item.TheVariants as items
 use Rattle.gic_switch.specs.declared.action.Action.{Action}
 use Rattle.gic_switch.specs.declared.action.Action.TheVariants.{Open, Close, Block, Unblock}
-use Rattle.gic_switch.specs.Items.{or_else, named, has_ground, has_resistor, plain_item, neutral_item, switched_item, IsItemOf}
+use Rattle.gic_switch.specs.Items.{or_else, named, has_ground, has_resistor, plain_item, neutral_item, switched_item}
+use Rattle.gic_switch.specs.ItemsOf.{IsItemOf}
 
 -- the place of a name is one of its list
 place_within : (n : ℕ) (names : List (List ℕ)) (q : List ℕ) → IfSome (place_from n names q) (λ p. p < n + length names)

@@ -10,7 +10,8 @@ use Rattle.std.proofs.lemmas.List.Elements.{recursion_from_All}
 use Rattle.gic_base.specs.Name.{is_name}
 use Rattle.gic_case.specs.Keys.{same}
 use Rattle.gic_case.specs.Names.{place_from, place_in}
-use Rattle.gic_case.specs.Lists.{Lists, IsSound}
+use Rattle.gic_case.specs.Lists.{Lists}
+use Rattle.gic_case.specs.Sound.{IsSound}
 use Rattle.gic_model.specs.declared.parts.Item.{Item}
 use Rattle.gic_switch.specs.Items.{or_else, named}
 

@@ -1,12 +1,11 @@
 -- What the name in a row stands for, and the items that each action may have.
-use Rattle.std.specs.Prelude.{◌≡◌, ℕ, ◌<◌, List, length, map, slice_index_or, Bool, true, false, IsTrue, if◌then◌else◌, Option, Some, None, option_map, option_and_then, is_some, All}
+use Rattle.std.specs.Prelude.{ℕ, List, map, slice_index_or, Bool, true, false, if◌then◌else◌, Option, Some, None, option_map, option_and_then, is_some}
 use Rattle.gic_case.specs.Lists.{Lists}
 use Rattle.gic_case.specs.Names.{place_in}
 use Rattle.gic_case.specs.declared.item.Neutral.{Neutral}
 use Rattle.gic_case.specs.declared.item.Neutral.TheVariants as devices
 use Rattle.gic_model.specs.declared.parts.Item.{Item}
 use Rattle.gic_model.specs.declared.parts.Item.TheVariants as items
-use Rattle.gic_model.specs.declared.parts.Switching.{Switching}
 use Rattle.gic_switch.specs.declared.action.Action.{Action}
 use Rattle.gic_switch.specs.declared.action.Action.TheVariants.{Open, Close, Block, Unblock}
 
@@ -21,10 +20,6 @@ named case name =
     or_else (option_map items.Line (place_in (map (λ l. l.name) case.lines) name))
     (or_else (option_map items.Transformer (place_in (map (λ t. t.name) case.transformers) name))
     (option_map items.Ground (place_in (map (λ s. s.name) case.substations) name)))
-
--- what is found by name is what is named
-abbrev pub FindsNamed : Lists → (List ℕ → Option Item) → Type 0
-FindsNamed case found = (name : List ℕ) → found name ≡ named case name
 
 -- the substation at a place has a ground
 abbrev pub has_ground : Lists → ℕ → Bool
@@ -64,14 +59,3 @@ switched_item case Unblock item = neutral_item case item
 -- the item that an action switches by this name
 unfoldable pub item_in : Lists → Action → (name : List ℕ) → Option Item
 item_in case action name = option_and_then (switched_item case action) (named case name)
-
--- an item of the case: a place in its lines or its transformers, a substation that has a ground, or a transformer that has a neutral resistor
-abbrev pub IsItemOf : Lists → Item → Type 0
-IsItemOf case (items.Line place) = place < length case.lines
-IsItemOf case (items.Transformer place) = place < length case.transformers
-IsItemOf case (items.Ground place) = IsTrue (has_ground case place)
-IsItemOf case (items.Neutral place) = IsTrue (has_resistor case place)
-
--- the item of each row is one of the case's
-abbrev pub AreItemsOf : Lists → List Switching → Type 0
-AreItemsOf case rows = All (λ s. IsItemOf case s.item) rows

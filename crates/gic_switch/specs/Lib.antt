@@ -1,5 +1,6 @@
 pub mod Columns
 pub mod Items
+pub mod ItemsOf
 pub mod Pass
 pub mod Rules
 pub mod SwitchingsView

@@ -2,7 +2,8 @@
 ghost use Rattle.std.specs.Prelude.{◌≡◌, IfSome};
 ghost use Rattle.std.specs.HashMap.{get};
 ghost use Rattle.gic_case.specs.Keys.{same};
-ghost use Rattle.gic_switch.specs.Items.{named, FindsNamed, has_ground, has_resistor, is_resistor, plain_item, neutral_item, switched_item, item_in, IsItemOf};
+ghost use Rattle.gic_switch.specs.Items.{named, has_ground, has_resistor, is_resistor, plain_item, neutral_item, switched_item, item_in};
+ghost use Rattle.gic_switch.specs.ItemsOf.{FindsNamed, IsItemOf};
 
 use crate::action::Action;
 use gic_base::Name;

@@ -2,7 +2,7 @@
 ghost use Rattle.std.specs.Prelude.{◌≡◌, IfOk};
 ghost use Rattle.gic_base.specs.Refusals.{Answers};
 ghost use Rattle.gic_switch.specs.declared.refusal.SwitchRefusal.TheVariants.{Memory};
-ghost use Rattle.gic_switch.specs.Items.{AreItemsOf};
+ghost use Rattle.gic_switch.specs.ItemsOf.{AreItemsOf};
 ghost use Rattle.gic_switch.specs.Pass.{switchings_from};
 ghost use Rattle.gic_switch.specs.Rules.{switchings_of};
 ghost use Rattle.gic_switch.specs.SwitchingsView.{AreSwitchings};

@@ -1,7 +1,8 @@
 -- A text of lines determines the lines.
 use Rattle.std.proofs.Common.{◌≡◌, ℕ, ◌≢◌, true, List, [], ◌∷◌, ◌++◌, refl, sym, ap, ◌∙◌, append_assoc, append-nil}
 use Rattle.std.specs.List.{AllByRecursion}
-use Rattle.gic_text.specs.Lines.{with_words, spaced, line_text, lines_text, IsWord, IsLine}
+use Rattle.gic_text.specs.Lines.{with_words, line_text, lines_text}
+use Rattle.gic_text.specs.Words.{spaced, IsWord, IsLine}
 
 -- two texts without the byte z, each ended by it, that begin one text are one
 pub ended_apart : (z : ℕ) (us bs xs ys : List ℕ) → AllByRecursion (λ a. a ≢ z) us → AllByRecursion (λ b. b ≢ z) bs →

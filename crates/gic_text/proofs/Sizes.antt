@@ -3,7 +3,8 @@ use Rattle.std.proofs.Common.{ℕ, ◌<◌, ◌≤◌, ◌+◌, ◌^◌, List, �
 use Rattle.std.specs.Fmt.{signed_decimal}
 use Rattle.std.proofs.lemmas.Fmt.{length-decimal-le_wide}
 use lib.Signed.{mag}
-use Rattle.gic_text.specs.Lines.{Line, with_word, FitsLine}
+use Rattle.gic_text.specs.Lines.{Line, with_word}
+use Rattle.gic_text.specs.Words.{FitsLine}
 
 spaced-le : (begun : Bool) (word : List ℕ) → length (cond begun (32 ∷ word) word) ≤ length word + 1
 spaced-le true word = omega arith

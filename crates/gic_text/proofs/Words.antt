@@ -10,7 +10,7 @@ use Rattle.std.proofs.lemmas.Fmt.{decimal_by_steps_wide, decimal_is_IsNumeral_wi
 use Rattle.std.proofs.lemmas.Str.Parse.{digit_from_value}
 use lib.Signed.{mag}
 use Rattle.gic_base.specs.Name.{is_name_byte, is_name}
-use Rattle.gic_text.specs.Lines.{IsWordByte, IsWord}
+use Rattle.gic_text.specs.Words.{IsWordByte, IsWord}
 
 word_byte : (b : ℕ) → 33 ≤ b → IsWordByte b
 word_byte b h = record { no_space = λ e. absurd (omega arith); no_end = λ e. absurd (omega arith) }

@@ -24,7 +24,8 @@ impl Model for LineBuilder {
 impl LineBuilder {
     ghost use Rattle.std.specs.Prelude.{◌≡◌, ◌+◌, ◌<◌, ◌≤◌, length, IfOk, [], ◌∷◌, ◌++◌};
     ghost use Rattle.std.specs.Fmt.{signed_decimal};
-    ghost use Rattle.gic_text.specs.Lines.{no_line, with_word, FitsLine};
+    ghost use Rattle.gic_text.specs.Lines.{no_line, with_word};
+    ghost use Rattle.gic_text.specs.Words.{FitsLine};
 
     /// An empty line. Takes its 512 bytes here, and no other call takes memory.
     pub fn new(alloc: Global) -> Result<LineBuilder, OutOfMemory>

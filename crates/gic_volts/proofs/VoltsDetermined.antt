@@ -3,7 +3,8 @@ use Rattle.std.proofs.Common.{◌≡◌, List, [], ◌∷◌, ◌++◌, map, len
 use Rattle.std.specs.Prelude.{codes}
 use Rattle.std.specs.Fmt.{signed_decimal}
 use Rattle.std.specs.List.{AllByRecursion}
-use Rattle.gic_text.specs.Lines.{IsWord, IsLine, lines_text}
+use Rattle.gic_text.specs.Words.{IsWord, IsLine}
+use Rattle.gic_text.specs.Lines.{lines_text}
 use Rattle.gic_text.proofs.Injective.{lines_injective}
 use Rattle.gic_text.proofs.Words.{word_from_test, word_signed, signed_decimal_injective_wide}
 use Rattle.gic_case.specs.declared.item.Line.{Line}

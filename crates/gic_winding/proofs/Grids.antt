@@ -7,7 +7,8 @@ use Rattle.gic_case.specs.declared.item.Bus.{Bus}
 use Rattle.gic_case.specs.declared.item.Kind.{Kind}
 use Rattle.gic_case.specs.declared.item.Kind.TheVariants as kinds
 use Rattle.gic_case.specs.declared.item.Transformer.{Transformer}
-use Rattle.gic_case.specs.Lists.{Lists, IsSound, IsSoundKind, IsSoundTransformer, has_windings, neutrals_from, grid_of, substation_at, with_device}
+use Rattle.gic_case.specs.Lists.{Lists, has_windings, neutrals_from, grid_of, substation_at, with_device}
+use Rattle.gic_case.specs.Sound.{IsSound, IsSoundKind, IsSoundTransformer}
 
 -- each bus is in a substation of the case
 pub substation_within : (c : Lists) → IsSound c → (place : ℕ) → place < length c.buses → substation_at c.buses place < length c.substations

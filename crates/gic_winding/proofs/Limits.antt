@@ -12,9 +12,11 @@ use Rattle.gic_case.specs.declared.item.Kind.TheVariants as kinds
 use Rattle.gic_case.specs.declared.item.Neutral.{Neutral}
 use Rattle.gic_case.specs.declared.item.Neutral.TheVariants as devices
 use Rattle.gic_case.specs.declared.item.Transformer.{Transformer}
-use Rattle.gic_case.specs.Lists.{Lists, IsSound, IsSoundSubstation, IsSoundLine, IsSoundTransformer, with_device, node_names, ends_of, degree_of, grid_of, neutrals_of, has_windings}
+use Rattle.gic_case.specs.Lists.{Lists, with_device, node_names, ends_of, degree_of, grid_of, neutrals_of, has_windings}
+use Rattle.gic_case.specs.Sound.{IsSound, IsSoundSubstation, IsSoundLine, IsSoundTransformer}
 use Rattle.gic_model.specs.declared.parts.Element.{Element}
-use Rattle.gic_model.specs.Network.{ends_at, IsElementWithin, IsWithinLimits}
+use Rattle.gic_model.specs.Network.{ends_at}
+use Rattle.gic_model.specs.Limits.{IsElementWithin, IsWithinLimits}
 use Rattle.gic_winding.specs.ElementList.{earthing_of, line_of, windings_of, resistor_of, earthings_of, lines_of, all_windings_of, resistors_of, element_list, elements_of}
 use Rattle.gic_winding.proofs.Parts.{earthing_part, line_part, winding_part, resistor_part}
 use Rattle.gic_winding.proofs.Grids.{IsNeutral, neutrals_within, grid_within}

@@ -14,7 +14,8 @@ use Rattle.gic_model.proofs.Members.{weaker}
 use Rattle.gic_winding.specs.ElementList.{windings_of, elements_of}
 use Rattle.gic_winding.specs.declared.weights.Weights.{Weights}
 use Rattle.std.specs.Prelude.{slice_get}
-use Rattle.gic_winding.specs.Weights.{weight_of, windings_at, weighted_windings, weights_of, transformer_at, no_transformer}
+use Rattle.gic_winding.specs.Weights.{weight_of, windings_at, weighted_windings, transformer_at, no_transformer}
+use Rattle.gic_winding.specs.WeightPair.{weights_of}
 use Rattle.gic_winding.specs.Order.{comes_before, roles_of, weighted_from}
 use Rattle.gic_winding.proofs.Neutrals.{transformer_of}
 use Rattle.gic_winding.proofs.Parts.{winding_part}

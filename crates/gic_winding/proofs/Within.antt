@@ -9,9 +9,10 @@ use Rattle.gic_case.specs.declared.item.Kind.{Kind}
 use Rattle.gic_case.specs.declared.item.Kind.TheVariants as kinds
 use Rattle.gic_case.specs.declared.item.Neutral.{Neutral}
 use Rattle.gic_case.specs.declared.item.Neutral.TheVariants as devices
-use Rattle.gic_case.specs.Lists.{Lists, IsSoundLine, IsSoundKind, IsSoundDevice, IsOhm, has_windings}
+use Rattle.gic_case.specs.Lists.{Lists, has_windings}
+use Rattle.gic_case.specs.Sound.{IsSoundLine, IsSoundKind, IsSoundDevice, IsOhm}
 use Rattle.gic_model.specs.declared.parts.Role.{Role}
-use Rattle.gic_model.specs.Network.{IsElementWithin}
+use Rattle.gic_model.specs.Limits.{IsElementWithin}
 use Rattle.gic_winding.specs.ElementList.{earthing_of, line_of, winding, windings_of, resistor_of}
 
 pub all_joined : {X : Type 0} (P : X → Type 0) (xs ys : List X) → AllByRecursion P xs → AllByRecursion P ys → AllByRecursion P (xs ++ ys)

@@ -1,7 +1,9 @@
 -- What the law says of the elements that end at a node.
 use Rattle.std.specs.Prelude.{◌≡◌, ℕ, count_by}
-use Rattle.gic_case.specs.Lists.{Lists, IsSound, ends_of, degree_of}
-use Rattle.gic_model.specs.Network.{ends_at, IsWithinLimits}
+use Rattle.gic_case.specs.Lists.{Lists, ends_of, degree_of}
+use Rattle.gic_case.specs.Sound.{IsSound}
+use Rattle.gic_model.specs.Network.{ends_at}
+use Rattle.gic_model.specs.Limits.{IsWithinLimits}
 use Rattle.gic_winding.specs.ElementList.{elements_of}
 
 -- in every sound case as many elements end at a node as the rule of degrees counts there

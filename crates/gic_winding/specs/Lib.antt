@@ -1,5 +1,6 @@
 pub mod ElementList
 pub mod Weights
+pub mod WeightPair
 pub mod Order
 pub mod Terminals
 pub mod Degrees

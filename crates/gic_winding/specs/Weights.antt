@@ -1,5 +1,5 @@
 -- The windings of a transformer, with their weights in its effective current.
-use Rattle.std.specs.Prelude.{ℕ, ◌-◌, List, [], map, slice_get, slice_index_or, None}
+use Rattle.std.specs.Prelude.{ℕ, ◌-◌, List, [], map, slice_index_or, None}
 use Rattle.std.specs.List.{filter, enumerate_from}
 use Rattle.gic_base.specs.declared.id.ElementId.{ElementId}
 use Rattle.gic_case.specs.declared.item.Kind.{Kind}
@@ -13,7 +13,6 @@ use Rattle.gic_model.specs.Network.{Network}
 use Rattle.gic_model.specs.Standing.{is_item}
 use Rattle.gic_model.specs.Sums.{Placed}
 use Rattle.gic_winding.specs.ElementList.{elements_of}
-use Rattle.gic_winding.specs.declared.weights.Weights.{Weights}
 
 -- the voltage of the low side, where a winding of it is in the network
 abbrev pub low_volts_of : Kind → ℕ
@@ -47,11 +46,3 @@ transformer_at c transformer = slice_index_or c.transformers transformer no_tran
 -- its windings, each with its weight
 abbrev pub weighted_windings : Lists → ℕ → List (ElementId × ℕ)
 weighted_windings c transformer = map (λ p. (record { 0 = p.0 }, weight_of (transformer_at c transformer) p.1.role)) (windings_at (elements_of c) transformer)
-
--- the first and the second of them, and the voltage of the high side
-abbrev pub weights_of : Lists → ℕ → Weights
-weights_of c transformer = record {
-  first = slice_get (weighted_windings c transformer) 0;
-  second = slice_get (weighted_windings c transformer) 1;
-  high_volts = (transformer_at c transformer).high_volts;
-}

@@ -2,7 +2,8 @@
 ghost use Rattle.std.specs.Prelude.{◌≡◌, ◌+◌, ◌<◌, ◌≤◌, ◌++◌, length, slice_get, IfSome};
 ghost use Rattle.std.specs.Option.{option_to_list};
 ghost use Rattle.gic_winding.specs.ElementList.{elements_of};
-ghost use Rattle.gic_winding.specs.Weights.{low_volts_of, weights_of, weighted_windings};
+ghost use Rattle.gic_winding.specs.Weights.{low_volts_of, weighted_windings};
+ghost use Rattle.gic_winding.specs.WeightPair.{weights_of};
 ghost use Rattle.gic_winding.specs.Order.{roles_of, weighted_from};
 
 use crate::order::first_winding;

@@ -1,6 +1,7 @@
 //! The element list of a case.
 ghost use Rattle.std.specs.Prelude.{◌≡◌, ◌≤◌, ◌++◌, All, IfOk, OnOk, length};
-ghost use Rattle.gic_case.specs.Lists.{IsSoundTransformer, neutrals_of};
+ghost use Rattle.gic_case.specs.Sound.{IsSoundTransformer};
+ghost use Rattle.gic_case.specs.Lists.{neutrals_of};
 ghost use Rattle.gic_winding.specs.ElementList.{earthings_of, lines_of, all_windings_of, resistors_of, elements_of};
 
 use crate::push::{push_earthing, push_line, push_resistor, push_windings};

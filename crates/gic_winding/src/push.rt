@@ -1,6 +1,7 @@
 //! Elements at the end of a list.
 ghost use Rattle.std.specs.Prelude.{◌≡◌, ◌+◌, ◌<◌, ◌++◌, length, OnOk};
-ghost use Rattle.gic_case.specs.Lists.{IsSoundLine, IsSoundTransformer, grid_of};
+ghost use Rattle.gic_case.specs.Sound.{IsSoundLine, IsSoundTransformer};
+ghost use Rattle.gic_case.specs.Lists.{grid_of};
 ghost use Rattle.gic_winding.specs.ElementList.{node, earthing_of, line_of, windings_of, resistor_of};
 
 use crate::element::{earthing, line, resistor, winding};

@@ -1,6 +1,6 @@
 use Rattle.std.proofs.Common.{◌≡◌, ◌*◌, pos, ◌+ℤ◌, arith, rules}
 use Rattle.gic_fixed.specs.Rounding.{floor_div, ceil_div}
-use Rattle.gic_effective.specs.Weighted.{weighted}
+use Rattle.gic_effective.specs.WeightedPair.{weighted}
 use Rattle.gic_effective.proofs.Currents.{Encloses-same, quotient_within}
 use Rattle.gic_effective.proofs.Weights.{effective_holds}
 use Rattle.gic_effective.proofs.Widths.{effective_width, same_width}

@@ -1,7 +1,7 @@
 use Rattle.std.proofs.Common.{◌≡◌, ◌*◌, ◌≤◌, ◌<◌, ℕ, ℤ, pos, ◌*ℤ◌, arith, rules, get_or, ap, sym, subst, subst₂, ◌∙◌}
 use Rattle.std.proofs.lemmas.List.{get_or_default}
 use Rattle.gic_case.specs.declared.item.Transformer.{Transformer}
-use Rattle.gic_case.specs.Lists.{IsSoundTransformer}
+use Rattle.gic_case.specs.Sound.{IsSoundTransformer}
 use Rattle.gic_fixed.specs.Encloses.{Encloses}
 use Rattle.gic_model.specs.Solution.{Solution}
 use Rattle.gic_model.specs.Sums.{sum_of}
@@ -10,7 +10,8 @@ use Rattle.gic_net.specs.Net.{standing}
 use Rattle.gic_winding.specs.ElementList.{elements_of}
 use Rattle.gic_winding.specs.declared.weights.Weights.{Weights}
 use Rattle.gic_winding.specs.Weights.{low_volts_of, transformer_at, no_transformer, windings_at}
-use Rattle.gic_effective.specs.Weighted.{weighted_sum, effective_numerator}
+use Rattle.gic_effective.specs.WeightedPair.{weighted_sum}
+use Rattle.gic_effective.specs.Weighted.{effective_numerator}
 use Rattle.gic_effective.proofs.Weighings.{current_in, both_summed, winding_holds, winding_narrow, low_at_most, weights_most, sums_nought, quotients_nought}
 use Rattle.gic_effective.proofs.view.effective_interval.Goals as goal
 

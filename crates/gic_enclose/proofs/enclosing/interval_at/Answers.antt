@@ -1,6 +1,6 @@
 use Rattle.std.proofs.Common.{◌≡◌, ◌*◌, ◌+ℤ◌, ◌-ℤ◌, ◌*ℤ◌, ◌^◌, ℤ, pos, rules, sym, subst₂, refl, slice_index}
 use Rattle.gic_model.specs.Bound.{IsEarthedWithin}
-use Rattle.gic_model.specs.Encloses.{Encloses}
+use Rattle.gic_fixed.specs.Encloses.{Encloses}
 use Rattle.gic_model.specs.Voltages.{number_at}
 use Rattle.gic_net.specs.Net.{standing, stands}
 use Rattle.gic_model.specs.Guess.{cut}

@@ -1,5 +1,5 @@
 use Rattle.std.proofs.Common.{◌<◌, length, subst}
-use Rattle.gic_model.specs.Network.{IsEndWithin}
+use Rattle.gic_model.specs.Limits.{IsEndWithin}
 use Rattle.gic_net.proofs.Marked.{marked_at, marked_after}
 use Rattle.gic_net.proofs.rows.gather_ends.Goals as goal
 

@@ -1,5 +1,5 @@
 use Rattle.std.proofs.Common.{◌<◌, arith, subst, sym}
-use Rattle.gic_model.specs.Network.{IsEndWithin}
+use Rattle.gic_model.specs.Limits.{IsEndWithin}
 use Rattle.gic_relax.specs.Kept.{AreInside}
 use Rattle.gic_relax.proofs.arranging.add_row.Goals as goal
 use Rattle.gic_relax.proofs.arranging.add_row.Goals.{in-Node, in_default}

@@ -1,6 +1,6 @@
 use Rattle.std.proofs.Common.{rules, arith, get_or, ◌≡◌}
 use Rattle.gic_case.specs.declared.item.Transformer.{Transformer}
-use Rattle.gic_monitor.specs.View.{Ends, ends_of}
+use Rattle.gic_fixed.specs.Ends.{Ends, ends_of}
 use Rattle.gic_report.specs.SharedLines.{Words}
 use Rattle.gic_report.specs.ItemText.{effective_line}
 use Rattle.gic_report.proofs.Transformers.{next_transformer}

@@ -2,7 +2,8 @@ use Rattle.std.proofs.Common.{arith, ◌≡◌, ◌+◌, ◌^◌, ◌≤◌, ◌
 use Rattle.std.proofs.lemmas.Int.{ints, to_z-of_z, fits_signed_from_abs}
 use mir.Syntax.{w128}
 use Rattle.gic_model.specs.declared.parts.End.{End}
-use Rattle.gic_model.specs.Network.{is_node, IsEndWithin}
+use Rattle.gic_model.specs.Network.{is_node}
+use Rattle.gic_model.specs.Limits.{IsEndWithin}
 use Rattle.gic_model.specs.Voltages.{number_at}
 use Rattle.gic_sweep.proofs.Shares.{ends_apart, two_ends, one_more_small}
 use Rattle.gic_sweep.proofs.passing.add_ends.Goals as goal

@@ -1,5 +1,5 @@
 use Rattle.std.proofs.Common.{◌≡◌, ◌∙◌, subst, sym}
-use Rattle.gic_model.specs.Network.{IsWithinLimits}
+use Rattle.gic_model.specs.Limits.{IsWithinLimits}
 use Rattle.gic_winding.specs.ElementList.{elements_of}
 use Rattle.gic_winding.proofs.Limits.{within_limits, gathered}
 use Rattle.gic_winding.proofs.list.elements.Goals as goal

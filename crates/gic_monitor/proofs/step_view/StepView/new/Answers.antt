@@ -1,5 +1,5 @@
 use Rattle.std.proofs.Common.{◌≡◌, None, map, replicate, ap, ◌∙◌}
-use Rattle.gic_monitor.specs.View.{optional_ends}
+use Rattle.gic_monitor.specs.Kept.{optional_ends}
 use Rattle.gic_monitor.proofs.Repeats.{map-replicate}
 use Rattle.gic_monitor.proofs.step_view.StepView.new.Goals as goal
 
