@@ -29,5 +29,3 @@ pub use neutral::{ground_grid, neutrals};
 pub use node::{NodeNames, node_count, node_name};
 pub use refusal::{CaseRefusal, Part};
 
-#[cfg(test)]
-mod tests;

@@ -6,8 +6,6 @@ mod effective;
 pub mod laws;
 mod ohm;
 mod potential;
-#[cfg(test)]
-mod tests;
 mod view;
 mod winding;
 

@@ -6,8 +6,6 @@ pub mod laws;
 mod potentials;
 mod settling;
 mod solving;
-#[cfg(test)]
-mod tests;
 
 pub use enclosing::enclose;
 pub use potentials::Potentials;

@@ -4,8 +4,6 @@
 mod element_volts;
 mod fields;
 pub mod laws;
-#[cfg(test)]
-mod tests;
 mod voltage;
 
 pub use element_volts::fill_volts;

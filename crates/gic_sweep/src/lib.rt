@@ -13,8 +13,6 @@ mod settling;
 mod solver;
 mod steps;
 mod sweeping;
-#[cfg(test)]
-mod tests;
 
 pub use driving::{GRAINS, drive, in_grains, micro_paths};
 pub use solver::{

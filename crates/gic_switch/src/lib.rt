@@ -13,5 +13,3 @@ pub use gic_model::{Item, Switching};
 pub use refusal::SwitchRefusal;
 pub use switchings::{Switchings, read_switchings};
 
-#[cfg(test)]
-mod tests;

@@ -7,8 +7,6 @@ pub mod laws;
 mod list;
 mod order;
 mod push;
-#[cfg(test)]
-mod tests;
 mod weights;
 
 pub use effective::effective_weights;
