@@ -1,0 +1,33 @@
+//! Effective currents worked by hand.
+use gic_base::ElementId;
+use gic_effective::signed_effective;
+use gic_fixed::Interval;
+use gic_winding::Weights;
+
+/// 30 A in the high winding and -60 A in the low one of a wye-wye unit of 345/138 kV.
+#[test]
+fn effective_wye_wye(rt: HostRuntime) {
+    let weights = Weights {
+        first: Some((ElementId(0), 345_000)),
+        second: Some((ElementId(1), 138_000)),
+        high_volts: 345_000,
+    };
+    let high = Interval::point(30_000_000_000);
+    let low = Interval::point(-60_000_000_000);
+    let effective = signed_effective(&weights, high, low);
+    assert_eq!(rt; (effective.lo, effective.hi), (2_000, 2_000));
+}
+
+/// 100 A in the series winding and 40 A in the common one of an autotransformer of 500/345 kV.
+#[test]
+fn effective_auto(rt: HostRuntime) {
+    let weights = Weights {
+        first: Some((ElementId(0), 155_000)),
+        second: Some((ElementId(1), 345_000)),
+        high_volts: 500_000,
+    };
+    let series = Interval::point(100_000_000_000);
+    let common = Interval::point(40_000_000_000);
+    let effective = signed_effective(&weights, series, common);
+    assert_eq!(rt; (effective.lo, effective.hi), (19_533, 19_534));
+}
