@@ -1,0 +1,126 @@
+//! Potentials of any field from the guesses for two base fields.
+ghost use Rattle.std.specs.Prelude.{◌≡◌, ◌<◌, IfOk, length};
+ghost use Rattle.gic_effective.specs.Holds.{AreOfNetwork};
+ghost use Rattle.gic_induce.specs.Voltage.{IsFieldWithin};
+
+use crate::texts::CASE_P;
+use crate::vectors::least_bound;
+use gic_base::{ElementId, OutOfMemory};
+use gic_bases::{Bases, prepare, step_from_bases};
+use gic_case::read_case;
+use gic_effective::laws::line_items_law;
+use gic_effective::{current_na, milli};
+use gic_enclose::Potentials;
+use gic_fixed::Interval;
+use gic_induce::Fields;
+use gic_model::Volts;
+use gic_net::Net;
+use gic_sweep::{Solver, Steps};
+use gic_winding::elements;
+use std::alloc::Global;
+use std::marker::Brand;
+use std::sync::ledger::{Blank, Ledger};
+use std::test::Fail;
+
+/// The same field in each of so many zones, in mV/km.
+fn uniform_fields(alloc: Global, zones: u16, north: i32, east: i32) -> Result<Fields, OutOfMemory>
+    requires north { IsFieldWithin north }
+    requires east { IsFieldWithin east }
+    ensures { IfOk result (λ fields. length fields ≡ zones) }
+{
+    let mut fields = Fields::new(alloc, zones)?;
+    for zone in 0..zones {
+        fields.set(zone, north, east);
+    }
+    Ok(fields)
+}
+
+/// The current of an element in milliamperes, where it stands.
+fn current_ma(
+    net: &Net,
+    volts: &Volts,
+    potentials: &Potentials,
+    element: ElementId,
+) -> Option<Interval>
+    requires { AreOfNetwork net.now.network volts.now potentials.now }
+{
+    if element.0 < net.count() && net.stands(element) {
+        Some(milli(current_na(net, volts, potentials, element)))
+    } else {
+        None
+    }
+}
+
+/// The current in the line of case P in a field in mV/km, for the width 10.
+fn line_current<L: Ledger>(
+    alloc: Global,
+    north: i32,
+    east: i32,
+    blank: Blank,
+) -> Result<Option<Interval>, Fail>
+    requires name { blank.name ≡ L.name }
+    requires parts { blank.parts ≡ L.parts }
+    requires some { 0 < blank.parts }
+    requires north { IsFieldWithin north }
+    requires east { IsFieldWithin east }
+{
+    let mut steps: Steps<L> = Steps::new(blank);
+    let case = read_case(alloc, CASE_P.as_bytes())?;
+    let list = elements(alloc, &case)?;
+    let net = Net::build(alloc, &list)?;
+    let vector = least_bound(alloc, &net)?;
+    let mut volts = Volts::new(alloc, &list)?;
+    let mut solver = Solver::new(alloc, net.nodes())?;
+    let zones = case.zones().len() as u16;
+    let mut bases = Bases::new(alloc, net.nodes(), zones)?;
+    let mut base_fields = uniform_fields(alloc, zones, 0, 0)?;
+    line_items_law();
+    prepare(
+        &case,
+        &net,
+        &vector,
+        &mut base_fields,
+        &mut volts,
+        &mut solver,
+        &mut bases,
+        &mut steps,
+    );
+    let fields = uniform_fields(alloc, zones, north, east)?;
+    let mut potentials = Potentials::new(alloc, net.nodes())?;
+    step_from_bases(
+        &case,
+        &net,
+        &fields,
+        &vector,
+        10,
+        &bases,
+        &mut volts,
+        &mut solver,
+        &mut potentials,
+        &mut steps,
+    );
+    Ok(current_ma(&net, &volts, &potentials, ElementId(2)))
+}
+
+/// Whether an interval holds a number, and is at most 10 wide.
+fn is_near(interval: Option<Interval>, number: i128) -> bool {
+    match interval {
+        Some(found) => found.lo <= number
+            && number <= found.hi
+            && found.hi.saturating_sub(found.lo) <= 10,
+        None => false,
+    }
+}
+
+/// Each 1000 mV/km to the north drives 31.25 amperes, and nothing to the east does.
+#[test]
+fn combines_the_bases_of_case_p(rt: HostRuntime) -> Result<(), Fail> {
+    let alloc = rt.alloc();
+    let weak = line_current::<Brand>(alloc, 1000, 0, Blank::new(1))?;
+    assert!(rt; is_near(weak, 31_250));
+    let strong = line_current::<Brand>(alloc, -20_000, 20_000, Blank::new(1))?;
+    assert!(rt; is_near(strong, -625_000));
+    let none = line_current::<Brand>(alloc, 0, 0, Blank::new(1))?;
+    assert!(rt; is_near(none, 0));
+    Ok(())
+}
