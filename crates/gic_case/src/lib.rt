@@ -28,4 +28,3 @@ pub use item::{Bus, Kind, Line, Neutral, Substation, Transformer};
 pub use neutral::{ground_grid, neutrals};
 pub use node::{NodeNames, node_count, node_name};
 pub use refusal::{CaseRefusal, Part};
-

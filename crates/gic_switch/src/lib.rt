@@ -12,4 +12,3 @@ mod switchings;
 pub use gic_model::{Item, Switching};
 pub use refusal::SwitchRefusal;
 pub use switchings::{Switchings, read_switchings};
-
