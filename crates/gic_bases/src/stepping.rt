@@ -50,7 +50,8 @@ fn zone_part(fields: &Fields, bases: &Bases, zone: u16, node: NodeId) -> i128
     requires bases { zone < length bases.now }
     requires north { node.0 < length (bases_at bases.now zone).north }
     requires east { node.0 < length (bases_at bases.now zone).east }
-    ensures value { result ≡ (field_at fields.now zone).0 *ℤ north_at bases.now zone node.0 +ℤ (field_at fields.now zone).1 *ℤ east_at bases.now zone node.0 }
+    ensures value { result ≡ (field_at fields.now zone).0 *ℤ north_at bases.now zone node.0
+        +ℤ (field_at fields.now zone).1 *ℤ east_at bases.now zone node.0 }
     ensures small { unsigned_abs result ≤ 2 * MOST_FIELD * most_guess }
 {
     let (north, east) = fields.get(zone);
@@ -65,7 +66,8 @@ fn whole_at(net: &Net, fields: &Fields, bases: &Bases, node: NodeId) -> i128
     requires few { length fields.now ≤ MOST_ZONES }
     requires bases { AreBasesFor net.now.network.nodes (length fields.now) bases.now }
     requires node { node.0 < net.now.network.nodes }
-    ensures { result ≡ sum_below (λ zone. (field_at fields.now zone).0 *ℤ north_at bases.now zone node.0 +ℤ (field_at fields.now zone).1 *ℤ east_at bases.now zone node.0) (length fields.now) }
+    ensures { result ≡ sum_below (λ zone. (field_at fields.now zone).0 *ℤ north_at bases.now zone node.0
+        +ℤ (field_at fields.now zone).1 *ℤ east_at bases.now zone node.0) (length fields.now) }
 {
     let mut sum: i128 = 0;
     for zone in 0..fields.zones() {

@@ -79,7 +79,8 @@ fn interval_at(
     ensures certain { IsCertainAt (standing net.now) (number_at volts.now) node.0 (ends_of result) }
     ensures small { IsWithin most_guess result.lo result.hi }
     ensures narrow { reach ≤ 2 ^ 30 → IsNarrow (ends_of result) }
-    ensures middle { reach ≤ 2 ^ 30 → IsLive (standing net.now) node.0 → unsigned_abs (number_at solver.now node.0) ≤ 2 ^ 95 → result.lo +ℤ result.hi ≡ pos 2 *ℤ number_at solver.now node.0 }
+    ensures middle { reach ≤ 2 ^ 30 → IsLive (standing net.now) node.0 → unsigned_abs (number_at solver.now node.0) ≤ 2 ^ 95 →
+        result.lo +ℤ result.hi ≡ pos 2 *ℤ number_at solver.now node.0 }
 {
     certificate_law();
     potential_bound_law();
@@ -102,10 +103,13 @@ pub fn enclose(net: &Net, volts: &Volts, solver: &Solver, bound: &BoundVector, o
     ensures certain { AreCertain (standing net.now) (number_at volts.now) out.new }
 
     // Where the guesses are settled within 2^29 grains, no interval is wider than 2^43 grains, which are 128 nanovolts.
-    ensures narrow { IsSettledWithin (standing net.now) (number_at volts.now) (number_at solver.now) (2 ^ 29) → (k : ℕ) → IsNarrow (ends_at out.new k) }
+    ensures narrow { IsSettledWithin (standing net.now) (number_at volts.now) (number_at solver.now) (2 ^ 29) → (k : ℕ) →
+        IsNarrow (ends_at out.new k) }
 
     // And where a guess is within 2^95 then, it is the middle of its interval.
-    ensures middle { IsSettledWithin (standing net.now) (number_at volts.now) (number_at solver.now) (2 ^ 29) → (k : ℕ) → IsLive (standing net.now) k → unsigned_abs (number_at solver.now k) ≤ 2 ^ 95 → low_at out.new k +ℤ high_at out.new k ≡ pos 2 *ℤ number_at solver.now k }
+    ensures middle { IsSettledWithin (standing net.now) (number_at volts.now) (number_at solver.now) (2 ^ 29) → (k : ℕ) →
+        IsLive (standing net.now) k → unsigned_abs (number_at solver.now k) ≤ 2 ^ 95 →
+        low_at out.new k +ℤ high_at out.new k ≡ pos 2 *ℤ number_at solver.now k }
 
     ensures same_length { length out.new ≡ length out.old }
 {

@@ -22,7 +22,7 @@ fn is_one_of(word: &str, wanted: &str) -> bool {
 
 /// Whether a line is `WORDS LOW HIGH` or `WORDS LOW HIGH WORD`, as `FRACTION WORDS` or `FRACTION WORDS : WORD` asks, with
 /// an interval that holds the fraction and is at most so wide. It isn't where a number can't be read.
-pub fn is_enclosure(line: &str, wanted: &str, width: i64) -> bool {
+pub(crate) fn is_enclosure(line: &str, wanted: &str, width: i64) -> bool {
     let Some((fraction, wanted)) = wanted.split_once(' ') else {
         return false;
     };

@@ -10,7 +10,7 @@ pub struct TextFile {
 
 impl TextFile {
     /// An empty file.
-    pub fn new(alloc: Global, name: &str) -> Result<TextFile, AllocError> {
+    pub(crate) fn new(alloc: Global, name: &str) -> Result<TextFile, AllocError> {
         Ok(TextFile {
             name: String::from_str(alloc, name)?,
             bytes: Vec::new(alloc),
@@ -18,14 +18,19 @@ impl TextFile {
     }
 
     /// Adds a line.
-    pub fn add(&mut self, line: &str) -> Result<(), AllocError> {
+    pub(crate) fn add(&mut self, line: &str) -> Result<(), AllocError> {
         self.bytes.extend_from_slice(line.as_bytes())?;
         self.bytes.push(b'\n')?;
         Ok(())
     }
 
     /// Adds so many lines, where `@` stands for their numbers from 0.
-    pub fn add_many(&mut self, alloc: Global, count: u32, line: &str) -> Result<(), AllocError> {
+    pub(crate) fn add_many(
+        &mut self,
+        alloc: Global,
+        count: u32,
+        line: &str,
+    ) -> Result<(), AllocError> {
         for number in 0..count {
             let number = format!(in alloc; "{number}")?;
             let numbered = line.replace(alloc, "@", number.as_str())?;
@@ -35,7 +40,7 @@ impl TextFile {
     }
 
     /// Adds a comment up to so many bytes in all.
-    pub fn fill(&mut self, length: usize) -> Result<(), AllocError> {
+    pub(crate) fn fill(&mut self, length: usize) -> Result<(), AllocError> {
         for _ in self.bytes.len()..length {
             self.bytes.push(b'#')?;
         }
@@ -43,13 +48,13 @@ impl TextFile {
     }
 
     /// Takes so many bytes away at the end.
-    pub fn cut(&mut self, count: usize) {
+    pub(crate) fn cut(&mut self, count: usize) {
         self.bytes.truncate(self.bytes.len().saturating_sub(count));
     }
 }
 
 /// The bytes of the last file of this name, none where there is no such file.
-pub fn bytes_of<'a>(files: &'a [TextFile], name: &str) -> &'a [u8] {
+pub(crate) fn bytes_of<'a>(files: &'a [TextFile], name: &str) -> &'a [u8] {
     match files.iter().rev().find(|file| file.name.as_str() == name) {
         Some(file) => file.bytes.as_slice(),
         None => &[],

@@ -16,7 +16,7 @@ pub struct Failing {
 
 impl Failing {
     /// No call fails.
-    pub fn none(alloc: Global) -> Failing {
+    pub(crate) fn none(alloc: Global) -> Failing {
         Failing {
             fetches: Vec::new(alloc),
             writes: Vec::new(alloc),
@@ -86,7 +86,7 @@ fn library_of(
 }
 
 /// Runs the words of a line over these files.
-pub fn run(
+pub(crate) fn run(
     alloc: Global,
     line: &str,
     files: &[TextFile],
@@ -107,7 +107,7 @@ pub fn run(
 }
 
 /// Runs the words of a line over these files, with an output that takes one byte a call.
-pub fn run_byte_by_byte(
+pub(crate) fn run_byte_by_byte(
     alloc: Global,
     line: &str,
     files: &[TextFile],
@@ -139,7 +139,11 @@ fn prefix_of(alloc: Global, whole: &[u8], length: usize) -> Result<Vec<TextFile>
 
 /// Runs the words of a line over each prefix of the file `p`. The output has a line `STATUS FIRST LAST` for each run of
 /// prefixes that end with one status, by their lengths.
-pub fn run_prefixes(alloc: Global, line: &str, files: &[TextFile]) -> Result<Ended, AllocError> {
+pub(crate) fn run_prefixes(
+    alloc: Global,
+    line: &str,
+    files: &[TextFile],
+) -> Result<Ended, AllocError> {
     let whole = bytes_of(files, "p");
     let mut text = String::new(alloc);
     let (mut first, mut status) = (0usize, 255u8);

@@ -26,7 +26,7 @@ pub struct Script {
 
 impl Script {
     /// A script of which no line was followed.
-    pub fn new(alloc: Global) -> Result<Script, AllocError> {
+    pub(crate) fn new(alloc: Global) -> Result<Script, AllocError> {
         Ok(Script {
             alloc,
             files: Vec::new(alloc),
@@ -42,7 +42,7 @@ impl Script {
     }
 
     /// Follows a line: it writes to a file, opens an example, runs it, or is compared with what the run left.
-    pub fn follow(&mut self, rt: &HostRuntime, line: &str) -> io::Result<()> {
+    pub(crate) fn follow(&mut self, rt: &HostRuntime, line: &str) -> io::Result<()> {
         let (word, rest) = line.split_once(' ').unwrap_or((line, ""));
         match word {
             "" | "#" => {}
@@ -71,7 +71,7 @@ impl Script {
     }
 
     /// Closes the example that is open, and tells of it in a line. What the run wrote must have been compared.
-    pub fn close(&mut self, rt: &HostRuntime) -> io::Result<()> {
+    pub(crate) fn close(&mut self, rt: &HostRuntime) -> io::Result<()> {
         if self.name.is_empty() {
             return Ok(());
         }

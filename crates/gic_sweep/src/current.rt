@@ -93,8 +93,10 @@ pub fn current(
     requires place { place.0 < length volts.now }
     requires guesses { AreCut (number_at guesses.now) }
     requires divisor { divisor ≡ element.now.micro_ohm }
-    ensures low { result.lo ≡ floor_div (part_times_ohms (number_at volts.now) (number_at guesses.now) node.0 (place.0, element.now)) (pos element.now.micro_ohm) }
-    ensures high { result.hi ≡ ceil_div (part_times_ohms (number_at volts.now) (number_at guesses.now) node.0 (place.0, element.now)) (pos element.now.micro_ohm) }
+    ensures low { result.lo ≡ floor_div (part_times_ohms (number_at volts.now) (number_at guesses.now) node.0
+        (place.0, element.now)) (pos element.now.micro_ohm) }
+    ensures high { result.hi ≡ ceil_div (part_times_ohms (number_at volts.now) (number_at guesses.now) node.0
+        (place.0, element.now)) (pos element.now.micro_ohm) }
     ensures bounded { IsWithin (2 ^ 118) result.lo result.hi }
     ensures small { IsWithin (conductance_up element.now * 2 ^ 86) result.lo result.hi }
 {

@@ -46,9 +46,13 @@ fn reach_at(net: &Net, low: &[i128], high: &[i128], node: NodeId) -> u128
     requires live { IsLive (standing net.now) node.0 }
     requires narrow { (number_at high.now node.0 -ℤ number_at low.now node.0) ≤ℤ pos (length (row_at net.now node.0)) }
     requires ends { IsWithin (diagonal (standing net.now) node.0 * 2 ^ 86) (number_at low.now node.0) (number_at high.now node.0) }
-    ensures settled { (volts x : ℕ → ℤ) → HoldsResidual (standing net.now) volts x node.0 (number_at low.now node.0) (number_at high.now node.0) → IsSettledAt (standing net.now) volts x result node.0 }
+    ensures settled { (volts x : ℕ → ℤ) →
+        HoldsResidual (standing net.now) volts x node.0 (number_at low.now node.0) (number_at high.now node.0) →
+        IsSettledAt (standing net.now) volts x result node.0 }
     ensures small { result ≤ 2 ^ 99 }
-    ensures close { (volts x : ℕ → ℤ) (t : ℕ) → HoldsResidual (standing net.now) volts x node.0 (number_at low.now node.0) (number_at high.now node.0) → IsSettledAt (standing net.now) volts x t node.0 → result ≤ most_reach t }
+    ensures close { (volts x : ℕ → ℤ) (t : ℕ) →
+        HoldsResidual (standing net.now) volts x node.0 (number_at low.now node.0) (number_at high.now node.0) →
+        IsSettledAt (standing net.now) volts x t node.0 → result ≤ most_reach t }
 {
     settled_law();
     diagonal_law();
@@ -66,9 +70,13 @@ fn greater_reach(net: &Net, low: &[i128], high: &[i128], node: NodeId, most: u12
     requires ends { IsWithin (diagonal (standing net.now) node.0 * 2 ^ 86) (number_at low.now node.0) (number_at high.now node.0) }
     requires small { most ≤ 2 ^ 99 }
     ensures grows { most ≤ result }
-    ensures settled { (volts x : ℕ → ℤ) → HoldsResidual (standing net.now) volts x node.0 (number_at low.now node.0) (number_at high.now node.0) → IsLive (standing net.now) node.0 → IsSettledAt (standing net.now) volts x result node.0 }
+    ensures settled { (volts x : ℕ → ℤ) →
+        HoldsResidual (standing net.now) volts x node.0 (number_at low.now node.0) (number_at high.now node.0) →
+        IsLive (standing net.now) node.0 → IsSettledAt (standing net.now) volts x result node.0 }
     ensures small { result ≤ 2 ^ 99 }
-    ensures close { (volts x : ℕ → ℤ) (t : ℕ) → HoldsResidual (standing net.now) volts x node.0 (number_at low.now node.0) (number_at high.now node.0) → IsSettledWithin (standing net.now) volts x t → most ≤ most_reach t → result ≤ most_reach t }
+    ensures close { (volts x : ℕ → ℤ) (t : ℕ) →
+        HoldsResidual (standing net.now) volts x node.0 (number_at low.now node.0) (number_at high.now node.0) →
+        IsSettledWithin (standing net.now) volts x t → most ≤ most_reach t → result ≤ most_reach t }
 {
     if net.live(node) {
         let here = reach_at(net, low, high, node);
@@ -84,9 +92,11 @@ pub fn reach_between(net: &Net, low: &[i128], high: &[i128]) -> u128
     requires high_count { length high.now ≡ net.now.network.nodes }
     requires narrow { (k : ℕ) → (number_at high.now k -ℤ number_at low.now k) ≤ℤ pos (length (row_at net.now k)) }
     requires ends { (k : ℕ) → IsWithin (diagonal (standing net.now) k * 2 ^ 86) (number_at low.now k) (number_at high.now k) }
-    ensures settled { (volts x : ℕ → ℤ) → HoldResiduals (standing net.now) volts x low.now high.now → IsSettledWithin (standing net.now) volts x result }
+    ensures settled { (volts x : ℕ → ℤ) → HoldResiduals (standing net.now) volts x low.now high.now →
+        IsSettledWithin (standing net.now) volts x result }
     ensures small { result ≤ 2 ^ 99 }
-    ensures close { (volts x : ℕ → ℤ) (t : ℕ) → HoldResiduals (standing net.now) volts x low.now high.now → IsSettledWithin (standing net.now) volts x t → result ≤ most_reach t }
+    ensures close { (volts x : ℕ → ℤ) (t : ℕ) → HoldResiduals (standing net.now) volts x low.now high.now →
+        IsSettledWithin (standing net.now) volts x t → result ≤ most_reach t }
 {
     let mut most: u128 = 0;
     for node in 0..net.nodes() {

@@ -112,7 +112,8 @@ pub fn push_resistor(
     transformer: &Transformer,
 ) -> Result<(), OutOfMemory>
     requires { IsSoundTransformer case.now transformer.now }
-    ensures { OnOk result (list.new.items ≡ list.old.items ++ resistor_of place neutral.0 (grid_of case.now.buses transformer.now.kind) transformer.now.neutral) }
+    ensures { OnOk result (list.new.items ≡
+        list.old.items ++ resistor_of place neutral.0 (grid_of case.now.buses transformer.now.kind) transformer.now.neutral) }
 {
     match transformer.neutral {
         Some(Neutral::Resistor(micro_ohm)) => {
