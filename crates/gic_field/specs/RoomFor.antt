@@ -2,6 +2,7 @@
 use Rattle.std.specs.Prelude.{◌≡◌, length}
 use Rattle.gic_case.specs.Lists.{Lists}
 use Rattle.gic_winding.specs.ElementList.{elements_of}
+use Rattle.gic_effective.specs.ViewLengths.{HasViewLengths}
 use Rattle.gic_field.specs.declared.room.Room.{Room}
 
 -- there is room for each node, element and transformer of the case
@@ -10,6 +11,4 @@ pub record IsRoomFor (case : Lists) (room : Room) : Type 0 where
   pub vector : length room.vector ≡ (elements_of case).nodes
   pub solver : length room.solver ≡ (elements_of case).nodes
   pub potentials : length room.potentials ≡ (elements_of case).nodes
-  pub view_nodes : length room.view.nodes ≡ (elements_of case).nodes
-  pub view_elements : length room.view.elements ≡ length (elements_of case).list
-  pub view_transformers : length room.view.effective ≡ length case.transformers
+  pub view : HasViewLengths case room.view

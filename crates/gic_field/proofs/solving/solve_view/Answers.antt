@@ -1,7 +1,6 @@
 use Rattle.std.proofs.Common.{◌≡◌, ℕ, length, ap, sym, ◌∙◌}
 use Rattle.gic_model.specs.Network.{Network}
 use Rattle.gic_winding.specs.ElementList.{elements_of}
-use Rattle.gic_stand.proofs.CaseNodes.{nodes_named}
 use Rattle.gic_field.proofs.Fits.{have_absolutes}
 use Rattle.gic_field.proofs.solving.solve_view.Goals as goal
 
@@ -19,13 +18,6 @@ pub fill_view-requires-clause-together : goal.fill_view-requires-clause-together
 fill_view-requires-clause-together c = record {
   a_volt_each = c.requires.volts;
   a_potential_each = c.solve_uncounted.ensures.together.interval_count;
-}
-
-pub fill_view-requires-clause-room : goal.fill_view-requires-clause-room
-fill_view-requires-clause-room c = record {
-  nodes = c.requires.room.view_nodes ∙ nodes_named c.args.case.now;
-  elements = c.requires.room.view_elements;
-  transformers = c.requires.room.view_transformers;
 }
 
 pub returns-clause-right : goal.returns-clause-right
