@@ -7,6 +7,8 @@
 # FOLDER is the scratch copy; where it is not given, one is made and taken away. It needs the commands `rt` and
 # `python3`, and a quarter of an hour, since it proves what it builds. The machine should have nothing else to do.
 set -eu
+# The baselines run on one thread, as the solver does; with more, CHOLMOD's threads only wait for one another here.
+export OMP_NUM_THREADS=1 OMP_THREAD_LIMIT=1
 top=$(cd "$(dirname "$0")/.." && pwd)
 bench=$top/bench
 if [ $# -gt 0 ]; then

@@ -1,5 +1,5 @@
 -- What is asked for, at each exit.
-use Rattle.std.proofs.Common.{◌≡◌, ℕ, List, Option, Some, None, Result, Ok, Err, refl, sym, ap, subst, ◌∙◌, arith}
+use Rattle.std.proofs.Common.{◌≡◌, ℕ, List, Option, Some, None, Result, Ok, Err, sym, ap, subst, ◌∙◌, arith}
 use Rattle.std.specs.Prelude.{IfOk, IfSome, IsSomeAnd, IsOkAnd, IsErrAnd}
 use Rattle.gic_base.specs.Files.{Files, HasFailed}
 use Rattle.gic_case.specs.Lists.{Lists}
@@ -8,7 +8,7 @@ use Rattle.gic_words.specs.Options.{options_of}
 use Rattle.gic_words.specs.declared.options.Options.{Options}
 use Rattle.gic_words.specs.declared.fault.Usage.{Usage}
 use Rattle.gic_ask.specs.Contents.{Given, Nothing, Whole, Contents, MayGive, MayHandOut, name_of_file}
-use Rattle.gic_ask.specs.Outcome.{Outcome, Refuses, Lacks, Accepts, reading, reading_case, reading_switchings, reading_files, outcome}
+use Rattle.gic_ask.specs.Outcome.{Outcome, Accepts, reading, reading_case, reading_switchings, reading_files, outcome}
 use Rattle.gic_ask.specs.Asks.{Asks, IsAnswer, CouldNotRead}
 use Rattle.gic_ask.specs.Steps.{Passes, Steps, HasFailedFetch}
 use Rattle.gic_ask.specs.declared.fault.File.{File}

@@ -12,10 +12,10 @@ use Rattle.gic_model.specs.declared.parts.Switching.{Switching}
 use Rattle.gic_words.specs.Options.{options_of}
 use Rattle.gic_words.specs.declared.options.Options.{Options}
 use Rattle.gic_words.specs.declared.fault.Usage.{Usage}
-use Rattle.gic_ask.specs.Asks.{Asks, IsAnswer, CouldNotRead}
-use Rattle.gic_ask.specs.Contents.{Given, Nothing, Long, Whole, Contents, MayGive, MayHandOut, name_of_file}
+use Rattle.gic_ask.specs.Asks.{IsAnswer}
+use Rattle.gic_ask.specs.Contents.{Given, Nothing, Long, Whole, Contents, MayGive, MayHandOut}
 use Rattle.gic_ask.specs.Held.{held, held_bytes, held_by_length, held_for, AnswersOfFiles}
-use Rattle.gic_ask.specs.Outcome.{Outcome, Refuses, Lacks, Accepts, reading, reading_case, reading_switchings, reading_files, outcome}
+use Rattle.gic_ask.specs.Outcome.{Outcome, Lacks, Accepts, reading, reading_case, reading_switchings, reading_files, outcome}
 use Rattle.gic_ask.specs.declared.fault.File.{File}
 use Rattle.gic_ask.specs.declared.fault.File.TheVariants as file
 use Rattle.gic_ask.specs.declared.fault.InputFault.{InputFault}

@@ -14,18 +14,22 @@ use Rattle.gic_ask.specs.declared.fault.File.{File}
 use Rattle.gic_ask.specs.declared.fault.InputFault.{InputFault}
 use Rattle.gic_ask.specs.declared.request.Asked.{Asked}
 
+-- too many bytes are told as such
 abbrev pub held_by_length : Bool → List ℕ → Given
 held_by_length true bytes = Long
 held_by_length false bytes = Whole bytes
 
+-- bytes that are there, or not
 abbrev pub held_bytes : Option (List ℕ) → Given
 held_bytes None = Nothing
 held_bytes (Some bytes) = held_by_length (nat_lt LIMIT (length bytes)) bytes
 
+-- what the files have under a name that may be given
 abbrev pub held : Files → (name : Option (List ℕ)) → Given
 held files None = Nothing
 held files (Some name) = held_bytes (get files name)
 
+-- what they have of each file that the words name
 abbrev pub held_for : Files → Result Options Usage → Contents
 held_for files (Ok o) file = held files (name_of_file file o)
 held_for files (Err u) file = Nothing

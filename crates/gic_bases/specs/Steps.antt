@@ -6,7 +6,8 @@ use Rattle.gic_model.specs.Standing.{IsLive}
 use Rattle.gic_net.specs.Net.{NetView, standing}
 use Rattle.gic_case.specs.Lists.{Lists}
 use Rattle.gic_induce.specs.LineVolts.{volts_of, IsLineWithin}
-use Rattle.gic_enclose.specs.Ends.{Ends, low_at, high_at}
+use Rattle.gic_enclose.specs.Ends.{low_at, high_at}
+use Rattle.gic_fixed.specs.Ends.{Ends}
 use Rattle.gic_bases.specs.Bases.{ZoneBases, combined_guess, AreBasesFor, AreSettledBases}
 
 -- the network's lines are lines of the case, and fields and bases are for the case's zones

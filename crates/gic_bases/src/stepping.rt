@@ -117,7 +117,7 @@ pub fn step_from_bases<L: Ledger>(
     ensures together { BelongTogether net.now.network volts.new solver.new bound.now out.new }
     ensures tick { steps.new ≡ steps.old + 1 }
 {
-    let _zones = case.zones();
+    case.keeps_rules();
     net.within_limits();
     fields.within_limit();
     fill_volts(case, net.list(), fields, volts);

@@ -10,7 +10,6 @@ use Rattle.gic_case.specs.declared.item.Kind.TheVariants as kinds
 use Rattle.gic_case.specs.declared.item.Transformer.{Transformer}
 use Rattle.gic_case.specs.Lists.{Lists}
 use Rattle.gic_case.specs.Sound.{IsSoundKind}
-use Rattle.gic_enclose.specs.Ends as grains
 use Rattle.gic_fixed.specs.Encloses.{Encloses}
 use Rattle.gic_fixed.specs.Rounding.{floor_div, ceil_div}
 use Rattle.gic_fixed.specs.Ends.{Ends, no_ends}
@@ -42,7 +41,7 @@ both_summed s None (Some y) = omega (arith, linear)
 both_summed s (Some x) None = refl
 both_summed s (Some x) (Some y) = omega (arith, linear)
 
-module _ (standing : List Placed) (volts : ℕ → ℤ) (potentials : List grains.Ends) where
+module _ (standing : List Placed) (volts : ℕ → ℤ) (potentials : List Ends) where
   pub winding_holds : (winding : Option (ElementId × ℕ)) (lo hi : ℤ) (s : Solution) → IsShownWinding standing volts potentials winding lo hi → IsSolution standing volts s → HoldsSolution standing potentials s →
       Encloses lo hi (current_in s winding) s.denominator
   winding_holds None lo hi s shown solves holds = Encloses-same lo hi (pos 0) (pos 0) (pos 0) s.denominator shown.0 shown.1 (record { above_lo = omega (arith, ints); below_hi = omega (arith, ints) })
@@ -77,7 +76,7 @@ weighted_nought : (winding : Option (ElementId × ℕ)) (z : ℤ) → z ≡ pos 
 weighted_nought None z e = refl
 weighted_nought (Some w) z e = ap (λ (y : ℤ). pos w.1 *ℤ y) e ∙ omega (arith, linear)
 
-module _ (standing : List Placed) (volts : ℕ → ℤ) (potentials : List grains.Ends) where
+module _ (standing : List Placed) (volts : ℕ → ℤ) (potentials : List Ends) where
   winding_nought : (winding : Option (ElementId × ℕ)) (lo hi : ℤ) → IsShownWinding standing volts potentials winding lo hi → IsOut standing winding → (lo ≡ pos 0) × (hi ≡ pos 0)
   winding_nought None lo hi shown out = shown
   winding_nought (Some w) lo hi shown out = shown.nought out

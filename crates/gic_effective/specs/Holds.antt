@@ -5,7 +5,8 @@ use Rattle.gic_model.specs.Network.{Network}
 use Rattle.gic_model.specs.Standing.{IsLive}
 use Rattle.gic_model.specs.Solution.{Solution, IsSolution}
 use Rattle.gic_model.specs.Sums.{Placed}
-use Rattle.gic_enclose.specs.Ends.{Ends, low_at, high_at}
+use Rattle.gic_enclose.specs.Ends.{low_at, high_at}
+use Rattle.gic_fixed.specs.Ends.{Ends}
 
 -- there is a voltage for each element of the network, and an interval for each of its nodes
 pub record AreOfNetwork (network : Network) (volts : List ℤ) (potentials : List Ends) : Type 0 where

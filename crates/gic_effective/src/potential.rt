@@ -1,5 +1,5 @@
 //! The potential of a node.
-ghost use Rattle.std.specs.Prelude.{◌≡◌, ◌*◌, ◌^◌, ◌<◌, length, pos, ◌*ℤ◌};
+ghost use Rattle.std.specs.Prelude.{◌≡◌, ◌*◌, ◌<◌, length, pos};
 ghost use Rattle.gic_fixed.specs.Rounding.{floor_div, ceil_div};
 ghost use Rattle.gic_fixed.specs.Encloses.{Encloses};
 ghost use Rattle.gic_model.specs.Sharp.{millivolt};

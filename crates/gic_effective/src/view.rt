@@ -7,7 +7,7 @@ ghost use Rattle.gic_model.specs.Voltages.{number_at};
 ghost use Rattle.gic_net.specs.Net.{standing};
 ghost use Rattle.gic_enclose.specs.Ends.{low_at, high_at};
 ghost use Rattle.gic_monitor.specs.View.{node_at, element_at, effective_at};
-ghost use Rattle.gic_monitor.specs.Kept.{optional_ends};
+ghost use Rattle.gic_monitor.specs.Kept.{blank_view, optional_ends};
 ghost use Rattle.gic_winding.specs.ElementList.{elements_of};
 ghost use Rattle.gic_effective.specs.Holds.{AreOfNetwork, HoldsSolutions};
 ghost use Rattle.gic_effective.specs.RightView.{IsRightView};
@@ -33,7 +33,9 @@ use std::alloc::Global;
 /// transformer has a current. Its number and its time are 0.
 pub fn view_of_case(alloc: Global, case: &Case, net: &Net) -> Result<StepView, OutOfMemory>
     requires { net.now.network ≡ elements_of case.now }
-    ensures { IfOk result (HasViewLengths case.now) }
+    ensures lengths { IfOk result (HasViewLengths case.now) }
+    ensures blank { IfOk result (λ view.
+        view ≡ blank_view (elements_of case.now).nodes (length (elements_of case.now).list) (length case.now.transformers)) }
 {
     let transformers = case.transformers().len() as u16;
     let view = StepView::new(alloc, net.nodes(), net.count(), transformers)?;

@@ -1,7 +1,7 @@
 -- Lists of intervals that are all the same.
 use Rattle.std.proofs.Common.{◌≡◌, ℕ, zero, suc, ◌∷◌, map, replicate, pos, refl, ap}
 use Rattle.gic_fixed.specs.declared.interval.Interval.{Interval}
-use Rattle.gic_enclose.specs.Ends.{ends_of, no_ends}
+use Rattle.gic_fixed.specs.Ends.{ends_of, no_ends}
 
 pub map_replicate : {X Y : Type 0} (f : X → Y) (n : ℕ) (x : X) → map f (replicate n x) ≡ replicate n (f x)
 map_replicate f zero x = refl

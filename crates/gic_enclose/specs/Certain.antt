@@ -4,7 +4,8 @@ use Rattle.gic_model.specs.Standing.{IsLive, is_live}
 use Rattle.gic_model.specs.Solution.{Solution, IsSolution}
 use Rattle.gic_fixed.specs.Encloses.{Encloses}
 use Rattle.gic_model.specs.Sums.{Placed}
-use Rattle.gic_enclose.specs.Ends.{Ends, no_ends, ends_at}
+use Rattle.gic_enclose.specs.Ends.{ends_at}
+use Rattle.gic_fixed.specs.Ends.{Ends, no_ends}
 
 -- the interval holds the potential of the node k in every solution, where k is live, and is the point 0 where it is dead
 pub record IsCertainAt (standing : List Placed) (volts : ℕ → ℤ) (k : ℕ) (ends : Ends) : Type 0 where

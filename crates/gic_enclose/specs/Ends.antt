@@ -3,7 +3,7 @@ use Rattle.std.specs.Prelude.{ℕ, ◌≡◌, List, length, ℤ, slice_index_or}
 use Rattle.std.specs.List.{All}
 use Rattle.gic_fixed.specs.Encloses.{IsWithin}
 use Rattle.gic_fixed.specs.declared.interval.Interval.{Interval}
-pub use Rattle.gic_fixed.specs.Ends.{Ends, ends_of, no_ends}
+use Rattle.gic_fixed.specs.Ends.{Ends, no_ends}
 use Rattle.gic_model.specs.Guess.{most_guess}
 
 -- the ends at the node k, and each of them

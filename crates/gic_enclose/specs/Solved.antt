@@ -2,7 +2,8 @@
 use Rattle.std.specs.Prelude.{ℕ, ◌≤◌, List, ℤ}
 use Rattle.gic_model.specs.Sharp.{IsSharp}
 use Rattle.gic_model.specs.Sums.{Placed}
-use Rattle.gic_enclose.specs.Ends.{Ends, low_at, high_at}
+use Rattle.gic_enclose.specs.Ends.{low_at, high_at}
+use Rattle.gic_fixed.specs.Ends.{Ends}
 use Rattle.gic_enclose.specs.Certain.{AreCertain}
 
 -- a width that can be asked for, in milliamperes and in millivolts

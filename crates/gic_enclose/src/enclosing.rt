@@ -7,7 +7,8 @@ ghost use Rattle.gic_model.specs.Voltages.{number_at};
 ghost use Rattle.gic_model.specs.Guess.{most_guess, IsSettledWithin, cut};
 ghost use Rattle.gic_net.specs.Net.{standing};
 ghost use Rattle.gic_bound.specs.Entries.{IsBoundWithin};
-ghost use Rattle.gic_enclose.specs.Ends.{ends_of, ends_at, low_at, high_at};
+ghost use Rattle.gic_enclose.specs.Ends.{ends_at, low_at, high_at};
+ghost use Rattle.gic_fixed.specs.Ends.{ends_of};
 ghost use Rattle.gic_enclose.specs.Together.{BelongTogether};
 ghost use Rattle.gic_enclose.specs.Certain.{AreCertain, IsCertainAt, IsNarrow};
 

@@ -18,7 +18,8 @@ pub struct Potentials {
 
 impl Model for Potentials {
     ghost use Rattle.std.specs.Prelude.{List, map};
-    ghost use Rattle.gic_enclose.specs.Ends.{Ends, ends_of, AreIntervals};
+    ghost use Rattle.gic_enclose.specs.Ends.{AreIntervals};
+    ghost use Rattle.gic_fixed.specs.Ends.{Ends, ends_of};
 
     ghost Value = { List Ends };
 
@@ -34,7 +35,8 @@ impl Potentials {
     ghost use Rattle.gic_model.specs.Guess.{most_guess, IsSettledWithin};
     ghost use Rattle.gic_net.specs.Net.{standing};
     ghost use Rattle.gic_sweep.specs.Residuals.{most_reach};
-    ghost use Rattle.gic_enclose.specs.Ends.{ends_of, no_ends, low_at, high_at};
+    ghost use Rattle.gic_enclose.specs.Ends.{low_at, high_at};
+    ghost use Rattle.gic_fixed.specs.Ends.{ends_of, no_ends};
 
     /// For a network of this many nodes; each interval is the point 0.
     pub fn new(alloc: Global, nodes: u16) -> Result<Potentials, OutOfMemory>

@@ -1,10 +1,9 @@
 -- The text of the report in a uniform field determines what it shows.
-use Rattle.std.proofs.Common.{◌≡◌, ◌∙◌, ℕ, ◌<◌, ◌^◌, Option, List, [], ◌∷◌, ◌++◌, map, length, drop, get_or, ℤ, FitsSigned, w32, refl, sym, ap, arith, append_assoc}
+use Rattle.std.proofs.Common.{◌≡◌, ◌∙◌, ℕ, ◌<◌, ◌^◌, List, [], ◌∷◌, ◌++◌, map, length, drop, get_or, ℤ, FitsSigned, w32, refl, sym, ap, arith, append_assoc}
 use Rattle.std.specs.Prelude.{codes}
 use Rattle.std.specs.List.{AllByRecursion}
 use Rattle.std.proofs.lemmas.List.Elements.{recursion_from_All}
 use Rattle.gic_monitor.specs.View.{View}
-use Rattle.gic_fixed.specs.Ends.{Ends}
 use Rattle.gic_text.specs.Words.{IsWord, IsLine}
 use Rattle.gic_text.specs.Lines.{lines_text}
 use Rattle.gic_text.proofs.Injective.{lines_injective}

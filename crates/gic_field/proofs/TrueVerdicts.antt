@@ -1,5 +1,5 @@
 -- The verdicts of a right view are true of every solution.
-use Rattle.std.proofs.Common.{◌≡◌, ℕ, ◌*◌, ◌<◌, List, length, ℤ, pos, ◌-ℤ◌, ◌≤ℤ◌, arith, sym, subst}
+use Rattle.std.proofs.Common.{ℕ, ◌*◌, ◌<◌, List, length, ℤ, pos, ◌-ℤ◌, ◌≤ℤ◌, arith}
 use Rattle.std.proofs.lemmas.List.Elements.{All-get_or}
 use Rattle.std.proofs.lemmas.Int.{ints, clamps}
 use Rattle.gic_fixed.proofs.Divisions.{positive_product}

@@ -2,7 +2,7 @@
 ghost use Rattle.std.specs.Prelude.{◌≡◌, ◌≤◌, ◌<◌, length, All, unsigned_abs};
 ghost use Rattle.gic_base.specs.declared.limits.TheConstants.{MOST_ELEMENTS};
 ghost use Rattle.gic_model.specs.Voltages.{number_at};
-ghost use Rattle.gic_model.specs.Limits.{most_volts, AreVolts};
+ghost use Rattle.gic_model.specs.Limits.{most_volts};
 ghost use Rattle.gic_induce.specs.LineVolts.{all_line_volts, volts_of_item, volts_of, IsLineWithin};
 
 use crate::fields::Fields;

@@ -20,7 +20,7 @@ use Rattle.gic_model.specs.declared.parts.Element.{Element}
 use Rattle.gic_model.specs.Network.{ends_at, is_node}
 use Rattle.gic_winding.specs.ElementList.{elements_of, element_list, earthing_of, earthings_of, line, line_of, lines_of, windings_of, all_windings_of, resistor_of, resistors_of, item_name}
 use Rattle.gic_list.specs.ListText.{node_name}
-use Rattle.gic_list.specs.Items.{IsItemOf}
+use Rattle.gic_list.specs.Items.{HasPlace}
 use Rattle.gic_report.proofs.ListParts.{all_append, all_at, all_numbered}
 use Rattle.gic_report.proofs.NeutralNames.{IsNamedNeutral, at_grid, first_neutral, neutrals_named, transformers_of_neutrals}
 
@@ -34,7 +34,7 @@ IsEndBy c kept Earth = ⊤
 
 -- an element of an item of the case, whose nodes are so, if the case keeps all rules
 record IsElementOf (c : Lists) (e : Element) : Type 0 where
-  item_of : IsItemOf c e.item
+  item_of : HasPlace c e.item
   from_by : IsSound c → IsNodeBy c e.item e.from.0
   to_by : IsSound c → IsEndBy c e.item e.to
 
@@ -153,7 +153,7 @@ unfolding elements_of
 element_by c e (k, within, is) = subst (IsElementOf c) is (all_at (IsElementOf c) (element_list c) k e within (elements_by c))
 
 -- the item of an element of a case
-pub item_of : (c : Lists) (e : Element) → Contains (elements_of c).list e → IsItemOf c e.item
+pub item_of : (c : Lists) (e : Element) → Contains (elements_of c).list e → HasPlace c e.item
 item_of c e h = (element_by c e h).item_of
 
 either : (a b : Bool) → (a || b) ≡ true → (a ≡ true) ⊎ (b ≡ true)

@@ -5,8 +5,8 @@ use Rattle.gic_model.specs.declared.parts.Item.TheVariants as item
 use Rattle.gic_case.specs.Lists.{Lists}
 
 -- the place of the item is in its list of the case
-abbrev pub IsItemOf : Lists → Item → Type 0
-IsItemOf case (item.Ground place) = place < length case.substations
-IsItemOf case (item.Line place) = place < length case.lines
-IsItemOf case (item.Transformer place) = place < length case.transformers
-IsItemOf case (item.Neutral place) = place < length case.transformers
+abbrev pub HasPlace : Lists → Item → Type 0
+HasPlace case (item.Ground place) = place < length case.substations
+HasPlace case (item.Line place) = place < length case.lines
+HasPlace case (item.Transformer place) = place < length case.transformers
+HasPlace case (item.Neutral place) = place < length case.transformers

@@ -3,7 +3,7 @@ ghost use Rattle.std.specs.Prelude.{◌≡◌, IsTrue, Contains};
 ghost use Rattle.gic_model.specs.Network.{ends_at};
 ghost use Rattle.gic_winding.specs.ElementList.{item_name, elements_of};
 ghost use Rattle.gic_list.specs.ListText.{node_name};
-ghost use Rattle.gic_list.specs.Items.{IsItemOf};
+ghost use Rattle.gic_list.specs.Items.{HasPlace};
 
 use gic_base::{Name, NodeId};
 use gic_case::Case;
@@ -11,7 +11,7 @@ use gic_model::{Element, Item};
 
 /// The name of the substation, line or transformer of an item.
 pub(crate) fn item_name(case: &Case, item: Item) -> Name
-    requires { IsItemOf case.now item }
+    requires { HasPlace case.now item }
     ensures { result ≡ item_name case.now item }
 {
     match item {

@@ -1,10 +1,8 @@
 -- A network: its number of nodes, and its elements by their places. A node is its place in the node order.
-use Rattle.std.specs.Prelude.{ℕ, ◌≡◌, ◌≤◌, ◌<◌, ◌⊎◌, Bool, false, ◌==◌, ◌||◌, List, length}
-use Rattle.std.specs.List.{AllByRecursion, count_by}
+use Rattle.std.specs.Prelude.{ℕ, Bool, false, ◌==◌, ◌||◌, List}
 use Rattle.gic_model.specs.declared.parts.End.{End}
 use Rattle.gic_model.specs.declared.parts.End.TheVariants.{Node, Earth}
 use Rattle.gic_model.specs.declared.parts.Element.{Element}
-use Rattle.gic_base.specs.declared.limits.TheConstants.{MOST_NODES, MOST_ELEMENTS, MOST_AT_A_NODE}
 
 -- how many nodes there are, and the elements in the order of their places
 pub record Network : Type 0 where

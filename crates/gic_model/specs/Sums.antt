@@ -1,5 +1,5 @@
--- Sums of whole numbers and of fractions over a list of elements, each with its place in the network's list.
-use Rattle.std.specs.Prelude.{ℕ, ◌*◌, List, [], ◌∷◌, ℤ, pos, ◌+ℤ◌, ◌*ℤ◌}
+-- Elements with their places in the list of a network, and sums of whole numbers over them.
+use Rattle.std.specs.Prelude.{ℕ}
 use Rattle.gic_model.specs.declared.parts.Element.{Element}
 pub use Rattle.gic_fixed.specs.Sums.{sum_of}
 

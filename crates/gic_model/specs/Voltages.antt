@@ -1,5 +1,5 @@
 -- The voltages of the elements in nanovolts, by the elements' places.
-use Rattle.std.specs.Prelude.{ℕ, ◌≤◌, List, ℤ, pos, unsigned_abs, slice_index_or}
+use Rattle.std.specs.Prelude.{ℕ, List, ℤ, pos, slice_index_or}
 
 -- the number at this place of a list, 0 past its end
 abbrev pub number_at : List ℤ → ℕ → ℤ

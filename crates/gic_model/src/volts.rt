@@ -43,14 +43,6 @@ impl Volts {
         let _ = &self.list;
     }
 
-    /// How many elements there are.
-    pub fn count(&self) -> usize
-        ensures value { result ≡ length self.now }
-        ensures limit { AreVolts (number_at self.now) }
-    {
-        self.list.len()
-    }
-
     /// The voltage of an element.
     pub fn get(&self, element: ElementId) -> i64
         requires { element.0 < length self.now }

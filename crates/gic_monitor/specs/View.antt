@@ -1,6 +1,5 @@
 -- The view of a step, with each interval as its two ends.
-use Rattle.std.specs.Prelude.{ℕ, ◌^◌, ◌<◌, List, replicate, Option, None, Some, slice_index_or}
-use Rattle.gic_fixed.specs.declared.interval.Interval.{Interval}
+use Rattle.std.specs.Prelude.{ℕ, List, Option, None, slice_index_or}
 use Rattle.gic_fixed.specs.Ends.{Ends, no_ends}
 
 -- a step's number and time, an interval for each node in mV where it is live, for each element in mA where it stands,

@@ -1,5 +1,5 @@
 -- How a mode's call ends.
-use Rattle.std.proofs.Common.{◌≡◌, ◌≢◌, ◌<◌, ℕ, zero, suc, List, [], ◌∷◌, Option, Some, None, Result, Ok, Err, refl, sym, ap, subst, arith}
+use Rattle.std.proofs.Common.{◌≡◌, ◌≢◌, ℕ, zero, suc, List, [], ◌∷◌, Option, Some, None, Result, Ok, Err, refl, sym, ap, subst, arith}
 use Rattle.std.specs.Prelude.{OnOk, IsErrAnd}
 use Rattle.std.specs.Io.KnownBytes.{Appends, Keeps}
 use Rattle.gic_base.specs.Causes.{HasCause}
@@ -7,10 +7,10 @@ use Rattle.gic_base.specs.Pieces.{AppendsPart}
 use Rattle.gic_base.specs.declared.sink.WriteFailed.{WriteFailed}
 use Rattle.gic_case.specs.Lists.{Lists}
 use Rattle.gic_model.specs.Sums.{Placed}
-use Rattle.gic_stand.specs.Needs.{Need, Nothing, Meets, Fails, IsMet, IsUnmet, standing_at}
+use Rattle.gic_stand.specs.Needs.{Need, Nothing, Meets, Fails, IsMet, IsUnmet}
 use Rattle.gic_stand.specs.Serves.{Shown, Serves, ended}
 use Rattle.gic_stand.specs.declared.fault.ReportFault.{ReportFault}
-use Rattle.gic_stand.specs.declared.fault.ReportFault.TheVariants.{Refused, CannotWrite, Memory}
+use Rattle.gic_stand.specs.declared.fault.ReportFault.TheVariants.{Refused, Memory}
 use Rattle.gic_stand.specs.declared.fault.NetworkRefusal.{NetworkRefusal}
 
 -- what needs no network is met
@@ -52,12 +52,7 @@ pub answered : {A : Type 0} (answer : Result A ReportFault) (fault : ReportFault
 answered (Ok done) fault h = absurd h
 answered (Err e) fault h = ap Err h
 
--- nothing was written for want of memory
-pub unserved_memory : (need : Need) (case : Lists) (steps : List (List Placed)) (IsRight : List ℕ → Type 0) (s : Shown) (answer : Result (Unit {0}) ReportFault)
-    → IsErrAnd answer (λ e. e ≡ Memory) → Serves need case steps IsRight s s answer
-unserved_memory need case steps IsRight s answer h = subst (Serves need case steps IsRight s s) (sym (answered answer Memory h)) (kept_same s.bytes)
-
--- or since the need is not met at the one step
+-- nothing was written, since the need is not met at the one step
 pub unserved_network : (need : Need) (case : Lists) (standing : List Placed) (IsRight : List ℕ → Type 0) (s : Shown) (refusal : NetworkRefusal) (answer : Result (Unit {0}) ReportFault)
     → IsErrAnd answer (λ e. e ≡ Refused refusal) → Fails need case 1 standing refusal → Serves need case (standing ∷ []) IsRight s s answer
 unserved_network need case standing IsRight s refusal answer h fails =

@@ -1,5 +1,5 @@
 -- What a mode's call promises.
-use Rattle.std.specs.Prelude.{◌≡◌, ℕ, List, Ok, Err, Result}
+use Rattle.std.specs.Prelude.{ℕ, List, Ok, Err, Result}
 use Rattle.std.specs.declared.option.Option.{Option}
 use Rattle.std.specs.Io.KnownBytes.{Appends, Keeps}
 use Rattle.gic_base.specs.Causes.{Rose}

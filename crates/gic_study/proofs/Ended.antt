@@ -1,9 +1,8 @@
 -- What follows of how a call ended.
-use Rattle.std.proofs.Common.{◌≡◌, ℕ, ◌⊎◌, inl, inr, List, Some, Result, Ok, Err, refl, sym, ap, subst, ◌∙◌, arith}
+use Rattle.std.proofs.Common.{◌≡◌, ℕ, ◌⊎◌, inl, inr, List, Some, Ok, Err, refl, sym, ap, subst, ◌∙◌, arith}
 use Rattle.gic_base.specs.Causes.{Rose}
 use Rattle.gic_base.specs.Files.{Files}
 use Rattle.gic_words.specs.Options.{options_of}
-use Rattle.gic_ask.specs.Asks.{Asks, CouldNotRead, IsAnswer}
 use Rattle.gic_ask.specs.Held.{held_for, AnswersOfFiles}
 use Rattle.gic_ask.specs.Outcome.{Outcome, Refuses, Lacks, Accepts, outcome}
 use Rattle.gic_ask.specs.declared.fault.File.{File}
@@ -12,15 +11,14 @@ use Rattle.gic_ask.specs.declared.fault.InputFault.TheVariants as input
 use Rattle.gic_ask.specs.declared.fault.InputRefusal.{InputRefusal}
 use Rattle.gic_ask.specs.declared.request.Asked.{Asked}
 use Rattle.gic_stand.specs.Needs.{IsMet, IsUnmet}
-use Rattle.gic_stand.specs.Serves.{Shown}
 use Rattle.gic_stand.specs.Standing.{steps_of}
 use Rattle.gic_stand.specs.declared.fault.NetworkRefusal.{NetworkRefusal}
 use Rattle.gic_stand.specs.declared.fault.ReportFault.{ReportFault}
 use Rattle.gic_stand.specs.declared.fault.ReportFault.TheVariants as report
-use Rattle.gic_study.specs.Answers.{Ends, Moment, Explains, Answer, status_of, Served}
+use Rattle.gic_study.specs.Answers.{Moment, Explains, Answer, status_of}
 use Rattle.gic_study.specs.Faults.{status_of_fault}
 use Rattle.gic_study.specs.Modes.{need_of}
-use Rattle.gic_study.specs.Laws.{RefusalsAreAnswered, AcceptedIsReported, UnmetNeedsAreAnswered, CanRead}
+use Rattle.gic_study.specs.Laws.{RefusalsAreAnswered, LackedFilesAreWantOfMemory, AcceptedIsReported, UnmetNeedsAreAnswered, CanRead}
 use Rattle.gic_study.specs.declared.fault.Fault.{Fault}
 use Rattle.gic_study.specs.declared.fault.Fault.TheVariants.{Input, Report}
 use Rattle.gic_study.proofs.MetNeeds.{unmet_or_met, same_kind}
@@ -59,6 +57,22 @@ pub refusals_are_answered : AnswersOfFiles → RefusalsAreAnswered
 refusals_are_answered law words files before now told told' status e can refusal is =
     subst (λ n. (n ≡ status_of_fault (Input (input.Refused refusal))) ⊎ (n ≡ 11)) (sym e.status_is)
     (refused_by law words files before now e.answer e.explained can refusal is)
+
+lacked_by : (law : AnswersOfFiles) (words : List (List ℕ)) (files : Files) (before now : Moment) (answer : Answer)
+    → Explains words (Some files) before now answer → CanRead words before now
+    → (file : File) → outcome words (held_for files (options_of words)) ≡ Lacks file → status_of answer ≡ 11
+lacked_by law words files before now (Ok done) e can file is =
+    absurd (grind (arith, sym (law words files before.failures now.failures (Ok e.asked) e.asks can) ∙ is))
+lacked_by law words files before now (Err (Report fault)) e can file is =
+    absurd (grind (arith, sym (law words files before.failures now.failures (Ok e.asked) e.asks can) ∙ is))
+lacked_by law words files before now (Err (Input (input.Refused r))) e can file is =
+    absurd (grind (arith, sym (law words files before.failures now.failures (Err (input.Refused r)) e.asks can) ∙ is))
+lacked_by law words files before now (Err (Input (input.CannotRead other))) e can file is = absurd (can other (e.asks.failed other refl))
+lacked_by law words files before now (Err (Input input.Memory)) e can file is = refl
+
+pub lacked_files_are_want_of_memory : AnswersOfFiles → LackedFilesAreWantOfMemory
+lacked_files_are_want_of_memory law words files before now told told' status e can file is =
+    e.status_is ∙ lacked_by law words files before now e.answer e.explained can file is
 
 -- the need of what is asked is met
 met_by : (a asked : Asked) → a ≡ asked → IsMet (need_of asked.mode) (steps_of asked.inputs)

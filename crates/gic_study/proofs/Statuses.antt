@@ -1,5 +1,5 @@
 -- What each status says.
-use Rattle.std.proofs.Common.{◌≡◌, ℕ, List, Option, Ok, Err, Result, refl, sym, subst, arith}
+use Rattle.std.proofs.Common.{ℕ, List, Option, Ok, Err, refl, sym, subst, arith}
 use Rattle.gic_base.specs.Files.{Files}
 use Rattle.gic_ask.specs.declared.fault.InputFault.TheVariants as input
 use Rattle.gic_ask.specs.declared.fault.InputRefusal.TheVariants as input_refusal

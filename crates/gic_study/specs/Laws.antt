@@ -11,7 +11,7 @@ use Rattle.gic_words.specs.declared.fault.Usage.{Usage as UsageFault}
 use Rattle.gic_words.specs.declared.mode.Mode.{Mode}
 use Rattle.gic_ask.specs.Asks.{CouldNotRead}
 use Rattle.gic_ask.specs.Held.{held_for}
-use Rattle.gic_ask.specs.Outcome.{Refuses, Accepts, outcome}
+use Rattle.gic_ask.specs.Outcome.{Refuses, Lacks, Accepts, outcome}
 use Rattle.gic_ask.specs.declared.fault.File.{File}
 use Rattle.gic_ask.specs.declared.fault.InputFault.TheVariants.{Refused}
 use Rattle.gic_ask.specs.declared.fault.InputRefusal.{InputRefusal}
@@ -40,7 +40,13 @@ RefusalsAreAnswered = (words : List (List ℕ)) (files : Files) (before now : Mo
     (refusal : InputRefusal) → outcome words (held_for files (options_of words)) ≡ Refuses refusal →
     (status ≡ status_of_fault (Input (Refused refusal))) ⊎ (status ≡ 11)
 
--- so is a refusal of the network of what is accepted
+-- a file that is named and isn't there, though no fetch of it failed, is told as want of memory
+abbrev pub LackedFilesAreWantOfMemory : Type 0
+LackedFilesAreWantOfMemory = (words : List (List ℕ)) (files : Files) (before now : Moment) (told told' : Shown) (status : ℕ) →
+    Ends words (Some files) before now told told' status → CanRead words before now →
+    (file : File) → outcome words (held_for files (options_of words)) ≡ Lacks file → status ≡ 11
+
+-- a refusal of the network of what is accepted is answered
 abbrev pub UnmetNeedsAreAnswered : Type 0
 UnmetNeedsAreAnswered = (words : List (List ℕ)) (files : Files) (before now : Moment) (told told' : Shown) (status : ℕ) →
     Ends words (Some files) before now told told' status → CanRead words before now →

@@ -1,11 +1,18 @@
 //! What follows of how a call ended.
-ghost use Rattle.gic_study.specs.Laws.{RefusalsAreAnswered, UnmetNeedsAreAnswered, AcceptedIsReported, StatusesSay, TextsTellModes};
+ghost use Rattle.gic_study.specs.Laws.{RefusalsAreAnswered, LackedFilesAreWantOfMemory, UnmetNeedsAreAnswered, AcceptedIsReported, StatusesSay, TextsTellModes};
 
 use gic_ask::laws::answers_of_files_law;
 
 /// A refusal by the words and the files is answered.
 pub fn refusals_are_answered_law()
     ensures { RefusalsAreAnswered }
+{
+    answers_of_files_law();
+}
+
+/// A file that isn't there, of which no fetch failed, is told as want of memory.
+pub fn lacked_files_law()
+    ensures { LackedFilesAreWantOfMemory }
 {
     answers_of_files_law();
 }

@@ -1,5 +1,5 @@
 //! The current of one element over guesses.
-ghost use Rattle.std.specs.Prelude.{◌≡◌, ◌+◌, ◌*◌, ◌/◌, ◌^◌, ◌<◌, ◌≤◌, length, pos, ◌+ℤ◌, ◌-ℤ◌, ◌*ℤ◌, unsigned_abs};
+ghost use Rattle.std.specs.Prelude.{◌≡◌, ◌+◌, ◌*◌, ◌^◌, ◌<◌, ◌≤◌, length, pos, ◌*ℤ◌, unsigned_abs};
 ghost use Rattle.gic_fixed.specs.Encloses.{IsWithin};
 ghost use Rattle.gic_fixed.specs.Rounding.{floor_div, ceil_div};
 ghost use Rattle.gic_model.specs.Conductance.{conductance_up};

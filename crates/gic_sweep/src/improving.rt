@@ -1,5 +1,5 @@
 //! Rough corrections of the guesses.
-ghost use Rattle.std.specs.Prelude.{◌≡◌, ◌+◌, ◌^◌, ◌<◌, ◌≤◌, length, unsigned_abs};
+ghost use Rattle.std.specs.Prelude.{◌≡◌, ◌+◌, ◌<◌, ◌≤◌, length, unsigned_abs};
 ghost use Rattle.gic_model.specs.Guess.{most_guess};
 ghost use Rattle.gic_model.specs.Voltages.{number_at};
 ghost use Rattle.gic_sweep.specs.Guesses.{AreCut};

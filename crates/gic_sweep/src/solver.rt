@@ -46,6 +46,7 @@ ghost use Rattle.gic_fixed.specs.Encloses.{IsWithin};
 ghost use Rattle.gic_model.specs.Guess.{most_guess, HoldsResidual, IsSettled, IsSettledWithin, diagonal};
 ghost use Rattle.gic_model.specs.Voltages.{number_at};
 ghost use Rattle.gic_net.specs.Net.{standing, row_at};
+ghost use Rattle.gic_relax.specs.declared.passing.TheConstants.{MOST_PASSES};
 ghost use Rattle.gic_sweep.specs.Guesses.{AreCut};
 ghost use Rattle.gic_sweep.specs.Residuals.{HoldResiduals, most_reach};
 ghost use Rattle.gic_sweep.specs.Sweep.{IsSweep};
@@ -143,7 +144,7 @@ impl Solver {
         requires volts { length volts.now ≡ length net.now.network.list }
         requires nodes { length self.old ≡ net.now.network.nodes }
         ensures same_length { length self.new ≡ length self.old }
-        ensures passes { IfSome result (λ passes. passes ≤ 20000) }
+        ensures passes { IfSome result (λ passes. passes ≤ MOST_PASSES) }
         ensures tick { IfSome result (λ passes. steps.new ≡ steps.old + 1) }
         ensures no_tick { IfNone result (steps.new ≡ steps.old) }
         ensures same { IfNone result (self.new ≡ self.old) }
@@ -226,7 +227,7 @@ pub fn improve<L: Ledger>(
     requires nodes { length solver.old ≡ net.now.network.nodes }
     ensures tick { steps.new ≡ steps.old + result.rounds }
     ensures few_rounds { result.rounds ≤ MOST_ROUNDS }
-    ensures few_passes { result.passes ≤ 20000 * result.rounds }
+    ensures few_passes { result.passes ≤ MOST_PASSES * result.rounds }
     ensures same { result.rounds ≡ 0 → solver.new ≡ solver.old }
     ensures same_length { length solver.new ≡ length solver.old }
 {

@@ -9,6 +9,5 @@ mod pass;
 mod refusal;
 mod switchings;
 
-pub use gic_model::{Item, Switching};
 pub use refusal::SwitchRefusal;
 pub use switchings::{Switchings, read_switchings};

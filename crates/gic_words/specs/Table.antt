@@ -1,8 +1,9 @@
 -- The tables of options and modes.
-use Rattle.std.specs.Prelude.{ℕ, ◌==◌, Bool, List, [], ◌∷◌, ◌++◌, codes, pos, negsuc, if◌then◌else◌, find}
+use Rattle.std.specs.Prelude.{ℕ, ◌==◌, Bool, List, [], ◌∷◌, ◌++◌, codes, pos, neg_ℤ, if◌then◌else◌, find}
 use Rattle.std.specs.declared.option.Option.{Option}
 use Rattle.std.specs.List.{list_any}
 use Rattle.std.specs.Str.{bytes_eq}
+use Rattle.gic_base.specs.declared.limits.TheConstants.{MOST_FIELD}
 use Rattle.gic_words.specs.declared.option.Form.{Form}
 use Rattle.gic_words.specs.declared.option.Form.TheVariants as form
 use Rattle.gic_words.specs.declared.mode.Mode.{Mode}
@@ -31,12 +32,12 @@ flag option = codes "--" ++ name_of option
 abbrev pub all_options : List Opt
 all_options = Case ∷ Switch ∷ North ∷ East ∷ Width ∷ Event ∷ []
 
--- the form of the values of an option; fields are from -20000 to 20000 mV/km, widths from 10 to 10000 mV or mA
+-- the form of the values of an option; fields are within `MOST_FIELD`, 20000 mV/km, either way, widths from 10 to 10000 mV or mA
 abbrev pub form_of : Opt → Form
 form_of Case = form.Name
 form_of Switch = form.Name
-form_of North = form.Number (negsuc 19999) (pos 20000)
-form_of East = form.Number (negsuc 19999) (pos 20000)
+form_of North = form.Number (neg_ℤ (pos MOST_FIELD)) (pos MOST_FIELD)
+form_of East = form.Number (neg_ℤ (pos MOST_FIELD)) (pos MOST_FIELD)
 form_of Width = form.Number (pos 10) (pos 10000)
 form_of Event = form.Event
 

@@ -1,6 +1,7 @@
 //! The options of the modes.
 ghost use Rattle.std.specs.Prelude.{◌≡◌, ◌≤◌, IfOk, IfSome, map, string_bytes, unsigned_abs};
 ghost use Rattle.clap.specs.Words.{rows_of, found_of};
+ghost use Rattle.gic_base.specs.declared.limits.TheConstants.{MOST_FIELD};
 ghost use Rattle.gic_question.specs.Ranges.{IsWithinRanges};
 ghost use Rattle.gic_words.specs.Command.{given};
 ghost use Rattle.gic_words.specs.Within.{IsWithin};
@@ -59,7 +60,7 @@ fn number(matches: &ArgMatches<'_>, option: Opt) -> Option<i64>
 /// The field to the north, in mV/km.
 fn north(matches: &ArgMatches<'_>) -> i32
     ensures value { result ≡ field_of (rows_of (found_of matches.now)) Opt.North }
-    ensures small { unsigned_abs result ≤ 20000 }
+    ensures small { unsigned_abs result ≤ MOST_FIELD }
 {
     match number(matches, Opt::North) {
         Some(value) => value as i32,
@@ -70,7 +71,7 @@ fn north(matches: &ArgMatches<'_>) -> i32
 /// The field to the east, in mV/km.
 fn east(matches: &ArgMatches<'_>) -> i32
     ensures value { result ≡ field_of (rows_of (found_of matches.now)) Opt.East }
-    ensures small { unsigned_abs result ≤ 20000 }
+    ensures small { unsigned_abs result ≤ MOST_FIELD }
 {
     match number(matches, Opt::East) {
         Some(value) => value as i32,

@@ -1,8 +1,6 @@
-use Rattle.std.proofs.Common.{rules, Ok, Err, Result, sym, subst, map}
+use Rattle.std.proofs.Common.{rules, Ok, Err, sym, subst, map}
 use Rattle.std.specs.Prelude.{string_bytes}
 use Rattle.gic_ask.specs.Asks.{Asks}
-use Rattle.gic_ask.specs.declared.fault.InputFault.{InputFault}
-use Rattle.gic_ask.specs.declared.request.Asked.{Asked}
 use Rattle.gic_ask.proofs.Exits.{words_refused, memory_wanting, case_fails, switchings_fail, all_read, answered}
 use Rattle.gic_ask.proofs.asking.ask.Goals as goal
 

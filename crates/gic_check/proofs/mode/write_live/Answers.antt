@@ -1,10 +1,8 @@
-use Rattle.std.proofs.Common.{ap, sym, subst, map, length, ◌≡◌, ◌∙◌}
-use Rattle.std.specs.Prelude.{OnOk}
+use Rattle.std.proofs.Common.{ap, subst, map, ◌∙◌}
 use Rattle.std.specs.List.{range_with_len}
 use Rattle.std.specs.Io.KnownBytes.{Appends}
 use Rattle.std.proofs.lemmas.Result.{on_ok_weaker}
 use Rattle.gic_base.specs.Pieces.{AppendsPart}
-use Rattle.gic_case.specs.Lists.{node_names}
 use Rattle.gic_model.specs.Network.{Network}
 use Rattle.gic_model.specs.Standing.{is_live}
 use Rattle.gic_net.specs.Net.{standing}

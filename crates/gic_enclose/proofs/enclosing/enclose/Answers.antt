@@ -4,7 +4,8 @@ use Rattle.std.proofs.lemmas.Bool.{cases_lt}
 use Rattle.std.proofs.lemmas.List.{get_or_past}
 use Rattle.gic_model.proofs.Ends.{live_within, standing_within}
 use Rattle.gic_net.specs.Net.{standing, stands}
-use Rattle.gic_enclose.specs.Ends.{no_ends, ends_at}
+use Rattle.gic_enclose.specs.Ends.{ends_at}
+use Rattle.gic_fixed.specs.Ends.{no_ends}
 use Rattle.gic_enclose.specs.Certain.{IsNarrow}
 use Rattle.gic_enclose.proofs.enclosing.enclose.Goals as goal
 

@@ -1,4 +1,4 @@
-use Rattle.std.proofs.Common.{◌≡◌, ℕ, length, ap, sym, ◌∙◌}
+use Rattle.std.proofs.Common.{◌≡◌, ap, sym, ◌∙◌}
 use Rattle.gic_model.specs.Network.{Network}
 use Rattle.gic_winding.specs.ElementList.{elements_of}
 use Rattle.gic_field.proofs.Fits.{have_absolutes}

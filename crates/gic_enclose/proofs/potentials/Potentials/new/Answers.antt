@@ -1,5 +1,5 @@
 use Rattle.std.proofs.Common.{map, replicate, ap, ◌∙◌}
-use Rattle.gic_enclose.specs.Ends.{ends_of}
+use Rattle.gic_fixed.specs.Ends.{ends_of}
 use Rattle.gic_enclose.proofs.Intervals.{map_replicate, ends_are}
 use Rattle.gic_enclose.proofs.potentials.Potentials.new.Goals as goal
 

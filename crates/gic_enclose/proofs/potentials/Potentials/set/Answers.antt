@@ -1,6 +1,6 @@
 use Rattle.std.proofs.Common.{ap, ◌∙◌, slice_set}
 use Rattle.std.proofs.lemmas.List.{map-set}
-use Rattle.gic_enclose.specs.Ends.{ends_of}
+use Rattle.gic_fixed.specs.Ends.{ends_of}
 use Rattle.gic_enclose.proofs.potentials.Potentials.set.Goals as goal
 
 pub returns : goal.returns
