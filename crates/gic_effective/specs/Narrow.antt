@@ -1,7 +1,7 @@
 -- How wide intervals are.
 use Rattle.std.specs.Prelude.{ℕ, ◌<◌, Option, None, Some, length, ℤ, pos, ◌-ℤ◌, ◌≤ℤ◌}
 use Rattle.gic_case.specs.Lists.{Lists, node_names}
-use Rattle.gic_monitor.specs.View.{View, node_at, element_at, effective_at}
+use Rattle.gic_view.specs.View.{View, node_at, element_at, effective_at}
 use Rattle.gic_fixed.specs.Ends.{Ends}
 use Rattle.gic_winding.specs.ElementList.{elements_of}
 use Rattle.gic_effective.specs.ViewLengths.{HasViewLengths}

@@ -6,7 +6,7 @@ use Rattle.gic_fixed.specs.Ends.{Ends, no_ends}
 use Rattle.gic_model.specs.Standing.{IsLive, is_live, is_standing}
 use Rattle.gic_model.specs.Solution.{Solution, IsSolution}
 use Rattle.gic_model.specs.Sums.{Placed}
-use Rattle.gic_monitor.specs.View.{View, node_at, element_at, effective_at}
+use Rattle.gic_view.specs.View.{View, node_at, element_at, effective_at}
 use Rattle.gic_winding.specs.ElementList.{elements_of}
 use Rattle.gic_winding.specs.Weights.{transformer_at, windings_at}
 use Rattle.gic_effective.specs.ViewLengths.{HasViewLengths}

@@ -9,7 +9,7 @@ use Rattle.gic_model.specs.Sharp.{IsSharp}
 use Rattle.gic_model.specs.Solution.{Solution, IsSolution}
 use Rattle.gic_model.specs.Standing.{is_standing}
 use Rattle.gic_model.specs.Sums.{Placed}
-use Rattle.gic_monitor.specs.View.{View}
+use Rattle.gic_view.specs.View.{View}
 use Rattle.gic_fixed.specs.Ends.{Ends}
 use Rattle.gic_effective.specs.Holds.{HoldsSolution, HoldsSolutions}
 use Rattle.gic_effective.specs.Narrow.{IsAtMostWide, IsNoWider}

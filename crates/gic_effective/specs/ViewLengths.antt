@@ -1,7 +1,7 @@
 -- How long the lists of a view of a case are.
 use Rattle.std.specs.Prelude.{◌≡◌, length}
 use Rattle.gic_case.specs.Lists.{Lists, node_names}
-use Rattle.gic_monitor.specs.View.{View}
+use Rattle.gic_view.specs.View.{View}
 use Rattle.gic_winding.specs.ElementList.{elements_of}
 
 -- the view has a place for each node, each element and each transformer of the case

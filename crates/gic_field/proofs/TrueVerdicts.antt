@@ -10,7 +10,7 @@ use Rattle.gic_case.specs.Lists.{Lists}
 use Rattle.gic_case.specs.Sound.{IsSound, IsSoundTransformer}
 use Rattle.gic_model.specs.Solution.{Solution, IsSolution}
 use Rattle.gic_model.specs.Sums.{Placed}
-use Rattle.gic_monitor.specs.View.{View, effective_at}
+use Rattle.gic_view.specs.View.{View, effective_at}
 use Rattle.gic_winding.specs.Weights.{transformer_at, no_transformer}
 use Rattle.gic_effective.specs.Narrow.{IsNarrowView}
 use Rattle.gic_effective.specs.RightView.{IsRightView}

@@ -2,7 +2,7 @@
 use Rattle.std.specs.Prelude.{◌≡◌, ℕ, ◌<◌, ◌^◌, ℤ, FitsSigned}
 use mir.Syntax.{w32}
 use Rattle.gic_case.specs.Lists.{Lists}
-use Rattle.gic_monitor.specs.View.{View}
+use Rattle.gic_view.specs.View.{View}
 use Rattle.gic_text.specs.Lines.{lines_text}
 use Rattle.gic_effective.specs.ViewLengths.{HasViewLengths}
 use Rattle.gic_report.specs.Fits.{HasNames, IsViewInRange}

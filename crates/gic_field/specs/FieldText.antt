@@ -1,7 +1,7 @@
 -- The report of a network's potentials and currents in one uniform field.
 use Rattle.std.specs.Prelude.{ℕ, ℤ, List, [], ◌∷◌, ◌++◌, codes, decimal}
 use Rattle.std.specs.Fmt.{signed_decimal}
-use Rattle.gic_monitor.specs.View.{View}
+use Rattle.gic_view.specs.View.{View}
 use Rattle.gic_case.specs.Lists.{Lists}
 use Rattle.gic_report.specs.SharedLines.{Words, word_line}
 use Rattle.gic_report.specs.ItemText.{signed_lines}

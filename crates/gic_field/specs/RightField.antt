@@ -8,7 +8,7 @@ use Rattle.gic_model.specs.Voltages.{number_at}
 use Rattle.gic_induce.specs.LineVolts.{volts_of}
 use Rattle.gic_winding.specs.ElementList.{elements_of}
 use Rattle.gic_winding.specs.Weights.{transformer_at}
-use Rattle.gic_monitor.specs.View.{View, effective_at}
+use Rattle.gic_view.specs.View.{View, effective_at}
 use Rattle.gic_fixed.specs.Ends.{Ends}
 use Rattle.gic_effective.specs.Weighted.{effective_numerator}
 use Rattle.gic_effective.specs.RightView.{IsRightView}

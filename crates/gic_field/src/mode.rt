@@ -22,12 +22,12 @@ use crate::uniform::uniform_volts;
 use gic_base::{Sink, WriteFailed};
 use gic_case::Case;
 use gic_model::Volts;
-use gic_monitor::StepView;
 use gic_net::Net;
 use gic_question::Question;
 use gic_screen::laws::verdict_law;
 use gic_stand::{Inputs, ReportFault, ended, standing_net};
 use gic_text::LineBuilder;
+use gic_view::StepView;
 use gic_winding::elements;
 use std::alloc::Global;
 

@@ -9,9 +9,9 @@ use gic_case::Case;
 use gic_effective::view_of_case;
 use gic_enclose::Potentials;
 use gic_island::Scratch;
-use gic_monitor::StepView;
 use gic_net::Net;
 use gic_sweep::Solver;
+use gic_view::StepView;
 use std::alloc::Global;
 
 /// What a solve writes to. It is made before the network is looked at.

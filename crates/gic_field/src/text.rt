@@ -11,9 +11,9 @@ ghost use Rattle.gic_field.specs.FieldText.{setting_line, field_report};
 
 use gic_base::{Sink, WriteFailed, write_all};
 use gic_case::Case;
-use gic_monitor::StepView;
 use gic_report::{write_signed, write_transformers, write_word};
 use gic_text::LineBuilder;
+use gic_view::StepView;
 
 /// What is asked: a field's parts in mV/km, the width of intervals in mV and mA, and the threshold in mA per phase.
 #[derive(Clone, Copy, Debug)]

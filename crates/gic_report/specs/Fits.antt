@@ -2,7 +2,7 @@
 use Rattle.std.specs.Prelude.{IfSome, IsTrue, All, FitsSigned, neg_ℤ}
 use Rattle.std.specs.Int.{w128}
 use Rattle.gic_base.specs.Name.{is_name}
-use Rattle.gic_monitor.specs.View.{View}
+use Rattle.gic_view.specs.View.{View}
 use Rattle.gic_fixed.specs.Ends.{Ends}
 use Rattle.gic_case.specs.Lists.{Lists}
 use Rattle.gic_case.specs.Sound.{names_of}

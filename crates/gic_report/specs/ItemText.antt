@@ -1,7 +1,7 @@
 -- The lines of the items of a view. A row that isn't blocked shows the next interval; the rows are in the order of the intervals.
 use Rattle.std.specs.Prelude.{ℕ, Bool, true, false, if◌then◌else◌, List, [], ◌∷◌, ◌++◌, map, flat_map, drop, codes, Option, None, Some}
 use Rattle.std.specs.Fmt.{signed_decimal}
-use Rattle.gic_monitor.specs.View.{View}
+use Rattle.gic_view.specs.View.{View}
 use Rattle.gic_fixed.specs.Ends.{Ends}
 use Rattle.gic_model.specs.declared.parts.Role.{Role}
 use Rattle.gic_model.specs.declared.parts.Role.TheVariants as role

@@ -4,7 +4,7 @@ use Rattle.std.specs.List.{enumerate_from, filter, zip}
 use Rattle.gic_case.specs.Lists.{Lists, node_names}
 use Rattle.gic_model.specs.declared.parts.Element.{Element}
 use Rattle.gic_model.specs.Sums.{Placed}
-use Rattle.gic_monitor.specs.View.{View, node_at, element_at, effective_at}
+use Rattle.gic_view.specs.View.{View, node_at, element_at, effective_at}
 use Rattle.gic_winding.specs.ElementList.{elements_of, item_name}
 use Rattle.gic_report.specs.SharedLines.{Words}
 use Rattle.gic_report.specs.declared.rows.ItemRow.{ItemRow}

@@ -2,7 +2,7 @@
 use Rattle.std.specs.Prelude.{◌≡◌, ◌<◌, length, slice_index_or, ℕ, Bool, List, [], ◌∷◌, codes}
 use Rattle.std.specs.Fmt.{signed_decimal}
 use Rattle.gic_fixed.specs.Rounding.{least_abs, greatest_abs}
-use Rattle.gic_monitor.specs.View.{View, effective_at}
+use Rattle.gic_view.specs.View.{View, effective_at}
 use Rattle.gic_fixed.specs.Ends.{Ends}
 use Rattle.gic_case.specs.declared.item.Kind.{Kind}
 use Rattle.gic_case.specs.declared.item.Transformer.{Transformer}

@@ -1,12 +1,12 @@
 //! The intervals of a view, one after another. Past the last there is none.
 ghost use Rattle.std.specs.Prelude.{◌≡◌, drop};
 ghost use Rattle.gic_fixed.specs.Ends.{ends_of};
-ghost use Rattle.gic_monitor.specs.Kept.{optional_ends};
+ghost use Rattle.gic_view.specs.Kept.{optional_ends};
 ghost use Rattle.gic_report.specs.Cells.{first_cell, first_ends};
 
 use gic_base::{ElementId, NodeId};
 use gic_fixed::Interval;
-use gic_monitor::StepView;
+use gic_view::StepView;
 use std::marker::Model;
 
 /// The intervals of the nodes from one on, in mV; it is seen as their list.

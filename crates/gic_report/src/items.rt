@@ -4,7 +4,7 @@ ghost use Rattle.std.specs.Io.KnownBytes.{Appends};
 ghost use Rattle.gic_base.specs.Causes.{HasCause};
 ghost use Rattle.gic_base.specs.Pieces.{AppendsPart};
 ghost use Rattle.gic_fixed.specs.Ends.{ends_of};
-ghost use Rattle.gic_monitor.specs.Kept.{optional_ends};
+ghost use Rattle.gic_view.specs.Kept.{optional_ends};
 ghost use Rattle.gic_text.specs.Lines.{with_words, line_text, lines_text};
 ghost use Rattle.gic_case.specs.Lists.{node_names};
 ghost use Rattle.gic_report.specs.ItemText.{ends_words, cell_words, shown_words, left_behind};
@@ -18,8 +18,8 @@ use gic_base::{Name, Sink, WriteFailed, write_all};
 use gic_case::{Case, NodeNames, Transformer};
 use gic_fixed::Interval;
 use gic_model::Role;
-use gic_monitor::StepView;
 use gic_text::LineBuilder;
+use gic_view::StepView;
 
 /// Adds the two ends of an interval to the line.
 #[tactic(auto, using(gic_text::proofs::Sizes::line_room))]

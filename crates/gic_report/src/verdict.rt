@@ -13,9 +13,9 @@ use crate::items::add_ends;
 use gic_base::{Name, Sink, WriteFailed, write_all};
 use gic_case::{Kind, Transformer};
 use gic_fixed::Interval;
-use gic_monitor::StepView;
 use gic_screen::{Verdict, verdict};
 use gic_text::LineBuilder;
+use gic_view::StepView;
 
 /// Whether the high side of a unit is earthed through its winding.
 fn earthed_high(kind: Kind) -> bool

@@ -3,7 +3,7 @@ use Rattle.std.proofs.lemmas.List.{length-set}
 use Rattle.gic_fixed.specs.Ends.{ends_of, no_ends}
 use Rattle.gic_model.specs.Voltages.{number_at}
 use Rattle.gic_net.specs.Net.{standing}
-use Rattle.gic_monitor.specs.View.{View}
+use Rattle.gic_view.specs.View.{View}
 use Rattle.gic_effective.specs.Shown.{IsShownEffective}
 use Rattle.gic_effective.proofs.Filled.{filled, effective_alone}
 use Rattle.gic_effective.proofs.view.fill_effective.Goals as goal

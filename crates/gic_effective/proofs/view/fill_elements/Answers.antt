@@ -2,8 +2,8 @@ use Rattle.std.proofs.Common.{◌≡◌, ◌<◌, length, slice_index_or, slice_
 use Rattle.std.proofs.lemmas.List.{length-set}
 use Rattle.gic_model.specs.Voltages.{number_at}
 use Rattle.gic_net.specs.Net.{standing}
-use Rattle.gic_monitor.specs.View.{View}
-use Rattle.gic_monitor.specs.Kept.{optional_ends}
+use Rattle.gic_view.specs.View.{View}
+use Rattle.gic_view.specs.Kept.{optional_ends}
 use Rattle.gic_effective.specs.Shown.{IsShownElement}
 use Rattle.gic_effective.proofs.Filled.{filled, elements_alone}
 use Rattle.gic_effective.proofs.view.fill_elements.Goals as goal

@@ -1,7 +1,7 @@
 use Rattle.std.proofs.Common.{◌≡◌, ℕ, ◌<◌, length}
 use Rattle.gic_model.specs.Voltages.{number_at}
 use Rattle.gic_net.specs.Net.{standing}
-use Rattle.gic_monitor.specs.View.{element_at}
+use Rattle.gic_view.specs.View.{element_at}
 use Rattle.gic_effective.specs.Shown.{IsShownElement}
 use Rattle.gic_effective.proofs.view.fill_elements.Given as goal
 

@@ -1,8 +1,8 @@
 use Rattle.std.proofs.Common.{◌≡◌, ◌<◌, length, slice_index_or, slice_set, None, arith, ap, sym, subst, ◌∙◌}
 use Rattle.std.proofs.lemmas.List.{length-set}
 use Rattle.gic_net.specs.Net.{standing}
-use Rattle.gic_monitor.specs.View.{View}
-use Rattle.gic_monitor.specs.Kept.{optional_ends}
+use Rattle.gic_view.specs.View.{View}
+use Rattle.gic_view.specs.Kept.{optional_ends}
 use Rattle.gic_effective.specs.Shown.{IsShownNode}
 use Rattle.gic_effective.proofs.Filled.{filled, nodes_alone}
 use Rattle.gic_effective.proofs.view.fill_nodes.Goals as goal

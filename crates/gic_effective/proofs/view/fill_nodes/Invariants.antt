@@ -1,6 +1,6 @@
 use Rattle.std.proofs.Common.{◌≡◌, ℕ, ◌<◌, ℤ, length}
 use Rattle.gic_net.specs.Net.{standing}
-use Rattle.gic_monitor.specs.View.{node_at}
+use Rattle.gic_view.specs.View.{node_at}
 use Rattle.gic_effective.specs.Shown.{IsShownNode}
 use Rattle.gic_effective.proofs.view.fill_nodes.Given as goal
 

@@ -3,7 +3,7 @@ use Rattle.gic_case.specs.Lists.{node_names}
 use Rattle.gic_model.specs.Network.{Network}
 use Rattle.gic_model.specs.Voltages.{number_at}
 use Rattle.gic_net.specs.Net.{standing}
-use Rattle.gic_monitor.specs.View.{View}
+use Rattle.gic_view.specs.View.{View}
 use Rattle.gic_winding.specs.ElementList.{elements_of}
 use Rattle.gic_effective.specs.Narrow.{IsNoWider}
 use Rattle.gic_effective.specs.RightView.{IsRightNode, IsRightElement}

@@ -2,7 +2,7 @@ use Rattle.std.proofs.Common.{◌++◌, List}
 use Rattle.std.specs.Prelude.{codes}
 use Rattle.std.proofs.lemmas.Result.{on_ok_weaker}
 use Rattle.gic_case.specs.Lists.{Lists}
-use Rattle.gic_monitor.specs.View.{View}
+use Rattle.gic_view.specs.View.{View}
 use Rattle.gic_report.specs.SharedLines.{Words, word_line}
 use Rattle.gic_report.specs.ItemText.{signed_lines}
 use Rattle.gic_field.specs.FieldText.{setting_line}

@@ -1,5 +1,5 @@
 use Rattle.std.proofs.Common.{rules, arith, ◌≡◌, ◌∷◌}
-use Rattle.gic_monitor.specs.Kept.{optional_ends}
+use Rattle.gic_view.specs.Kept.{optional_ends}
 use Rattle.gic_case.specs.NodeNames.{names_left}
 use Rattle.gic_report.proofs.Written.{goes_on, same_left, stops}
 use Rattle.gic_report.proofs.RowsWritten.{next_node}

@@ -1,7 +1,7 @@
 use Rattle.std.proofs.Common.{◌++◌, List, ap, refl, sym}
 use Rattle.std.proofs.lemmas.Result.{on_ok_weaker}
 use Rattle.gic_case.specs.Lists.{Lists, node_names}
-use Rattle.gic_monitor.specs.View.{View}
+use Rattle.gic_view.specs.View.{View}
 use Rattle.gic_text.specs.Lines.{lines_text}
 use Rattle.gic_report.specs.SharedLines.{Words}
 use Rattle.gic_report.specs.ItemText.{effective_lines, node_lines, row_lines, rows_of}

@@ -2,9 +2,9 @@ use Rattle.std.proofs.Common.{List, map, slice_set, ap, ◌∙◌}
 use Rattle.std.specs.declared.option.Option.{Option}
 use Rattle.std.proofs.lemmas.List.{map-set}
 use Rattle.gic_fixed.specs.Ends.{Ends, ends_of}
-use Rattle.gic_monitor.specs.View.{View}
-use Rattle.gic_monitor.specs.Kept.{optional_ends}
-use Rattle.gic_monitor.proofs.step_view.StepView.set_element.Goals as goal
+use Rattle.gic_view.specs.View.{View}
+use Rattle.gic_view.specs.Kept.{optional_ends}
+use Rattle.gic_view.proofs.step_view.StepView.set_element.Goals as goal
 
 pub returns : goal.returns
 returns c =

@@ -2,7 +2,7 @@
 use Rattle.std.specs.Prelude.{ℕ, ◌^◌, ◌<◌, replicate, Option, None, Some}
 use Rattle.gic_fixed.specs.declared.interval.Interval.{Interval}
 use Rattle.gic_fixed.specs.Ends.{Ends, ends_of, no_ends}
-use Rattle.gic_monitor.specs.View.{View}
+use Rattle.gic_view.specs.View.{View}
 
 abbrev pub optional_ends : Option Interval → Option Ends
 optional_ends None = None

@@ -22,8 +22,8 @@ pub struct StepView {
 impl Model for StepView {
     ghost use Rattle.std.specs.Prelude.{map, length};
     ghost use Rattle.gic_fixed.specs.Ends.{ends_of};
-    ghost use Rattle.gic_monitor.specs.View.{View};
-    ghost use Rattle.gic_monitor.specs.Kept.{AreFew, optional_ends};
+    ghost use Rattle.gic_view.specs.View.{View};
+    ghost use Rattle.gic_view.specs.Kept.{AreFew, optional_ends};
 
     ghost Value = { View };
 
@@ -58,8 +58,8 @@ fn points(alloc: Global, count: u16) -> Result<Vec<Interval>, OutOfMemory>
 impl StepView {
     ghost use Rattle.std.specs.Prelude.{◌≡◌, ◌<◌, length, slice_set, IfOk};
     ghost use Rattle.gic_fixed.specs.Ends.{ends_of};
-    ghost use Rattle.gic_monitor.specs.View.{node_at, element_at, effective_at};
-    ghost use Rattle.gic_monitor.specs.Kept.{optional_ends, blank_view};
+    ghost use Rattle.gic_view.specs.View.{node_at, element_at, effective_at};
+    ghost use Rattle.gic_view.specs.Kept.{optional_ends, blank_view};
 
     /// A view over these numbers of nodes, elements and transformers, in which no node is live, no element stands and
     /// no transformer has a current. Its number and its time are 0.

@@ -1,7 +1,7 @@
 use Rattle.std.proofs.Common.{rules, ◌≡◌, pos, map, replicate, ap, ◌∙◌}
 use Rattle.gic_fixed.specs.Ends.{ends_of, no_ends}
-use Rattle.gic_monitor.proofs.Repeats.{map-replicate}
-use Rattle.gic_monitor.proofs.step_view.points.Goals as goal
+use Rattle.gic_view.proofs.Repeats.{map-replicate}
+use Rattle.gic_view.proofs.step_view.points.Goals as goal
 
 pub returns-clause-noughts : goal.returns-clause-noughts
 returns-clause-noughts c =

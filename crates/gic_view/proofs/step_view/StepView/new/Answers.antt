@@ -1,7 +1,7 @@
 use Rattle.std.proofs.Common.{◌≡◌, None, map, replicate, ap, ◌∙◌}
-use Rattle.gic_monitor.specs.Kept.{optional_ends}
-use Rattle.gic_monitor.proofs.Repeats.{map-replicate}
-use Rattle.gic_monitor.proofs.step_view.StepView.new.Goals as goal
+use Rattle.gic_view.specs.Kept.{optional_ends}
+use Rattle.gic_view.proofs.Repeats.{map-replicate}
+use Rattle.gic_view.proofs.step_view.StepView.new.Goals as goal
 
 pub returns : goal.returns
 returns c =
