@@ -21,7 +21,7 @@ use gic_model::Role;
 use gic_text::LineBuilder;
 use gic_view::StepView;
 
-/// Adds the two ends of an interval to the line.
+/// Adds the two ends of an interval to the line, which has room for them.
 #[tactic(auto, using(gic_text::proofs::Sizes::line_room))]
 pub fn add_ends(interval: Interval, line: &mut LineBuilder)
     requires { length line.old.bytes ≤ 400 }
@@ -112,7 +112,7 @@ fn write_row<S: Sink>(
 }
 
 /// Writes a line for each node.
-fn write_nodes<S: Sink>(
+pub fn write_nodes<S: Sink>(
     case: &Case,
     view: &StepView,
     line: &mut LineBuilder,
@@ -153,7 +153,7 @@ fn write_node<S: Sink>(
 }
 
 /// Writes the rows of the items of a case: grounds, lines, windings and neutral devices.
-fn write_rows<S: Sink>(
+pub fn write_rows<S: Sink>(
     case: &Case,
     view: &StepView,
     line: &mut LineBuilder,

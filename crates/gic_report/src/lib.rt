@@ -9,7 +9,7 @@ mod rows;
 mod verdict;
 mod write;
 
-pub use items::write_signed;
+pub use items::{add_ends, write_nodes, write_rows, write_signed};
 pub use role::role_word;
-pub use verdict::write_transformers;
+pub use verdict::{add_verdict, earthed_high, write_transformers};
 pub use write::{write_field_line, write_word};

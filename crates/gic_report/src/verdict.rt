@@ -18,7 +18,7 @@ use gic_text::LineBuilder;
 use gic_view::StepView;
 
 /// Whether the high side of a unit is earthed through its winding.
-fn earthed_high(kind: Kind) -> bool
+pub fn earthed_high(kind: Kind) -> bool
     ensures { result ≡ earthed_high kind }
 {
     match kind {
@@ -40,9 +40,9 @@ fn verdict_word(verdict: Verdict) -> &'static str
     }
 }
 
-/// Adds a verdict to the line.
+/// Adds a verdict to the line, which has room for it.
 #[tactic(auto, using(gic_text::proofs::Sizes::line_room))]
-fn add_verdict(said: Verdict, line: &mut LineBuilder)
+pub fn add_verdict(said: Verdict, line: &mut LineBuilder)
     requires { length line.old.bytes ≤ 400 }
     ensures word { line.new ≡ with_word line.old (verdict_word said) }
     ensures size { length line.new.bytes ≤ length line.old.bytes + 10 }
