@@ -1,0 +1,4 @@
+pub mod Greater
+pub mod Greatest
+pub mod Seen
+pub mod Written

@@ -1,0 +1,59 @@
+-- The peak of intervals, and the peaks of views.
+use Rattle.std.specs.Prelude.{◌≡◌, ℕ, ◌<◌, List, [], ◌∷◌, map, length, All, Option, Some, None, IfSome, option_map, unwrap_or, neg_ℤ, FitsSigned}
+use Rattle.std.specs.Int.{w128, int_max}
+use Rattle.gic_fixed.specs.Ends.{Ends, no_ends}
+use Rattle.gic_fixed.specs.Rounding.{least_abs, greatest_abs}
+use Rattle.gic_view.specs.View.{View, node_at, element_at, effective_at}
+
+-- the absolute interval: that of the absolute values of the numbers from the low to the high end
+abbrev pub absolute_ends : Ends → Ends
+absolute_ends e = record { low = least_abs e.low e.high; high = greatest_abs e.low e.high }
+
+-- the greater low end and the greater high end
+abbrev pub greater_ends : Ends → Ends → Ends
+greater_ends a b = record { low = int_max a.low b.low; high = int_max a.high b.high }
+
+-- the same of intervals that may be missing; where one is missing, the other
+abbrev pub greater : Option Ends → Option Ends → Option Ends
+greater None b = b
+greater (Some a) None = Some a
+greater (Some a) (Some b) = Some (greater_ends a b)
+
+-- the greatest low end and the greatest high end of the absolute intervals that are there; none where there is none
+abbrev pub peak_of : List (Option Ends) → Option Ends
+peak_of [] = None
+peak_of (cell ∷ cells) = greater (option_map absolute_ends cell) (peak_of cells)
+
+-- what views show at a node, one after the other; at an element; and of a transformer, which each view shows
+abbrev pub shown_at_node : List View → ℕ → List (Option Ends)
+shown_at_node views place = map (λ view. node_at view place) views
+
+abbrev pub shown_at_element : List View → ℕ → List (Option Ends)
+shown_at_element views place = map (λ view. element_at view place) views
+
+abbrev pub shown_of_transformer : List View → ℕ → List (Option Ends)
+shown_of_transformer views place = map (λ view. Some (effective_at view place)) views
+
+-- a view has as many nodes, elements and transformers as another one
+pub record HasLengthsOf (other view : View) : Type 0 where
+  pub nodes : length view.nodes ≡ length other.nodes
+  pub elements : length view.elements ≡ length other.elements
+  pub transformers : length view.effective ≡ length other.effective
+
+-- the peaks of views: of what they show at each node, at each element and of each transformer; 0 to 0 for a
+-- transformer where there is no view
+pub record IsPeaksOf (views : List View) (peaks : View) : Type 0 where
+  pub lengths : All (HasLengthsOf peaks) views
+  pub nodes : (k : ℕ) → k < length peaks.nodes → node_at peaks k ≡ peak_of (shown_at_node views k)
+  pub elements : (place : ℕ) → place < length peaks.elements → element_at peaks place ≡ peak_of (shown_at_element views place)
+  pub transformers : (t : ℕ) → t < length peaks.effective → effective_at peaks t ≡ unwrap_or (peak_of (shown_of_transformer views t)) no_ends
+
+-- the interval has an absolute value of 128 bits: it doesn't begin at -2^127
+abbrev pub HasAbsolute : Ends → Type 0
+HasAbsolute e = FitsSigned w128 (neg_ℤ e.low)
+
+-- so for each interval of a view
+pub record HasAbsolutes (view : View) : Type 0 where
+  pub nodes : All (λ cell. IfSome cell HasAbsolute) view.nodes
+  pub elements : All (λ cell. IfSome cell HasAbsolute) view.elements
+  pub transformers : All HasAbsolute view.effective
