@@ -1,0 +1,18 @@
+//! Monitors, which see the view of each step and print a text in the end; two of them; and a board of monitors.
+#![tactic(auto)]
+
+mod board;
+mod dwell;
+mod earth;
+pub mod laws;
+mod monitor;
+mod reading;
+mod roster;
+#[cfg(test)]
+mod tests;
+
+pub use board::Board;
+pub use dwell::DwellMonitor;
+pub use earth::EarthMonitor;
+pub use monitor::Monitor;
+pub use roster::{Rated, Roster, Seat};
