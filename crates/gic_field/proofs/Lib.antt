@@ -1,4 +1,3 @@
 pub mod Fits
-pub mod UniformFields
 pub mod TrueVerdicts
 pub mod FieldDetermined

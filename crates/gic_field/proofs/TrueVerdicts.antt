@@ -1,38 +1,31 @@
 -- The verdicts of a right view are true of every solution.
-use Rattle.std.proofs.Common.{ℕ, ◌*◌, ◌<◌, List, length, ℤ, pos, ◌-ℤ◌, ◌≤ℤ◌, arith}
-use Rattle.std.proofs.lemmas.List.Elements.{All-get_or}
+use Rattle.std.proofs.Common.{ℕ, ◌<◌, List, length, ℤ, pos, ◌-ℤ◌, ◌≤ℤ◌, arith}
 use Rattle.std.proofs.lemmas.Int.{ints, clamps}
-use Rattle.gic_fixed.proofs.Divisions.{positive_product}
 use Rattle.gic_fixed.proofs.Enclosures.{Encloses-abs}
 use Rattle.gic_fixed.specs.Encloses.{EnclosesAbsolute}
 use Rattle.gic_fixed.specs.Rounding.{least_abs, greatest_abs}
 use Rattle.gic_case.specs.Lists.{Lists}
-use Rattle.gic_case.specs.Sound.{IsSound, IsSoundTransformer}
+use Rattle.gic_case.specs.Sound.{IsSound}
 use Rattle.gic_model.specs.Solution.{Solution, IsSolution}
 use Rattle.gic_model.specs.Sums.{Placed}
 use Rattle.gic_view.specs.View.{View, effective_at}
-use Rattle.gic_winding.specs.Weights.{transformer_at, no_transformer}
+use Rattle.gic_winding.specs.Weights.{transformer_at}
 use Rattle.gic_effective.specs.Narrow.{IsNarrowView}
 use Rattle.gic_effective.specs.RightView.{IsRightView}
 use Rattle.gic_effective.specs.Weighted.{effective_numerator}
 use Rattle.gic_screen.specs.VerdictLaws.{BelowIsUnder, ReachesIsAtLeast, UndecidedIsAcross}
 use Rattle.gic_report.specs.VerdictText.{earthed_high}
+use Rattle.gic_uniform.specs.Denominator.{effective_denominator}
+use Rattle.gic_uniform.proofs.Denominators.{some_denominator}
 use Rattle.gic_field.specs.RightField.{AreTrueVerdicts, AreRightAbsolutes}
-
--- the denominator of a transformer's effective current is above 0
-some_denominator : (case : Lists) (t : ℕ) (s : Solution) → IsSound case → t < length case.transformers → 0 < s.denominator
-    → 0 < 3000000 * (transformer_at case t).high_volts * s.denominator
-some_denominator case t s sound within some =
-    let rated : IsSoundTransformer case (transformer_at case t) = All-get_or (IsSoundTransformer case) case.transformers t no_transformer within sound.transformers_sound in
-    positive_product (3000000 * (transformer_at case t).high_volts) s.denominator (omega (arith, rated.rated.0)) some
 
 -- the absolute interval of a right view holds the transformer's absolute effective current
 absolute_holds : (case : Lists) (standing : List Placed) (volts : ℕ → ℤ) (view : View) (t : ℕ) (s : Solution)
     → IsRightView case standing volts view → t < length case.transformers → IsSolution standing volts s
     → EnclosesAbsolute (least_abs (effective_at view t).low (effective_at view t).high) (greatest_abs (effective_at view t).low (effective_at view t).high)
-    (effective_numerator case s t) (3000000 * (transformer_at case t).high_volts * s.denominator)
+    (effective_numerator case s t) (effective_denominator case t s)
 absolute_holds case standing volts view t s right within solves =
-    Encloses-abs (effective_at view t).low (effective_at view t).high (effective_numerator case s t) (3000000 * (transformer_at case t).high_volts * s.denominator)
+    Encloses-abs (effective_at view t).low (effective_at view t).high (effective_numerator case s t) (effective_denominator case t s)
     ((right.effective t within).holds s solves)
 
 pub true_verdicts : (case : Lists) (standing : List Placed) (volts : ℕ → ℤ) (threshold : ℕ) (view : View)
@@ -42,15 +35,14 @@ pub true_verdicts : (case : Lists) (standing : List Placed) (volts : ℕ → ℤ
 true_verdicts case standing volts threshold view below reaches undecided sound right =
     let lo : ℕ → ℤ = λ t. least_abs (effective_at view t).low (effective_at view t).high in
     let hi : ℕ → ℤ = λ t. greatest_abs (effective_at view t).low (effective_at view t).high in
-    let d : ℕ → Solution → ℕ = λ t s. 3000000 * (transformer_at case t).high_volts * s.denominator in
-    let held : (t : ℕ) → t < length case.transformers → (s : Solution) → IsSolution standing volts s → EnclosesAbsolute (lo t) (hi t) (effective_numerator case s t) (d t s) =
+    let held : (t : ℕ) → t < length case.transformers → (s : Solution) → IsSolution standing volts s → EnclosesAbsolute (lo t) (hi t) (effective_numerator case s t) (effective_denominator case t s) =
     λ t within s solves. absolute_holds case standing volts view t s right within solves in
     record {
       below = λ t within verdict s solves.
-          below (lo t) (hi t) (effective_numerator case s t) (d t s) threshold (transformer_at case t).high_volts (earthed_high (transformer_at case t).kind)
+          below (lo t) (hi t) (effective_numerator case s t) (effective_denominator case t s) threshold (transformer_at case t).high_volts (earthed_high (transformer_at case t).kind)
           (some_denominator case t s sound within solves.denominator_above_0) verdict (held t within s solves).below_hi;
       reaches = λ t within verdict s solves.
-          reaches (lo t) (hi t) (effective_numerator case s t) (d t s) threshold (transformer_at case t).high_volts (earthed_high (transformer_at case t).kind)
+          reaches (lo t) (hi t) (effective_numerator case s t) (effective_denominator case t s) threshold (transformer_at case t).high_volts (earthed_high (transformer_at case t).kind)
           verdict (held t within s solves).above_lo;
       undecided = λ t within verdict.
           undecided (lo t) (hi t) threshold (transformer_at case t).high_volts (earthed_high (transformer_at case t).kind) verdict;

@@ -1,4 +1,3 @@
 pub mod FieldText
 pub mod RightField
-pub mod RoomFor
 pub mod Determines

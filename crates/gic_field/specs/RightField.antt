@@ -1,13 +1,9 @@
 -- What a report of one field has to say.
-use Rattle.std.specs.Prelude.{◌≡◌, ℕ, ◌*◌, ◌<◌, ◌≤◌, List, length, replicate, ℤ, pos, ◌<ℤ◌, ◌≤ℤ◌, unsigned_abs}
+use Rattle.std.specs.Prelude.{◌≡◌, ℕ, ◌*◌, ◌<◌, ◌≤◌, List, length, ℤ, pos, ◌<ℤ◌, ◌≤ℤ◌, unsigned_abs}
 use Rattle.gic_case.specs.Lists.{Lists}
 use Rattle.gic_fixed.specs.Encloses.{EnclosesAbsolute}
 use Rattle.gic_model.specs.Solution.{Solution, IsSolution}
 use Rattle.gic_model.specs.Sums.{Placed}
-use Rattle.gic_model.specs.Voltages.{number_at}
-use Rattle.gic_induce.specs.LineVolts.{volts_of}
-use Rattle.gic_winding.specs.ElementList.{elements_of}
-use Rattle.gic_winding.specs.Weights.{transformer_at}
 use Rattle.gic_view.specs.View.{View, effective_at}
 use Rattle.gic_fixed.specs.Ends.{Ends}
 use Rattle.gic_effective.specs.Weighted.{effective_numerator}
@@ -21,26 +17,16 @@ use Rattle.gic_field.specs.FieldText.{field_report}
 use Rattle.gic_question.specs.declared.asked.Question.{Question}
 use Rattle.gic_stand.specs.declared.inputs.Inputs.{Inputs}
 use Rattle.gic_stand.specs.Standing.{standing_of}
+use Rattle.gic_uniform.specs.Denominator.{effective_denominator}
+use Rattle.gic_uniform.specs.Uniform.{uniform_volts}
 
--- one field for all zones of a case: north and east in mV/km
-abbrev pub uniform_field : Lists → ℤ → ℤ → List (ℤ × ℤ)
-uniform_field case north east = replicate (length case.zones) (north, east)
-
--- the voltages in nanovolts that it induces in the elements of the case, by their places
-abbrev pub uniform_volts : Lists → ℤ → ℤ → ℕ → ℤ
-uniform_volts case north east = number_at (volts_of case (uniform_field case north east) (elements_of case).list)
-
--- those of the field that is asked for
+-- the voltages in nanovolts of the field that is asked for, in the elements of the case, by their places
 abbrev pub asked_volts : Inputs → ℕ → ℤ
 asked_volts inputs = uniform_volts inputs.case inputs.question.north inputs.question.east
 
 -- the text of a report of this view
 abbrev pub field_text : Lists → Question → View → List ℕ
 field_text case q shown = lines_text (field_report case q.north q.east q.width (threshold_of q.event) shown)
-
--- what `effective_numerator` is to be divided by: 3000000 times the voltage of the transformer's high side and the solution's denominator give mA per phase
-abbrev pub effective_denominator : Lists → (t : ℕ) → Solution → ℕ
-effective_denominator case t s = 3000000 * (transformer_at case t).high_volts * s.denominator
 
 -- the absolute interval of each transformer holds its absolute effective current in every solution, and is no wider than asked
 pub record AreRightAbsolutes (case : Lists) (standing : List Placed) (volts : ℕ → ℤ) (width : ℕ) (view : View) : Type 0 where

@@ -3,9 +3,6 @@
 
 pub mod laws;
 mod mode;
-mod room;
-mod solving;
 mod text;
-mod uniform;
 
 pub use mode::field;

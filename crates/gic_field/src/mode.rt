@@ -6,27 +6,27 @@ ghost use Rattle.gic_base.specs.Pieces.{AppendsPart};
 ghost use Rattle.gic_model.specs.Voltages.{number_at};
 ghost use Rattle.gic_net.specs.Net.{standing};
 ghost use Rattle.gic_winding.specs.ElementList.{elements_of};
+ghost use Rattle.gic_effective.specs.ViewLengths.{HasViewLengths};
 ghost use Rattle.gic_report.specs.Fits.{HasAbsolute};
 ghost use Rattle.gic_question.specs.Ranges.{IsWithinRanges};
 ghost use Rattle.gic_stand.specs.Needs.{Solved};
 ghost use Rattle.gic_stand.specs.Serves.{Serves, shown};
 ghost use Rattle.gic_stand.specs.Standing.{steps_of};
 ghost use Rattle.gic_stand.specs.declared.fault.ReportFault.TheVariants.{Memory};
+ghost use Rattle.gic_uniform.specs.Solving.{IsRoomFor};
 ghost use Rattle.gic_field.specs.RightField.{field_text, ShowsRightView, IsRightField};
-ghost use Rattle.gic_field.specs.RoomFor.{IsRoomFor};
 
-use crate::room::{Room, make_room};
-use crate::solving::solve_view;
 use crate::text::{Setting, write_field};
-use crate::uniform::uniform_volts;
 use gic_base::{Sink, WriteFailed};
 use gic_case::Case;
+use gic_effective::view_of_case;
 use gic_model::Volts;
 use gic_net::Net;
 use gic_question::Question;
 use gic_screen::laws::verdict_law;
 use gic_stand::{Inputs, ReportFault, ended, standing_net};
 use gic_text::LineBuilder;
+use gic_uniform::{Room, expect_solvable, make_room, solve_view, uniform_volts};
 use gic_view::StepView;
 use gic_winding::elements;
 use std::alloc::Global;
@@ -63,6 +63,7 @@ fn field_net<S: Sink>(
     volts: &Volts,
     question: &Question,
     room: &mut Room,
+    view: &mut StepView,
     line: &mut LineBuilder,
     out: &mut S,
 ) -> Result<(), ReportFault>
@@ -70,6 +71,7 @@ fn field_net<S: Sink>(
     requires volts { length volts.now ≡ length net.now.network.list }
     requires ranges { IsWithinRanges question.now }
     requires room { IsRoomFor case.now room.old }
+    requires view { HasViewLengths case.now view.old }
     ensures serves { Serves Solved case.now (standing net.now ∷ [])
         (ShowsRightView case.now (standing net.now) (number_at volts.now) question.now)
         (shown S.written S.faults out.old) (shown S.written S.faults out.new) result }
@@ -77,8 +79,9 @@ fn field_net<S: Sink>(
 {
     verdict_law();
     case.keeps_rules();
-    solve_view(case, net, volts, question.width, room)?;
-    let writing = write_view(case, question, &room.view, line, out);
+    expect_solvable(case, net, room)?;
+    solve_view(case, net, volts, question.width, room, view);
+    let writing = write_view(case, question, view, line, out);
     ended(writing)
 }
 
@@ -96,5 +99,8 @@ pub fn field<S: Sink>(alloc: Global, inputs: &Inputs, out: &mut S) -> Result<(),
     let net = standing_net(alloc, &elements, &inputs.switchings)?;
     let volts = uniform_volts(alloc, case, &elements, question.north, question.east)?;
     let mut room = make_room(alloc, case, &net)?;
-    field_net(case, &net, &volts, question, &mut room, &mut line, out)
+    let mut view = view_of_case(alloc, case, &net)?;
+    field_net(
+        case, &net, &volts, question, &mut room, &mut view, &mut line, out,
+    )
 }

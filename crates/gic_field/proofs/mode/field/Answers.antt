@@ -9,8 +9,8 @@ use Rattle.gic_winding.specs.ElementList.{elements_of}
 use Rattle.gic_stand.specs.Needs.{Solved}
 use Rattle.gic_stand.specs.Serves.{Serves, shown}
 use Rattle.gic_stand.specs.Standing.{rows_in, standing_of}
+use Rattle.gic_uniform.proofs.UniformFields.{same_field}
 use Rattle.gic_field.specs.RightField.{asked_volts, ShowsRightView}
-use Rattle.gic_field.proofs.UniformFields.{same_field}
 use Rattle.gic_field.proofs.mode.field.Goals as goal
 
 pub returns : goal.returns

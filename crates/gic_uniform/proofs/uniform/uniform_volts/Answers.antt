@@ -2,9 +2,9 @@ use Rattle.std.proofs.Common.{◌≡◌, List, All, ap, sym, subst, ◌∙◌}
 use Rattle.gic_model.specs.declared.parts.Element.{Element}
 use Rattle.gic_model.specs.Network.{Network}
 use Rattle.gic_induce.specs.LineVolts.{volts_of, IsLineWithin}
-use Rattle.gic_field.specs.RightField.{uniform_field}
-use Rattle.gic_field.proofs.UniformFields.{same_field}
-use Rattle.gic_field.proofs.uniform.uniform_volts.Goals as goal
+use Rattle.gic_uniform.specs.Uniform.{uniform_field}
+use Rattle.gic_uniform.proofs.UniformFields.{same_field}
+use Rattle.gic_uniform.proofs.uniform.uniform_volts.Goals as goal
 
 pub fill_volts-requires-clause-lines : goal.fill_volts-requires-clause-lines
 fill_volts-requires-clause-lines c =

@@ -1,5 +1,5 @@
-//! A network, solved.
-ghost use Rattle.std.specs.Prelude.{◌≡◌, ◌<◌, All, length, slice_index, IfErr, OnOk};
+//! A network, looked at once and then solved in any voltages.
+ghost use Rattle.std.specs.Prelude.{◌≡◌, ◌<◌, length, slice_index, IfErr, OnOk};
 ghost use Rattle.gic_base.specs.declared.limits.TheConstants.{MOST_WALK};
 ghost use Rattle.gic_model.specs.Voltages.{number_at};
 ghost use Rattle.gic_net.specs.Net.{standing};
@@ -7,24 +7,36 @@ ghost use Rattle.gic_bound.specs.Entries.{IsBoundWithin};
 ghost use Rattle.gic_enclose.specs.Solved.{IsSolvedWithin, IsWidth};
 ghost use Rattle.gic_enclose.specs.Together.{BelongTogether};
 ghost use Rattle.gic_winding.specs.ElementList.{elements_of};
-ghost use Rattle.gic_effective.specs.RightView.{IsRightView};
-ghost use Rattle.gic_effective.specs.Narrow.{IsNarrowView};
-ghost use Rattle.gic_report.specs.Fits.{HasAbsolute};
+ghost use Rattle.gic_effective.specs.ViewLengths.{HasViewLengths};
 ghost use Rattle.gic_stand.specs.Needs.{Solved, Fails};
-ghost use Rattle.gic_stand.specs.Standing.{IsSolvable};
-ghost use Rattle.gic_field.specs.RoomFor.{IsRoomFor};
+ghost use Rattle.gic_uniform.specs.Solving.{IsRoomFor, IsReadyFor, IsSolvedView};
 
 use crate::room::Room;
 use gic_bound::BoundVector;
 use gic_case::Case;
 use gic_effective::fill_view;
 use gic_enclose::{Potentials, solve};
+use gic_exists::laws::existence_law;
 use gic_model::Volts;
+use gic_model::laws::potential_law;
 use gic_net::Net;
 use gic_stand::{NetworkRefusal, expect_earthed, expect_resolved};
 use gic_sweep::{Solver, Steps};
+use gic_view::StepView;
 use std::marker::Brand;
 use std::sync::ledger::{Blank, Ledger};
+
+/// Whether the network of a case can be solved; a refusal names the step 1. Its least capped vector is left in the room, for
+/// every solve. Takes no memory.
+pub fn expect_solvable(case: &Case, net: &Net, room: &mut Room) -> Result<(), NetworkRefusal>
+    requires net { net.now.network ≡ elements_of case.now }
+    requires room { IsRoomFor case.now room.old }
+    ensures ready { OnOk result (IsReadyFor case.now (standing net.now) room.new) }
+    ensures err { IfErr result (Fails Solved case.now 1 (standing net.now)) }
+{
+    expect_earthed(case, net, 1, &mut room.scratch)?;
+    expect_resolved(case, net, 1, &mut room.vector)
+}
 
 /// Solves the network in these voltages, as `solve` does, and counts none of its steps.
 fn solve_uncounted<L: Ledger>(
@@ -49,27 +61,28 @@ fn solve_uncounted<L: Ledger>(
     solve(net, volts, vector, width, solver, out, &mut steps);
 }
 
-/// Fills the view of the network of a case in these voltages, in intervals no wider than `width`, where it can be solved.
-/// Takes no memory.
-pub(crate) fn solve_view(
+/// Fills a view of the network of a case in these voltages, in intervals no wider than `width` mV or mA. Takes no memory.
+pub fn solve_view(
     case: &Case,
     net: &Net,
     volts: &Volts,
     width: u32,
     room: &mut Room,
-) -> Result<(), NetworkRefusal>
+    view: &mut StepView,
+)
     requires net { net.now.network ≡ elements_of case.now }
     requires volts { length volts.now ≡ length net.now.network.list }
     requires width { IsWidth width }
-    requires room { IsRoomFor case.now room.old }
-    ensures right { OnOk result (IsRightView case.now (standing net.now) (number_at volts.now) room.new.view) }
-    ensures narrow { OnOk result (IsNarrowView case.now width room.new.view) }
-    ensures absolutes { OnOk result (All HasAbsolute room.new.view.effective) }
-    ensures solvable { OnOk result (IsSolvable (standing net.now)) }
-    ensures err { IfErr result (Fails Solved case.now 1 (standing net.now)) }
+    requires ready { IsReadyFor case.now (standing net.now) room.old }
+    requires view { HasViewLengths case.now view.old }
+    ensures solved { IsSolvedView case.now (standing net.now) (number_at volts.now) width view.new }
+    ensures ready { IsReadyFor case.now (standing net.now) room.new }
 {
-    expect_earthed(case, net, 1, &mut room.scratch)?;
-    expect_resolved(case, net, 1, &mut room.vector)?;
+    existence_law();
+    potential_law();
+    case.keeps_rules();
+    net.within_limits();
+    volts.within_limit();
     solve_uncounted::<Brand>(
         net,
         volts,
@@ -79,6 +92,5 @@ pub(crate) fn solve_view(
         &mut room.potentials,
         Blank::new(1),
     );
-    fill_view(case, net, volts, &room.potentials, &mut room.view);
-    Ok(())
+    fill_view(case, net, volts, &room.potentials, view);
 }

@@ -1,32 +1,29 @@
 //! What a solve writes to.
 ghost use Rattle.std.specs.Prelude.{◌≡◌, IfOk};
 ghost use Rattle.gic_winding.specs.ElementList.{elements_of};
-ghost use Rattle.gic_field.specs.RoomFor.{IsRoomFor};
+ghost use Rattle.gic_uniform.specs.Solving.{IsRoomFor};
 
 use gic_base::OutOfMemory;
 use gic_bound::BoundVector;
 use gic_case::Case;
-use gic_effective::view_of_case;
 use gic_enclose::Potentials;
 use gic_island::Scratch;
 use gic_net::Net;
 use gic_sweep::Solver;
-use gic_view::StepView;
 use std::alloc::Global;
 
-/// What a solve writes to. It is made before the network is looked at.
+/// What a solve writes to besides its view. It is made before the network is looked at.
 #[derive(Drop)]
-pub(crate) struct Room {
+pub struct Room {
     pub(crate) scratch: Scratch,
     pub(crate) vector: BoundVector,
     pub(crate) solver: Solver,
     pub(crate) potentials: Potentials,
-    pub(crate) view: StepView,
 }
 
 /// Room for the network of a case.
 #[tactic(auto, using(gic_stand::proofs::Rooms::room_for))]
-pub(crate) fn make_room(alloc: Global, case: &Case, net: &Net) -> Result<Room, OutOfMemory>
+pub fn make_room(alloc: Global, case: &Case, net: &Net) -> Result<Room, OutOfMemory>
     requires { net.now.network ≡ elements_of case.now }
     ensures { IfOk result (IsRoomFor case.now) }
 {
@@ -35,12 +32,10 @@ pub(crate) fn make_room(alloc: Global, case: &Case, net: &Net) -> Result<Room, O
     let vector = BoundVector::new(alloc, nodes)?;
     let solver = Solver::new(alloc, nodes)?;
     let potentials = Potentials::new(alloc, nodes)?;
-    let view = view_of_case(alloc, case, net)?;
     Ok(Room {
         scratch,
         vector,
         solver,
         potentials,
-        view,
     })
 }

@@ -3,7 +3,7 @@ ghost use Rattle.std.specs.Prelude.{◌≡◌, IfOk};
 ghost use Rattle.gic_induce.specs.LineVolts.{volts_of};
 ghost use Rattle.gic_induce.specs.Voltage.{IsFieldWithin};
 ghost use Rattle.gic_winding.specs.ElementList.{elements_of};
-ghost use Rattle.gic_field.specs.RightField.{uniform_field};
+ghost use Rattle.gic_uniform.specs.Uniform.{uniform_field};
 
 use gic_base::OutOfMemory;
 use gic_case::Case;
@@ -27,7 +27,7 @@ fn uniform_field(alloc: Global, case: &Case, north: i32, east: i32) -> Result<Fi
 }
 
 /// The voltages of the elements of a case in one field for all zones, in nanovolts.
-pub(crate) fn uniform_volts(
+pub fn uniform_volts(
     alloc: Global,
     case: &Case,
     elements: &Elements,

@@ -1,0 +1,4 @@
+pub mod UniformFields
+pub mod FewCurrents
+pub mod SmallEnds
+pub mod Denominators

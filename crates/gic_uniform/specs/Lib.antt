@@ -1,0 +1,3 @@
+pub mod Uniform
+pub mod Denominator
+pub mod Solving
