@@ -1,0 +1,2 @@
+pub mod RightRows
+pub mod ScreenDetermined

@@ -1,0 +1,123 @@
+-- The text of the report determines what it shows.
+use Rattle.std.proofs.Common.{◌≡◌, ◌∙◌, ℕ, ◌<◌, ◌^◌, List, [], ◌∷◌, ◌++◌, map, length, drop, take, get_or, ℤ, FitsSigned, w32, refl, ap, arith}
+use Rattle.std.specs.Prelude.{codes}
+use Rattle.std.specs.List.{AllByRecursion}
+use Rattle.std.proofs.lemmas.List.Elements.{recursion_from_All}
+use Rattle.gic_text.specs.Words.{IsWord, IsLine}
+use Rattle.gic_text.proofs.Injective.{lines_injective}
+use Rattle.gic_text.proofs.Words.{word_from_test, word_decimal, word_signed, signed_decimal_injective_wide}
+use Rattle.gic_case.specs.declared.item.Transformer.{Transformer}
+use Rattle.gic_fixed.specs.Ends.{Ends}
+use Rattle.gic_screen.specs.declared.criterion.Verdict.{Verdict}
+use Rattle.gic_screen.specs.declared.criterion.Verdict.TheVariants.{Below, Reaches, Undecided, Outside}
+use Rattle.gic_report.specs.SharedLines.{Words, word_line}
+use Rattle.gic_report.specs.VerdictText.{verdict_word}
+use Rattle.gic_report.proofs.CaseNames.{transformer_names}
+use Rattle.gic_report.proofs.ViewDetermined.{ends_words, same_ends, same_natural}
+use Rattle.gic_screen_mode.specs.Rows.{Row}
+use Rattle.gic_screen_mode.specs.ScreenText.{row_line, screen_report, setting_line, transformer_line, transformer_lines, worst_verdict}
+use Rattle.gic_screen_mode.specs.Determines.{IsRowInRange, TextDeterminesScreen}
+
+-- the word at a place of a line, and the first line
+abbrev word_at : Words → ℕ → List ℕ
+word_at ws k = get_or ws k []
+
+abbrev first_of_lines : List Words → Words
+first_of_lines ls = get_or ls 0 []
+
+verdict_is_word : (v : Verdict) → IsWord (verdict_word v)
+verdict_is_word Below = word_from_test (codes "below") refl
+verdict_is_word Reaches = word_from_test (codes "reaches") refl
+verdict_is_word Undecided = word_from_test (codes "undecided") refl
+verdict_is_word Outside = word_from_test (codes "outside") refl
+
+-- the line of a row is one
+row_is_line : (name : List ℕ) (row : Row) (said : Verdict) → IsWord name → IsRowInRange row → IsLine (row_line name row said)
+unfolding row_line
+row_is_line name row said n fits =
+    let north = ends_words row.north fits.north_fits in
+    let east = ends_words row.east fits.east_fits in
+    let worst = ends_words row.worst fits.worst_fits in (
+      word_from_test (codes "transformer") refl,
+      (
+        n,
+        (
+          word_from_test (codes "north") refl,
+          (
+            north.0,
+            (
+              north.1.0,
+              (
+                word_from_test (codes "east") refl,
+                (east.0, (east.1.0, (word_from_test (codes "worst") refl, (worst.0, (worst.1.0, (verdict_is_word said, tt)))))),
+              ),
+            ),
+          ),
+        ),
+      ),
+    )
+
+are_lines : (threshold : ℕ) (ts : List Transformer) (rows : List Row) → AllByRecursion IsWord (map (λ t. t.name) ts) → AllByRecursion IsRowInRange rows
+    → AllByRecursion IsLine (transformer_lines threshold ts rows ++ word_line (codes "end") ∷ [])
+are_lines threshold [] rows names h = ((word_from_test (codes "end") refl, tt), tt)
+are_lines threshold (t ∷ ts) [] names h = ((word_from_test (codes "end") refl, tt), tt)
+are_lines threshold (t ∷ ts) (row ∷ rows) names h = (row_is_line t.name row (worst_verdict threshold t row.worst) names.0 h.0, are_lines threshold ts rows names.1 h.1)
+
+setting_words : (width threshold : ℕ) (field : ℤ) → width < 2 ^ 32 → threshold < 2 ^ 32 → FitsSigned w32 field → IsLine (setting_line width threshold field)
+setting_words width threshold field w t f = (
+  word_from_test (codes "width") refl,
+  (
+    word_decimal width (omega (arith, w)),
+    (word_from_test (codes "threshold") refl, (word_decimal threshold (omega (arith, t)), (word_from_test (codes "field") refl, (word_signed field (omega (arith, f.sfits)), tt)))),
+  ),
+)
+
+-- the line of a row determines it
+abbrev pair_at : Words → ℕ → Words
+pair_at ws k = take 2 (drop k ws)
+
+abbrev row_with : Ends → Ends → Ends → Row
+row_with a b c = record { north = a; east = b; worst = c }
+
+same_row : (name : List ℕ) (row other : Row) (said told : Verdict) → IsRowInRange row → IsRowInRange other → row_line name row said ≡ row_line name other told → row ≡ other
+unfolding row_line
+same_row name row other said told h k e =
+    let north = same_ends row.north other.north h.north_fits k.north_fits (ap (λ ws. pair_at ws 3) e) in
+    let east = same_ends row.east other.east h.east_fits k.east_fits (ap (λ ws. pair_at ws 6) e) in
+    let worst = same_ends row.worst other.worst h.worst_fits k.worst_fits (ap (λ ws. pair_at ws 9) e) in
+    ap (λ a. row_with a row.east row.worst) north ∙ ap (λ b. row_with other.north b row.worst) east ∙ ap (λ c. row_with other.north other.east c) worst
+
+-- the lines of the transformers determine the rows
+same_lines : (threshold threshold' : ℕ) (ts : List Transformer) (xs ys : List Row) → length xs ≡ length ts → length ys ≡ length ts → AllByRecursion IsRowInRange xs → AllByRecursion IsRowInRange ys
+    → transformer_lines threshold ts xs ++ word_line (codes "end") ∷ [] ≡ transformer_lines threshold' ts ys ++ word_line (codes "end") ∷ [] → xs ≡ ys
+same_lines threshold threshold' [] [] [] p q h k e = refl
+same_lines threshold threshold' [] [] (y ∷ ys) p q h k e = absurd (omega (arith, q))
+same_lines threshold threshold' [] (x ∷ xs) ys p q h k e = absurd (omega (arith, p))
+same_lines threshold threshold' (t ∷ ts) [] ys p q h k e = absurd (omega (arith, p))
+same_lines threshold threshold' (t ∷ ts) (x ∷ xs) [] p q h k e = absurd (omega (arith, q))
+same_lines threshold threshold' (t ∷ ts) (x ∷ xs) (y ∷ ys) p q h k e =
+    let both : transformer_line threshold t x ∷ (transformer_lines threshold ts xs ++ word_line (codes "end") ∷ []) ≡ transformer_line threshold' t y ∷ (transformer_lines threshold' ts ys ++ word_line (codes "end") ∷ []) = e in
+    let line : transformer_line threshold t x ≡ transformer_line threshold' t y = cc in
+    let later : transformer_lines threshold ts xs ++ word_line (codes "end") ∷ [] ≡ transformer_lines threshold' ts ys ++ word_line (codes "end") ∷ [] = cc in
+    let here = same_row t.name x y (worst_verdict threshold t x.worst) (worst_verdict threshold' t y.worst) h.0 k.0 line in
+    let more = same_lines threshold threshold' ts xs ys (omega (arith, p)) (omega (arith, q)) h.1 k.1 later in
+    ap (λ z. z ∷ xs) here ∙ ap (λ zs. y ∷ zs) more
+
+-- the text of the report determines all that it shows
+pub report_determined : TextDeterminesScreen
+report_determined case named width threshold field rows width' threshold' field' rows' p q e =
+    let ts = case.transformers in
+    let fit = recursion_from_All IsRowInRange rows p.rows_fit in
+    let fit' = recursion_from_All IsRowInRange rows' q.rows_fit in
+    let names = transformer_names case named in
+    let words = lines_injective (screen_report ts width threshold field rows) (screen_report ts width' threshold' field' rows')
+    ((word_from_test (codes "screen") refl, tt), (setting_words width threshold field p.width_fits p.threshold_fits p.field_fits, are_lines threshold ts rows names fit))
+    ((word_from_test (codes "screen") refl, tt), (setting_words width' threshold' field' q.width_fits q.threshold_fits q.field_fits, are_lines threshold' ts rows' names fit')) e in
+    let setting : setting_line width threshold field ≡ setting_line width' threshold' field' = ap (λ ls. first_of_lines ls) (ap (drop 1) words) in
+    let later : transformer_lines threshold ts rows ++ word_line (codes "end") ∷ [] ≡ transformer_lines threshold' ts rows' ++ word_line (codes "end") ∷ [] = ap (drop 2) words in
+    record {
+      same_width = same_natural width width' p.width_fits q.width_fits (ap (λ ws. word_at ws 1) setting);
+      same_threshold = same_natural threshold threshold' p.threshold_fits q.threshold_fits (ap (λ ws. word_at ws 3) setting);
+      same_field = signed_decimal_injective_wide field field' (omega (arith, p.field_fits.sfits)) (omega (arith, q.field_fits.sfits)) (ap (λ ws. word_at ws 5) setting);
+      same_rows = same_lines threshold threshold' ts rows rows' p.count q.count fit fit' later;
+    }

@@ -1,0 +1,5 @@
+pub mod Rows
+pub mod ScreenText
+pub mod RightScreen
+pub mod Screening
+pub mod Determines

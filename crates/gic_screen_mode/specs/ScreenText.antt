@@ -1,0 +1,43 @@
+-- The report of the currents of transformers for the worst orientation of an event's field.
+use Rattle.std.specs.Prelude.{ℕ, ℤ, List, [], ◌∷◌, ◌++◌, codes, decimal}
+use Rattle.std.specs.Fmt.{signed_decimal}
+use Rattle.gic_case.specs.declared.item.Transformer.{Transformer}
+use Rattle.gic_fixed.specs.Ends.{Ends}
+use Rattle.gic_screen.specs.declared.criterion.Verdict.{Verdict}
+use Rattle.gic_screen.specs.Verdict.{verdict_of}
+use Rattle.gic_report.specs.SharedLines.{Words, word_line}
+use Rattle.gic_report.specs.VerdictText.{earthed_high, verdict_word}
+use Rattle.gic_screen_mode.specs.Rows.{Row}
+
+-- the line of what is asked: the width, the threshold in mA, and the strength of the field in mV/km
+abbrev pub setting_line : (width threshold : ℕ) → (field : ℤ) → Words
+setting_line width threshold field =
+    codes "width" ∷ decimal width ∷ codes "threshold" ∷ decimal threshold ∷ codes "field" ∷ signed_decimal field ∷ []
+
+-- the verdict on a transformer whose current for the worst orientation is in this interval, against a threshold in mA
+abbrev pub worst_verdict : (threshold : ℕ) → Transformer → Ends → Verdict
+worst_verdict threshold t worst = verdict_of worst.low worst.high threshold t.high_volts (earthed_high t.kind)
+
+-- the line of a row: the transformer's name, the three intervals, and the verdict
+unfoldable pub row_line : (name : List ℕ) → Row → Verdict → Words
+row_line name row said =
+    codes "transformer" ∷ name
+    ∷ codes "north" ∷ signed_decimal row.north.low ∷ signed_decimal row.north.high
+    ∷ codes "east" ∷ signed_decimal row.east.low ∷ signed_decimal row.east.high
+    ∷ codes "worst" ∷ signed_decimal row.worst.low ∷ signed_decimal row.worst.high
+    ∷ verdict_word said ∷ []
+
+-- the line of a transformer, by its row
+abbrev pub transformer_line : (threshold : ℕ) → Transformer → Row → Words
+transformer_line threshold t row = row_line t.name row (worst_verdict threshold t row.worst)
+
+-- per transformer
+abbrev pub transformer_lines : (threshold : ℕ) → List Transformer → List Row → List Words
+transformer_lines threshold [] rows = []
+transformer_lines threshold (t ∷ ts) [] = []
+transformer_lines threshold (t ∷ ts) (row ∷ rows) = transformer_line threshold t row ∷ transformer_lines threshold ts rows
+
+-- the lines of the report
+abbrev pub screen_report : List Transformer → (width threshold : ℕ) → (field : ℤ) → List Row → List Words
+screen_report transformers width threshold field rows =
+    word_line (codes "screen") ∷ setting_line width threshold field ∷ (transformer_lines threshold transformers rows ++ word_line (codes "end") ∷ [])

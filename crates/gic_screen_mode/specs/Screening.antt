@@ -1,0 +1,38 @@
+-- What a screen needs, and what it leaves. For the contracts of this crate.
+use Rattle.std.specs.Prelude.{◌≡◌, ℕ, ◌<◌, List, length, ℤ, pos, ◌≤ℤ◌}
+use Rattle.gic_case.specs.Lists.{Lists}
+use Rattle.gic_effective.specs.ViewLengths.{HasViewLengths}
+use Rattle.gic_induce.specs.LineVolts.{volts_of}
+use Rattle.gic_model.specs.Sums.{Placed}
+use Rattle.gic_screen.specs.declared.event.Event.{Event}
+use Rattle.gic_screen.specs.Event.{field_of}
+use Rattle.gic_winding.specs.ElementList.{elements_of}
+use Rattle.gic_uniform.specs.Solving.{IsRoomFor}
+use Rattle.gic_uniform.specs.Uniform.{uniform_field}
+use Rattle.gic_screen_mode.specs.declared.fields.FieldVolts.{FieldVolts}
+use Rattle.gic_screen_mode.specs.declared.screening.ScreenRoom.{ScreenRoom}
+use Rattle.gic_screen_mode.specs.Rows.{Row, row_at}
+use Rattle.gic_screen_mode.specs.RightScreen.{IsRightRow}
+
+-- the voltages of a case's elements in the field of an event, to the north and to the east
+pub record AreOfEvent (case : Lists) (event : Event) (volts : FieldVolts) : Type 0 where
+  pub in_north : volts.north ≡ volts_of case (uniform_field case (field_of event) (pos 0)) (elements_of case).list
+  pub in_east : volts.east ≡ volts_of case (uniform_field case (pos 0) (field_of event)) (elements_of case).list
+
+-- a voltage for each of so many elements
+pub record AreVoltsFor (count : ℕ) (volts : FieldVolts) : Type 0 where
+  pub north_count : length volts.north ≡ count
+  pub east_count : length volts.east ≡ count
+
+-- there is room for each node, element and transformer of the case
+pub record IsScreenRoomFor (case : Lists) (room : ScreenRoom) : Type 0 where
+  pub solving : IsRoomFor case room.solving
+  pub north_view : HasViewLengths case room.north
+  pub east_view : HasViewLengths case room.east
+  pub row_count : length room.rows ≡ length case.transformers
+
+-- one right row a transformer, the ends of its worst interval in order
+pub record AreScreened (case : Lists) (standing : List Placed) (north east : ℕ → ℤ) (width : ℕ) (rows : List Row) : Type 0 where
+  pub count : length rows ≡ length case.transformers
+  pub right : (t : ℕ) → t < length case.transformers → IsRightRow case standing north east width t (row_at rows t)
+  pub in_order : (t : ℕ) → t < length case.transformers → (row_at rows t).worst.low ≤ℤ (row_at rows t).worst.high

@@ -1,0 +1,98 @@
+//! The transformers of a network, screened in two fields.
+ghost use Rattle.std.specs.Prelude.{◌≡◌, ◌/◌, ◌≤◌, length, IfErr, IfOk, OnOk};
+ghost use Rattle.gic_model.specs.Voltages.{number_at};
+ghost use Rattle.gic_net.specs.Net.{standing};
+ghost use Rattle.gic_winding.specs.ElementList.{elements_of};
+ghost use Rattle.gic_stand.specs.Needs.{Solved, Fails};
+ghost use Rattle.gic_stand.specs.Standing.{IsSolvable};
+ghost use Rattle.gic_screen_mode.specs.Screening.{IsScreenRoomFor, AreVoltsFor, AreScreened};
+
+use crate::fields::FieldVolts;
+use crate::rows::{ScreenRows, fill_rows};
+use gic_base::OutOfMemory;
+use gic_case::Case;
+use gic_effective::view_of_case;
+use gic_net::Net;
+use gic_stand::NetworkRefusal;
+use gic_uniform::{Room, expect_solvable, make_room, solve_view};
+use gic_view::StepView;
+use std::alloc::Global;
+
+/// What a screen writes to. It is made before the network is looked at.
+#[derive(Drop)]
+pub(crate) struct ScreenRoom {
+    pub(crate) solving: Room,
+    pub(crate) north: StepView,
+    pub(crate) east: StepView,
+    pub(crate) rows: ScreenRows,
+}
+
+/// Room for the network of a case.
+#[tactic(auto, using(gic_stand::proofs::Rooms::room_for))]
+pub(crate) fn make_screen_room(
+    alloc: Global,
+    case: &Case,
+    net: &Net,
+) -> Result<ScreenRoom, OutOfMemory>
+    requires { net.now.network ≡ elements_of case.now }
+    ensures { IfOk result (IsScreenRoomFor case.now) }
+{
+    let solving = make_room(alloc, case, net)?;
+    let north = view_of_case(alloc, case, net)?;
+    let east = view_of_case(alloc, case, net)?;
+    let rows = ScreenRows::new(alloc, case.transformers().len())?;
+    Ok(ScreenRoom {
+        solving,
+        north,
+        east,
+        rows,
+    })
+}
+
+/// The width to which a network is solved, so that no interval of a row is wider than `width`: a worst interval may be
+/// twice as wide as the two that it is made of.
+fn solved_width(width: u32) -> u32
+    ensures { result ≡ width / 2 }
+{
+    width / 2
+}
+
+/// Fills the rows of the transformers of a case, in intervals no wider than `width` mA, where its network can be solved.
+/// Takes no memory.
+pub(crate) fn screen_net(
+    case: &Case,
+    net: &Net,
+    volts: &FieldVolts,
+    width: u32,
+    room: &mut ScreenRoom,
+) -> Result<(), NetworkRefusal>
+    requires net { net.now.network ≡ elements_of case.now }
+    requires volts { AreVoltsFor (length net.now.network.list) volts.now }
+    requires least { 10 ≤ width }
+    requires most { width ≤ 10000 }
+    requires room { IsScreenRoomFor case.now room.old }
+    ensures right { OnOk result (AreScreened case.now (standing net.now) (number_at volts.now.north) (number_at volts.now.east) width room.new.rows) }
+    ensures solvable { OnOk result (IsSolvable (standing net.now)) }
+    ensures err { IfErr result (Fails Solved case.now 1 (standing net.now)) }
+{
+    expect_solvable(case, net, &mut room.solving)?;
+    let half = solved_width(width);
+    solve_view(
+        case,
+        net,
+        &volts.north,
+        half,
+        &mut room.solving,
+        &mut room.north,
+    );
+    solve_view(
+        case,
+        net,
+        &volts.east,
+        half,
+        &mut room.solving,
+        &mut room.east,
+    );
+    fill_rows(&room.north, &room.east, &mut room.rows);
+    Ok(())
+}

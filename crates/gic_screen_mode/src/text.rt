@@ -1,0 +1,145 @@
+//! The report of the currents for the worst orientation of an event's field.
+ghost use Rattle.std.specs.Prelude.{◌≡◌, ◌+◌, ◌≤◌, ◌∷◌, length, map, OnOk};
+ghost use Rattle.std.specs.Io.KnownBytes.{Appends};
+ghost use Rattle.gic_base.specs.Causes.{HasCause};
+ghost use Rattle.gic_base.specs.Pieces.{AppendsPart};
+ghost use Rattle.gic_fixed.specs.Ends.{ends_of};
+ghost use Rattle.gic_text.specs.Lines.{with_words, line_text, lines_text};
+ghost use Rattle.gic_report.specs.ItemText.{ends_words};
+ghost use Rattle.gic_screen_mode.specs.Rows.{row_of};
+ghost use Rattle.gic_screen_mode.specs.ScreenText.{setting_line, row_line, transformer_line, transformer_lines, screen_report};
+
+use crate::rows::ScreenRow;
+use gic_base::{Name, Sink, WriteFailed, write_all};
+use gic_case::Transformer;
+use gic_fixed::Interval;
+use gic_report::{add_ends, add_verdict, earthed_high, write_word};
+use gic_screen::{Verdict, verdict};
+use gic_text::LineBuilder;
+
+/// What is asked: the width of intervals in mA, the threshold in mA per phase, and the strength of the field in mV/km.
+#[derive(Clone, Copy, Debug)]
+pub(crate) struct Setting {
+    pub(crate) width: u32,
+    pub(crate) threshold: u32,
+    pub(crate) field: i32,
+}
+
+/// Writes the line of what is asked.
+#[tactic(auto, using(gic_text::proofs::Sizes::line_room))]
+fn write_setting<S: Sink>(
+    setting: &Setting,
+    line: &mut LineBuilder,
+    out: &mut S,
+) -> Result<(), WriteFailed>
+    ensures all { OnOk result (Appends (S.written out.old) (S.written out.new)
+        (line_text (setting_line setting.now.width setting.now.threshold setting.now.field))) }
+    ensures part { AppendsPart (S.written out.old) (S.written out.new)
+        (line_text (setting_line setting.now.width setting.now.threshold setting.now.field)) }
+    ensures cause { HasCause (S.faults out.old) (S.faults out.new) result }
+{
+    line.start();
+    line.word(b"width");
+    line.number(i128::from(setting.width));
+    line.word(b"threshold");
+    line.number(i128::from(setting.threshold));
+    line.word(b"field");
+    line.number(i128::from(setting.field));
+    write_all(out, line.finish())
+}
+
+/// Adds what an interval is of, in at most 5 bytes, and its two ends.
+#[tactic(auto, using(gic_text::proofs::Sizes::line_room))]
+fn add_current(of: &[u8], interval: Interval, line: &mut LineBuilder)
+    requires room { length line.old.bytes ≤ 300 }
+    requires short { length of.now ≤ 5 }
+    ensures words { line.new ≡ with_words line.old (of.now ∷ ends_words (ends_of interval)) }
+    ensures size { length line.new.bytes ≤ length line.old.bytes + 88 }
+{
+    line.word(of);
+    add_ends(interval, line);
+}
+
+/// Writes the line of a row and its verdict, by the transformer's name.
+#[tactic(auto, using(gic_text::proofs::Sizes::line_room), unfolding(crate::specs::ScreenText::row_line))]
+fn write_row<S: Sink>(
+    name: &Name,
+    row: &ScreenRow,
+    said: Verdict,
+    line: &mut LineBuilder,
+    out: &mut S,
+) -> Result<(), WriteFailed>
+    ensures all { OnOk result (Appends (S.written out.old) (S.written out.new)
+        (line_text (row_line name.now (row_of row.now) said))) }
+    ensures part { AppendsPart (S.written out.old) (S.written out.new)
+        (line_text (row_line name.now (row_of row.now) said)) }
+    ensures cause { HasCause (S.faults out.old) (S.faults out.new) result }
+{
+    line.start();
+    line.word(b"transformer");
+    line.word(name.as_bytes());
+    add_current(b"north", row.north, line);
+    add_current(b"east", row.east, line);
+    add_current(b"worst", row.worst, line);
+    add_verdict(said, line);
+    write_all(out, line.finish())
+}
+
+/// Writes the line of a transformer, with the verdict of its worst interval.
+fn write_transformer<S: Sink>(
+    transformer: &Transformer,
+    row: &ScreenRow,
+    threshold: u32,
+    line: &mut LineBuilder,
+    out: &mut S,
+) -> Result<(), WriteFailed>
+    ensures all { OnOk result (Appends (S.written out.old) (S.written out.new)
+        (line_text (transformer_line threshold transformer.now (row_of row.now)))) }
+    ensures part { AppendsPart (S.written out.old) (S.written out.new)
+        (line_text (transformer_line threshold transformer.now (row_of row.now))) }
+    ensures cause { HasCause (S.faults out.old) (S.faults out.new) result }
+{
+    let is_earthed = earthed_high(transformer.kind);
+    let said = verdict(row.worst, threshold, transformer.high_volts, is_earthed);
+    write_row(&transformer.name, row, said, line, out)
+}
+
+/// Writes a line for each transformer.
+fn write_transformers<S: Sink>(
+    transformers: &[Transformer],
+    rows: &[ScreenRow],
+    threshold: u32,
+    line: &mut LineBuilder,
+    out: &mut S,
+) -> Result<(), WriteFailed>
+    ensures all { OnOk result (Appends (S.written out.old) (S.written out.new)
+        (lines_text (transformer_lines threshold transformers.now (map row_of rows.now)))) }
+    ensures part { AppendsPart (S.written out.old) (S.written out.new)
+        (lines_text (transformer_lines threshold transformers.now (map row_of rows.now))) }
+    ensures cause { HasCause (S.faults out.old) (S.faults out.new) result }
+{
+    for (transformer, row) in transformers.iter().zip(rows) {
+        write_transformer(transformer, row, threshold, line, out)?;
+    }
+    Ok(())
+}
+
+/// Writes the whole report.
+pub(crate) fn write_screen<S: Sink>(
+    transformers: &[Transformer],
+    setting: &Setting,
+    rows: &[ScreenRow],
+    line: &mut LineBuilder,
+    out: &mut S,
+) -> Result<(), WriteFailed>
+    ensures all { OnOk result (Appends (S.written out.old) (S.written out.new)
+        (lines_text (screen_report transformers.now setting.now.width setting.now.threshold setting.now.field (map row_of rows.now)))) }
+    ensures part { AppendsPart (S.written out.old) (S.written out.new)
+        (lines_text (screen_report transformers.now setting.now.width setting.now.threshold setting.now.field (map row_of rows.now))) }
+    ensures cause { HasCause (S.faults out.old) (S.faults out.new) result }
+{
+    write_word(b"screen", line, out)?;
+    write_setting(setting, line, out)?;
+    write_transformers(transformers, rows, setting.threshold, line, out)?;
+    write_word(b"end", line, out)
+}
