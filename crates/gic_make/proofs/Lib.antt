@@ -1,0 +1,12 @@
+pub mod ElementsOfSites
+pub mod EndsAtNodes
+pub mod Gathered
+pub mod Names
+pub mod NamesApart
+pub mod NearEarth
+pub mod RowsOfSites
+pub mod SharesOfSites
+pub mod Sites
+pub mod SoundCase
+pub mod StandingSites
+pub mod States

@@ -1,0 +1,4 @@
+pub mod Accepted
+pub mod Generator
+pub mod Made
+pub mod Worked

@@ -1,0 +1,11 @@
+//! Cases that a generator makes from a seed, and the law that they are accepted.
+#![tactic(auto)]
+
+mod generator;
+pub mod laws;
+mod make;
+mod site;
+#[cfg(test)]
+mod tests;
+
+pub use make::{LEAST_SIZE, MOST_SIZE, make_case};
