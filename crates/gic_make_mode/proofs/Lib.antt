@@ -1,0 +1,5 @@
+pub mod Solvable
+pub mod Verdicts
+pub mod Counted
+pub mod RightCounts
+pub mod MakeDetermined

@@ -1,0 +1,5 @@
+pub mod MakeText
+pub mod Counting
+pub mod RightMake
+pub mod Solving
+pub mod Determines

@@ -1,0 +1,35 @@
+-- The report of a made case.
+use Rattle.std.specs.Prelude.{ℕ, List, [], ◌∷◌, ◌++◌, codes, decimal}
+use Rattle.gic_text.specs.Lines.{lines_text}
+use Rattle.gic_report.specs.SharedLines.{Words, word_line}
+use Rattle.gic_make_mode.specs.declared.counting.Counts.{Counts}
+use Rattle.gic_make_mode.specs.declared.text.Summary.{Summary}
+
+-- the line of what is asked
+abbrev pub seed_line : (seed size : ℕ) → Words
+seed_line seed size = codes "seed" ∷ decimal seed ∷ codes "size" ∷ decimal size ∷ []
+
+-- the line of the numbers of nodes and elements
+abbrev pub sizes_line : (nodes elements : ℕ) → Words
+sizes_line nodes elements = codes "nodes" ∷ decimal nodes ∷ codes "elements" ∷ decimal elements ∷ []
+
+-- the line of the greatest entry of the least capped vector
+abbrev pub walk_line : (walk : ℕ) → Words
+walk_line walk = codes "walk" ∷ decimal walk ∷ []
+
+-- the line of how many transformers have each verdict
+unfoldable pub counts_line : Counts → Words
+counts_line counts =
+    codes "below" ∷ decimal counts.below ∷ codes "reaches" ∷ decimal counts.reaches
+    ∷ codes "undecided" ∷ decimal counts.undecided ∷ codes "outside" ∷ decimal counts.outside ∷ []
+
+-- the lines of what is shown
+abbrev pub summary_lines : Summary → List Words
+summary_lines shown = sizes_line shown.nodes shown.elements ∷ walk_line shown.walk ∷ counts_line shown.counts ∷ []
+
+-- the lines of the report, and their text
+abbrev pub make_report : (seed size : ℕ) → Summary → List Words
+make_report seed size shown = word_line (codes "make") ∷ seed_line seed size ∷ (summary_lines shown ++ word_line (codes "end") ∷ [])
+
+abbrev pub make_text : (seed size : ℕ) → Summary → List ℕ
+make_text seed size shown = lines_text (make_report seed size shown)

@@ -1,0 +1,12 @@
+//! The mode `make`: a made case, solved in the field of the benchmark event to the north, in short.
+#![tactic(auto)]
+
+mod counting;
+pub mod laws;
+mod mode;
+mod solving;
+#[cfg(test)]
+mod tests;
+mod text;
+
+pub use mode::make;

@@ -1,0 +1,143 @@
+//! The report of a made case.
+ghost use Rattle.std.specs.Prelude.{OnOk};
+ghost use Rattle.std.specs.Io.KnownBytes.{Appends};
+ghost use Rattle.gic_base.specs.Causes.{HasCause};
+ghost use Rattle.gic_base.specs.Pieces.{AppendsPart};
+ghost use Rattle.gic_text.specs.Lines.{line_text, lines_text};
+ghost use Rattle.gic_make_mode.specs.MakeText.{seed_line, sizes_line, walk_line, counts_line, summary_lines, make_text};
+
+use crate::counting::Counts;
+use gic_base::{Sink, WriteFailed, write_all};
+use gic_report::write_word;
+use gic_text::LineBuilder;
+
+/// What a made case shows in short: the numbers of its nodes and its elements, the greatest entry of its least capped
+/// vector, and how many of its transformers have each verdict.
+#[derive(Clone, Copy, Debug)]
+pub(crate) struct Summary {
+    pub(crate) nodes: u16,
+    pub(crate) elements: u16,
+    pub(crate) walk: u16,
+    pub(crate) counts: Counts,
+}
+
+/// Writes the line of what is asked.
+#[tactic(auto, using(gic_text::proofs::Sizes::line_room))]
+fn write_seed<S: Sink>(
+    seed: u32,
+    size: u16,
+    line: &mut LineBuilder,
+    out: &mut S,
+) -> Result<(), WriteFailed>
+    ensures all { OnOk result (Appends (S.written out.old) (S.written out.new)
+        (line_text (seed_line seed size))) }
+    ensures part { AppendsPart (S.written out.old) (S.written out.new)
+        (line_text (seed_line seed size)) }
+    ensures cause { HasCause (S.faults out.old) (S.faults out.new) result }
+{
+    line.start();
+    line.word(b"seed");
+    line.number(i128::from(seed));
+    line.word(b"size");
+    line.number(i128::from(size));
+    write_all(out, line.finish())
+}
+
+/// Writes the line of the numbers of nodes and elements.
+#[tactic(auto, using(gic_text::proofs::Sizes::line_room))]
+fn write_sizes<S: Sink>(
+    nodes: u16,
+    elements: u16,
+    line: &mut LineBuilder,
+    out: &mut S,
+) -> Result<(), WriteFailed>
+    ensures all { OnOk result (Appends (S.written out.old) (S.written out.new)
+        (line_text (sizes_line nodes elements))) }
+    ensures part { AppendsPart (S.written out.old) (S.written out.new)
+        (line_text (sizes_line nodes elements)) }
+    ensures cause { HasCause (S.faults out.old) (S.faults out.new) result }
+{
+    line.start();
+    line.word(b"nodes");
+    line.number(i128::from(nodes));
+    line.word(b"elements");
+    line.number(i128::from(elements));
+    write_all(out, line.finish())
+}
+
+/// Writes the line of the walk.
+#[tactic(auto, using(gic_text::proofs::Sizes::line_room))]
+fn write_walk<S: Sink>(walk: u16, line: &mut LineBuilder, out: &mut S) -> Result<(), WriteFailed>
+    ensures all { OnOk result (Appends (S.written out.old) (S.written out.new)
+        (line_text (walk_line walk))) }
+    ensures part { AppendsPart (S.written out.old) (S.written out.new)
+        (line_text (walk_line walk)) }
+    ensures cause { HasCause (S.faults out.old) (S.faults out.new) result }
+{
+    line.start();
+    line.word(b"walk");
+    line.number(i128::from(walk));
+    write_all(out, line.finish())
+}
+
+/// Writes the line of the counts.
+#[tactic(auto, using(gic_text::proofs::Sizes::line_room), unfolding(crate::specs::MakeText::counts_line))]
+fn write_counts<S: Sink>(
+    counts: &Counts,
+    line: &mut LineBuilder,
+    out: &mut S,
+) -> Result<(), WriteFailed>
+    ensures all { OnOk result (Appends (S.written out.old) (S.written out.new)
+        (line_text (counts_line counts.now))) }
+    ensures part { AppendsPart (S.written out.old) (S.written out.new)
+        (line_text (counts_line counts.now)) }
+    ensures cause { HasCause (S.faults out.old) (S.faults out.new) result }
+{
+    line.start();
+    line.word(b"below");
+    line.number(i128::from(counts.below));
+    line.word(b"reaches");
+    line.number(i128::from(counts.reaches));
+    line.word(b"undecided");
+    line.number(i128::from(counts.undecided));
+    line.word(b"outside");
+    line.number(i128::from(counts.outside));
+    write_all(out, line.finish())
+}
+
+/// Writes the lines of a summary.
+fn write_summary<S: Sink>(
+    summary: &Summary,
+    line: &mut LineBuilder,
+    out: &mut S,
+) -> Result<(), WriteFailed>
+    ensures all { OnOk result (Appends (S.written out.old) (S.written out.new)
+        (lines_text (summary_lines summary.now))) }
+    ensures part { AppendsPart (S.written out.old) (S.written out.new)
+        (lines_text (summary_lines summary.now)) }
+    ensures cause { HasCause (S.faults out.old) (S.faults out.new) result }
+{
+    write_sizes(summary.nodes, summary.elements, line, out)?;
+    write_walk(summary.walk, line, out)?;
+    write_counts(&summary.counts, line, out)
+}
+
+/// Writes the whole report.
+pub(crate) fn write_make<S: Sink>(
+    seed: u32,
+    size: u16,
+    summary: &Summary,
+    line: &mut LineBuilder,
+    out: &mut S,
+) -> Result<(), WriteFailed>
+    ensures all { OnOk result (Appends (S.written out.old) (S.written out.new)
+        (make_text seed size summary.now)) }
+    ensures part { AppendsPart (S.written out.old) (S.written out.new)
+        (make_text seed size summary.now) }
+    ensures cause { HasCause (S.faults out.old) (S.faults out.new) result }
+{
+    write_word(b"make", line, out)?;
+    write_seed(seed, size, line, out)?;
+    write_summary(summary, line, out)?;
+    write_word(b"end", line, out)
+}
