@@ -1,0 +1,38 @@
+-- Views that are told another number and another time, and fields of a step.
+use Rattle.std.proofs.Common.{◌≡◌, ℕ, ◌^◌, ◌<◌, List, length, neg_ℤ, arith, ◌∙◌}
+use Rattle.std.specs.Prelude.{All}
+use Rattle.std.specs.Int.{w128}
+use Rattle.std.specs.List.{range_with_len}
+use Rattle.std.proofs.lemmas.Int.{ints, fits_signed_from_abs}
+use Rattle.std.proofs.lemmas.List.{length-map}
+use Rattle.std.proofs.lemmas.List.FromFn.{length-range_with_len}
+use Rattle.std.proofs.lemmas.List.Elements.{All-from_get_or}
+use Rattle.gic_fixed.specs.Encloses.{IsWithin}
+use Rattle.gic_fixed.specs.Ends.{Ends, no_ends}
+use Rattle.gic_case.specs.Lists.{Lists}
+use Rattle.gic_view.specs.View.{View, effective_at}
+use Rattle.gic_effective.specs.Narrow.{IsNarrowView}
+use Rattle.gic_report.specs.Fits.{HasAbsolute}
+use Rattle.gic_storm.specs.declared.row.Row.{Row}
+use Rattle.gic_storm.specs.StepFields.{field_at_step, fields_at_step}
+
+-- the view stays narrow
+pub narrow_told : (case : Lists) (width : ℕ) (view : View) (number time : ℕ) → IsNarrowView case width view → IsNarrowView case width (record view { number = number; time = time })
+narrow_told case width view number time h = record {
+  lengths = record { nodes = h.lengths.nodes; elements = h.lengths.elements; transformers = h.lengths.transformers };
+  nodes = h.nodes;
+  elements = h.elements;
+  effective = h.effective;
+}
+
+-- ends within 2^113 leave room
+pub has_absolute : (e : Ends) → IsWithin (2 ^ 113) e.low e.high → HasAbsolute e
+has_absolute e small = fits_signed_from_abs w128 (neg_ℤ e.low) (omega (arith, ints, small.low))
+
+-- in each interval of a view
+pub have_absolutes : (view : View) → ((t : ℕ) → t < length view.effective → IsWithin (2 ^ 113) (effective_at view t).low (effective_at view t).high) → All HasAbsolute view.effective
+have_absolutes view small = All-from_get_or HasAbsolute view.effective no_ends (λ t within. has_absolute (effective_at view t) (small t within))
+
+-- there is a field for each zone
+pub fields-count : (zones : ℕ) (rows : List Row) → length (fields_at_step zones rows) ≡ zones
+fields-count zones rows = length-map (range_with_len 0 zones) (field_at_step rows) ∙ length-range_with_len 0 zones

@@ -1,0 +1,33 @@
+use Rattle.gic_model.specs.Standing.{rows_in_force, stands_after}
+use Rattle.gic_storm.specs.Steps.{time_of_step}
+use Rattle.gic_stand.specs.Standing.{rows_in}
+use Rattle.gic_winding.specs.ElementList.{elements_of}
+use Rattle.gic_course.specs.Steps.{storm_volts}
+use Rattle.gic_course.proofs.Absolutes.{view_absolutes}
+use Rattle.gic_course.proofs.StepsStand.{solvable_at}
+use Rattle.gic_course.proofs.KeptReady.{still_ready}
+use Rattle.gic_course.proofs.course.Course.show.Goals as goal
+
+pub returns-clause-shows : goal.returns-clause-shows
+returns-clause-shows c =
+    let was = c.be_ready_for.ensures.shows in
+    let now = c.be_ready_for.new.self in
+    record {
+      own = record {
+        storm = was.own.storm;
+        epochs = was.own.epochs;
+        switched = was.own.switched;
+        space = (c.show_step.ensures.stays c.args.number c.be_ready_for.ensures.ready).space;
+        ready = still_ready c.args.inputs.now now.ready now.switched.net now.room c.show_step.new.room c.show_step.ensures.stays was.own.ready;
+      };
+      solvable = was.solvable;
+    }
+
+pub returns-clause-absolutes : goal.returns-clause-absolutes
+returns-clause-absolutes c =
+    let inputs = c.args.inputs.now in
+    let case = inputs.inputs.case in
+    let rows = rows_in_force (time_of_step inputs.storm.rows c.args.number) (rows_in inputs.inputs.switchings) in
+    view_absolutes c.existence_law.ensures c.potential_law.ensures case (elements_of case) (stands_after rows) (storm_volts inputs c.args.number) c.args.width c.show_step.new.view
+    (c.limits_law.ensures case c.keeps_rules.ensures) (solvable_at inputs c.args.number c.requires.shows.solvable c.requires.step) c.show_step.ensures.volts c.requires.width.most
+    c.show_step.ensures.right.right c.show_step.ensures.narrow c.show_step.ensures.absolutes

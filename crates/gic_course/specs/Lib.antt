@@ -1,0 +1,7 @@
+pub mod Steps
+pub mod Views
+pub mod Switched
+pub mod Epochs
+pub mod RoomFor
+pub mod Ready
+pub mod CourseOf

@@ -1,0 +1,147 @@
+//! The course of a storm.
+ghost use Rattle.std.specs.Prelude.{◌≡◌, ◌↔◌, length, IfOk, OnOk, IfErr, IsTrue, IsSomeAnd};
+ghost use Rattle.gic_enclose.specs.Solved.{IsWidth};
+ghost use Rattle.gic_view.specs.Kept.{blank_view};
+ghost use Rattle.gic_winding.specs.ElementList.{elements_of};
+ghost use Rattle.gic_effective.specs.Narrow.{IsNarrowView};
+ghost use Rattle.gic_effective.specs.ViewLengths.{HasViewLengths};
+ghost use Rattle.gic_peaks.specs.Peaks.{HasAbsolutes};
+ghost use Rattle.gic_stand.specs.Needs.{Solved, IsUnmet};
+ghost use Rattle.gic_course.specs.CourseOf.{IsCourseOf, CanShow};
+ghost use Rattle.gic_course.specs.Epochs.{HasStep};
+ghost use Rattle.gic_course.specs.Ready.{IsReadyAt};
+ghost use Rattle.gic_course.specs.Steps.{IsStormOf, IsStepOf, storm_steps};
+ghost use Rattle.gic_course.specs.Views.{IsRightStep};
+
+use crate::epochs::{epoch_with, epochs_under, has_step};
+use crate::inputs::StormInputs;
+use crate::preparing::prepare_epoch;
+use crate::room::{Room, make_room};
+use crate::showing::show_step;
+use crate::switched::SwitchedNet;
+use crate::walking::expect_epochs;
+use gic_base::OutOfMemory;
+use gic_effective::view_of_case;
+use gic_epoch::Epoch;
+use gic_exists::laws::existence_law;
+use gic_model::laws::potential_law;
+use gic_stand::NetworkRefusal;
+use gic_view::StepView;
+use gic_winding::elements;
+use gic_winding::laws::limits_law;
+use std::alloc::Global;
+
+/// The course of a storm over the network of a case. All that takes memory is made with it.
+#[derive(Drop)]
+pub struct Course {
+    epochs: Vec<Epoch>,
+    switched: SwitchedNet,
+    /// The epoch for whose steps the net, its bound vector and the bases are ready.
+    ready: Option<Epoch>,
+    room: Room,
+}
+
+impl Course {
+    /// The course of this storm. Nothing is ready yet.
+    pub fn new(alloc: Global, inputs: &StormInputs) -> Result<Course, OutOfMemory>
+        requires { IsStormOf inputs.now }
+        ensures { IfOk result (IsCourseOf inputs.now) }
+    {
+        let case = &inputs.inputs.case;
+        let epochs = epochs_under(alloc, &inputs.storm, &inputs.inputs.switchings)?;
+        let elements = elements(alloc, case)?;
+        let switched = SwitchedNet::new(alloc, &elements)?;
+        let room = make_room(alloc, case, &elements, inputs.storm.zones())?;
+        Ok(Course {
+            epochs,
+            switched,
+            ready: None,
+            room,
+        })
+    }
+
+    /// A view of the case in which nothing shows yet, for `show` to fill. Its number and its time are 0.
+    pub fn blank_view(&self, alloc: Global, inputs: &StormInputs) -> Result<StepView, OutOfMemory>
+        requires { IsCourseOf inputs.now self.now }
+        ensures lengths { IfOk result (HasViewLengths inputs.now.inputs.case) }
+        ensures blank { IfOk result (λ view. let case = inputs.now.inputs.case in let elements = elements_of case in
+            view ≡ blank_view elements.nodes (length elements.list) (length case.transformers)) }
+    {
+        let view = view_of_case(alloc, &inputs.inputs.case, &self.switched.net)?;
+        Ok(view)
+    }
+
+    /// Whether the network can be solved at each step of the storm: the first step at which it can't is told. It looks once
+    /// at each epoch, and takes no memory.
+    pub fn expect_solvable(&mut self, inputs: &StormInputs) -> Result<(), NetworkRefusal>
+        requires { IsCourseOf inputs.now self.old }
+        ensures met { OnOk result (CanShow inputs.now self.new) }
+        ensures unmet { IfErr result (IsUnmet Solved inputs.now.inputs.case (storm_steps inputs.now)) }
+        ensures course { IsCourseOf inputs.now self.new }
+    {
+        self.ready = None;
+        expect_epochs(
+            inputs,
+            self.epochs.as_slice(),
+            &mut self.switched,
+            &mut self.room,
+        )?;
+        Ok(())
+    }
+
+    /// Whether all is ready for a step.
+    fn is_ready_for(&self, number: u32) -> bool
+        ensures { IsTrue result ↔ IsSomeAnd self.now.ready (HasStep number) }
+    {
+        match self.ready {
+            Some(epoch) => has_step(epoch, number),
+            None => false,
+        }
+    }
+
+    /// Makes all ready for a step: where it isn't, the epoch of the step is prepared, for all its steps.
+    fn be_ready_for(&mut self, inputs: &StormInputs, number: u32)
+        requires shows { CanShow inputs.now self.old }
+        requires step { IsStepOf inputs.now number }
+        ensures ready { IsReadyAt inputs.now number self.new.switched.net self.new.room }
+        ensures epoch { IsSomeAnd self.new.ready (HasStep number) }
+        ensures same { IsSomeAnd self.old.ready (HasStep number) → self.new ≡ self.old }
+        ensures shows { CanShow inputs.now self.new }
+    {
+        if self.is_ready_for(number) {
+            return;
+        }
+        let epoch = epoch_with(self.epochs.as_slice(), number);
+        prepare_epoch(inputs, epoch, &mut self.switched, &mut self.room);
+        self.ready = Some(epoch);
+    }
+
+    /// Fills the view of a step, counted from 1: its number, its time, and intervals that are no wider than `width`, in
+    /// millivolts and milliamperes. Where the step before was not of the same epoch, the epoch is prepared first, so each
+    /// is prepared once where steps are shown in order. None of them begins at -2^127, which has no absolute value of 128
+    /// bits. Takes no memory.
+    pub fn show(&mut self, inputs: &StormInputs, number: u32, width: u32, view: &mut StepView)
+        requires shows { CanShow inputs.now self.old }
+        requires step { IsStepOf inputs.now number }
+        requires width { IsWidth width }
+        requires view { HasViewLengths inputs.now.inputs.case view.old }
+        ensures right { IsRightStep inputs.now number view.new }
+        ensures narrow { IsNarrowView inputs.now.inputs.case width view.new }
+        ensures absolutes { HasAbsolutes view.new }
+        ensures shows { CanShow inputs.now self.new }
+    {
+        existence_law();
+        potential_law();
+        limits_law();
+        inputs.inputs.case.keeps_rules();
+        self.be_ready_for(inputs, number);
+        show_step(
+            inputs,
+            &self.switched.net,
+            number,
+            width,
+            &mut self.room,
+            view,
+        );
+    }
+}

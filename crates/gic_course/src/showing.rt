@@ -1,0 +1,91 @@
+//! The view of a step.
+ghost use Rattle.std.specs.Prelude.{ℕ, ◌≡◌, ◌<◌, ◌≤◌, length, All};
+ghost use Rattle.gic_model.specs.Limits.{AreVolts};
+ghost use Rattle.gic_enclose.specs.Solved.{IsWidth};
+ghost use Rattle.gic_winding.specs.ElementList.{elements_of};
+ghost use Rattle.gic_effective.specs.Narrow.{IsNarrowView};
+ghost use Rattle.gic_effective.specs.ViewLengths.{HasViewLengths};
+ghost use Rattle.gic_report.specs.Fits.{HasAbsolute};
+ghost use Rattle.gic_storm.specs.Steps.{steps_in, time_of_step};
+ghost use Rattle.gic_course.specs.Ready.{IsReadyAt};
+ghost use Rattle.gic_course.specs.RoomFor.{IsRoomFor, IsSettledIn, IsStepped};
+ghost use Rattle.gic_course.specs.Steps.{storm_volts};
+ghost use Rattle.gic_course.specs.Views.{IsRightStep};
+
+use crate::inputs::StormInputs;
+use crate::room::Room;
+use gic_bases::step_from_bases;
+use gic_case::Case;
+use gic_effective::fill_view;
+use gic_net::Net;
+use gic_storm::{Storm, fill_fields};
+use gic_sweep::Steps;
+use gic_view::StepView;
+use std::marker::Brand;
+use std::sync::ledger::{Blank, Ledger};
+
+/// The time of a step.
+fn time_of_step(storm: &Storm, number: u32) -> u32
+    requires least { 1 ≤ number }
+    requires most { number ≤ length (steps_in storm.now.rows) }
+    ensures { result ≡ time_of_step storm.now.rows number }
+{
+    match storm.step(number) {
+        [first, ..] => first.time,
+        [] => 0,
+    }
+}
+
+/// Solves the network in the fields from the bases, as `step_from_bases` does, and doesn't count the step of that.
+fn step_uncounted<L: Ledger>(case: &Case, net: &Net, width: u32, room: &mut Room, blank: Blank)
+    requires name { blank.name ≡ L.name }
+    requires parts { blank.parts ≡ L.parts }
+    requires some { 0 < blank.parts }
+    requires network { net.now.network ≡ elements_of case.now }
+    requires room { IsRoomFor case.now room.old }
+    requires settled { IsSettledIn case.now net.now room.old }
+    requires width { IsWidth width }
+    ensures { IsStepped case.now net.now width room.old room.new }
+{
+    let mut steps: Steps<L> = Steps::new(blank);
+    step_from_bases(
+        case,
+        net,
+        &room.fields,
+        &room.vector,
+        width,
+        &room.bases,
+        &mut room.volts,
+        &mut room.solver,
+        &mut room.potentials,
+        &mut steps,
+    );
+}
+
+/// Fills the view of a step, in intervals no wider than `width`, where all is ready for it. What was ready for other steps
+/// stays so. Takes no memory.
+pub(crate) fn show_step(
+    inputs: &StormInputs,
+    net: &Net,
+    number: u32,
+    width: u32,
+    room: &mut Room,
+    view: &mut StepView,
+)
+    requires ready { IsReadyAt inputs.now number net.now room.old }
+    requires width { IsWidth width }
+    requires view { HasViewLengths inputs.now.inputs.case view.old }
+    ensures right { IsRightStep inputs.now number view.new }
+    ensures narrow { IsNarrowView inputs.now.inputs.case width view.new }
+    ensures absolutes { All HasAbsolute view.new.effective }
+    ensures volts { AreVolts (storm_volts inputs.now number) }
+    ensures stays { (other : ℕ) → IsReadyAt inputs.now other net.now room.old → IsReadyAt inputs.now other net.now room.new }
+{
+    let case = &inputs.inputs.case;
+    fill_fields(&inputs.storm, number, &mut room.fields);
+    step_uncounted::<Brand>(case, net, width, room, Blank::new(1));
+    room.volts.within_limit();
+    fill_view(case, net, &room.volts, &room.potentials, view);
+    view.set_number(number);
+    view.set_time(time_of_step(&inputs.storm, number));
+}

@@ -1,0 +1,83 @@
+//! The walk over the epochs of a storm, which looks whether the network can be solved in each.
+ghost use Rattle.std.specs.Prelude.{ℕ, ◌≡◌, OnOk, IfErr};
+ghost use Rattle.gic_epoch.specs.Epochs.{AreEpochs};
+ghost use Rattle.gic_net.specs.Net.{standing};
+ghost use Rattle.gic_winding.specs.ElementList.{elements_of};
+ghost use Rattle.gic_stand.specs.Needs.{Solved, Fails, IsMet, IsUnmet};
+ghost use Rattle.gic_stand.specs.Standing.{rows_in, IsSolvable};
+ghost use Rattle.gic_course.specs.Epochs.{HasStep, IsEpochOf};
+ghost use Rattle.gic_course.specs.Ready.{IsSwitchedFor};
+ghost use Rattle.gic_course.specs.RoomFor.{IsRoomFor};
+ghost use Rattle.gic_course.specs.Steps.{standing_at_step, storm_steps};
+
+use crate::inputs::StormInputs;
+use crate::room::Room;
+use crate::switched::SwitchedNet;
+use gic_case::Case;
+use gic_epoch::Epoch;
+use gic_net::Net;
+use gic_stand::{NetworkRefusal, expect_earthed, expect_resolved};
+
+/// Puts the switchings of an epoch in force, and no others.
+pub(crate) fn put_in_force(inputs: &StormInputs, epoch: Epoch, switched: &mut SwitchedNet)
+    requires epoch { IsEpochOf inputs.now epoch }
+    requires switched { IsSwitchedFor inputs.now switched.old }
+    ensures stands { (number : ℕ) → HasStep number epoch → standing switched.new.net ≡ standing_at_step inputs.now number }
+    ensures switched { IsSwitchedFor inputs.now switched.new }
+{
+    switched.switch_to(inputs.rows(), epoch.through);
+}
+
+/// Whether the network can be solved, at the step of this number. Takes no memory.
+fn expect_network(case: &Case, net: &Net, step: u32, room: &mut Room) -> Result<(), NetworkRefusal>
+    requires network { net.now.network ≡ elements_of case.now }
+    requires room { IsRoomFor case.now room.old }
+    ensures solvable { OnOk result (IsSolvable (standing net.now)) }
+    ensures err { IfErr result (Fails Solved case.now step (standing net.now)) }
+    ensures room { IsRoomFor case.now room.new }
+{
+    expect_earthed(case, net, step, &mut room.scratch)?;
+    expect_resolved(case, net, step, &mut room.vector)?;
+    Ok(())
+}
+
+/// Whether the network can be solved in an epoch: if not, its first step is told. Takes no memory.
+fn expect_epoch(
+    inputs: &StormInputs,
+    epoch: Epoch,
+    switched: &mut SwitchedNet,
+    room: &mut Room,
+) -> Result<(), NetworkRefusal>
+    requires epoch { IsEpochOf inputs.now epoch }
+    requires switched { IsSwitchedFor inputs.now switched.old }
+    requires room { IsRoomFor inputs.now.inputs.case room.old }
+    ensures solvable { OnOk result ((number : ℕ) → HasStep number epoch → IsSolvable (standing_at_step inputs.now number)) }
+    ensures err { IfErr result (Fails Solved inputs.now.inputs.case epoch.first (standing_at_step inputs.now epoch.first)) }
+    ensures switched { IsSwitchedFor inputs.now switched.new }
+    ensures room { IsRoomFor inputs.now.inputs.case room.new }
+{
+    put_in_force(inputs, epoch, switched);
+    expect_network(&inputs.inputs.case, &switched.net, epoch.first, room)?;
+    Ok(())
+}
+
+/// Whether the network can be solved in each epoch: the first step at which it can't is told. Takes no memory.
+pub(crate) fn expect_epochs(
+    inputs: &StormInputs,
+    epochs: &[Epoch],
+    switched: &mut SwitchedNet,
+    room: &mut Room,
+) -> Result<(), NetworkRefusal>
+    requires epochs { AreEpochs inputs.now.storm.rows (rows_in inputs.now.inputs.switchings) epochs.now }
+    requires switched { IsSwitchedFor inputs.now switched.old }
+    requires room { IsRoomFor inputs.now.inputs.case room.old }
+    ensures met { OnOk result (IsMet Solved (storm_steps inputs.now)) }
+    ensures unmet { IfErr result (IsUnmet Solved inputs.now.inputs.case (storm_steps inputs.now)) }
+    ensures switched { IsSwitchedFor inputs.now switched.new }
+    ensures room { IsRoomFor inputs.now.inputs.case room.new }
+{
+    for epoch in epochs {
+        expect_epoch(inputs, *epoch, switched, room)?;
+    }
+    Ok(())
+}
