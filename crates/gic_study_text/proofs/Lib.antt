@@ -1,0 +1,5 @@
+pub mod Left
+pub mod Fronts
+pub mod MonitorsDetermined
+pub mod PartsDetermined
+pub mod StudyDetermined

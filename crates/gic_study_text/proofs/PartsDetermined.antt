@@ -1,0 +1,119 @@
+-- What lines of zones and of the peaks of transformers determine, and how many lines there are.
+use Rattle.std.proofs.Common.{◌≡◌, ◌∙◌, ℕ, suc, Option, List, [], ◌∷◌, ◌++◌, map, length, drop, get_or, ℤ, FitsSigned, w32, IsTrue, refl, sym, ap, arith}
+use Rattle.std.specs.Prelude.{codes}
+use Rattle.std.specs.Fmt.{signed_decimal}
+use Rattle.std.specs.List.{AllByRecursion}
+use Rattle.std.proofs.lemmas.List.Elements.{recursion_from_All}
+use Rattle.gic_base.specs.Name.{is_name}
+use Rattle.gic_fixed.specs.Ends.{Ends}
+use Rattle.gic_scale.specs.ZoneView.{ZoneView}
+use Rattle.gic_text.specs.Words.{IsWord, IsLine}
+use Rattle.gic_text.proofs.Words.{word_from_test, word_name, word_signed, signed_decimal_injective_wide}
+use Rattle.gic_case.specs.declared.item.Transformer.{Transformer}
+use Rattle.gic_case.specs.Lists.{Lists}
+use Rattle.gic_case.specs.Sound.{names_of}
+use Rattle.gic_report.specs.SharedLines.{Words}
+use Rattle.gic_report.specs.declared.rows.ItemRow.{ItemRow}
+use Rattle.gic_report.specs.Fits.{AreInRange, HasNames}
+use Rattle.gic_report.specs.ItemText.{left_behind, node_lines, per_transformer, row_lines}
+use Rattle.gic_report.specs.VerdictText.{absolute_ends, judged_line, transformer_line, transformer_lines}
+use Rattle.gic_report.proofs.ViewDetermined.{same_ends}
+use Rattle.gic_study_text.specs.StudyText.{zone_line, zone_lines}
+use Rattle.gic_study_text.specs.Determines.{IsAbsolute, IsFieldInRange}
+
+-- ---- how many lines
+
+pub node_count : (names : List (List ℕ)) (cells : List (Option Ends)) → length (node_lines names cells) ≡ length names
+node_count [] cells = refl
+node_count (name ∷ names) cells = ap suc (node_count names (drop 1 cells))
+
+pub row_count : (rows : List ItemRow) (cells : List (Option Ends)) → length (row_lines rows cells) ≡ length rows
+row_count [] cells = refl
+row_count (row ∷ rows) cells = ap suc (row_count rows (left_behind row.blocked cells))
+
+pub transformer_count : (line : Transformer → Ends → Words) (ts : List Transformer) (cells : List Ends) → length (per_transformer line ts cells) ≡ length ts
+transformer_count line [] cells = refl
+transformer_count line (t ∷ ts) cells = ap suc (transformer_count line ts (drop 1 cells))
+
+pub zone_count : (zones : List ZoneView) (fields : List (ℤ × ℤ)) → length fields ≡ length zones → length (zone_lines zones fields) ≡ length zones
+zone_count [] fields h = refl
+zone_count (zone ∷ zones) [] h = absurd (omega (arith, h))
+zone_count (zone ∷ zones) (field ∷ fields) h = ap suc (zone_count zones fields (omega (arith, h)))
+
+-- ---- zones
+
+-- the names of the zones are words
+first_words : (xs ys : List (List ℕ)) → AllByRecursion (λ name. IsTrue (is_name name)) (xs ++ ys) → AllByRecursion IsWord xs
+first_words [] ys h = tt
+first_words (x ∷ xs) ys h = (word_name x h.0, first_words xs ys h.1)
+
+pub zone_names : (case : Lists) → HasNames case → AllByRecursion IsWord (map (λ z. z.name) case.zones)
+zone_names case h = first_words (map (λ z. z.name) case.zones) _ (recursion_from_All (λ name. IsTrue (is_name name)) (names_of case) h)
+
+word_of_32 : (z : ℤ) → FitsSigned w32 z → IsWord (signed_decimal z)
+word_of_32 z h = word_signed z (omega (arith, h.sfits))
+
+same_32 : (y z : ℤ) → FitsSigned w32 y → FitsSigned w32 z → signed_decimal y ≡ signed_decimal z → y ≡ z
+same_32 y z h k e = signed_decimal_injective_wide y z (omega (arith, h.sfits)) (omega (arith, k.sfits)) e
+
+is_zone_line : (name : List ℕ) (field : ℤ × ℤ) → IsWord name → IsFieldInRange field → IsLine (zone_line name field)
+is_zone_line name field w h = (
+  word_from_test (codes "zone") refl,
+  (w, (word_from_test (codes "north") refl, (word_of_32 field.0 h.north_fits, (word_from_test (codes "east") refl, (word_of_32 field.1 h.east_fits, tt))))),
+)
+
+pub are_zones : (zones : List ZoneView) (fields : List (ℤ × ℤ)) (rest : List Words) → AllByRecursion IsWord (map (λ z. z.name) zones) → AllByRecursion IsFieldInRange fields
+    → AllByRecursion IsLine rest → AllByRecursion IsLine (zone_lines zones fields ++ rest)
+are_zones [] fields rest names h k = k
+are_zones (zone ∷ zones) [] rest names h k = k
+are_zones (zone ∷ zones) (field ∷ fields) rest names h k = (is_zone_line zone.name field names.0 h.0, are_zones zones fields rest names.1 h.1 k)
+
+same_field : (name : List ℕ) (f g : ℤ × ℤ) → IsFieldInRange f → IsFieldInRange g → zone_line name f ≡ zone_line name g → f ≡ g
+same_field name f g h k e =
+    let north : f.0 ≡ g.0 = same_32 f.0 g.0 h.north_fits k.north_fits (ap (λ ws. get_or ws 3 []) e) in
+    let east : f.1 ≡ g.1 = same_32 f.1 g.1 h.east_fits k.east_fits (ap (λ ws. get_or ws 5 []) e) in
+    let pair : ℤ → ℤ → ℤ × ℤ = λ n m. (n, m) in
+    ap (λ n. pair n f.1) north ∙ ap (λ m. pair g.0 m) east
+
+pub same_zones : (zones : List ZoneView) (xs ys : List (ℤ × ℤ)) → length xs ≡ length zones → length ys ≡ length zones → AllByRecursion IsFieldInRange xs → AllByRecursion IsFieldInRange ys
+    → zone_lines zones xs ≡ zone_lines zones ys → xs ≡ ys
+same_zones [] [] [] p q h k e = refl
+same_zones [] [] (y ∷ ys) p q h k e = absurd (omega (arith, q))
+same_zones [] (x ∷ xs) ys p q h k e = absurd (omega (arith, p))
+same_zones (zone ∷ zones) [] ys p q h k e = absurd (omega (arith, p))
+same_zones (zone ∷ zones) (x ∷ xs) [] p q h k e = absurd (omega (arith, q))
+same_zones (zone ∷ zones) (x ∷ xs) (y ∷ ys) p q h k e =
+    let both : zone_line zone.name x ∷ zone_lines zones xs ≡ zone_line zone.name y ∷ zone_lines zones ys = e in
+    let line : zone_line zone.name x ≡ zone_line zone.name y = cc in
+    let later : zone_lines zones xs ≡ zone_lines zones ys = cc in
+    let here : x ≡ y = same_field zone.name x y h.0 k.0 line in
+    let more = same_zones zones xs ys (omega (arith, p)) (omega (arith, q)) h.1 k.1 later in
+    ap (λ z. z ∷ xs) here ∙ ap (λ zs. y ∷ zs) more
+
+-- ---- the peaks of transformers
+
+judged_ends : (threshold threshold' : ℕ) (t : Transformer) (x y : Ends) → transformer_line threshold t x ≡ transformer_line threshold' t y
+    → signed_decimal (absolute_ends x).low ∷ signed_decimal (absolute_ends x).high ∷ [] ≡ signed_decimal (absolute_ends y).low ∷ signed_decimal (absolute_ends y).high ∷ []
+unfolding judged_line
+judged_ends threshold threshold' t x y e = ap (λ ws. get_or ws 2 [] ∷ get_or ws 3 [] ∷ []) e
+
+same_peak : (threshold threshold' : ℕ) (t : Transformer) (x y : Ends) → AreInRange x → AreInRange y → IsAbsolute x → IsAbsolute y
+    → transformer_line threshold t x ≡ transformer_line threshold' t y → x ≡ y
+same_peak threshold threshold' t x y h k a b e =
+    let words : Ends → Words = λ l. signed_decimal l.low ∷ signed_decimal l.high ∷ [] in
+    same_ends x y h k (ap words (sym a) ∙ judged_ends threshold threshold' t x y e ∙ ap words b)
+
+pub same_peaks : (threshold threshold' : ℕ) (ts : List Transformer) (xs ys : List Ends) → length xs ≡ length ts → length ys ≡ length ts → AllByRecursion AreInRange xs → AllByRecursion AreInRange ys
+    → AllByRecursion IsAbsolute xs → AllByRecursion IsAbsolute ys → transformer_lines threshold ts xs ≡ transformer_lines threshold' ts ys → xs ≡ ys
+same_peaks threshold threshold' [] [] [] p q h k a b e = refl
+same_peaks threshold threshold' [] [] (y ∷ ys) p q h k a b e = absurd (omega (arith, q))
+same_peaks threshold threshold' [] (x ∷ xs) ys p q h k a b e = absurd (omega (arith, p))
+same_peaks threshold threshold' (t ∷ ts) [] ys p q h k a b e = absurd (omega (arith, p))
+same_peaks threshold threshold' (t ∷ ts) (x ∷ xs) [] p q h k a b e = absurd (omega (arith, q))
+same_peaks threshold threshold' (t ∷ ts) (x ∷ xs) (y ∷ ys) p q h k a b e =
+    let both : transformer_line threshold t x ∷ transformer_lines threshold ts xs ≡ transformer_line threshold' t y ∷ transformer_lines threshold' ts ys = e in
+    let line : transformer_line threshold t x ≡ transformer_line threshold' t y = cc in
+    let later : transformer_lines threshold ts xs ≡ transformer_lines threshold' ts ys = cc in
+    let here : x ≡ y = same_peak threshold threshold' t x y h.0 k.0 a.0 b.0 line in
+    let more = same_peaks threshold threshold' ts xs ys (omega (arith, p)) (omega (arith, q)) h.1 k.1 a.1 b.1 later in
+    ap (λ z. z ∷ xs) here ∙ ap (λ zs. y ∷ zs) more

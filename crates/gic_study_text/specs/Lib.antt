@@ -1,0 +1,3 @@
+pub mod StudyText
+pub mod Given
+pub mod Determines

@@ -1,0 +1,7 @@
+//! The text of the report of a study: the setting, a step in detail, the peaks, and the texts of monitors.
+#![tactic(auto)]
+
+pub mod laws;
+mod text;
+
+pub use text::{Detail, Setting, write_study};
