@@ -1,0 +1,5 @@
+pub mod SeenSteps
+pub mod EnclosedPeaks
+pub mod TrueVerdicts
+pub mod PeakCells
+pub mod RightStudies

@@ -1,0 +1,46 @@
+-- The verdicts on peaks are true of every choice of solutions, and peaks are narrow.
+use Rattle.std.proofs.Common.{ℕ, ◌*◌, ◌<◌, length, arith}
+use Rattle.std.proofs.lemmas.List.Elements.{All-get_or}
+use Rattle.gic_fixed.proofs.Divisions.{positive_product}
+use Rattle.gic_fixed.specs.Ends.{Ends}
+use Rattle.gic_case.specs.Lists.{Lists}
+use Rattle.gic_case.specs.Sound.{IsSound, IsSoundTransformer}
+use Rattle.gic_model.specs.Solution.{Solution}
+use Rattle.gic_view.specs.View.{View, effective_at}
+use Rattle.gic_winding.specs.Weights.{transformer_at, no_transformer}
+use Rattle.gic_effective.specs.Weighted.{effective_numerator}
+use Rattle.gic_screen.specs.VerdictLaws.{BelowIsUnder, ReachesIsAtLeast, UndecidedIsAcross}
+use Rattle.gic_report.specs.VerdictText.{absolute_ends, earthed_high}
+use Rattle.gic_uniform.specs.Denominator.{effective_denominator}
+use Rattle.gic_course.specs.declared.inputs.StormInputs.{StormInputs}
+use Rattle.gic_study_mode.specs.PeakEnclosure.{AreSolutions, AreEnclosing}
+use Rattle.gic_study_mode.specs.PeakVerdicts.{AreTrueVerdicts}
+
+-- the denominator of a transformer's effective current is above 0
+pub some_denominator : (case : Lists) (t : ℕ) (s : Solution) → IsSound case → t < length case.transformers → 0 < s.denominator → 0 < effective_denominator case t s
+some_denominator case t s sound within some =
+    let rated : IsSoundTransformer case (transformer_at case t) = All-get_or (IsSoundTransformer case) case.transformers t no_transformer within sound.transformers_sound in
+    positive_product (3000000 * (transformer_at case t).high_volts) s.denominator (omega (arith, rated.rated.0)) some
+
+pub true_verdicts : BelowIsUnder → ReachesIsAtLeast → UndecidedIsAcross → (inputs : StormInputs) (threshold : ℕ) (peaks : View) → IsSound inputs.inputs.case
+    → ((solutions : ℕ → Solution) → AreSolutions inputs solutions → AreEnclosing inputs peaks solutions)
+    → AreTrueVerdicts inputs threshold peaks
+true_verdicts below reaches undecided inputs threshold peaks sound enclosing =
+    let case = inputs.inputs.case in
+    let shown : ℕ → Ends = λ t. absolute_ends (effective_at peaks t) in
+    let row = transformer_at case in
+    record {
+      below = λ t within verdict solutions solve number step.
+          below (shown t).low (shown t).high (effective_numerator case (solutions number) t) (effective_denominator case t (solutions number)) threshold (row t).high_volts (earthed_high (row t).kind)
+          (some_denominator case t (solutions number) sound within (solve number step).denominator_above_0) verdict
+          (((enclosing solutions solve).transformers t within).most number step tt);
+      reaches = λ t within verdict solutions solve.
+          let peak = (enclosing solutions solve).transformers t within in
+          record {
+            step = peak.step;
+            own = peak.own;
+            at_least = reaches (shown t).low (shown t).high (effective_numerator case (solutions peak.step) t) (effective_denominator case t (solutions peak.step)) threshold (row t).high_volts (earthed_high (row t).kind)
+                verdict peak.least;
+          };
+      undecided = λ t within verdict. undecided (shown t).low (shown t).high threshold (row t).high_volts (earthed_high (row t).kind) verdict;
+    }

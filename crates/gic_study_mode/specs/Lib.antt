@@ -1,0 +1,7 @@
+pub mod Roster
+pub mod Asked
+pub mod Seen
+pub mod Made
+pub mod PeakEnclosure
+pub mod PeakVerdicts
+pub mod RightStudy

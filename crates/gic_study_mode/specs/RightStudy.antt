@@ -1,0 +1,44 @@
+-- What a report of a study has to say.
+use Rattle.std.specs.Prelude.{◌≡◌, ℕ, ◌-◌, List, length, Option, option_map}
+use Rattle.gic_storm.specs.Steps.{steps_in}
+use Rattle.gic_view.specs.View.{View}
+use Rattle.gic_effective.specs.ViewLengths.{HasViewLengths}
+use Rattle.gic_screen.specs.Event.{threshold_of}
+use Rattle.gic_peaks.specs.Peaks.{IsPeaksOf}
+use Rattle.gic_model.specs.Solution.{Solution}
+use Rattle.gic_monitor.specs.RosterView.{RosterView}
+use Rattle.gic_course.specs.declared.inputs.StormInputs.{StormInputs}
+use Rattle.gic_course.specs.Steps.{storm_fields}
+use Rattle.gic_course.specs.Views.{AreRightViews, AreNarrowViews, view_at}
+use Rattle.gic_study_text.specs.StudyText.{DetailView, study_text}
+use Rattle.gic_study_mode.specs.Asked.{asked_step}
+use Rattle.gic_study_mode.specs.Roster.{roster_of}
+use Rattle.gic_study_mode.specs.PeakEnclosure.{AreSolutions, AreEnclosing}
+use Rattle.gic_study_mode.specs.PeakVerdicts.{AreTrueVerdicts, AreNarrowPeaks}
+
+-- a step in detail: its fields, and its view among those of all steps
+abbrev pub detail_at : StormInputs → List View → (number : ℕ) → DetailView
+detail_at inputs views number = record { fields = storm_fields inputs number; view = view_at views (number - 1) }
+
+-- the step that is asked for, where the storm has it
+abbrev pub detail_of : StormInputs → (detail : Option ℕ) → List View → Option DetailView
+detail_of inputs detail views = option_map (detail_at inputs views) (asked_step inputs detail)
+
+-- the text of a report of these views and of these peaks, with the texts that monitors plan for the roster of the case and these views
+abbrev pub report_text : StormInputs → (detail : Option ℕ) → (plans : RosterView → List View → List (List ℕ)) → List View → (peaks : View) → List ℕ
+report_text inputs detail plans views peaks =
+    study_text inputs.inputs.case inputs.inputs.question.width (threshold_of inputs.inputs.question.event) (length (steps_in inputs.storm.rows))
+    (detail_of inputs detail views) peaks (plans (roster_of inputs.inputs.case inputs.inputs.question.event) views)
+
+-- one list of views is behind the whole text, right for the steps in order; no interval is wider than asked, and peaks and verdicts are true of every solution of each step
+pub record IsRightStudy (inputs : StormInputs) (detail : Option ℕ) (plans : RosterView → List View → List (List ℕ)) (text : List ℕ) : Type 0 where
+  pub views : List View
+  pub right : AreRightViews inputs views
+  pub narrow : AreNarrowViews inputs.inputs.case inputs.inputs.question.width views
+  pub peaks : View
+  pub peaks_are : IsPeaksOf views peaks
+  pub lengths : HasViewLengths inputs.inputs.case peaks
+  pub narrow_peaks : AreNarrowPeaks inputs.inputs.case inputs.inputs.question.width peaks
+  pub enclosed : (solutions : ℕ → Solution) → AreSolutions inputs solutions → AreEnclosing inputs peaks solutions
+  pub verdicts : AreTrueVerdicts inputs (threshold_of inputs.inputs.question.event) peaks
+  pub text_is : text ≡ report_text inputs detail plans views peaks

@@ -1,0 +1,15 @@
+//! The mode `study`: the peaks over all steps of a storm, one step in detail, and the texts of monitors.
+#![tactic(auto)]
+
+mod asked;
+mod mode;
+mod room;
+mod roster;
+mod steps;
+#[cfg(test)]
+mod tests;
+mod texts;
+mod views;
+mod writing;
+
+pub use mode::study;

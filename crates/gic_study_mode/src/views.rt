@@ -1,0 +1,44 @@
+//! What a study writes to.
+ghost use Rattle.std.specs.Prelude.{[], IfOk};
+ghost use Rattle.gic_peaks.specs.Peaks.{IsPeaksOf};
+ghost use Rattle.gic_course.specs.CourseOf.{IsCourseOf};
+ghost use Rattle.gic_study_mode.specs.Seen.{IsRoomFor};
+
+use gic_base::OutOfMemory;
+use gic_course::{Course, StormInputs};
+use gic_peaks::Peaks;
+use gic_view::StepView;
+use std::alloc::Global;
+
+/// What a study writes to. It is made before any step is looked at.
+#[derive(Drop)]
+pub(crate) struct Views {
+    /// The peaks of the views so far.
+    pub(crate) peaks: Peaks,
+    /// The view of the step that is asked for.
+    pub(crate) asked: StepView,
+    /// The view of any other step.
+    pub(crate) other: StepView,
+}
+
+/// Room for the views of a storm. There are no peaks yet.
+#[tactic(auto, using(gic_stand::proofs::Rooms::room_for))]
+pub(crate) fn make_views(
+    alloc: Global,
+    inputs: &StormInputs,
+    course: &Course,
+) -> Result<Views, OutOfMemory>
+    requires { IsCourseOf inputs.now course.now }
+    ensures room { IfOk result (IsRoomFor inputs.now.inputs.case) }
+    ensures of_none { IfOk result (λ views. IsPeaksOf [] views.peaks) }
+{
+    let asked = course.blank_view(alloc, inputs)?;
+    let other = course.blank_view(alloc, inputs)?;
+    let (nodes, elements, transformers) = other.sizes();
+    let peaks = Peaks::new(alloc, nodes, elements, transformers)?;
+    Ok(Views {
+        peaks,
+        asked,
+        other,
+    })
+}

@@ -1,0 +1,66 @@
+//! The report of what was seen.
+ghost use Rattle.std.specs.Prelude.{◌≡◌, length, map, option_map, All, IfSome, OnOk};
+ghost use Rattle.std.specs.Io.KnownBytes.{Appends};
+ghost use Rattle.gic_base.specs.Causes.{HasCause};
+ghost use Rattle.gic_base.specs.Pieces.{AppendsPart};
+ghost use Rattle.gic_report.specs.Fits.{HasAbsolute};
+ghost use Rattle.gic_storm.specs.Steps.{steps_in};
+ghost use Rattle.gic_screen.specs.Event.{threshold_of};
+ghost use Rattle.gic_study_text.specs.Given.{lent_detail};
+ghost use Rattle.gic_study_text.specs.StudyText.{study_text};
+ghost use Rattle.gic_study_mode.specs.Seen.{with_view};
+
+use crate::views::Views;
+use gic_base::{Sink, WriteFailed};
+use gic_course::StormInputs;
+use gic_induce::Fields;
+use gic_study_text::{Detail, Setting, write_study};
+use gic_text::LineBuilder;
+use gic_view::StepView;
+
+/// The step in detail, where there are fields of one.
+fn detail_with<'a>(fields: &'a Option<Fields>, view: &'a StepView) -> Option<Detail<'a>>
+    ensures { lent_detail result ≡ option_map (with_view view.now) fields.now }
+{
+    match fields {
+        Some(fields) => Some(Detail { fields, view }),
+        None => None,
+    }
+}
+
+/// Writes the report of these views, with the fields of the step in detail, if there is one.
+pub(crate) fn write_seen<S: Sink>(
+    inputs: &StormInputs,
+    fields: &Option<Fields>,
+    views: &Views,
+    texts: &[Vec<u8>],
+    line: &mut LineBuilder,
+    out: &mut S,
+) -> Result<(), WriteFailed>
+    requires zones { IfSome fields.now (λ fields. length fields ≡ length inputs.now.inputs.case.zones) }
+    requires absolutes { All HasAbsolute views.now.peaks.effective }
+    ensures all { let question = inputs.now.inputs.question in OnOk result (Appends (S.written out.old) (S.written out.new)
+        (study_text inputs.now.inputs.case question.width (threshold_of question.event) (length (steps_in inputs.now.storm.rows))
+        (option_map (with_view views.now.asked) fields.now) views.now.peaks (map (λ text. text.items) texts.now))) }
+    ensures part { let question = inputs.now.inputs.question in AppendsPart (S.written out.old) (S.written out.new)
+        (study_text inputs.now.inputs.case question.width (threshold_of question.event) (length (steps_in inputs.now.storm.rows))
+        (option_map (with_view views.now.asked) fields.now) views.now.peaks (map (λ text. text.items) texts.now)) }
+    ensures cause { HasCause (S.faults out.old) (S.faults out.new) result }
+{
+    let question = &inputs.inputs.question;
+    let setting = Setting {
+        width: question.width,
+        threshold: question.event.threshold(),
+        steps: inputs.storm.steps(),
+    };
+    let detail = detail_with(fields, &views.asked);
+    write_study(
+        &inputs.inputs.case,
+        &setting,
+        detail,
+        views.peaks.view(),
+        texts,
+        line,
+        out,
+    )
+}
