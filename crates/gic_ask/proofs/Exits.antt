@@ -1,32 +1,41 @@
 -- What is asked for, at each exit.
 use Rattle.std.proofs.Common.{◌≡◌, ℕ, List, Option, Some, None, Result, Ok, Err, sym, ap, subst, ◌∙◌, arith}
-use Rattle.std.specs.Prelude.{IfOk, IfSome, IsSomeAnd, IsOkAnd, IsErrAnd}
+use Rattle.std.specs.Prelude.{◌≢◌, IfOk, IfErr, IfSome, IsSomeAnd, IsOkAnd, IsErrAnd}
 use Rattle.gic_base.specs.Files.{Files, HasFailed}
 use Rattle.gic_case.specs.Lists.{Lists}
 use Rattle.gic_model.specs.declared.parts.Switching.{Switching}
 use Rattle.gic_words.specs.Options.{options_of}
+use Rattle.gic_words.specs.declared.mode.NetworkMode.{NetworkMode}
+use Rattle.gic_words.specs.declared.mode.Mode.{Mode}
+use Rattle.gic_words.specs.declared.mode.Mode.TheVariants as mode
 use Rattle.gic_words.specs.declared.options.Options.{Options}
+use Rattle.gic_stand.specs.declared.inputs.Inputs.{Inputs}
+use Rattle.gic_course.specs.declared.inputs.StormInputs.{StormInputs}
 use Rattle.gic_words.specs.declared.fault.Usage.{Usage}
 use Rattle.gic_ask.specs.Contents.{Given, Nothing, Whole, Contents, MayGive, MayHandOut, name_of_file}
-use Rattle.gic_ask.specs.Outcome.{Outcome, Accepts, reading, reading_case, reading_switchings, reading_files, outcome}
+use Rattle.gic_ask.specs.Outcome.{Outcome, Accepts, reading, reading_case, reading_storm, reading_switchings, reading_inputs, reading_storm_inputs, reading_numbers, asking, outcome}
 use Rattle.gic_ask.specs.Asks.{Asks, IsAnswer, CouldNotRead}
-use Rattle.gic_ask.specs.Steps.{Passes, Steps, HasFailedFetch}
+use Rattle.gic_ask.specs.Steps.{Passes, Steps, Reads, HasFailedFetch}
 use Rattle.gic_ask.specs.declared.fault.File.{File}
 use Rattle.gic_ask.specs.declared.fault.File.TheVariants as file
 use Rattle.gic_ask.specs.declared.fault.InputFault.{InputFault}
 use Rattle.gic_ask.specs.declared.fault.InputFault.TheVariants.{Refused, CannotRead, Memory}
-use Rattle.gic_ask.specs.declared.fault.InputRefusal.{InputRefusal}
-use Rattle.gic_ask.specs.declared.fault.InputRefusal.TheVariants.{Usage as UsageRefusal, Case as CaseRefused, Switch as SwitchRefused}
+use Rattle.gic_ask.specs.declared.fault.InputRefusal.TheVariants.{Usage as UsageRefusal, Case as CaseRefused, Storm as StormRefused, Switch as SwitchRefused}
 use Rattle.gic_case.specs.Rules.{case_of}
 use Rattle.gic_case.specs.declared.refusal.CaseRefusal.{CaseRefusal}
+use Rattle.gic_storm.specs.Rules.{storm_of}
+use Rattle.gic_storm.specs.StormView.{StormView, zone_names}
+use Rattle.gic_storm.specs.declared.refusal.StormRefusal.{StormRefusal}
 use Rattle.gic_switch.specs.Rules.{switchings_of}
 use Rattle.gic_switch.specs.declared.refusal.SwitchRefusal.{SwitchRefusal}
 use Rattle.gic_ask.specs.declared.request.Asked.{Asked}
+use Rattle.gic_ask.specs.declared.request.Asked.TheVariants.{Network, Study}
 
--- what was handed out of the two files
-abbrev pub both : Given → Given → Contents
-both case switch file.Case = case
-both case switch file.Switch = switch
+-- what was handed out of the files
+abbrev pub of_each : (case storm switch : Given) → Contents
+of_each case storm switch file.Case = case
+of_each case storm switch file.Storm = storm
+of_each case storm switch file.Switch = switch
 
 -- a name, if any, that nothing was handed out for
 none_given : (files : Option Files) (name : Option (List ℕ)) → IfSome name (λ n. MayGive files n Nothing)
@@ -34,41 +43,37 @@ none_given files None = tt
 none_given files (Some name) = tt
 
 -- each file
-both_handed : (files : Option Files) (o : Options) (case switch : Given) → IfSome o.case (λ n. MayGive files n case) → IfSome o.switch (λ n. MayGive files n switch)
-    → MayHandOut files o (both case switch)
-both_handed files o case switch c s file.Case = c
-both_handed files o case switch c s file.Switch = s
+each_handed : (files : Option Files) (o : Options) (case storm switch : Given) → IfSome o.case (λ n. MayGive files n case) → IfSome o.storm (λ n. MayGive files n storm)
+    → IfSome o.switch (λ n. MayGive files n switch) → MayHandOut files o (of_each case storm switch)
+each_handed files o case storm switch c t s file.Case = c
+each_handed files o case storm switch c t s file.Storm = t
+each_handed files o case storm switch c t s file.Switch = s
 
-none_handed : (files : Option Files) (answer : Result Options Usage) → IfOk answer (λ o. MayHandOut files o (both Nothing Nothing))
-none_handed files (Ok o) = both_handed files o Nothing Nothing (none_given files o.case) (none_given files o.switch)
-none_handed files (Err u) = tt
+none_handed : (files : Option Files) (o : Options) → MayHandOut files o (of_each Nothing Nothing Nothing)
+none_handed files o = each_handed files o Nothing Nothing Nothing (none_given files o.case) (none_given files o.storm) (none_given files o.switch)
 
-handed_by : (files : Option Files) (o : Options) (answer : Result Options Usage) (contents : Contents) → answer ≡ Ok o → MayHandOut files o contents
-    → IfOk answer (λ o. MayHandOut files o contents)
-handed_by files o answer contents e h = subst (λ (r : Result Options Usage). IfOk r (λ o. MayHandOut files o contents)) (sym e) h
+none_handed_for : (files : Option Files) (answer : Result Options Usage) → IfOk answer (λ o. MayHandOut files o (of_each Nothing Nothing Nothing))
+none_handed_for files (Ok o) = none_handed files o
+none_handed_for files (Err u) = tt
 
 -- words that are refused
 pub words_refused : (words : List (List ℕ)) (files : Option Files) (before now : List (List ℕ)) (u : Usage)
     → options_of words ≡ Err u → Asks words files before now (Err (Refused (UsageRefusal u)))
 words_refused words files before now u e = record {
-  contents = both Nothing Nothing;
-  handed = none_handed files (options_of words);
-  asked = ap (λ (r : Result Options Usage). reading r UsageRefusal (λ o. reading_files o (both Nothing Nothing))) e;
+  contents = of_each Nothing Nothing Nothing;
+  handed = none_handed_for files (options_of words);
+  asked = ap (λ (r : Result Options Usage). reading r UsageRefusal (λ o. asking o.mode o (of_each Nothing Nothing Nothing))) e;
   failed = λ file h. grind (arith, h);
 }
 
 -- want of memory
 pub memory_wanting : (words : List (List ℕ)) (files : Option Files) (before now : List (List ℕ)) → Asks words files before now (Err Memory)
 memory_wanting words files before now = record {
-  contents = both Nothing Nothing;
-  handed = none_handed files (options_of words);
+  contents = of_each Nothing Nothing Nothing;
+  handed = none_handed_for files (options_of words);
   asked = tt;
   failed = λ file h. grind (arith, h);
 }
-
--- the outcome of words that give options
-of_options : (words : List (List ℕ)) (o : Options) (contents : Contents) → options_of words ≡ Ok o → outcome words contents ≡ reading_files o contents
-of_options words o contents e = ap (λ (r : Result Options Usage). reading r UsageRefusal (λ o. reading_files o contents)) e
 
 -- what is handed on by a step that failed is its fault
 ends_with : {A : Type 0} (step : (A → Outcome) → Outcome) (next : A → Outcome) (fault : InputFault) → Passes {A = A} step (Err fault) → IsAnswer (step next) (Err fault)
@@ -76,79 +81,182 @@ ends_with step next (Refused r) h = h next
 ends_with step next (CannotRead file) h = h next
 ends_with step next Memory h = tt
 
+-- the step that failed comes first in a longer one
+fails_first : {A B : Type 0} (step : (A → Outcome) → Outcome) (next : (B → Outcome) → A → Outcome) (fault : InputFault) → Passes {A = A} step (Err fault)
+    → Passes {A = B} (λ last. step (next last)) (Err fault)
+fails_first step next (Refused r) h = λ last. h (next last)
+fails_first step next (CannotRead file) h = λ last. h (next last)
+fails_first step next Memory h = tt
+
+-- the step that failed comes second
+fails_second : {A B : Type 0} (step : (A → Outcome) → Outcome) (a : A) (more : A → (B → Outcome) → Outcome) (fault : InputFault) → Passes {A = A} step (Ok a)
+    → Passes {A = B} (more a) (Err fault) → Passes {A = B} (λ last. step (λ x. more x last)) (Err fault)
+fails_second step a more (Refused r) h k = λ last. h (λ x. more x last) ∙ k last
+fails_second step a more (CannotRead file) h k = λ last. h (λ x. more x last) ∙ k last
+fails_second step a more Memory h k = tt
+
 answer_by : (o other : Outcome) (answer : Result Asked InputFault) → o ≡ other → IsAnswer other answer → IsAnswer o answer
 answer_by o other answer e h = subst (λ (x : Outcome). IsAnswer x answer) (sym e) h
 
 -- the file that can't be read
-read_of : {found other : File} → ◌≡◌ {A = Result Asked InputFault} (Err (CannotRead found)) (Err (CannotRead other)) → found ≡ other
+read_of : {A : Type 0} {found other : File} → ◌≡◌ {A = Result A InputFault} (Err (CannotRead found)) (Err (CannotRead other)) → found ≡ other
 read_of e = grind (arith, e)
 
--- the fetch of a file that the words name
-named : (words : List (List ℕ)) (o : Options) (file : File) (before now : List (List ℕ)) → options_of words ≡ Ok o
-    → IsSomeAnd (name_of_file file o) (HasFailed before now) → CouldNotRead words file before now
-named words o file before now e h = subst (λ (r : Result Options Usage). IsOkAnd r (λ o. IsSomeAnd (name_of_file file o) (HasFailed before now))) (sym e) h
-
-fetch_failed : (A : Type 0) (words : List (List ℕ)) (o : Options) (file : File) (before now : List (List ℕ)) (fault : InputFault) → options_of words ≡ Ok o
-    → HasFailedFetch {A = A} file before now (name_of_file file o) (Err fault) → (other : File) → ◌≡◌ {A = Result Asked InputFault} (Err fault) (Err (CannotRead other)) → CouldNotRead words other before now
-fetch_failed A words o file before now (Refused r) e h other is = grind (arith, is)
-fetch_failed A words o file before now Memory e h other is = grind (arith, is)
-fetch_failed A words o file before now (CannotRead found) e h other is =
+-- the fetch that failed is that of the file that can't be read
+fetch_failed : (A B : Type 0) (o : Options) (file : File) (before now : List (List ℕ)) (fault : InputFault)
+    → HasFailedFetch {A = A} file before now (name_of_file file o) (Err fault)
+    → (other : File) → ◌≡◌ {A = Result B InputFault} (Err fault) (Err (CannotRead other)) → IsSomeAnd (name_of_file other o) (HasFailed before now)
+fetch_failed A B o file before now (Refused r) h other is = grind (arith, is)
+fetch_failed A B o file before now Memory h other is = grind (arith, is)
+fetch_failed A B o file before now (CannotRead found) h other is =
     let found_is : other ≡ file = sym (read_of is) ∙ h.0 in
-    subst (λ f. CouldNotRead words f before now) (sym found_is) (named words o file before now e h.1)
+    subst (λ f. IsSomeAnd (name_of_file f o) (HasFailed before now)) (sym found_is) h.1
+
+-- the inputs with these files
+inputs_with : Options → Lists → Option (List Switching) → Inputs
+inputs_with o case rows = record { case = case; switchings = rows; question = o.question }
 
 -- a case that is not read
-pub case_fails : (words : List (List ℕ)) (files : Option Files) (before now : List (List ℕ)) (o : Options) (fault : InputFault)
-    → options_of words ≡ Ok o → Steps {A = Lists} files o.case (reading_case o.case) (Err fault)
+pub case_fails : (files : Option Files) (before now : List (List ℕ)) (o : Options) (fault : InputFault)
+    → Steps {A = Lists} files o.case (reading_case o.case) (Err fault)
     → HasFailedFetch {A = Lists} file.Case before now o.case (Err fault)
-    → Asks words files before now (Err fault)
-case_fails words files before now o fault e s failed =
-    let contents = both s.given Nothing in
-    record {
-      contents = contents;
-      handed = handed_by files o (options_of words) contents e (both_handed files o s.given Nothing s.may (none_given files o.switch));
-      asked = answer_by (outcome words contents) (reading_files o contents) (Err fault) (of_options words o contents e)
-          (ends_with (reading_case o.case s.given) (λ case. reading_switchings case o.switch Nothing (λ rows. Accepts (record { mode = o.mode; inputs = record { case = case; switchings = rows; question = o.question } }))) fault s.passes);
-      failed = fetch_failed Lists words o file.Case before now fault e failed;
-    }
+    → Reads {A = Inputs} files o (reading_inputs o) before now (Err fault)
+unfolding inputs_with
+case_fails files before now o fault s failed = record {
+  contents = of_each s.given Nothing Nothing;
+  handed = each_handed files o s.given Nothing Nothing s.may (none_given files o.storm) (none_given files o.switch);
+  passes = fails_first {B = Inputs} (reading_case o.case s.given) (λ last case. reading_switchings case o.switch Nothing (λ rows. last (inputs_with o case rows))) fault s.passes;
+  failed = fetch_failed Lists Inputs o file.Case before now fault failed;
+}
 
 -- switchings that are not read
-pub switchings_fail : (words : List (List ℕ)) (files later : Option Files) (before between now : List (List ℕ)) (o : Options) (case : Lists) (fault : InputFault)
-    → options_of words ≡ Ok o → Steps {A = Lists} files o.case (reading_case o.case) (Ok case)
+pub switchings_fail : (files later : Option Files) (before between now : List (List ℕ)) (o : Options) (case : Lists) (fault : InputFault)
+    → Steps {A = Lists} files o.case (reading_case o.case) (Ok case)
     → later ≡ files → between ≡ before
     → Steps {A = Option (List Switching)} later o.switch (reading_switchings case o.switch) (Err fault)
     → HasFailedFetch {A = Option (List Switching)} file.Switch between now o.switch (Err fault)
-    → Asks words files before now (Err fault)
-switchings_fail words files later before between now o case fault e c content failures at failing =
+    → Reads {A = Inputs} files o (reading_inputs o) before now (Err fault)
+unfolding inputs_with
+switchings_fail files later before between now o case fault c content failures at failing =
     let s : Steps {A = Option (List Switching)} files o.switch (reading_switchings case o.switch) (Err fault) =
     subst (λ (f : Option Files). Steps {A = Option (List Switching)} f o.switch (reading_switchings case o.switch) (Err fault)) content at in
     let failed : HasFailedFetch {A = Option (List Switching)} file.Switch before now o.switch (Err fault) =
     subst (λ (b : List (List ℕ)). HasFailedFetch {A = Option (List Switching)} file.Switch b now o.switch (Err fault)) failures failing in
-    let contents = both c.given s.given in
-    let last : Lists → Option (List Switching) → Outcome = λ case rows. Accepts (record { mode = o.mode; inputs = record { case = case; switchings = rows; question = o.question } }) in
     record {
-      contents = contents;
-      handed = handed_by files o (options_of words) contents e (both_handed files o c.given s.given c.may s.may);
-      asked = answer_by (outcome words contents) (reading_switchings case o.switch s.given (last case)) (Err fault)
-          (of_options words o contents e ∙ c.passes (λ case. reading_switchings case o.switch s.given (last case)))
-          (ends_with (reading_switchings case o.switch s.given) (last case) fault s.passes);
-      failed = fetch_failed (Option (List Switching)) words o file.Switch before now fault e failed;
+      contents = of_each c.given Nothing s.given;
+      handed = each_handed files o c.given Nothing s.given c.may (none_given files o.storm) s.may;
+      passes = fails_second {B = Inputs} (reading_case o.case c.given) case (λ case last. reading_switchings case o.switch s.given (λ rows. last (inputs_with o case rows))) fault c.passes
+          (fails_first {B = Inputs} (reading_switchings case o.switch s.given) (λ last rows. last (inputs_with o case rows)) fault s.passes);
+      failed = fetch_failed (Option (List Switching)) Inputs o file.Switch before now fault failed;
     }
 
 -- all is read
-pub all_read : (words : List (List ℕ)) (files later : Option Files) (before now : List (List ℕ)) (o : Options) (case : Lists) (switchings : Option (List Switching))
-    → options_of words ≡ Ok o → Steps {A = Lists} files o.case (reading_case o.case) (Ok case)
+pub all_read : (files later : Option Files) (before now : List (List ℕ)) (o : Options) (case : Lists) (switchings : Option (List Switching))
+    → Steps {A = Lists} files o.case (reading_case o.case) (Ok case)
     → later ≡ files
     → Steps {A = Option (List Switching)} later o.switch (reading_switchings case o.switch) (Ok switchings)
-    → Asks words files before now (Ok (record { mode = o.mode; inputs = record { case = case; switchings = switchings; question = o.question } }))
-all_read words files later before now o case switchings e c content at =
+    → Reads {A = Inputs} files o (reading_inputs o) before now (Ok (record { case = case; switchings = switchings; question = o.question }))
+unfolding inputs_with
+all_read files later before now o case switchings c content at =
     let s : Steps {A = Option (List Switching)} files o.switch (reading_switchings case o.switch) (Ok switchings) =
     subst (λ (f : Option Files). Steps {A = Option (List Switching)} f o.switch (reading_switchings case o.switch) (Ok switchings)) content at in
-    let contents = both c.given s.given in
-    let last : Lists → Option (List Switching) → Outcome = λ case rows. Accepts (record { mode = o.mode; inputs = record { case = case; switchings = rows; question = o.question } }) in
     record {
-      contents = contents;
-      handed = handed_by files o (options_of words) contents e (both_handed files o c.given s.given c.may s.may);
-      asked = of_options words o contents e ∙ c.passes (λ case. reading_switchings case o.switch s.given (last case)) ∙ s.passes (last case);
+      contents = of_each c.given Nothing s.given;
+      handed = each_handed files o c.given Nothing s.given c.may (none_given files o.storm) s.may;
+      passes = λ last. c.passes (λ case. reading_switchings case o.switch s.given (λ rows. last (inputs_with o case rows))) ∙ s.passes (λ rows. last (inputs_with o case rows));
+      failed = λ file h. grind (arith, h);
+    }
+
+-- ---- the inputs of a study
+
+-- the inputs with these files
+storm_inputs_with : Options → Lists → StormView → Option (List Switching) → StormInputs
+storm_inputs_with o case storm rows = record { inputs = record { case = case; switchings = rows; question = o.question }; storm = storm }
+
+-- a case that is not read
+pub study_case_fails : (files : Option Files) (before now : List (List ℕ)) (o : Options) (fault : InputFault)
+    → Steps {A = Lists} files o.case (reading_case o.case) (Err fault)
+    → HasFailedFetch {A = Lists} file.Case before now o.case (Err fault)
+    → Reads {A = StormInputs} files o (reading_storm_inputs o) before now (Err fault)
+unfolding storm_inputs_with
+study_case_fails files before now o fault s failed = record {
+  contents = of_each s.given Nothing Nothing;
+  handed = each_handed files o s.given Nothing Nothing s.may (none_given files o.storm) (none_given files o.switch);
+  passes = fails_first {B = StormInputs} (reading_case o.case s.given)
+      (λ last case. reading_storm case o.storm Nothing (λ storm. reading_switchings case o.switch Nothing (λ rows. last (storm_inputs_with o case storm rows)))) fault s.passes;
+  failed = fetch_failed Lists StormInputs o file.Case before now fault failed;
+}
+
+-- a storm that is not read
+pub storm_fails : (files later : Option Files) (before between now : List (List ℕ)) (o : Options) (case : Lists) (fault : InputFault)
+    → Steps {A = Lists} files o.case (reading_case o.case) (Ok case)
+    → later ≡ files → between ≡ before
+    → Steps {A = StormView} later o.storm (reading_storm case o.storm) (Err fault)
+    → HasFailedFetch {A = StormView} file.Storm between now o.storm (Err fault)
+    → Reads {A = StormInputs} files o (reading_storm_inputs o) before now (Err fault)
+unfolding storm_inputs_with
+storm_fails files later before between now o case fault c content failures at failing =
+    let t : Steps {A = StormView} files o.storm (reading_storm case o.storm) (Err fault) =
+    subst (λ (f : Option Files). Steps {A = StormView} f o.storm (reading_storm case o.storm) (Err fault)) content at in
+    let failed : HasFailedFetch {A = StormView} file.Storm before now o.storm (Err fault) =
+    subst (λ (b : List (List ℕ)). HasFailedFetch {A = StormView} file.Storm b now o.storm (Err fault)) failures failing in
+    record {
+      contents = of_each c.given t.given Nothing;
+      handed = each_handed files o c.given t.given Nothing c.may t.may (none_given files o.switch);
+      passes = fails_second {B = StormInputs} (reading_case o.case c.given) case
+          (λ case last. reading_storm case o.storm t.given (λ storm. reading_switchings case o.switch Nothing (λ rows. last (storm_inputs_with o case storm rows)))) fault c.passes
+          (fails_first {B = StormInputs} (reading_storm case o.storm t.given) (λ last storm. reading_switchings case o.switch Nothing (λ rows. last (storm_inputs_with o case storm rows))) fault t.passes);
+      failed = fetch_failed StormView StormInputs o file.Storm before now fault failed;
+    }
+
+-- switchings that are not read
+pub study_switchings_fail : (files mid later : Option Files) (before first between now : List (List ℕ)) (o : Options) (case : Lists) (storm : StormView) (fault : InputFault)
+    → Steps {A = Lists} files o.case (reading_case o.case) (Ok case)
+    → mid ≡ files → first ≡ before
+    → Steps {A = StormView} mid o.storm (reading_storm case o.storm) (Ok storm)
+    → later ≡ mid → between ≡ first
+    → Steps {A = Option (List Switching)} later o.switch (reading_switchings case o.switch) (Err fault)
+    → HasFailedFetch {A = Option (List Switching)} file.Switch between now o.switch (Err fault)
+    → Reads {A = StormInputs} files o (reading_storm_inputs o) before now (Err fault)
+unfolding storm_inputs_with
+study_switchings_fail files mid later before first between now o case storm fault c content failures stormed content2 failures2 at failing =
+    let t : Steps {A = StormView} files o.storm (reading_storm case o.storm) (Ok storm) =
+    subst (λ (f : Option Files). Steps {A = StormView} f o.storm (reading_storm case o.storm) (Ok storm)) content stormed in
+    let s : Steps {A = Option (List Switching)} files o.switch (reading_switchings case o.switch) (Err fault) =
+    subst (λ (f : Option Files). Steps {A = Option (List Switching)} f o.switch (reading_switchings case o.switch) (Err fault)) (content2 ∙ content) at in
+    let failed : HasFailedFetch {A = Option (List Switching)} file.Switch before now o.switch (Err fault) =
+    subst (λ (b : List (List ℕ)). HasFailedFetch {A = Option (List Switching)} file.Switch b now o.switch (Err fault)) (failures2 ∙ failures) failing in
+    record {
+      contents = of_each c.given t.given s.given;
+      handed = each_handed files o c.given t.given s.given c.may t.may s.may;
+      passes = fails_second {B = StormInputs} (reading_case o.case c.given) case
+          (λ case last. reading_storm case o.storm t.given (λ storm. reading_switchings case o.switch s.given (λ rows. last (storm_inputs_with o case storm rows)))) fault c.passes
+          (fails_second {B = StormInputs} (reading_storm case o.storm t.given) storm
+          (λ storm last. reading_switchings case o.switch s.given (λ rows. last (storm_inputs_with o case storm rows))) fault t.passes
+          (fails_first {B = StormInputs} (reading_switchings case o.switch s.given) (λ last rows. last (storm_inputs_with o case storm rows)) fault s.passes));
+      failed = fetch_failed (Option (List Switching)) StormInputs o file.Switch before now fault failed;
+    }
+
+-- all is read
+pub study_read : (files mid later : Option Files) (before now : List (List ℕ)) (o : Options) (case : Lists) (storm : StormView) (switchings : Option (List Switching))
+    → Steps {A = Lists} files o.case (reading_case o.case) (Ok case)
+    → mid ≡ files
+    → Steps {A = StormView} mid o.storm (reading_storm case o.storm) (Ok storm)
+    → later ≡ mid
+    → Steps {A = Option (List Switching)} later o.switch (reading_switchings case o.switch) (Ok switchings)
+    → Reads {A = StormInputs} files o (reading_storm_inputs o) before now (Ok (record { inputs = record { case = case; switchings = switchings; question = o.question }; storm = storm }))
+unfolding storm_inputs_with
+study_read files mid later before now o case storm switchings c content stormed content2 at =
+    let t : Steps {A = StormView} files o.storm (reading_storm case o.storm) (Ok storm) =
+    subst (λ (f : Option Files). Steps {A = StormView} f o.storm (reading_storm case o.storm) (Ok storm)) content stormed in
+    let s : Steps {A = Option (List Switching)} files o.switch (reading_switchings case o.switch) (Ok switchings) =
+    subst (λ (f : Option Files). Steps {A = Option (List Switching)} f o.switch (reading_switchings case o.switch) (Ok switchings)) (content2 ∙ content) at in
+    record {
+      contents = of_each c.given t.given s.given;
+      handed = each_handed files o c.given t.given s.given c.may t.may s.may;
+      passes = λ last. c.passes (λ case. reading_storm case o.storm t.given (λ storm. reading_switchings case o.switch s.given (λ rows. last (storm_inputs_with o case storm rows))))
+          ∙ (t.passes (λ storm. reading_switchings case o.switch s.given (λ rows. last (storm_inputs_with o case storm rows)))
+          ∙ s.passes (λ rows. last (storm_inputs_with o case storm rows)));
       failed = λ file h. grind (arith, h);
     }
 
@@ -173,6 +281,29 @@ case_refused files name text bytes held refusal named may same e =
       given = Whole bytes;
       may = may;
       passes = λ next. ap (λ (r : Result Lists CaseRefusal). reading r CaseRefused next) (ap case_of (sym same) ∙ e);
+    })
+
+-- a storm that is read
+pub storm_read : (files : Option Files) (name : Option (List ℕ)) (text bytes held : List ℕ) (case : Lists) (storm : StormView)
+    → name ≡ Some text → MayGive files text (Whole bytes) → held ≡ bytes → storm_of (zone_names case.zones) held ≡ Ok storm → Steps {A = StormView} files name (reading_storm case name) (Ok storm)
+storm_read files name text bytes held case storm named may same e =
+    subst (λ (n : Option (List ℕ)). Steps {A = StormView} files n (reading_storm case n) (Ok storm)) (sym named)
+    (record {
+      given = Whole bytes;
+      may = may;
+      passes = λ next. ap (λ (r : Result StormView StormRefusal). reading r StormRefused next) (ap (storm_of (zone_names case.zones)) (sym same) ∙ e);
+    })
+
+-- a storm that is refused
+pub storm_refused : (files : Option Files) (name : Option (List ℕ)) (text bytes held : List ℕ) (case : Lists) (refusal : StormRefusal)
+    → name ≡ Some text → MayGive files text (Whole bytes) → held ≡ bytes → storm_of (zone_names case.zones) held ≡ Err refusal
+    → Steps {A = StormView} files name (reading_storm case name) (Err (Refused (StormRefused refusal)))
+storm_refused files name text bytes held case refusal named may same e =
+    subst (λ (n : Option (List ℕ)). Steps {A = StormView} files n (reading_storm case n) (Err (Refused (StormRefused refusal)))) (sym named)
+    (record {
+      given = Whole bytes;
+      may = may;
+      passes = λ next. ap (λ (r : Result StormView StormRefusal). reading r StormRefused next) (ap (storm_of (zone_names case.zones)) (sym same) ∙ e);
     })
 
 -- switchings that are read
@@ -200,6 +331,88 @@ switchings_refused files name text bytes held case refusal named may same e =
     })
 
 -- the answer is this fault
-pub answered : (answer : Result Asked InputFault) (fault : InputFault) → IsErrAnd answer (λ e. e ≡ fault) → answer ≡ Err fault
+pub answered : {A : Type 0} (answer : Result A InputFault) (fault : InputFault) → IsErrAnd answer (λ e. e ≡ fault) → answer ≡ Err fault
 answered (Ok done) fault h = absurd h
 answered (Err e) fault h = ap Err h
+
+-- ---- what the words ask for
+
+-- what was handed out is that of the words' options
+handed_by : (files : Option Files) (o : Options) (answer : Result Options Usage) (contents : Contents) → answer ≡ Ok o → MayHandOut files o contents
+    → IfOk answer (λ o. MayHandOut files o contents)
+handed_by files o answer contents e h = subst (λ (r : Result Options Usage). IfOk r (λ o. MayHandOut files o contents)) (sym e) h
+
+-- the outcome of words that give options of a mode
+of_options : (words : List (List ℕ)) (o : Options) (m : Mode) (contents : Contents) → options_of words ≡ Ok o → o.mode ≡ m → outcome words contents ≡ asking m o contents
+of_options words o m contents e is =
+    ap (λ (r : Result Options Usage). reading r UsageRefusal (λ o. asking o.mode o contents)) e ∙ ap (λ (x : Mode). asking x o contents) is
+
+-- the fetch of a file that the words name
+named_failed : (words : List (List ℕ)) (o : Options) (file : File) (before now : List (List ℕ)) → options_of words ≡ Ok o
+    → IsSomeAnd (name_of_file file o) (HasFailed before now) → CouldNotRead words file before now
+named_failed words o file before now e h = subst (λ (r : Result Options Usage). IsOkAnd r (λ o. IsSomeAnd (name_of_file file o) (HasFailed before now))) (sym e) h
+
+same_fault : {A B : Type 0} {fault : InputFault} {file : File} → ◌≡◌ {A = Result A InputFault} (Err fault) (Err (CannotRead file)) → ◌≡◌ {A = Result B InputFault} (Err fault) (Err (CannotRead file))
+same_fault e = grind (arith, e)
+
+-- a mode over the network of a case whose inputs are not read
+pub inputs_fail : (words : List (List ℕ)) (files : Option Files) (before now : List (List ℕ)) (o : Options) (m : NetworkMode) (fault : InputFault)
+    → options_of words ≡ Ok o → o.mode ≡ mode.Network m → Reads {A = Inputs} files o (reading_inputs o) before now (Err fault)
+    → Asks words files before now (Err fault)
+inputs_fail words files before now o m fault e is r = record {
+  contents = r.contents;
+  handed = handed_by files o (options_of words) r.contents e r.handed;
+  asked = answer_by (outcome words r.contents) (asking (mode.Network m) o r.contents) (Err fault) (of_options words o (mode.Network m) r.contents e is)
+      (ends_with (reading_inputs o r.contents) (λ inputs. Accepts (Network m inputs)) fault r.passes);
+  failed = λ file h. named_failed words o file before now e (r.failed file (same_fault h));
+}
+
+-- and one whose inputs are read
+pub inputs_read : (words : List (List ℕ)) (files : Option Files) (before now : List (List ℕ)) (o : Options) (m : NetworkMode) (inputs : Inputs)
+    → options_of words ≡ Ok o → o.mode ≡ mode.Network m → Reads {A = Inputs} files o (reading_inputs o) before now (Ok inputs)
+    → Asks words files before now (Ok (Network m inputs))
+inputs_read words files before now o m inputs e is r = record {
+  contents = r.contents;
+  handed = handed_by files o (options_of words) r.contents e r.handed;
+  asked = of_options words o (mode.Network m) r.contents e is ∙ r.passes (λ inputs. Accepts (Network m inputs));
+  failed = λ file h. grind (arith, h);
+}
+
+-- a study whose inputs are not read
+pub study_fails : (words : List (List ℕ)) (files : Option Files) (before now : List (List ℕ)) (o : Options) (fault : InputFault)
+    → options_of words ≡ Ok o → o.mode ≡ mode.Study → Reads {A = StormInputs} files o (reading_storm_inputs o) before now (Err fault)
+    → Asks words files before now (Err fault)
+study_fails words files before now o fault e is r = record {
+  contents = r.contents;
+  handed = handed_by files o (options_of words) r.contents e r.handed;
+  asked = answer_by (outcome words r.contents) (asking mode.Study o r.contents) (Err fault) (of_options words o mode.Study r.contents e is)
+      (ends_with (reading_storm_inputs o r.contents) (λ inputs. Accepts (Study inputs o.detail)) fault r.passes);
+  failed = λ file h. named_failed words o file before now e (r.failed file (same_fault h));
+}
+
+-- and one whose inputs are read
+pub study_is_asked : (words : List (List ℕ)) (files : Option Files) (before now : List (List ℕ)) (o : Options) (inputs : StormInputs)
+    → options_of words ≡ Ok o → o.mode ≡ mode.Study → Reads {A = StormInputs} files o (reading_storm_inputs o) before now (Ok inputs)
+    → Asks words files before now (Ok (Study inputs o.detail))
+study_is_asked words files before now o inputs e is r = record {
+  contents = r.contents;
+  handed = handed_by files o (options_of words) r.contents e r.handed;
+  asked = of_options words o mode.Study r.contents e is ∙ r.passes (λ inputs. Accepts (Study inputs o.detail));
+  failed = λ file h. grind (arith, h);
+}
+
+unread : (answer : Result Asked InputFault) → IfErr answer (λ fault. (file : File) → fault ≢ CannotRead file) → (file : File) → ¬ (answer ≡ Err (CannotRead file))
+unread (Ok asked) read file h = grind (arith, h)
+unread (Err fault) read file h = read file (grind (arith, h))
+
+-- a made case is asked for, and no file
+pub made_is_asked : (words : List (List ℕ)) (files : Option Files) (before now : List (List ℕ)) (o : Options) (answer : Result Asked InputFault)
+    → options_of words ≡ Ok o → o.mode ≡ mode.Make → IsAnswer (reading_numbers o.seed o.size) answer
+    → IfErr answer (λ fault. (file : File) → fault ≢ CannotRead file)
+    → Asks words files before now answer
+made_is_asked words files before now o answer e is asked read = record {
+  contents = of_each Nothing Nothing Nothing;
+  handed = handed_by files o (options_of words) (of_each Nothing Nothing Nothing) e (none_handed files o);
+  asked = answer_by (outcome words (of_each Nothing Nothing Nothing)) (reading_numbers o.seed o.size) answer (of_options words o mode.Make (of_each Nothing Nothing Nothing) e is) asked;
+  failed = λ file h. absurd (unread answer read file h);
+}

@@ -5,16 +5,23 @@ use Rattle.gic_case.specs.Lists.{Lists}
 use Rattle.gic_case.specs.Rules.{case_of}
 use Rattle.gic_case.specs.declared.refusal.CaseRefusal.{CaseRefusal}
 use Rattle.gic_model.specs.declared.parts.Switching.{Switching}
+use Rattle.gic_storm.specs.Rules.{storm_of}
+use Rattle.gic_storm.specs.StormView.{StormView, zone_names}
+use Rattle.gic_storm.specs.declared.refusal.StormRefusal.{StormRefusal}
 use Rattle.gic_switch.specs.Rules.{switchings_of}
 use Rattle.gic_switch.specs.declared.refusal.SwitchRefusal.{SwitchRefusal}
 use Rattle.gic_words.specs.Options.{options_of}
+use Rattle.gic_words.specs.Required.{HasRequiredOf}
+use Rattle.gic_words.specs.declared.mode.Mode.{Mode}
+use Rattle.gic_words.specs.declared.mode.Mode.TheVariants as mode
 use Rattle.gic_words.specs.declared.options.Options.{Options}
 use Rattle.gic_words.specs.declared.fault.Usage.{Usage}
 use Rattle.gic_ask.specs.Contents.{Given, Nothing, Long, Whole, Contents}
-use Rattle.gic_ask.specs.Outcome.{Outcome, Refuses, Accepts, reading, reading_case, reading_switchings, reading_files, outcome}
+use Rattle.gic_ask.specs.Outcome.{Outcome, Refuses, Accepts, reading, reading_case, reading_storm, reading_switchings, reading_numbers, asking}
 use Rattle.gic_ask.specs.WordsRefused.{UsageIsOfWords}
+use Rattle.gic_ask.specs.declared.request.Asked.TheVariants.{Network, Study}
 use Rattle.gic_ask.specs.declared.fault.File.TheVariants as file
-use Rattle.gic_ask.specs.declared.fault.InputRefusal.TheVariants.{Usage as UsageRefusal, Case as CaseRefused, Switch as SwitchRefused}
+use Rattle.gic_ask.specs.declared.fault.InputRefusal.TheVariants.{Usage as UsageRefusal, Case as CaseRefused, Storm as StormRefused, Switch as SwitchRefused}
 
 -- the outcome doesn't refuse the words
 abbrev IsOther : Usage → Outcome → Type 0
@@ -30,6 +37,17 @@ case_other u (Some name) Nothing next named other e = grind (arith, e)
 case_other u (Some name) Long next named other e = grind (arith, e)
 case_other u (Some name) (Whole bytes) next named other e = case_read u (case_of bytes) next other e
 
+storm_read : (u : Usage) (r : Result StormView StormRefusal) (next : StormView → Outcome) → ((storm : StormView) → IsOther u (next storm)) → IsOther u (reading r StormRefused next)
+storm_read u (Ok storm) next other e = other storm e
+storm_read u (Err refusal) next other e = grind (arith, e)
+
+storm_other : (u : Usage) (case : Lists) (name : Option (List ℕ)) (g : Given) (next : StormView → Outcome) → IsSome name → ((storm : StormView) → IsOther u (next storm))
+    → IsOther u (reading_storm case name g next)
+storm_other u case None g next named other e = grind (arith, named)
+storm_other u case (Some name) Nothing next named other e = grind (arith, e)
+storm_other u case (Some name) Long next named other e = grind (arith, e)
+storm_other u case (Some name) (Whole bytes) next named other e = storm_read u (storm_of (zone_names case.zones) bytes) next other e
+
 rows_read : (u : Usage) (r : Result (List Switching) SwitchRefusal) (next : List Switching → Outcome) → ((rows : List Switching) → IsOther u (next rows)) → IsOther u (reading r SwitchRefused next)
 rows_read u (Ok rows) next other e = other rows e
 rows_read u (Err refusal) next other e = grind (arith, e)
@@ -41,19 +59,30 @@ switchings_other u case (Some name) Nothing next other e = grind (arith, e)
 switchings_other u case (Some name) Long next other e = grind (arith, e)
 switchings_other u case (Some name) (Whole bytes) next other e = rows_read u (switchings_of case bytes) (λ rows. next (Some rows)) (λ rows. other (Some rows)) e
 
-files_other : (u : Usage) (o : Options) (contents : Contents) → IsSome o.case → IsOther u (reading_files o contents)
-files_other u o contents named =
-    let last : Lists → Option (List Switching) → Outcome = λ case rows. Accepts (record { mode = o.mode; inputs = record { case = case; switchings = rows; question = o.question } }) in
+numbers_other : (u : Usage) (seed size : Option ℕ) → IsSome seed → IsSome size → IsOther u (reading_numbers seed size)
+numbers_other u None size seeded sized e = grind (arith, seeded)
+numbers_other u (Some seed) None seeded sized e = grind (arith, sized)
+numbers_other u (Some seed) (Some size) seeded sized e = grind (arith, e)
+
+other_by_mode : (u : Usage) (m : Mode) (o : Options) (contents : Contents) → HasRequiredOf m o → IsOther u (asking m o contents)
+other_by_mode u (mode.Network m) o contents named =
+    let last : Lists → Option (List Switching) → Outcome = λ case rows. Accepts (Network m (record { case = case; switchings = rows; question = o.question })) in
     case_other u o.case (contents file.Case) (λ case. reading_switchings case o.switch (contents file.Switch) (last case)) named
     (λ case. switchings_other u case o.switch (contents file.Switch) (last case) (λ rows e. grind (arith, e)))
+other_by_mode u mode.Study o contents given =
+    let last : Lists → StormView → Option (List Switching) → Outcome = λ case storm rows. Accepts (Study (record { inputs = record { case = case; switchings = rows; question = o.question }; storm = storm }) o.detail) in
+    case_other u o.case (contents file.Case) (λ case. reading_storm case o.storm (contents file.Storm) (λ storm. reading_switchings case o.switch (contents file.Switch) (last case storm))) given.0
+    (λ case. storm_other u case o.storm (contents file.Storm) (λ storm. reading_switchings case o.switch (contents file.Switch) (last case storm)) given.1
+    (λ storm. switchings_other u case o.switch (contents file.Switch) (last case storm) (λ rows e. grind (arith, e))))
+other_by_mode u mode.Make o contents given = numbers_other u o.seed o.size given.0 given.1
 
 same_usage : (v u : Usage) → Refuses (UsageRefusal v) ≡ Refuses (UsageRefusal u) → v ≡ u
 same_usage v u e = grind (arith, e)
 
-of_words : (u : Usage) (r : Result Options Usage) (contents : Contents) → IfOk r (λ o. IsSome o.case)
-    → reading r UsageRefusal (λ o. reading_files o contents) ≡ Refuses (UsageRefusal u) → r ≡ Err u
-of_words u (Ok o) contents named e = absurd (files_other u o contents named e)
-of_words u (Err v) contents named e = ap (λ (x : Usage). Err x) (same_usage v u e)
+of_words : (u : Usage) (r : Result Options Usage) (contents : Contents) → IfOk r (λ o. HasRequiredOf o.mode o)
+    → reading r UsageRefusal (λ o. asking o.mode o contents) ≡ Refuses (UsageRefusal u) → r ≡ Err u
+of_words u (Ok o) contents given e = absurd (other_by_mode u o.mode o contents given e)
+of_words u (Err v) contents given e = ap (λ (x : Usage). Err x) (same_usage v u e)
 
-pub usage_is_of_words : ((words : List (List ℕ)) → IfOk (options_of words) (λ o. IsSome o.case)) → UsageIsOfWords
-usage_is_of_words named words contents u e = of_words u (options_of words) contents (named words) e
+pub usage_is_of_words : ((words : List (List ℕ)) → IfOk (options_of words) (λ o. HasRequiredOf o.mode o)) → UsageIsOfWords
+usage_is_of_words given words contents u e = of_words u (options_of words) contents (given words) e

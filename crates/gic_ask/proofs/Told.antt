@@ -6,22 +6,28 @@ use Rattle.std.specs.FinMap.{get}
 use Rattle.gic_base.specs.Files.{Files}
 use Rattle.gic_base.specs.declared.limits.TheConstants.{LIMIT}
 use Rattle.gic_case.specs.Lists.{Lists}
+use Rattle.gic_storm.specs.Rules.{storm_of}
+use Rattle.gic_storm.specs.StormView.{StormView, zone_names}
+use Rattle.gic_storm.specs.declared.refusal.StormRefusal.{StormRefusal}
 use Rattle.gic_case.specs.Rules.{case_of}
 use Rattle.gic_case.specs.declared.refusal.CaseRefusal.{CaseRefusal}
 use Rattle.gic_model.specs.declared.parts.Switching.{Switching}
 use Rattle.gic_words.specs.Options.{options_of}
+use Rattle.gic_words.specs.declared.mode.Mode.{Mode}
+use Rattle.gic_words.specs.declared.mode.Mode.TheVariants as mode
 use Rattle.gic_words.specs.declared.options.Options.{Options}
 use Rattle.gic_words.specs.declared.fault.Usage.{Usage}
 use Rattle.gic_ask.specs.Asks.{IsAnswer}
 use Rattle.gic_ask.specs.Contents.{Given, Nothing, Long, Whole, Contents, MayGive, MayHandOut}
 use Rattle.gic_ask.specs.Held.{held, held_bytes, held_by_length, held_for, AnswersOfFiles}
-use Rattle.gic_ask.specs.Outcome.{Outcome, Lacks, Accepts, reading, reading_case, reading_switchings, reading_files, outcome}
+use Rattle.gic_ask.specs.Outcome.{Outcome, Lacks, Accepts, reading, reading_case, reading_storm, reading_switchings, asking, outcome}
 use Rattle.gic_ask.specs.declared.fault.File.{File}
 use Rattle.gic_ask.specs.declared.fault.File.TheVariants as file
 use Rattle.gic_ask.specs.declared.fault.InputFault.{InputFault}
 use Rattle.gic_ask.specs.declared.fault.InputFault.TheVariants.{Refused, CannotRead, Memory}
-use Rattle.gic_ask.specs.declared.fault.InputRefusal.TheVariants.{Usage as UsageRefusal, Case as CaseRefused}
+use Rattle.gic_ask.specs.declared.fault.InputRefusal.TheVariants.{Usage as UsageRefusal, Case as CaseRefused, Storm as StormRefused}
 use Rattle.gic_ask.specs.declared.request.Asked.{Asked}
+use Rattle.gic_ask.specs.declared.request.Asked.TheVariants.{Network, Study}
 
 -- what may be given of a length is what is held
 long_held : (b : Bool) (n : ℕ) (bytes : List ℕ) → LIMIT < n → nat_lt LIMIT n ≡ b → held_by_length b bytes ≡ Long
@@ -80,6 +86,29 @@ named_case : (files : Files) (name : Option (List ℕ)) (g : Given) (next other 
 named_case files None g next other may h = inl refl
 named_case files (Some name) g next other may h = same_case files name g next other (given_or_held files name g (may name refl)) h
 
+after_storm_reading : (r : Result StormView StormRefusal) (next other : StormView → Outcome) → ((storm : StormView) → IsSameOrLacks (next storm) (other storm))
+    → IsSameOrLacks (reading r StormRefused next) (reading r StormRefused other)
+after_storm_reading (Ok storm) next other h = h storm
+after_storm_reading (Err e) next other h = inl refl
+
+after_storm_given : (case : Lists) (name : List ℕ) (g : Given) (next other : StormView → Outcome) → ((storm : StormView) → IsSameOrLacks (next storm) (other storm))
+    → IsSameOrLacks (reading_storm case (Some name) g next) (reading_storm case (Some name) g other)
+after_storm_given case name Nothing next other h = inl refl
+after_storm_given case name Long next other h = inl refl
+after_storm_given case name (Whole bytes) next other h = after_storm_reading (storm_of (zone_names case.zones) bytes) next other h
+
+same_storm : (files : Files) (case : Lists) (name : List ℕ) (g : Given) (next other : StormView → Outcome) → (g ≡ Nothing) ⊎ (held files (Some name) ≡ g)
+    → ((storm : StormView) → IsSameOrLacks (next storm) (other storm)) → IsSameOrLacks (reading_storm case (Some name) g next) (reading_storm case (Some name) (held files (Some name)) other)
+same_storm files case name g next other (inl none) h = inr (file.Storm, ap (λ (x : Given). reading_storm case (Some name) x next) none)
+same_storm files case name g next other (inr same) h =
+    subst (λ (x : Given). IsSameOrLacks (reading_storm case (Some name) g next) (reading_storm case (Some name) x other)) (sym same) (after_storm_given case name g next other h)
+
+after_storm : (files : Files) (case : Lists) (name : Option (List ℕ)) (g : Given) (next other : StormView → Outcome)
+    → ((text : List ℕ) → name ≡ Some text → MayGive (Some files) text g)
+    → ((storm : StormView) → IsSameOrLacks (next storm) (other storm)) → IsSameOrLacks (reading_storm case name g next) (reading_storm case name (held files name) other)
+after_storm files case None g next other may h = inl refl
+after_storm files case (Some name) g next other may h = same_storm files case name g next other (given_or_held files name g (may name refl)) h
+
 -- what may be given for a name, if there is one
 abbrev IfNamed : Files → Option (List ℕ) → Given → Type 0
 IfNamed files name g = IfSome name (λ n. MayGive (Some files) n g)
@@ -87,20 +116,33 @@ IfNamed files name g = IfSome name (λ n. MayGive (Some files) n g)
 named : (files : Files) (name : Option (List ℕ)) (g : Given) (text : List ℕ) → name ≡ Some text → IfNamed files name g → MayGive (Some files) text g
 named files name g text e h = subst (λ (n : Option (List ℕ)). IfNamed files n g) e h
 
-same_files : (files : Files) (o : Options) (contents : Contents) → MayHandOut (Some files) o contents
-    → IsSameOrLacks (reading_files o contents) (reading_files o (held_for files (Ok o)))
-same_files files o contents may =
-    let last : Lists → Option (List Switching) → Outcome = λ case rows. Accepts (record { mode = o.mode; inputs = record { case = case; switchings = rows; question = o.question } }) in
+same_by_mode : (files : Files) (m : Mode) (o : Options) (contents : Contents) → MayHandOut (Some files) o contents
+    → IsSameOrLacks (asking m o contents) (asking m o (held_for files (Ok o)))
+same_by_mode files (mode.Network m) o contents may =
+    let last : Lists → Option (List Switching) → Outcome = λ case rows. Accepts (Network m (record { case = case; switchings = rows; question = o.question })) in
     named_case files o.case (contents file.Case)
     (λ case. reading_switchings case o.switch (contents file.Switch) (last case))
     (λ case. reading_switchings case o.switch (held files o.switch) (last case))
     (λ text e. named files o.case (contents file.Case) text e (may file.Case))
     (λ case. after_switchings files case o.switch (contents file.Switch) (last case)
     (λ text e. named files o.switch (contents file.Switch) text e (may file.Switch)))
+same_by_mode files mode.Study o contents may =
+    let last : Lists → StormView → Option (List Switching) → Outcome = λ case storm rows. Accepts (Study (record { inputs = record { case = case; switchings = rows; question = o.question }; storm = storm }) o.detail) in
+    named_case files o.case (contents file.Case)
+    (λ case. reading_storm case o.storm (contents file.Storm) (λ storm. reading_switchings case o.switch (contents file.Switch) (last case storm)))
+    (λ case. reading_storm case o.storm (held files o.storm) (λ storm. reading_switchings case o.switch (held files o.switch) (last case storm)))
+    (λ text e. named files o.case (contents file.Case) text e (may file.Case))
+    (λ case. after_storm files case o.storm (contents file.Storm)
+    (λ storm. reading_switchings case o.switch (contents file.Switch) (last case storm))
+    (λ storm. reading_switchings case o.switch (held files o.switch) (last case storm))
+    (λ text e. named files o.storm (contents file.Storm) text e (may file.Storm))
+    (λ storm. after_switchings files case o.switch (contents file.Switch) (last case storm)
+    (λ text e. named files o.switch (contents file.Switch) text e (may file.Switch))))
+same_by_mode files mode.Make o contents may = inl refl
 
 same_words : (files : Files) (r : Result Options Usage) (contents : Contents) → IfOk r (λ o. MayHandOut (Some files) o contents)
-    → IsSameOrLacks (reading r UsageRefusal (λ o. reading_files o contents)) (reading r UsageRefusal (λ o. reading_files o (held_for files r)))
-same_words files (Ok o) contents may = same_files files o contents may
+    → IsSameOrLacks (reading r UsageRefusal (λ o. asking o.mode o contents)) (reading r UsageRefusal (λ o. asking o.mode o (held_for files r)))
+same_words files (Ok o) contents may = same_by_mode files o.mode o contents may
 same_words files (Err u) contents may = inl refl
 
 -- an answer to a file that is lacking is that it can't be read, or want of memory

@@ -4,3 +4,4 @@ pub mod Asks
 pub mod Steps
 pub mod Held
 pub mod WordsRefused
+pub mod Within

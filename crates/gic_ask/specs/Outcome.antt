@@ -4,17 +4,24 @@ use Rattle.std.specs.declared.option.Option.{Option}
 use Rattle.gic_case.specs.Lists.{Lists}
 use Rattle.gic_case.specs.Rules.{case_of}
 use Rattle.gic_model.specs.declared.parts.Switching.{Switching}
+use Rattle.gic_storm.specs.Rules.{storm_of}
+use Rattle.gic_storm.specs.StormView.{StormView, zone_names}
 use Rattle.gic_switch.specs.Rules.{switchings_of}
 use Rattle.gic_words.specs.Options.{options_of}
 use Rattle.gic_words.specs.declared.fault.Usage.TheVariants.{Missing}
 use Rattle.gic_words.specs.declared.option.Opt.TheVariants as opt
+use Rattle.gic_words.specs.declared.mode.Mode.{Mode}
+use Rattle.gic_words.specs.declared.mode.Mode.TheVariants as mode
 use Rattle.gic_words.specs.declared.options.Options.{Options}
+use Rattle.gic_stand.specs.declared.inputs.Inputs.{Inputs}
+use Rattle.gic_course.specs.declared.inputs.StormInputs.{StormInputs}
 use Rattle.gic_ask.specs.Contents.{Given, Nothing, Long, Whole, Contents}
 use Rattle.gic_ask.specs.declared.fault.File.{File}
 use Rattle.gic_ask.specs.declared.fault.File.TheVariants as file
 use Rattle.gic_ask.specs.declared.fault.InputRefusal.{InputRefusal}
-use Rattle.gic_ask.specs.declared.fault.InputRefusal.TheVariants.{Usage, TooLong, Case, Switch}
+use Rattle.gic_ask.specs.declared.fault.InputRefusal.TheVariants.{Usage, TooLong, Case, Storm, Switch}
 use Rattle.gic_ask.specs.declared.request.Asked.{Asked}
+use Rattle.gic_ask.specs.declared.request.Asked.TheVariants.{Network, Study, Make}
 
 -- the first refusal, the first file that was not handed out, or what is accepted
 pub data Outcome : Type 0 where
@@ -33,23 +40,48 @@ fetching file Nothing next = Lacks file
 fetching file Long next = Refuses (TooLong file)
 fetching file (Whole bytes) next = next bytes
 
--- the case; it is always named, since each mode requires it
+-- the case; it is always named, since each mode that reads files requires it
 abbrev pub reading_case : (name : Option (List ℕ)) → Given → (Lists → Outcome) → Outcome
 reading_case None given next = Refuses (Usage (Missing opt.Case))
 reading_case (Some name) given next = fetching file.Case given (λ bytes. reading (case_of bytes) Case next)
+
+-- a storm over the case; it is always named, since a study requires it
+abbrev pub reading_storm : Lists → (name : Option (List ℕ)) → Given → (StormView → Outcome) → Outcome
+reading_storm case None given next = Refuses (Usage (Missing opt.Storm))
+reading_storm case (Some name) given next = fetching file.Storm given (λ bytes. reading (storm_of (zone_names case.zones) bytes) Storm next)
 
 -- the switchings of the case, where they are named
 abbrev pub reading_switchings : Lists → (name : Option (List ℕ)) → Given → (Option (List Switching) → Outcome) → Outcome
 reading_switchings case None given next = next None
 reading_switchings case (Some name) given next = fetching file.Switch given (λ bytes. reading (switchings_of case bytes) Switch (λ rows. next (Some rows)))
 
--- the files that the options name, one after another
-abbrev pub reading_files : Options → Contents → Outcome
-reading_files o contents =
+-- the inputs of a mode over the network of a case: its files, one after another
+abbrev pub reading_inputs : Options → Contents → (Inputs → Outcome) → Outcome
+reading_inputs o contents next =
     reading_case o.case (contents file.Case) (λ case.
     reading_switchings case o.switch (contents file.Switch) (λ switchings.
-    Accepts (record { mode = o.mode; inputs = record { case = case; switchings = switchings; question = o.question } })))
+    next (record { case = case; switchings = switchings; question = o.question })))
+
+-- the inputs of a study: its files, one after another
+abbrev pub reading_storm_inputs : Options → Contents → (StormInputs → Outcome) → Outcome
+reading_storm_inputs o contents next =
+    reading_case o.case (contents file.Case) (λ case.
+    reading_storm case o.storm (contents file.Storm) (λ storm.
+    reading_switchings case o.switch (contents file.Switch) (λ switchings.
+    next (record { inputs = record { case = case; switchings = switchings; question = o.question }; storm = storm }))))
+
+-- the numbers of a made case; they are always given, since the mode requires them
+abbrev pub reading_numbers : (seed size : Option ℕ) → Outcome
+reading_numbers None size = Refuses (Usage (Missing opt.Seed))
+reading_numbers (Some seed) None = Refuses (Usage (Missing opt.Size))
+reading_numbers (Some seed) (Some size) = Accepts (Make seed size)
+
+-- what a mode asks for
+abbrev pub asking : Mode → Options → Contents → Outcome
+asking (mode.Network m) o contents = reading_inputs o contents (λ inputs. Accepts (Network m inputs))
+asking mode.Study o contents = reading_storm_inputs o contents (λ inputs. Accepts (Study inputs o.detail))
+asking mode.Make o contents = reading_numbers o.seed o.size
 
 -- the words, and then the files that they name, each fetched and then read
 abbrev pub outcome : List (List ℕ) → Contents → Outcome
-outcome words contents = reading (options_of words) Usage (λ o. reading_files o contents)
+outcome words contents = reading (options_of words) Usage (λ o. asking o.mode o contents)

@@ -1,19 +1,26 @@
 //! The words, and then the files.
-ghost use Rattle.std.specs.Prelude.{◌≡◌, IfOk, IfErr, OnOk, map, string_bytes};
-ghost use Rattle.gic_question.specs.Ranges.{IsWithinRanges};
+ghost use Rattle.std.specs.Prelude.{◌≡◌, ◌≢◌, length, IfOk, IfErr, IfSome, OnOk, map, string_bytes};
+ghost use Rattle.gic_course.specs.Steps.{IsStormOf};
+ghost use Rattle.gic_words.specs.Required.{IsSize};
+ghost use Rattle.gic_words.specs.declared.fault.Usage.TheVariants as usage;
+ghost use Rattle.gic_ask.specs.declared.fault.InputFault.TheVariants as fault;
+ghost use Rattle.gic_ask.specs.declared.fault.InputRefusal.TheVariants as refusal;
 ghost use Rattle.gic_ask.specs.declared.fault.File.TheVariants as file;
-ghost use Rattle.gic_ask.specs.Asks.{Asks};
+ghost use Rattle.gic_ask.specs.Asks.{Asks, IsAnswer};
 ghost use Rattle.gic_ask.specs.Contents.{MayGive, Whole};
-ghost use Rattle.gic_ask.specs.Outcome.{reading_case, reading_switchings};
-ghost use Rattle.gic_ask.specs.Steps.{FetchFails, Steps, HasFailedFetch};
+ghost use Rattle.gic_ask.specs.Outcome.{reading_case, reading_storm, reading_switchings, reading_inputs, reading_storm_inputs, reading_numbers};
+ghost use Rattle.gic_ask.specs.Steps.{FetchFails, Steps, HasFailedFetch, Reads};
+ghost use Rattle.gic_ask.specs.Within.{IsAskedWithinRanges};
 
 use crate::fault::{File, InputFault, InputRefusal};
 use crate::request::Asked;
 use gic_base::{FetchRefusal, Library, read_whole};
 use gic_case::{Case, CaseRefusal, read_case};
+use gic_course::StormInputs;
 use gic_stand::Inputs;
+use gic_storm::{Storm, StormRefusal, read_storm};
 use gic_switch::{SwitchRefusal, Switchings, read_switchings};
-use gic_words::{FileName, Opt, Usage, WordsRefusal, read_words};
+use gic_words::{FileName, Mode, Opt, Options, Usage, WordsRefusal, read_words};
 use std::alloc::Global;
 
 /// Fetches a file.
@@ -37,6 +44,13 @@ fn fetch_file<L: Library>(
     }
 }
 
+/// The fault of words that don't give an option.
+fn missing(option: Opt) -> InputFault
+    ensures { result ≡ fault.Refused (refusal.Usage (usage.Missing option)) }
+{
+    InputFault::Refused(InputRefusal::Usage(Usage::Missing { option }))
+}
+
 /// Fetches and reads the case that is named. Without a name it would be missing; each mode requires one.
 fn case<L: Library>(
     alloc: Global,
@@ -49,14 +63,37 @@ fn case<L: Library>(
     ensures failed { HasFailedFetch file.Case (L.failures library.old) (L.failures library.new) name.now result }
 {
     let Some(name) = name else {
-        let missing = Usage::Missing { option: Opt::Case };
-        return Err(InputFault::Refused(InputRefusal::Usage(missing)));
+        return Err(missing(Opt::Case));
     };
     let bytes = fetch_file(alloc, library, name.as_str(), File::Case)?;
     match read_case(alloc, &bytes) {
         Ok(case) => Ok(case),
         Err(CaseRefusal::Memory) => Err(InputFault::Memory),
         Err(refusal) => Err(InputFault::Refused(InputRefusal::Case(refusal))),
+    }
+}
+
+/// Fetches and reads the storm over a case that is named. Without a name it would be missing; a study requires one.
+fn storm<L: Library>(
+    alloc: Global,
+    library: &mut L,
+    name: &Option<FileName>,
+    case: &Case,
+) -> Result<Storm, InputFault>
+    ensures content { L.content library.new ≡ L.content library.old }
+    ensures failures { OnOk result (L.failures library.new ≡ L.failures library.old) }
+    ensures step { Steps (L.content library.old) name.now (reading_storm case.now name.now) result }
+    ensures failed { HasFailedFetch file.Storm (L.failures library.old) (L.failures library.new) name.now result }
+    ensures zones { IfOk result (λ storm. storm.zones ≡ length case.now.zones) }
+{
+    let Some(name) = name else {
+        return Err(missing(Opt::Storm));
+    };
+    let bytes = fetch_file(alloc, library, name.as_str(), File::Storm)?;
+    match read_storm(alloc, &bytes, case) {
+        Ok(storm) => Ok(storm),
+        Err(StormRefusal::Memory) => Err(InputFault::Memory),
+        Err(refusal) => Err(InputFault::Refused(InputRefusal::Storm(refusal))),
     }
 }
 
@@ -83,6 +120,61 @@ fn switchings<L: Library>(
     }
 }
 
+/// The inputs of a mode over the network of a case: its files, one after another.
+fn inputs<L: Library>(
+    alloc: Global,
+    library: &mut L,
+    options: &Options,
+) -> Result<Inputs, InputFault>
+    ensures content { L.content library.new ≡ L.content library.old }
+    ensures reads { Reads (L.content library.old) options.now (reading_inputs options.now)
+        (L.failures library.old) (L.failures library.new) result }
+    ensures question { IfOk result (λ inputs. inputs.question ≡ options.now.question) }
+{
+    let case = case(alloc, library, &options.case)?;
+    let switchings = switchings(alloc, library, &options.switch, &case)?;
+    Ok(Inputs {
+        case,
+        switchings,
+        question: options.question,
+    })
+}
+
+/// The inputs of a study: its files, one after another.
+fn storm_inputs<L: Library>(
+    alloc: Global,
+    library: &mut L,
+    options: &Options,
+) -> Result<StormInputs, InputFault>
+    ensures reads { Reads (L.content library.old) options.now (reading_storm_inputs options.now)
+        (L.failures library.old) (L.failures library.new) result }
+    ensures question { IfOk result (λ inputs. inputs.inputs.question ≡ options.now.question) }
+    ensures storm { IfOk result IsStormOf }
+{
+    let case = case(alloc, library, &options.case)?;
+    let storm = storm(alloc, library, &options.storm, &case)?;
+    let switchings = switchings(alloc, library, &options.switch, &case)?;
+    let inputs = Inputs {
+        case,
+        switchings,
+        question: options.question,
+    };
+    Ok(StormInputs { inputs, storm })
+}
+
+/// The made case that the options ask for. Without its numbers one would be missing; the mode requires both.
+fn made(options: &Options) -> Result<Asked, InputFault>
+    ensures asked { IsAnswer (reading_numbers options.now.seed options.now.size) result }
+    ensures read { IfErr result (λ e. (unread : File) → e ≢ fault.CannotRead unread) }
+    ensures made { IfOk result (λ asked. IfSome options.now.size IsSize → IsAskedWithinRanges asked) }
+{
+    match (options.seed, options.size) {
+        (None, _) => Err(missing(Opt::Seed)),
+        (Some(_), None) => Err(missing(Opt::Size)),
+        (Some(seed), Some(size)) => Ok(Asked::Make { seed, size }),
+    }
+}
+
 /// Reads the words, and then the files that they name.
 pub fn ask<L: Library>(
     alloc: Global,
@@ -91,7 +183,7 @@ pub fn ask<L: Library>(
 ) -> Result<Asked, InputFault>
     ensures asks { Asks (map string_bytes words.now) (L.content library.old)
         (L.failures library.old) (L.failures library.new) result }
-    ensures ranges { IfOk result (λ asked. IsWithinRanges asked.inputs.question) }
+    ensures ranges { IfOk result IsAskedWithinRanges }
 {
     let options = match read_words(alloc, words) {
         Ok(options) => options,
@@ -100,15 +192,18 @@ pub fn ask<L: Library>(
         }
         Err(WordsRefusal::Memory) => return Err(InputFault::Memory),
     };
-    let case = case(alloc, library, &options.case)?;
-    let switchings = switchings(alloc, library, &options.switch, &case)?;
-    let inputs = Inputs {
-        case,
-        switchings,
-        question: options.question,
-    };
-    Ok(Asked {
-        mode: options.mode,
-        inputs,
-    })
+    match options.mode {
+        Mode::Network(mode) => {
+            let inputs = inputs(alloc, library, &options)?;
+            Ok(Asked::Network { mode, inputs })
+        }
+        Mode::Study => {
+            let inputs = storm_inputs(alloc, library, &options)?;
+            Ok(Asked::Study {
+                inputs,
+                detail: options.detail,
+            })
+        }
+        Mode::Make => made(&options),
+    }
 }

@@ -2,7 +2,7 @@
 ghost use Rattle.gic_ask.specs.Held.{AnswersOfFiles};
 ghost use Rattle.gic_ask.specs.WordsRefused.{UsageIsOfWords};
 
-use gic_words::laws::case_named_law;
+use gic_words::laws::required_given_law;
 
 /// A library that tells its files, and of which no named file fails, is answered by its files, want of memory aside.
 pub fn answers_of_files_law()
@@ -13,5 +13,5 @@ pub fn answers_of_files_law()
 pub fn usage_is_of_words_law()
     ensures { UsageIsOfWords }
 {
-    case_named_law();
+    required_given_law();
 }

@@ -20,21 +20,44 @@ fn is_one_of(word: &str, wanted: &str) -> bool {
     wanted.split('|').any(|one| one == word)
 }
 
-/// Whether a line is `WORDS LOW HIGH` or `WORDS LOW HIGH WORD`, as `FRACTION WORDS` or `FRACTION WORDS : WORD` asks, with
-/// an interval that holds the fraction and is at most so wide. It isn't where a number can't be read.
-pub(crate) fn is_enclosure(line: &str, wanted: &str, width: i64) -> bool {
-    let Some((fraction, wanted)) = wanted.split_once(' ') else {
-        return false;
-    };
+/// What is behind the words and an interval that holds the fraction and is at most so wide, as `FRACTION WORDS` asks.
+fn behind<'a>(line: &'a str, wanted: &str, width: i64) -> Option<&'a str> {
+    let (fraction, words) = wanted.split_once(' ')?;
     let (numerator, denominator) = fraction.split_once('/').unwrap_or((fraction, "1"));
-    let (words, verdict) = wanted.split_once(" : ").unwrap_or((wanted, ""));
-    match (
-        numerator.parse::<i64>(),
-        denominator.parse::<i64>(),
-        interval(line, words),
-    ) {
-        (Ok(numerator), Ok(denominator), Some((low, high, word))) => is_one_of(word, verdict)
-            && holds(low, high, numerator, denominator, width),
-        _ => false,
+    let (numerator, denominator) = (
+        numerator.parse::<i64>().ok()?,
+        denominator.parse::<i64>().ok()?,
+    );
+    let (low, high, rest) = interval(line, words)?;
+    if holds(low, high, numerator, denominator, width) {
+        Some(rest)
+    } else {
+        None
+    }
+}
+
+/// The same where one or two such demands stand behind one another, with ` ~ ` between them.
+fn behind_two<'a>(line: &'a str, wanted: &str, width: i64) -> Option<&'a str> {
+    match wanted.split_once(" ~ ") {
+        None => behind(line, wanted, width),
+        Some((first, second)) => behind(behind(line, first, width)?, second, width),
+    }
+}
+
+/// The same of up to three.
+fn behind_all<'a>(line: &'a str, wanted: &str, width: i64) -> Option<&'a str> {
+    match wanted.split_once(" ~ ") {
+        None => behind(line, wanted, width),
+        Some((first, others)) => behind_two(behind(line, first, width)?, others, width),
+    }
+}
+
+/// Whether a line has words and an interval, up to three times, and a word at its end, as `FRACTION WORDS ~ FRACTION WORDS :
+/// WORD` asks, with intervals that hold the fractions and are at most so wide. It isn't where a number can't be read.
+pub(crate) fn is_enclosure(line: &str, wanted: &str, width: i64) -> bool {
+    let (parts, verdict) = wanted.split_once(" : ").unwrap_or((wanted, ""));
+    match behind_all(line, parts, width) {
+        Some(word) => is_one_of(word, verdict),
+        None => false,
     }
 }

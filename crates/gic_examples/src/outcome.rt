@@ -3,6 +3,7 @@ ghost use Rattle.std.specs.Prelude.{None};
 
 use crate::files::{TextFile, bytes_of};
 use gic_base::{MemoryLibrary, MemorySink, Sink, WriteFailed};
+use gic_monitor::{DwellMonitor, EarthMonitor, Monitor};
 use gic_study::gicstudy;
 use std::alloc::{AllocError, Global};
 
@@ -85,6 +86,20 @@ fn library_of(
     Ok(MemoryLibrary::new(alloc, shelf, Vec::from_slice(alloc, failing)?))
 }
 
+/// Makes the top call with the monitors that the program attaches: of dwells, then of earthings.
+fn call<S: Sink>(
+    alloc: Global,
+    words: &[String],
+    library: &mut MemoryLibrary,
+    out: &mut S,
+    err: &mut MemorySink,
+) -> Result<u8, AllocError> {
+    let mut monitors: Vec<Box<dyn Monitor>> = Vec::new(alloc);
+    monitors.push(Box::new(alloc, DwellMonitor::new(alloc))?)?;
+    monitors.push(Box::new(alloc, EarthMonitor::new(alloc))?)?;
+    Ok(gicstudy(alloc, words, library, out, err, monitors))
+}
+
 /// Runs the words of a line over these files.
 pub(crate) fn run(
     alloc: Global,
@@ -98,7 +113,7 @@ pub(crate) fn run(
     let tellings = Vec::from_slice(alloc, failing.tellings.as_slice())?;
     let mut out = MemorySink::new(alloc, writes);
     let mut err = MemorySink::new(alloc, tellings);
-    let status = gicstudy(alloc, &words, &mut library, &mut out, &mut err);
+    let status = call(alloc, &words, &mut library, &mut out, &mut err)?;
     Ok(Ended {
         status,
         out: Vec::from_slice(alloc, out.bytes())?,
@@ -119,7 +134,7 @@ pub(crate) fn run_byte_by_byte(
         faults: 0,
     };
     let mut err = MemorySink::new(alloc, Vec::new(alloc));
-    let status = gicstudy(alloc, &words, &mut library, &mut out, &mut err);
+    let status = call(alloc, &words, &mut library, &mut out, &mut err)?;
     Ok(Ended {
         status,
         out: out.bytes,

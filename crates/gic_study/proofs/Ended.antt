@@ -11,13 +11,12 @@ use Rattle.gic_ask.specs.declared.fault.InputFault.TheVariants as input
 use Rattle.gic_ask.specs.declared.fault.InputRefusal.{InputRefusal}
 use Rattle.gic_ask.specs.declared.request.Asked.{Asked}
 use Rattle.gic_stand.specs.Needs.{IsMet, IsUnmet}
-use Rattle.gic_stand.specs.Standing.{steps_of}
 use Rattle.gic_stand.specs.declared.fault.NetworkRefusal.{NetworkRefusal}
 use Rattle.gic_stand.specs.declared.fault.ReportFault.{ReportFault}
 use Rattle.gic_stand.specs.declared.fault.ReportFault.TheVariants as report
 use Rattle.gic_study.specs.Answers.{Moment, Explains, Answer, status_of}
 use Rattle.gic_study.specs.Faults.{status_of_fault}
-use Rattle.gic_study.specs.Modes.{need_of}
+use Rattle.gic_study.specs.Modes.{Plans, need_of, case_asked, steps_asked}
 use Rattle.gic_study.specs.Laws.{RefusalsAreAnswered, LackedFilesAreWantOfMemory, AcceptedIsReported, UnmetNeedsAreAnswered, CanRead}
 use Rattle.gic_study.specs.declared.fault.Fault.{Fault}
 use Rattle.gic_study.specs.declared.fault.Fault.TheVariants.{Input, Report}
@@ -39,94 +38,94 @@ refused_in (Lacks f) other = other
 same_refusal : (r other : InputRefusal) → Refuses r ≡ Refuses other → r ≡ other
 same_refusal r other e = ap (λ (o : Outcome). refused_in o r) e
 
-refused_by : (law : AnswersOfFiles) (words : List (List ℕ)) (files : Files) (before now : Moment) (answer : Answer)
-    → Explains words (Some files) before now answer → CanRead words before now
+refused_by : (law : AnswersOfFiles) (words : List (List ℕ)) (files : Files) (plans : Plans) (before now : Moment) (answer : Answer)
+    → Explains words (Some files) plans before now answer → CanRead words before now
     → (refusal : InputRefusal) → outcome words (held_for files (options_of words)) ≡ Refuses refusal
     → (status_of answer ≡ status_of_fault (Input (input.Refused refusal))) ⊎ (status_of answer ≡ 11)
-refused_by law words files before now (Ok done) e can refusal is =
+refused_by law words files plans before now (Ok done) e can refusal is =
     absurd (grind (arith, sym (law words files before.failures now.failures (Ok e.asked) e.asks can) ∙ is))
-refused_by law words files before now (Err (Report fault)) e can refusal is =
+refused_by law words files plans before now (Err (Report fault)) e can refusal is =
     absurd (grind (arith, sym (law words files before.failures now.failures (Ok e.asked) e.asks can) ∙ is))
-refused_by law words files before now (Err (Input (input.Refused r))) e can refusal is =
+refused_by law words files plans before now (Err (Input (input.Refused r))) e can refusal is =
     inl (ap (λ (x : InputRefusal). status_of_fault (Input (input.Refused x))) (same_refusal r refusal (sym (law words files before.failures now.failures (Err (input.Refused r)) e.asks can) ∙ is)))
-refused_by law words files before now (Err (Input (input.CannotRead file))) e can refusal is =
+refused_by law words files plans before now (Err (Input (input.CannotRead file))) e can refusal is =
     absurd (grind (arith, sym (law words files before.failures now.failures (Err (input.CannotRead file)) e.asks can) ∙ is))
-refused_by law words files before now (Err (Input input.Memory)) e can refusal is = inr refl
+refused_by law words files plans before now (Err (Input input.Memory)) e can refusal is = inr refl
 
 pub refusals_are_answered : AnswersOfFiles → RefusalsAreAnswered
-refusals_are_answered law words files before now told told' status e can refusal is =
+refusals_are_answered law words files plans before now told told' status e can refusal is =
     subst (λ n. (n ≡ status_of_fault (Input (input.Refused refusal))) ⊎ (n ≡ 11)) (sym e.status_is)
-    (refused_by law words files before now e.answer e.explained can refusal is)
+    (refused_by law words files plans before now e.answer e.explained can refusal is)
 
-lacked_by : (law : AnswersOfFiles) (words : List (List ℕ)) (files : Files) (before now : Moment) (answer : Answer)
-    → Explains words (Some files) before now answer → CanRead words before now
+lacked_by : (law : AnswersOfFiles) (words : List (List ℕ)) (files : Files) (plans : Plans) (before now : Moment) (answer : Answer)
+    → Explains words (Some files) plans before now answer → CanRead words before now
     → (file : File) → outcome words (held_for files (options_of words)) ≡ Lacks file → status_of answer ≡ 11
-lacked_by law words files before now (Ok done) e can file is =
+lacked_by law words files plans before now (Ok done) e can file is =
     absurd (grind (arith, sym (law words files before.failures now.failures (Ok e.asked) e.asks can) ∙ is))
-lacked_by law words files before now (Err (Report fault)) e can file is =
+lacked_by law words files plans before now (Err (Report fault)) e can file is =
     absurd (grind (arith, sym (law words files before.failures now.failures (Ok e.asked) e.asks can) ∙ is))
-lacked_by law words files before now (Err (Input (input.Refused r))) e can file is =
+lacked_by law words files plans before now (Err (Input (input.Refused r))) e can file is =
     absurd (grind (arith, sym (law words files before.failures now.failures (Err (input.Refused r)) e.asks can) ∙ is))
-lacked_by law words files before now (Err (Input (input.CannotRead other))) e can file is = absurd (can other (e.asks.failed other refl))
-lacked_by law words files before now (Err (Input input.Memory)) e can file is = refl
+lacked_by law words files plans before now (Err (Input (input.CannotRead other))) e can file is = absurd (can other (e.asks.failed other refl))
+lacked_by law words files plans before now (Err (Input input.Memory)) e can file is = refl
 
 pub lacked_files_are_want_of_memory : AnswersOfFiles → LackedFilesAreWantOfMemory
-lacked_files_are_want_of_memory law words files before now told told' status e can file is =
-    e.status_is ∙ lacked_by law words files before now e.answer e.explained can file is
+lacked_files_are_want_of_memory law words files plans before now told told' status e can file is =
+    e.status_is ∙ lacked_by law words files plans before now e.answer e.explained can file is
 
 -- the need of what is asked is met
-met_by : (a asked : Asked) → a ≡ asked → IsMet (need_of asked.mode) (steps_of asked.inputs)
-    → IsMet (need_of a.mode) (steps_of a.inputs)
-met_by a asked e met = subst (λ (x : Asked). IsMet (need_of x.mode) (steps_of x.inputs)) (sym e) met
+met_by : (a asked : Asked) → a ≡ asked → IsMet (need_of asked) (steps_asked asked)
+    → IsMet (need_of a) (steps_asked a)
+met_by a asked e met = subst (λ (x : Asked). IsMet (need_of x) (steps_asked x)) (sym e) met
 
-reported_by : (law : AnswersOfFiles) (words : List (List ℕ)) (files : Files) (before now : Moment) (answer : Answer)
-    → Explains words (Some files) before now answer → CanRead words before now
+reported_by : (law : AnswersOfFiles) (words : List (List ℕ)) (files : Files) (plans : Plans) (before now : Moment) (answer : Answer)
+    → Explains words (Some files) plans before now answer → CanRead words before now
     → (asked : Asked) → outcome words (held_for files (options_of words)) ≡ Accepts asked
-    → IsMet (need_of asked.mode) (steps_of asked.inputs) → ¬ Rose before.out.faults now.out.faults
+    → IsMet (need_of asked) (steps_asked asked) → ¬ Rose before.out.faults now.out.faults
     → (status_of answer ≡ 0) ⊎ (status_of answer ≡ 11)
-reported_by law words files before now (Ok done) e can asked is met stood = inl refl
-reported_by law words files before now (Err (Report report.CannotWrite)) e can asked is met stood = absurd (stood e.serves.cause)
-reported_by law words files before now (Err (Report report.Memory)) e can asked is met stood = inr refl
-reported_by law words files before now (Err (Report (report.Refused r))) e can asked is met stood =
+reported_by law words files plans before now (Ok done) e can asked is met stood = inl refl
+reported_by law words files plans before now (Err (Report report.CannotWrite)) e can asked is met stood = absurd (stood e.serves.cause)
+reported_by law words files plans before now (Err (Report report.Memory)) e can asked is met stood = inr refl
+reported_by law words files plans before now (Err (Report (report.Refused r))) e can asked is met stood =
     let same : e.asked ≡ asked = same_asked e.asked asked (sym (law words files before.failures now.failures (Ok e.asked) e.asks can) ∙ is) in
-    absurd (unmet_or_met (need_of e.asked.mode) e.asked.inputs.case (steps_of e.asked.inputs) r e.serves.0 (met_by e.asked asked same met))
-reported_by law words files before now (Err (Input (input.Refused r))) e can asked is met stood =
+    absurd (unmet_or_met (need_of e.asked) (case_asked e.asked) (steps_asked e.asked) r e.serves.0 (met_by e.asked asked same met))
+reported_by law words files plans before now (Err (Input (input.Refused r))) e can asked is met stood =
     absurd (grind (arith, sym (law words files before.failures now.failures (Err (input.Refused r)) e.asks can) ∙ is))
-reported_by law words files before now (Err (Input (input.CannotRead file))) e can asked is met stood =
+reported_by law words files plans before now (Err (Input (input.CannotRead file))) e can asked is met stood =
     absurd (grind (arith, sym (law words files before.failures now.failures (Err (input.CannotRead file)) e.asks can) ∙ is))
-reported_by law words files before now (Err (Input input.Memory)) e can asked is met stood = inr refl
+reported_by law words files plans before now (Err (Input input.Memory)) e can asked is met stood = inr refl
 
 pub accepted_is_reported : AnswersOfFiles → AcceptedIsReported
-accepted_is_reported law words files before now told told' status e can asked is met stood =
+accepted_is_reported law words files plans before now told told' status e can asked is met stood =
     subst (λ n. (n ≡ 0) ⊎ (n ≡ 11)) (sym e.status_is)
-    (reported_by law words files before now e.answer e.explained can asked is met stood)
+    (reported_by law words files plans before now e.answer e.explained can asked is met stood)
 
-unmet_by : (a asked : Asked) (refusal : NetworkRefusal) → a ≡ asked → IsUnmet (need_of asked.mode) asked.inputs.case (steps_of asked.inputs) refusal
-    → IsUnmet (need_of a.mode) a.inputs.case (steps_of a.inputs) refusal
-unmet_by a asked refusal e unmet = subst (λ (x : Asked). IsUnmet (need_of x.mode) x.inputs.case (steps_of x.inputs) refusal) (sym e) unmet
+unmet_by : (a asked : Asked) (refusal : NetworkRefusal) → a ≡ asked → IsUnmet (need_of asked) (case_asked asked) (steps_asked asked) refusal
+    → IsUnmet (need_of a) (case_asked a) (steps_asked a) refusal
+unmet_by a asked refusal e unmet = subst (λ (x : Asked). IsUnmet (need_of x) (case_asked x) (steps_asked x) refusal) (sym e) unmet
 
-unmet_answered : (law : AnswersOfFiles) (words : List (List ℕ)) (files : Files) (before now : Moment) (answer : Answer)
-    → Explains words (Some files) before now answer → CanRead words before now
+unmet_answered : (law : AnswersOfFiles) (words : List (List ℕ)) (files : Files) (plans : Plans) (before now : Moment) (answer : Answer)
+    → Explains words (Some files) plans before now answer → CanRead words before now
     → (asked : Asked) → outcome words (held_for files (options_of words)) ≡ Accepts asked
-    → (refusal : NetworkRefusal) → IsUnmet (need_of asked.mode) asked.inputs.case (steps_of asked.inputs) refusal
+    → (refusal : NetworkRefusal) → IsUnmet (need_of asked) (case_asked asked) (steps_asked asked) refusal
     → (status_of answer ≡ status_of_fault (Report (report.Refused refusal))) ⊎ (status_of answer ≡ 11)
-unmet_answered law words files before now (Ok done) e can asked is refusal unmet =
+unmet_answered law words files plans before now (Ok done) e can asked is refusal unmet =
     let same : e.asked ≡ asked = same_asked e.asked asked (sym (law words files before.failures now.failures (Ok e.asked) e.asks can) ∙ is) in
-    absurd (unmet_or_met (need_of e.asked.mode) e.asked.inputs.case (steps_of e.asked.inputs) refusal (unmet_by e.asked asked refusal same unmet) e.serves.met)
-unmet_answered law words files before now (Err (Report report.CannotWrite)) e can asked is refusal unmet =
+    absurd (unmet_or_met (need_of e.asked) (case_asked e.asked) (steps_asked e.asked) refusal (unmet_by e.asked asked refusal same unmet) e.serves.met)
+unmet_answered law words files plans before now (Err (Report report.CannotWrite)) e can asked is refusal unmet =
     let same : e.asked ≡ asked = same_asked e.asked asked (sym (law words files before.failures now.failures (Ok e.asked) e.asks can) ∙ is) in
-    absurd (unmet_or_met (need_of e.asked.mode) e.asked.inputs.case (steps_of e.asked.inputs) refusal (unmet_by e.asked asked refusal same unmet) e.serves.met)
-unmet_answered law words files before now (Err (Report report.Memory)) e can asked is refusal unmet = inr refl
-unmet_answered law words files before now (Err (Report (report.Refused r))) e can asked is refusal unmet =
+    absurd (unmet_or_met (need_of e.asked) (case_asked e.asked) (steps_asked e.asked) refusal (unmet_by e.asked asked refusal same unmet) e.serves.met)
+unmet_answered law words files plans before now (Err (Report report.Memory)) e can asked is refusal unmet = inr refl
+unmet_answered law words files plans before now (Err (Report (report.Refused r))) e can asked is refusal unmet =
     let same : e.asked ≡ asked = same_asked e.asked asked (sym (law words files before.failures now.failures (Ok e.asked) e.asks can) ∙ is) in
-    inl (same_kind (need_of e.asked.mode) e.asked.inputs.case (steps_of e.asked.inputs) r refusal e.serves.0 (unmet_by e.asked asked refusal same unmet))
-unmet_answered law words files before now (Err (Input (input.Refused r))) e can asked is refusal unmet =
+    inl (same_kind (need_of e.asked) (case_asked e.asked) (steps_asked e.asked) r refusal e.serves.0 (unmet_by e.asked asked refusal same unmet))
+unmet_answered law words files plans before now (Err (Input (input.Refused r))) e can asked is refusal unmet =
     absurd (grind (arith, sym (law words files before.failures now.failures (Err (input.Refused r)) e.asks can) ∙ is))
-unmet_answered law words files before now (Err (Input (input.CannotRead file))) e can asked is refusal unmet =
+unmet_answered law words files plans before now (Err (Input (input.CannotRead file))) e can asked is refusal unmet =
     absurd (grind (arith, sym (law words files before.failures now.failures (Err (input.CannotRead file)) e.asks can) ∙ is))
-unmet_answered law words files before now (Err (Input input.Memory)) e can asked is refusal unmet = inr refl
+unmet_answered law words files plans before now (Err (Input input.Memory)) e can asked is refusal unmet = inr refl
 
 pub unmet_needs_are_answered : AnswersOfFiles → UnmetNeedsAreAnswered
-unmet_needs_are_answered law words files before now told told' status e can asked is refusal unmet =
+unmet_needs_are_answered law words files plans before now told told' status e can asked is refusal unmet =
     subst (λ n. (n ≡ status_of_fault (Report (report.Refused refusal))) ⊎ (n ≡ 11)) (sym e.status_is)
-    (unmet_answered law words files before now e.answer e.explained can asked is refusal unmet)
+    (unmet_answered law words files plans before now e.answer e.explained can asked is refusal unmet)

@@ -1,46 +1,57 @@
--- The first byte of a right text tells its mode.
-use Rattle.std.proofs.Common.{◌≡◌, ◌∙◌, ℕ, List, get_or, refl, sym, ap, arith}
+-- The first two bytes of a right text tell its mode.
+use Rattle.std.proofs.Common.{◌≡◌, ◌∙◌, ℕ, ◌+◌, ◌*◌, ◌==◌, if◌then◌else◌, List, get_or, refl, sym, ap}
+use Rattle.gic_words.specs.Table.{word_of}
+use Rattle.gic_words.specs.declared.mode.NetworkMode.{NetworkMode}
+use Rattle.gic_words.specs.declared.mode.NetworkMode.TheVariants as network
 use Rattle.gic_words.specs.declared.mode.Mode.{Mode}
 use Rattle.gic_words.specs.declared.mode.Mode.TheVariants as mode
 use Rattle.gic_stand.specs.declared.inputs.Inputs.{Inputs}
-use Rattle.gic_study.specs.Modes.{IsRightText}
+use Rattle.gic_ask.specs.declared.request.Asked.{Asked}
+use Rattle.gic_ask.specs.declared.request.Asked.TheVariants.{Network, Study, Make}
+use Rattle.gic_study.specs.Modes.{Plans, mode_asked, IsRightOverNetwork, IsRightText}
 use Rattle.gic_study.specs.Laws.{TextsTellModes}
 
-abbrev first_byte : Mode → ℕ
-first_byte mode.Volts = 118
-first_byte mode.List = 108
-first_byte mode.Check = 99
-first_byte mode.Field = 102
+first_two : List ℕ → ℕ
+first_two text = 256 * get_or text 0 0 + get_or text 1 0
 
-first_of : List ℕ → ℕ
-first_of text = get_or text 0 0
+-- a report begins with the word that asks for it
+abbrev mark_of : Mode → ℕ
+mark_of m = 256 * get_or (word_of m) 0 0 + get_or (word_of m) 1 0
 
-begins : (m : Mode) (inputs : Inputs) (text : List ℕ) → IsRightText m inputs text → first_of text ≡ first_byte m
-unfolding first_of
-begins mode.Volts inputs text right = ap (λ (t : List ℕ). first_of t) right
-begins mode.List inputs text right = ap (λ (t : List ℕ). first_of t) right
-begins mode.Check inputs text right = ap (λ (t : List ℕ). first_of t) right
-begins mode.Field inputs text right = ap (λ (t : List ℕ). first_of t) right.text_is
+begins_over_network : (m : NetworkMode) (inputs : Inputs) (text : List ℕ) → IsRightOverNetwork m inputs text → first_two text ≡ mark_of (mode.Network m)
+unfolding first_two
+begins_over_network network.Volts inputs text right = ap (λ (t : List ℕ). first_two t) right
+begins_over_network network.List inputs text right = ap (λ (t : List ℕ). first_two t) right
+begins_over_network network.Check inputs text right = ap (λ (t : List ℕ). first_two t) right
+begins_over_network network.Field inputs text right = ap (λ (t : List ℕ). first_two t) right.text_is
+begins_over_network network.Screen inputs text right = ap (λ (t : List ℕ). first_two t) right.text_is
+
+begins : (plans : Plans) (asked : Asked) (text : List ℕ) → IsRightText plans asked text → first_two text ≡ mark_of (mode_asked asked)
+unfolding first_two
+begins plans (Network m inputs) text right = begins_over_network m inputs text right
+begins plans (Study inputs detail) text right = ap (λ (t : List ℕ). first_two t) right.text_is
+begins plans (Make seed size) text right = ap (λ (t : List ℕ). first_two t) right.text_is
+
+-- the mode whose word begins so
+abbrev marked : ℕ → Mode
+marked mark = if mark == mark_of (mode.Network network.Volts) then mode.Network network.Volts
+    else (if mark == mark_of (mode.Network network.List) then mode.Network network.List
+    else (if mark == mark_of (mode.Network network.Check) then mode.Network network.Check
+    else (if mark == mark_of (mode.Network network.Field) then mode.Network network.Field
+    else (if mark == mark_of (mode.Network network.Screen) then mode.Network network.Screen
+    else (if mark == mark_of mode.Study then mode.Study
+    else mode.Make)))))
 
 -- no two modes begin alike
-mode_by : (m other : Mode) → first_byte m ≡ first_byte other → m ≡ other
-mode_by mode.Volts mode.Volts e = refl
-mode_by mode.Volts mode.List e = absurd (omega (arith, e))
-mode_by mode.Volts mode.Check e = absurd (omega (arith, e))
-mode_by mode.Volts mode.Field e = absurd (omega (arith, e))
-mode_by mode.List mode.Volts e = absurd (omega (arith, e))
-mode_by mode.List mode.List e = refl
-mode_by mode.List mode.Check e = absurd (omega (arith, e))
-mode_by mode.List mode.Field e = absurd (omega (arith, e))
-mode_by mode.Check mode.Volts e = absurd (omega (arith, e))
-mode_by mode.Check mode.List e = absurd (omega (arith, e))
-mode_by mode.Check mode.Check e = refl
-mode_by mode.Check mode.Field e = absurd (omega (arith, e))
-mode_by mode.Field mode.Volts e = absurd (omega (arith, e))
-mode_by mode.Field mode.List e = absurd (omega (arith, e))
-mode_by mode.Field mode.Check e = absurd (omega (arith, e))
-mode_by mode.Field mode.Field e = refl
+marked_as : (m : Mode) → marked (mark_of m) ≡ m
+marked_as (mode.Network network.Volts) = refl
+marked_as (mode.Network network.List) = refl
+marked_as (mode.Network network.Check) = refl
+marked_as (mode.Network network.Field) = refl
+marked_as (mode.Network network.Screen) = refl
+marked_as mode.Study = refl
+marked_as mode.Make = refl
 
 pub texts_tell_modes : TextsTellModes
-texts_tell_modes m other inputs others text right right' =
-    mode_by m other (sym (begins m inputs text right) ∙ begins other others text right')
+texts_tell_modes plans others asked other text right right' =
+    sym (marked_as (mode_asked asked)) ∙ (ap marked (sym (begins plans asked text right) ∙ begins others other text right') ∙ marked_as (mode_asked other))

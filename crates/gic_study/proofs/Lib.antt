@@ -1,3 +1,4 @@
+mod Served
 pub mod Spaced
 pub mod Explained
 pub mod MetNeeds

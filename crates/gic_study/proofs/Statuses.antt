@@ -7,136 +7,161 @@ use Rattle.gic_stand.specs.declared.fault.ReportFault.TheVariants as report
 use Rattle.gic_stand.specs.declared.fault.NetworkRefusal.TheVariants as network
 use Rattle.gic_study.specs.Answers.{Moment, Answer, Explains, status_of}
 use Rattle.gic_study.specs.Laws.{StatusSays, StatusesSay}
+use Rattle.gic_study.specs.Modes.{Plans}
 use Rattle.gic_study.specs.declared.fault.Fault.TheVariants.{Input, Report}
 
-says : (words : List (List ℕ)) (files : Option Files) (before now : Moment) (answer : Answer) → Explains words files before now answer
-    → StatusSays words files before now (status_of answer)
-says words files before now (Ok done) explained = record {
+says : (words : List (List ℕ)) (files : Option Files) (plans : Plans) (before now : Moment) (answer : Answer) → Explains words files plans before now answer
+    → StatusSays words files plans before now (status_of answer)
+says words files plans before now (Ok done) explained = record {
   done = λ e. explained;
   usage = λ e. absurd (omega (arith, e));
   unread = λ e. absurd (omega (arith, e));
   unwritten = λ e. absurd (omega (arith, e));
   case_refused = λ e. absurd (omega (arith, e));
+  storm_refused = λ e. absurd (omega (arith, e));
   switch_refused = λ e. absurd (omega (arith, e));
   unearthed = λ e. absurd (omega (arith, e));
   unresolved = λ e. absurd (omega (arith, e));
   too_long = λ e. absurd (omega (arith, e));
   nothing = λ not_done not_unwritten. absurd (not_done refl);
 }
-says words files before now (Err (Input (input.Refused (input_refusal.Usage u)))) explained = record {
+says words files plans before now (Err (Input (input.Refused (input_refusal.Usage u)))) explained = record {
   done = λ e. absurd (omega (arith, e));
   usage = λ e. (u, explained);
   unread = λ e. absurd (omega (arith, e));
   unwritten = λ e. absurd (omega (arith, e));
   case_refused = λ e. absurd (omega (arith, e));
+  storm_refused = λ e. absurd (omega (arith, e));
   switch_refused = λ e. absurd (omega (arith, e));
   unearthed = λ e. absurd (omega (arith, e));
   unresolved = λ e. absurd (omega (arith, e));
   too_long = λ e. absurd (omega (arith, e));
   nothing = λ not_done not_unwritten. explained.kept;
 }
-says words files before now (Err (Input (input.CannotRead file))) explained = record {
+says words files plans before now (Err (Input (input.CannotRead file))) explained = record {
   done = λ e. absurd (omega (arith, e));
   usage = λ e. absurd (omega (arith, e));
   unread = λ e. (file, explained.asks.failed file refl);
   unwritten = λ e. absurd (omega (arith, e));
   case_refused = λ e. absurd (omega (arith, e));
+  storm_refused = λ e. absurd (omega (arith, e));
   switch_refused = λ e. absurd (omega (arith, e));
   unearthed = λ e. absurd (omega (arith, e));
   unresolved = λ e. absurd (omega (arith, e));
   too_long = λ e. absurd (omega (arith, e));
   nothing = λ not_done not_unwritten. explained.kept;
 }
-says words files before now (Err (Report report.CannotWrite)) explained = record {
+says words files plans before now (Err (Report report.CannotWrite)) explained = record {
   done = λ e. absurd (omega (arith, e));
   usage = λ e. absurd (omega (arith, e));
   unread = λ e. absurd (omega (arith, e));
   unwritten = λ e. (explained, explained.serves.cause);
   case_refused = λ e. absurd (omega (arith, e));
+  storm_refused = λ e. absurd (omega (arith, e));
   switch_refused = λ e. absurd (omega (arith, e));
   unearthed = λ e. absurd (omega (arith, e));
   unresolved = λ e. absurd (omega (arith, e));
   too_long = λ e. absurd (omega (arith, e));
   nothing = λ not_done not_unwritten. absurd (not_unwritten refl);
 }
-says words files before now (Err (Input (input.Refused (input_refusal.Case r)))) explained = record {
+says words files plans before now (Err (Input (input.Refused (input_refusal.Case r)))) explained = record {
   done = λ e. absurd (omega (arith, e));
   usage = λ e. absurd (omega (arith, e));
   unread = λ e. absurd (omega (arith, e));
   unwritten = λ e. absurd (omega (arith, e));
   case_refused = λ e. (r, explained);
+  storm_refused = λ e. absurd (omega (arith, e));
   switch_refused = λ e. absurd (omega (arith, e));
   unearthed = λ e. absurd (omega (arith, e));
   unresolved = λ e. absurd (omega (arith, e));
   too_long = λ e. absurd (omega (arith, e));
   nothing = λ not_done not_unwritten. explained.kept;
 }
-says words files before now (Err (Input (input.Refused (input_refusal.Switch r)))) explained = record {
+says words files plans before now (Err (Input (input.Refused (input_refusal.Storm r)))) explained = record {
   done = λ e. absurd (omega (arith, e));
   usage = λ e. absurd (omega (arith, e));
   unread = λ e. absurd (omega (arith, e));
   unwritten = λ e. absurd (omega (arith, e));
   case_refused = λ e. absurd (omega (arith, e));
+  storm_refused = λ e. (r, explained);
+  switch_refused = λ e. absurd (omega (arith, e));
+  unearthed = λ e. absurd (omega (arith, e));
+  unresolved = λ e. absurd (omega (arith, e));
+  too_long = λ e. absurd (omega (arith, e));
+  nothing = λ not_done not_unwritten. explained.kept;
+}
+says words files plans before now (Err (Input (input.Refused (input_refusal.Switch r)))) explained = record {
+  done = λ e. absurd (omega (arith, e));
+  usage = λ e. absurd (omega (arith, e));
+  unread = λ e. absurd (omega (arith, e));
+  unwritten = λ e. absurd (omega (arith, e));
+  case_refused = λ e. absurd (omega (arith, e));
+  storm_refused = λ e. absurd (omega (arith, e));
   switch_refused = λ e. (r, explained);
   unearthed = λ e. absurd (omega (arith, e));
   unresolved = λ e. absurd (omega (arith, e));
   too_long = λ e. absurd (omega (arith, e));
   nothing = λ not_done not_unwritten. explained.kept;
 }
-says words files before now (Err (Report (report.Refused (network.Unearthed step node)))) explained = record {
+says words files plans before now (Err (Report (report.Refused (network.Unearthed step node)))) explained = record {
   done = λ e. absurd (omega (arith, e));
   usage = λ e. absurd (omega (arith, e));
   unread = λ e. absurd (omega (arith, e));
   unwritten = λ e. absurd (omega (arith, e));
   case_refused = λ e. absurd (omega (arith, e));
+  storm_refused = λ e. absurd (omega (arith, e));
   switch_refused = λ e. absurd (omega (arith, e));
   unearthed = λ e. (step, (node, explained));
   unresolved = λ e. absurd (omega (arith, e));
   too_long = λ e. absurd (omega (arith, e));
   nothing = λ not_done not_unwritten. explained.serves.1;
 }
-says words files before now (Err (Report (report.Refused (network.Unresolved step node)))) explained = record {
+says words files plans before now (Err (Report (report.Refused (network.Unresolved step node)))) explained = record {
   done = λ e. absurd (omega (arith, e));
   usage = λ e. absurd (omega (arith, e));
   unread = λ e. absurd (omega (arith, e));
   unwritten = λ e. absurd (omega (arith, e));
   case_refused = λ e. absurd (omega (arith, e));
+  storm_refused = λ e. absurd (omega (arith, e));
   switch_refused = λ e. absurd (omega (arith, e));
   unearthed = λ e. absurd (omega (arith, e));
   unresolved = λ e. (step, (node, explained));
   too_long = λ e. absurd (omega (arith, e));
   nothing = λ not_done not_unwritten. explained.serves.1;
 }
-says words files before now (Err (Input (input.Refused (input_refusal.TooLong file)))) explained = record {
+says words files plans before now (Err (Input (input.Refused (input_refusal.TooLong file)))) explained = record {
   done = λ e. absurd (omega (arith, e));
   usage = λ e. absurd (omega (arith, e));
   unread = λ e. absurd (omega (arith, e));
   unwritten = λ e. absurd (omega (arith, e));
   case_refused = λ e. absurd (omega (arith, e));
+  storm_refused = λ e. absurd (omega (arith, e));
   switch_refused = λ e. absurd (omega (arith, e));
   unearthed = λ e. absurd (omega (arith, e));
   unresolved = λ e. absurd (omega (arith, e));
   too_long = λ e. (file, explained);
   nothing = λ not_done not_unwritten. explained.kept;
 }
-says words files before now (Err (Input input.Memory)) explained = record {
+says words files plans before now (Err (Input input.Memory)) explained = record {
   done = λ e. absurd (omega (arith, e));
   usage = λ e. absurd (omega (arith, e));
   unread = λ e. absurd (omega (arith, e));
   unwritten = λ e. absurd (omega (arith, e));
   case_refused = λ e. absurd (omega (arith, e));
+  storm_refused = λ e. absurd (omega (arith, e));
   switch_refused = λ e. absurd (omega (arith, e));
   unearthed = λ e. absurd (omega (arith, e));
   unresolved = λ e. absurd (omega (arith, e));
   too_long = λ e. absurd (omega (arith, e));
   nothing = λ not_done not_unwritten. explained.kept;
 }
-says words files before now (Err (Report report.Memory)) explained = record {
+says words files plans before now (Err (Report report.Memory)) explained = record {
   done = λ e. absurd (omega (arith, e));
   usage = λ e. absurd (omega (arith, e));
   unread = λ e. absurd (omega (arith, e));
   unwritten = λ e. absurd (omega (arith, e));
   case_refused = λ e. absurd (omega (arith, e));
+  storm_refused = λ e. absurd (omega (arith, e));
   switch_refused = λ e. absurd (omega (arith, e));
   unearthed = λ e. absurd (omega (arith, e));
   unresolved = λ e. absurd (omega (arith, e));
@@ -145,5 +170,5 @@ says words files before now (Err (Report report.Memory)) explained = record {
 }
 
 pub statuses_say : StatusesSay
-statuses_say words files before now told told' status ends =
-    subst (StatusSays words files before now) (sym ends.status_is) (says words files before now ends.answer ends.explained)
+statuses_say words files plans before now told told' status ends =
+    subst (StatusSays words files plans before now) (sym ends.status_is) (says words files plans before now ends.answer ends.explained)

@@ -9,10 +9,9 @@ use Rattle.gic_ask.specs.Asks.{Asks}
 use Rattle.gic_ask.specs.declared.fault.InputFault.{InputFault}
 use Rattle.gic_ask.specs.declared.request.Asked.{Asked}
 use Rattle.gic_stand.specs.Serves.{Shown, shown, Serves}
-use Rattle.gic_stand.specs.Standing.{steps_of}
 use Rattle.gic_stand.specs.declared.fault.ReportFault.{ReportFault}
 use Rattle.gic_study.specs.Faults.{status_of_fault, line_of_fault}
-use Rattle.gic_study.specs.Modes.{need_of, IsRightText}
+use Rattle.gic_study.specs.Modes.{Plans, need_of, case_asked, steps_asked, IsRightText}
 use Rattle.gic_study.specs.declared.fault.Fault.{Fault}
 use Rattle.gic_study.specs.declared.fault.Fault.TheVariants.{Input, Report}
 
@@ -30,10 +29,10 @@ pub record Unasked (words : List (List ℕ)) (files : Option Files) (before now 
   pub kept : Keeps before.out.bytes now.out.bytes
 
 -- this is asked for, and its mode's call ended so
-pub record Served (words : List (List ℕ)) (files : Option Files) (before now : Moment) (answer : Result (Unit {0}) ReportFault) : Type 0 where
+pub record Served (words : List (List ℕ)) (files : Option Files) (plans : Plans) (before now : Moment) (answer : Result (Unit {0}) ReportFault) : Type 0 where
   pub asked : Asked
   pub asks : Asks words files before.failures now.failures (Ok asked)
-  pub serves : Serves (need_of asked.mode) asked.inputs.case (steps_of asked.inputs) (IsRightText asked.mode asked.inputs) before.out now.out answer
+  pub serves : Serves (need_of asked) (case_asked asked) (steps_asked asked) (IsRightText plans asked) before.out now.out answer
 
 -- all of a report, or the fault that ended the call
 abbrev pub Answer : Type 0
@@ -45,10 +44,10 @@ status_of (Ok done) = 0
 status_of (Err fault) = status_of_fault fault
 
 -- why a call has this answer
-abbrev pub Explains : List (List ℕ) → Option Files → (before now : Moment) → Answer → Type 0
-Explains words files before now (Ok done) = Served words files before now (Ok done)
-Explains words files before now (Err (Report fault)) = Served words files before now (Err fault)
-Explains words files before now (Err (Input fault)) = Unasked words files before now fault
+abbrev pub Explains : List (List ℕ) → Option Files → Plans → (before now : Moment) → Answer → Type 0
+Explains words files plans before now (Ok done) = Served words files plans before now (Ok done)
+Explains words files plans before now (Err (Report fault)) = Served words files plans before now (Err fault)
+Explains words files plans before now (Err (Input fault)) = Unasked words files before now fault
 
 -- the line was written, or a front part of it where a write failed
 pub record TellsLine (before now : Shown) (line : List ℕ) : Type 0 where
@@ -60,9 +59,9 @@ abbrev pub Tells : Shown → Shown → Answer → Type 0
 Tells before now (Ok done) = Keeps before.bytes now.bytes
 Tells before now (Err fault) = TellsLine before now (line_of_fault fault)
 
--- how a call ended between these moments of the library, the output and the error sink
-pub record Ends (words : List (List ℕ)) (files : Option Files) (before now : Moment) (told told' : Shown) (status : ℕ) : Type 0 where
+-- how a call ended between these moments of the library, the output and the error sink; the plans are those of the monitors that were handed in
+pub record Ends (words : List (List ℕ)) (files : Option Files) (plans : Plans) (before now : Moment) (told told' : Shown) (status : ℕ) : Type 0 where
   pub answer : Answer
   pub status_is : status ≡ status_of answer
-  pub explained : Explains words files before now answer
+  pub explained : Explains words files plans before now answer
   pub line : Tells told told' answer

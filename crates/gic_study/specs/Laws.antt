@@ -5,28 +5,26 @@ use Rattle.std.specs.Io.KnownBytes.{Keeps}
 use Rattle.gic_base.specs.Causes.{Rose}
 use Rattle.gic_base.specs.Files.{Files}
 use Rattle.gic_case.specs.declared.refusal.CaseRefusal.{CaseRefusal}
+use Rattle.gic_storm.specs.declared.refusal.StormRefusal.{StormRefusal}
 use Rattle.gic_switch.specs.declared.refusal.SwitchRefusal.{SwitchRefusal}
 use Rattle.gic_words.specs.Options.{options_of}
 use Rattle.gic_words.specs.declared.fault.Usage.{Usage as UsageFault}
-use Rattle.gic_words.specs.declared.mode.Mode.{Mode}
 use Rattle.gic_ask.specs.Asks.{CouldNotRead}
 use Rattle.gic_ask.specs.Held.{held_for}
 use Rattle.gic_ask.specs.Outcome.{Refuses, Lacks, Accepts, outcome}
 use Rattle.gic_ask.specs.declared.fault.File.{File}
 use Rattle.gic_ask.specs.declared.fault.InputFault.TheVariants.{Refused}
 use Rattle.gic_ask.specs.declared.fault.InputRefusal.{InputRefusal}
-use Rattle.gic_ask.specs.declared.fault.InputRefusal.TheVariants.{Usage, TooLong, Case, Switch}
+use Rattle.gic_ask.specs.declared.fault.InputRefusal.TheVariants.{Usage, TooLong, Case, Storm, Switch}
 use Rattle.gic_ask.specs.declared.request.Asked.{Asked}
 use Rattle.gic_stand.specs.Needs.{IsMet, IsUnmet}
 use Rattle.gic_stand.specs.Serves.{Shown}
-use Rattle.gic_stand.specs.Standing.{steps_of}
-use Rattle.gic_stand.specs.declared.inputs.Inputs.{Inputs}
 use Rattle.gic_stand.specs.declared.fault.NetworkRefusal.{NetworkRefusal}
 use Rattle.gic_stand.specs.declared.fault.NetworkRefusal.TheVariants.{Unearthed, Unresolved}
 use Rattle.gic_stand.specs.declared.fault.ReportFault.TheVariants as report
 use Rattle.gic_study.specs.Answers.{Ends, Moment, Served, Unasked}
 use Rattle.gic_study.specs.Faults.{status_of_fault}
-use Rattle.gic_study.specs.Modes.{need_of, IsRightText}
+use Rattle.gic_study.specs.Modes.{Plans, mode_asked, need_of, case_asked, steps_asked, IsRightText}
 use Rattle.gic_study.specs.declared.fault.Fault.TheVariants.{Input, Report}
 
 -- no fetch of a file that the words name failed between these moments
@@ -35,51 +33,52 @@ CanRead words before now = (file : File) → ¬ CouldNotRead words file before.f
 
 -- a refusal by the words and the files is answered, where no named file failed, want of memory aside
 abbrev pub RefusalsAreAnswered : Type 0
-RefusalsAreAnswered = (words : List (List ℕ)) (files : Files) (before now : Moment) (told told' : Shown) (status : ℕ) →
-    Ends words (Some files) before now told told' status → CanRead words before now →
+RefusalsAreAnswered = (words : List (List ℕ)) (files : Files) (plans : Plans) (before now : Moment) (told told' : Shown) (status : ℕ) →
+    Ends words (Some files) plans before now told told' status → CanRead words before now →
     (refusal : InputRefusal) → outcome words (held_for files (options_of words)) ≡ Refuses refusal →
     (status ≡ status_of_fault (Input (Refused refusal))) ⊎ (status ≡ 11)
 
 -- a file that is named and isn't there, though no fetch of it failed, is told as want of memory
 abbrev pub LackedFilesAreWantOfMemory : Type 0
-LackedFilesAreWantOfMemory = (words : List (List ℕ)) (files : Files) (before now : Moment) (told told' : Shown) (status : ℕ) →
-    Ends words (Some files) before now told told' status → CanRead words before now →
+LackedFilesAreWantOfMemory = (words : List (List ℕ)) (files : Files) (plans : Plans) (before now : Moment) (told told' : Shown) (status : ℕ) →
+    Ends words (Some files) plans before now told told' status → CanRead words before now →
     (file : File) → outcome words (held_for files (options_of words)) ≡ Lacks file → status ≡ 11
 
 -- a refusal of the network of what is accepted is answered
 abbrev pub UnmetNeedsAreAnswered : Type 0
-UnmetNeedsAreAnswered = (words : List (List ℕ)) (files : Files) (before now : Moment) (told told' : Shown) (status : ℕ) →
-    Ends words (Some files) before now told told' status → CanRead words before now →
+UnmetNeedsAreAnswered = (words : List (List ℕ)) (files : Files) (plans : Plans) (before now : Moment) (told told' : Shown) (status : ℕ) →
+    Ends words (Some files) plans before now told told' status → CanRead words before now →
     (asked : Asked) → outcome words (held_for files (options_of words)) ≡ Accepts asked →
-    (refusal : NetworkRefusal) → IsUnmet (need_of asked.mode) asked.inputs.case (steps_of asked.inputs) refusal →
+    (refusal : NetworkRefusal) → IsUnmet (need_of asked) (case_asked asked) (steps_asked asked) refusal →
     (status ≡ status_of_fault (Report (report.Refused refusal))) ⊎ (status ≡ 11)
 
 -- what is accepted is reported, where moreover its need is met and no write failed
 abbrev pub AcceptedIsReported : Type 0
-AcceptedIsReported = (words : List (List ℕ)) (files : Files) (before now : Moment) (told told' : Shown) (status : ℕ) →
-    Ends words (Some files) before now told told' status → CanRead words before now →
+AcceptedIsReported = (words : List (List ℕ)) (files : Files) (plans : Plans) (before now : Moment) (told told' : Shown) (status : ℕ) →
+    Ends words (Some files) plans before now told told' status → CanRead words before now →
     (asked : Asked) → outcome words (held_for files (options_of words)) ≡ Accepts asked →
-    IsMet (need_of asked.mode) (steps_of asked.inputs) → ¬ Rose before.out.faults now.out.faults →
+    IsMet (need_of asked) (steps_asked asked) → ¬ Rose before.out.faults now.out.faults →
     (status ≡ 0) ⊎ (status ≡ 11)
 
 -- what each status says
-pub record StatusSays (words : List (List ℕ)) (files : Option Files) (before now : Moment) (status : ℕ) : Type 0 where
-  pub done : status ≡ 0 → Served words files before now (Ok tt)
+pub record StatusSays (words : List (List ℕ)) (files : Option Files) (plans : Plans) (before now : Moment) (status : ℕ) : Type 0 where
+  pub done : status ≡ 0 → Served words files plans before now (Ok tt)
   pub usage : status ≡ 2 → (u : UsageFault) × Unasked words files before now (Refused (Usage u))
   pub unread : status ≡ 3 → (file : File) × CouldNotRead words file before.failures now.failures
-  pub unwritten : status ≡ 4 → Served words files before now (Err report.CannotWrite) × Rose before.out.faults now.out.faults
+  pub unwritten : status ≡ 4 → Served words files plans before now (Err report.CannotWrite) × Rose before.out.faults now.out.faults
   pub case_refused : status ≡ 5 → (e : CaseRefusal) × Unasked words files before now (Refused (Case e))
+  pub storm_refused : status ≡ 6 → (e : StormRefusal) × Unasked words files before now (Refused (Storm e))
   pub switch_refused : status ≡ 7 → (e : SwitchRefusal) × Unasked words files before now (Refused (Switch e))
-  pub unearthed : status ≡ 8 → (step : ℕ) × ((node : List ℕ) × Served words files before now (Err (report.Refused (Unearthed step node))))
-  pub unresolved : status ≡ 9 → (step : ℕ) × ((node : List ℕ) × Served words files before now (Err (report.Refused (Unresolved step node))))
+  pub unearthed : status ≡ 8 → (step : ℕ) × ((node : List ℕ) × Served words files plans before now (Err (report.Refused (Unearthed step node))))
+  pub unresolved : status ≡ 9 → (step : ℕ) × ((node : List ℕ) × Served words files plans before now (Err (report.Refused (Unresolved step node))))
   pub too_long : status ≡ 10 → (file : File) × Unasked words files before now (Refused (TooLong file))
   pub nothing : status ≢ 0 → status ≢ 4 → Keeps before.out.bytes now.out.bytes
 
 abbrev pub StatusesSay : Type 0
-StatusesSay = (words : List (List ℕ)) (files : Option Files) (before now : Moment) (told told' : Shown) (status : ℕ) →
-    Ends words files before now told told' status → StatusSays words files before now status
+StatusesSay = (words : List (List ℕ)) (files : Option Files) (plans : Plans) (before now : Moment) (told told' : Shown) (status : ℕ) →
+    Ends words files plans before now told told' status → StatusSays words files plans before now status
 
--- a right text tells its mode, whatever it is given
+-- a right text tells its mode, whatever it is given and whatever monitors plan
 abbrev pub TextsTellModes : Type 0
-TextsTellModes = (mode other : Mode) (inputs others : Inputs) (text : List ℕ) →
-    IsRightText mode inputs text → IsRightText other others text → mode ≡ other
+TextsTellModes = (plans others : Plans) (asked other : Asked) (text : List ℕ) →
+    IsRightText plans asked text → IsRightText others other text → mode_asked asked ≡ mode_asked other

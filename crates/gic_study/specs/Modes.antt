@@ -1,24 +1,74 @@
--- The modes: what each needs of the network, and what it prints.
-use Rattle.std.specs.Prelude.{ℕ, List}
+-- What is asked for: what it needs of the network, and what it prints.
+use Rattle.std.specs.Prelude.{ℕ, List, [], ◌∷◌, None}
+use Rattle.gic_case.specs.Lists.{Lists}
+use Rattle.gic_model.specs.Sums.{Placed}
+use Rattle.gic_words.specs.declared.mode.NetworkMode.{NetworkMode}
+use Rattle.gic_words.specs.declared.mode.NetworkMode.TheVariants as network
 use Rattle.gic_words.specs.declared.mode.Mode.{Mode}
 use Rattle.gic_words.specs.declared.mode.Mode.TheVariants as mode
 use Rattle.gic_stand.specs.declared.inputs.Inputs.{Inputs}
 use Rattle.gic_stand.specs.Needs.{Need, Nothing, Earthed, Solved}
+use Rattle.gic_stand.specs.Standing.{standing_of, steps_of}
+use Rattle.gic_ask.specs.declared.request.Asked.{Asked}
+use Rattle.gic_ask.specs.declared.request.Asked.TheVariants.{Network, Study, Make}
+use Rattle.gic_make.specs.Made.{made_case}
 use Rattle.gic_volts.specs.RightVolts.{IsRightVolts}
 use Rattle.gic_list.specs.RightList.{IsRightList}
 use Rattle.gic_check.specs.RightCheck.{IsRightCheck}
 use Rattle.gic_field.specs.RightField.{IsRightField}
+use Rattle.gic_screen_mode.specs.RightScreen.{IsRightScreen}
+use Rattle.gic_make_mode.specs.RightMake.{IsRightMake}
+use Rattle.gic_study_mode.specs.RightStudy.{IsRightStudy}
+use Rattle.gic_course.specs.Steps.{storm_steps}
+use Rattle.gic_view.specs.View.{View}
+use Rattle.gic_monitor.specs.RosterView.{RosterView}
 
--- what a mode needs of the network at each step
-abbrev pub need_of : Mode → Need
-need_of mode.Volts = Nothing
-need_of mode.List = Nothing
-need_of mode.Check = Earthed
-need_of mode.Field = Solved
+-- its mode
+abbrev pub mode_asked : Asked → Mode
+mode_asked (Network m inputs) = mode.Network m
+mode_asked (Study inputs detail) = mode.Study
+mode_asked (Make seed size) = mode.Make
 
--- the text is a right report of the inputs
-abbrev pub IsRightText : Mode → Inputs → (text : List ℕ) → Type 0
-IsRightText mode.Volts = IsRightVolts
-IsRightText mode.List = IsRightList
-IsRightText mode.Check = IsRightCheck
-IsRightText mode.Field = IsRightField
+-- what a mode over the network of a case needs of it at each step
+abbrev pub need_over_network : NetworkMode → Need
+need_over_network network.Volts = Nothing
+need_over_network network.List = Nothing
+need_over_network network.Check = Earthed
+need_over_network network.Field = Solved
+need_over_network network.Screen = Solved
+
+-- what is needed of the network at each step
+abbrev pub need_of : Asked → Need
+need_of (Network m inputs) = need_over_network m
+need_of (Study inputs detail) = Solved
+need_of (Make seed size) = Nothing
+
+-- the case of the network
+abbrev pub case_asked : Asked → Lists
+case_asked (Network m inputs) = inputs.case
+case_asked (Study inputs detail) = inputs.inputs.case
+case_asked (Make seed size) = made_case seed size
+
+-- the elements that stand at each step
+abbrev pub steps_asked : Asked → List (List Placed)
+steps_asked (Network m inputs) = steps_of inputs
+steps_asked (Study inputs detail) = storm_steps inputs
+steps_asked (Make seed size) = standing_of (made_case seed size) None ∷ []
+
+-- the text is a right report of the network of a case
+abbrev pub IsRightOverNetwork : NetworkMode → Inputs → (text : List ℕ) → Type 0
+IsRightOverNetwork network.Volts = IsRightVolts
+IsRightOverNetwork network.List = IsRightList
+IsRightOverNetwork network.Check = IsRightCheck
+IsRightOverNetwork network.Field = IsRightField
+IsRightOverNetwork network.Screen = IsRightScreen
+
+-- what monitors would print, in their order, after beginning with a roster and seeing views
+abbrev pub Plans : Type 0
+Plans = RosterView → List View → List (List ℕ)
+
+-- the text is a right report of what is asked for; monitors with these plans see the steps of a study
+abbrev pub IsRightText : Plans → Asked → (text : List ℕ) → Type 0
+IsRightText plans (Network m inputs) = IsRightOverNetwork m inputs
+IsRightText plans (Study inputs detail) = IsRightStudy inputs detail plans
+IsRightText plans (Make seed size) = IsRightMake seed size

@@ -4,13 +4,15 @@ ghost use Rattle.std.specs.Io.KnownBytes.{Appends};
 ghost use Rattle.gic_base.specs.Causes.{HasCause};
 ghost use Rattle.gic_base.specs.Pieces.{AppendsPart};
 ghost use Rattle.gic_text.specs.Words.{spaced};
-ghost use Rattle.gic_study.specs.Faults.{usage_words, case_words, switch_words, input_words, network_words, memory_words, file_word, part_word, row_words, field_words, switch_row_words, node_words, told_line, line_of_fault};
+ghost use Rattle.gic_storm.specs.declared.refusal.StormRefusal.TheVariants.{Number};
+ghost use Rattle.gic_study.specs.Faults.{usage_words, case_words, column_word, storm_row_words, storm_words, switch_words, input_words, network_words, memory_words, file_word, part_word, row_words, field_words, switch_row_words, node_words, told_line, line_of_fault};
 
 use crate::fault::Fault;
 use gic_ask::{File, InputFault, InputRefusal};
 use gic_base::{Name, Sink, WriteFailed, write_all};
 use gic_case::{CaseRefusal, Field, Part};
 use gic_stand::{NetworkRefusal, ReportFault};
+use gic_storm::{StormField, StormRefusal};
 use gic_switch::SwitchRefusal;
 use gic_words::Usage;
 
@@ -64,6 +66,7 @@ fn file_word(file: File) -> &'static str
 {
     match file {
         File::Case => "case",
+        File::Storm => "storm",
         File::Switch => "switch",
     }
 }
@@ -195,6 +198,55 @@ fn write_case<E: Sink>(refusal: CaseRefusal, err: &mut E) -> Result<(), WriteFai
     }
 }
 
+/// How a fault line names a number of a row of a storm.
+fn column_word(field: StormField) -> &'static str
+    ensures { result.now ≡ column_word field }
+{
+    match field {
+        StormField::Time => "time",
+        StormField::North => "north",
+        StormField::East => "east",
+    }
+}
+
+/// Writes the line of what a row of the storm breaks.
+fn write_storm_row<E: Sink>(what: &str, row: u32, err: &mut E) -> Result<(), WriteFailed>
+    ensures all { OnOk result (Appends (E.written err.old) (E.written err.new) (told_line (storm_row_words what.now row))) }
+    ensures part { AppendsPart (E.written err.old) (E.written err.new) (told_line (storm_row_words what.now row)) }
+    ensures cause { HasCause (E.faults err.old) (E.faults err.new) result }
+{
+    let mut buffer = itoa::Buffer::new();
+    write_line(&["storm:", what, "in", "row", buffer.format(row)], err)
+}
+
+/// Writes the line of a number in a row of the storm.
+fn write_storm_number<E: Sink>(row: u32, field: StormField, err: &mut E) -> Result<(), WriteFailed>
+    ensures all { OnOk result (Appends (E.written err.old) (E.written err.new) (told_line (storm_words (Number row field)))) }
+    ensures part { AppendsPart (E.written err.old) (E.written err.new) (told_line (storm_words (Number row field))) }
+    ensures cause { HasCause (E.faults err.old) (E.faults err.new) result }
+{
+    let mut buffer = itoa::Buffer::new();
+    let place = ["row", buffer.format(row), "field", column_word(field)];
+    write_joined(&["storm:", "number", "in"], &place, err)
+}
+
+/// Writes the line of a refused storm.
+fn write_storm<E: Sink>(refusal: StormRefusal, err: &mut E) -> Result<(), WriteFailed>
+    ensures all { OnOk result (Appends (E.written err.old) (E.written err.new) (told_line (storm_words refusal))) }
+    ensures part { AppendsPart (E.written err.old) (E.written err.new) (told_line (storm_words refusal)) }
+    ensures cause { HasCause (E.faults err.old) (E.faults err.new) result }
+{
+    match refusal {
+        StormRefusal::Shape { row } => write_storm_row("shape", row, err),
+        StormRefusal::Number { row, field } => write_storm_number(row, field, err),
+        StormRefusal::Zone { row } => write_storm_row("zone", row, err),
+        StormRefusal::Order { row } => write_storm_row("order", row, err),
+        StormRefusal::Empty => write_line(&["storm:", "empty"], err),
+        StormRefusal::TooMany => write_line(&["storm:", "too", "many"], err),
+        StormRefusal::Memory => write_line(&["out", "of", "memory"], err),
+    }
+}
+
 /// Writes the line of what a row of the switchings breaks.
 fn write_switch_row<E: Sink>(what: &str, row: u32, err: &mut E) -> Result<(), WriteFailed>
     ensures all { OnOk result (Appends (E.written err.old) (E.written err.new) (told_line (switch_row_words what.now row))) }
@@ -242,6 +294,7 @@ fn write_input<E: Sink>(refusal: InputRefusal, err: &mut E) -> Result<(), WriteF
         InputRefusal::Usage(usage) => write_usage(usage, err),
         InputRefusal::TooLong(file) => write_line(&["too", "long:", file_word(file)], err),
         InputRefusal::Case(refusal) => write_case(refusal, err),
+        InputRefusal::Storm(refusal) => write_storm(refusal, err),
         InputRefusal::Switch(refusal) => write_switchings(refusal, err),
     }
 }

@@ -6,10 +6,10 @@ use Rattle.gic_text.specs.Decimal.{read_decimal, whole_of}
 use Rattle.gic_words.specs.Command.{command_of_words, faults_of, matches_of_words}
 use Rattle.gic_words.specs.Table.{is_among, mode_of, use_of}
 use Rattle.gic_words.specs.Options.{options_of}
-use Rattle.gic_words.specs.declared.option.Opt.TheVariants.{Case, Switch, North, Width, Event}
+use Rattle.gic_words.specs.declared.option.Opt.TheVariants.{Case, Storm, Switch, North, East, Width, Detail, Seed, Size, Event}
 use Rattle.gic_screen.specs.declared.event.Event.TheVariants.{Benchmark, Supplemental}
-use Rattle.gic_words.specs.declared.mode.Mode.TheVariants as mode
-use Rattle.gic_words.specs.Asked.{asked_by}
+use Rattle.gic_words.specs.declared.mode.NetworkMode.TheVariants as mode
+use Rattle.gic_words.specs.Asked.{asked_by, studied_by, made_by}
 use Rattle.gic_words.specs.declared.fault.Usage.TheVariants as usage
 
 pub no_words : options_of [] ≡ Err usage.Words
@@ -151,3 +151,40 @@ whole_field = refl
 pub benchmark : options_of (codes "field" ∷ codes "--case=p" ∷ codes "--event=benchmark" ∷ []) ≡ Ok (asked_by mode.Field (codes "p") None (pos 0) (pos 0) 100 Benchmark)
 unfolding clap_on_literals command_of_words faults_of matches_of_words options_of is_among mode_of use_of
 benchmark = refl
+
+pub missing_seed : options_of (codes "make" ∷ codes "--size=x" ∷ []) ≡ Err (usage.Missing Seed)
+unfolding clap_on_literals command_of_words faults_of matches_of_words options_of is_among mode_of use_of
+missing_seed = refl
+
+pub size_too_small : options_of (codes "make" ∷ codes "--size=1" ∷ codes "--seed=7" ∷ []) ≡ Err (usage.Number Size)
+unfolding clap_on_literals command_of_words faults_of matches_of_words options_of is_among mode_of use_of read_decimal whole_of
+size_too_small = refl
+
+pub case_in_make : options_of (codes "make" ∷ codes "--seed=7" ∷ codes "--case=p" ∷ []) ≡ Err (usage.Extra Case)
+unfolding clap_on_literals command_of_words faults_of matches_of_words options_of is_among mode_of use_of
+case_in_make = refl
+
+pub field_in_screen : options_of (codes "screen" ∷ codes "--case=p" ∷ codes "--east=0" ∷ []) ≡ Err (usage.Extra East)
+unfolding clap_on_literals command_of_words faults_of matches_of_words options_of is_among mode_of use_of
+field_in_screen = refl
+
+pub screened : options_of (codes "screen" ∷ codes "--case=p" ∷ codes "--event=supplemental" ∷ []) ≡ Ok (asked_by mode.Screen (codes "p") None (pos 0) (pos 0) 100 Supplemental)
+unfolding clap_on_literals command_of_words faults_of matches_of_words options_of is_among mode_of use_of read_decimal whole_of
+screened = refl
+
+pub made : options_of (codes "make" ∷ codes "--seed=0" ∷ codes "--size=1000" ∷ []) ≡ Ok (made_by 0 1000)
+unfolding clap_on_literals command_of_words faults_of matches_of_words options_of is_among mode_of use_of read_decimal whole_of
+made = refl
+
+pub missing_storm : options_of (codes "study" ∷ codes "--case=p" ∷ codes "--detail=0" ∷ []) ≡ Err (usage.Missing Storm)
+unfolding clap_on_literals command_of_words faults_of matches_of_words options_of is_among mode_of use_of
+missing_storm = refl
+
+pub detail_too_small : options_of (codes "study" ∷ codes "--case=p" ∷ codes "--storm=s" ∷ codes "--detail=0" ∷ []) ≡ Err (usage.Number Detail)
+unfolding clap_on_literals command_of_words faults_of matches_of_words options_of is_among mode_of use_of read_decimal whole_of
+detail_too_small = refl
+
+pub studied : options_of (codes "study" ∷ codes "--case=p" ∷ codes "--storm=s" ∷ codes "--switch=w" ∷ codes "--width=10" ∷ codes "--detail=20000" ∷ [])
+    ≡ Ok (studied_by (codes "p") (codes "s") (Some (codes "w")) 10 (Some 20000) Benchmark)
+unfolding clap_on_literals command_of_words faults_of matches_of_words options_of is_among mode_of use_of read_decimal whole_of
+studied = refl

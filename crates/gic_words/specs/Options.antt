@@ -8,7 +8,7 @@ use Rattle.gic_screen.specs.declared.event.Event.{Event as NamedEvent}
 use Rattle.gic_screen.specs.declared.event.Event.TheVariants.{Benchmark}
 use Rattle.gic_words.specs.Values.{event_of, number_in}
 use Rattle.gic_words.specs.declared.option.Opt.{Opt}
-use Rattle.gic_words.specs.declared.option.Opt.TheVariants.{Case, Switch, North, East, Width, Event}
+use Rattle.gic_words.specs.declared.option.Opt.TheVariants.{Case, Storm, Switch, North, East, Width, Detail, Seed, Size, Event}
 use Rattle.gic_words.specs.declared.option.Form.{Form}
 use Rattle.gic_words.specs.declared.option.Form.TheVariants as form
 use Rattle.gic_words.specs.declared.mode.Mode.{Mode}
@@ -57,13 +57,17 @@ first_fault m rows (o ∷ os) = or_next (option_fault m o (given rows o)) (first
 abbrev pub number_of : List Row → Opt → Option ℤ
 number_of rows o = option_and_then (number_in o) (given rows o)
 
+-- a number that isn't negative, where it is given
+abbrev pub count_of : List Row → Opt → Option ℕ
+count_of rows o = option_map unsigned_abs (number_of rows o)
+
 -- the field in one direction, 0 where it is not given
 abbrev pub field_of : List Row → Opt → ℤ
 field_of rows o = unwrap_or (number_of rows o) (pos 0)
 
 -- the width, 100 where it is not given
 abbrev pub width_of : List Row → ℕ
-width_of rows = unwrap_or (option_map unsigned_abs (number_of rows Width)) 100
+width_of rows = unwrap_or (count_of rows Width) 100
 
 -- the event, the benchmark one where none is given
 abbrev pub named_event : List Row → NamedEvent
@@ -73,9 +77,18 @@ named_event rows = unwrap_or (option_and_then event_of (given rows Event)) Bench
 abbrev pub question_of : List Row → Question
 question_of rows = record { north = field_of rows North; east = field_of rows East; width = width_of rows; event = named_event rows }
 
--- the options of a mode: the files that the words name, and the question
+-- the options of a mode: the files that the words name, the question, the step in detail, and the seed and the sites of a made case
 abbrev pub options_by : Mode → List Row → Options
-options_by m rows = record { mode = m; case = given rows Case; switch = given rows Switch; question = question_of rows }
+options_by m rows = record {
+  mode = m;
+  case = given rows Case;
+  storm = given rows Storm;
+  switch = given rows Switch;
+  question = question_of rows;
+  detail = count_of rows Detail;
+  seed = count_of rows Seed;
+  size = count_of rows Size;
+}
 
 -- ---- the words
 

@@ -3,25 +3,31 @@ use Rattle.std.specs.Prelude.{ℕ, ◌==◌, Bool, List, [], ◌∷◌, ◌++◌
 use Rattle.std.specs.declared.option.Option.{Option}
 use Rattle.std.specs.List.{list_any}
 use Rattle.std.specs.Str.{bytes_eq}
-use Rattle.gic_base.specs.declared.limits.TheConstants.{MOST_FIELD}
+use Rattle.gic_base.specs.declared.limits.TheConstants.{MOST_FIELD, MOST_ROWS}
 use Rattle.gic_words.specs.declared.option.Form.{Form}
 use Rattle.gic_words.specs.declared.option.Form.TheVariants as form
+use Rattle.gic_words.specs.declared.mode.NetworkMode.{NetworkMode}
+use Rattle.gic_words.specs.declared.mode.NetworkMode.TheVariants as network
 use Rattle.gic_words.specs.declared.mode.Mode.{Mode}
 use Rattle.gic_words.specs.declared.mode.Mode.TheVariants as mode
 use Rattle.gic_words.specs.declared.mode.Use.{Use}
 use Rattle.gic_words.specs.declared.mode.Use.TheVariants.{Required, Allowed, Unused}
 use Rattle.gic_words.specs.declared.option.Opt.{Opt}
-use Rattle.gic_words.specs.declared.option.Opt.TheVariants.{Case, Switch, North, East, Width, Event}
+use Rattle.gic_words.specs.declared.option.Opt.TheVariants.{Case, Storm, Switch, North, East, Width, Detail, Seed, Size, Event}
 
 -- ---- the options
 
 -- the name of an option, without its hyphens
 abbrev pub name_of : Opt → List ℕ
 name_of Case = codes "case"
+name_of Storm = codes "storm"
 name_of Switch = codes "switch"
 name_of North = codes "north"
 name_of East = codes "east"
 name_of Width = codes "width"
+name_of Detail = codes "detail"
+name_of Seed = codes "seed"
+name_of Size = codes "size"
 name_of Event = codes "event"
 
 -- an option as it is written
@@ -30,25 +36,33 @@ flag option = codes "--" ++ name_of option
 
 -- in the order in which their faults are found
 abbrev pub all_options : List Opt
-all_options = Case ∷ Switch ∷ North ∷ East ∷ Width ∷ Event ∷ []
+all_options = Case ∷ Storm ∷ Switch ∷ North ∷ East ∷ Width ∷ Detail ∷ Seed ∷ Size ∷ Event ∷ []
 
--- the form of the values of an option; fields are within `MOST_FIELD`, 20000 mV/km, either way, widths from 10 to 10000 mV or mA
+-- the form of the values of an option; fields are within `MOST_FIELD`, 20000 mV/km, either way, widths from 10 to 10000 mV or mA, a storm has at most `MOST_ROWS`, 20000, steps, seeds are numbers of 32 bits, and made cases have from 2 to 1000 sites
 abbrev pub form_of : Opt → Form
 form_of Case = form.Name
+form_of Storm = form.Name
 form_of Switch = form.Name
 form_of North = form.Number (neg_ℤ (pos MOST_FIELD)) (pos MOST_FIELD)
 form_of East = form.Number (neg_ℤ (pos MOST_FIELD)) (pos MOST_FIELD)
 form_of Width = form.Number (pos 10) (pos 10000)
+form_of Detail = form.Number (pos 1) (pos MOST_ROWS)
+form_of Seed = form.Number (pos 0) (pos 4294967295)
+form_of Size = form.Number (pos 2) (pos 1000)
 form_of Event = form.Event
 
 -- the place of an option in the table
 abbrev pub place_of : Opt → ℕ
 place_of Case = 0
-place_of Switch = 1
-place_of North = 2
-place_of East = 3
-place_of Width = 4
-place_of Event = 5
+place_of Storm = 1
+place_of Switch = 2
+place_of North = 3
+place_of East = 4
+place_of Width = 5
+place_of Detail = 6
+place_of Seed = 7
+place_of Size = 8
+place_of Event = 9
 
 -- whether an option is one of these
 unfoldable pub is_among : Opt → List Opt → Bool
@@ -56,15 +70,24 @@ is_among o options = list_any (λ other. place_of other == place_of o) options
 
 -- ---- the modes
 
+-- the word that asks for a mode over the network of a case
+abbrev pub network_word_of : NetworkMode → List ℕ
+network_word_of network.Volts = codes "volts"
+network_word_of network.List = codes "list"
+network_word_of network.Check = codes "check"
+network_word_of network.Field = codes "field"
+network_word_of network.Screen = codes "screen"
+
 -- the word that asks for a mode
 abbrev pub word_of : Mode → List ℕ
-word_of mode.Volts = codes "volts"
-word_of mode.List = codes "list"
-word_of mode.Check = codes "check"
-word_of mode.Field = codes "field"
+word_of (mode.Network m) = network_word_of m
+word_of mode.Study = codes "study"
+word_of mode.Make = codes "make"
 
 abbrev pub all_modes : List Mode
-all_modes = mode.Volts ∷ mode.List ∷ mode.Check ∷ mode.Field ∷ []
+all_modes =
+    mode.Network network.Volts ∷ mode.Network network.List ∷ mode.Network network.Check ∷ mode.Network network.Field ∷ mode.Network network.Screen
+    ∷ mode.Study ∷ mode.Make ∷ []
 
 -- the mode that a word names
 unfoldable pub mode_of : List ℕ → Option Mode
@@ -72,17 +95,23 @@ mode_of word = find (λ m. bytes_eq (word_of m) word) all_modes
 
 -- the options that a mode requires
 abbrev pub required_by : Mode → List Opt
-required_by mode.Volts = Case ∷ []
-required_by mode.List = Case ∷ []
-required_by mode.Check = Case ∷ []
-required_by mode.Field = Case ∷ []
+required_by (mode.Network m) = Case ∷ []
+required_by mode.Study = Case ∷ Storm ∷ []
+required_by mode.Make = Seed ∷ Size ∷ []
 
--- the further options that it may have
+-- the further options that a mode over the network of a case may have
+abbrev pub allowed_over_network : NetworkMode → List Opt
+allowed_over_network network.Volts = North ∷ East ∷ []
+allowed_over_network network.List = []
+allowed_over_network network.Check = Switch ∷ []
+allowed_over_network network.Field = North ∷ East ∷ Switch ∷ Width ∷ Event ∷ []
+allowed_over_network network.Screen = Switch ∷ Width ∷ Event ∷ []
+
+-- the further options that a mode may have
 abbrev pub allowed_by : Mode → List Opt
-allowed_by mode.Volts = North ∷ East ∷ []
-allowed_by mode.List = []
-allowed_by mode.Check = Switch ∷ []
-allowed_by mode.Field = North ∷ East ∷ Switch ∷ Width ∷ Event ∷ []
+allowed_by (mode.Network m) = allowed_over_network m
+allowed_by mode.Study = Switch ∷ Width ∷ Detail ∷ Event ∷ []
+allowed_by mode.Make = []
 
 -- what use a mode has for an option
 unfoldable pub use_of : Mode → Opt → Use

@@ -4,14 +4,15 @@ ghost use Rattle.clap.specs.Words.{Row};
 ghost use Rattle.gic_words.specs.declared.mode.Mode.{Mode};
 ghost use Rattle.gic_words.specs.declared.mode.Use.TheVariants.{Required};
 ghost use Rattle.gic_words.specs.declared.option.Opt.{Opt};
-ghost use Rattle.gic_words.specs.declared.option.Opt.TheVariants.{Case, Switch, North, Width, Event};
+ghost use Rattle.gic_words.specs.declared.option.Opt.TheVariants.{Case, Storm, Switch, North, East, Width, Detail, Seed, Size, Event};
 ghost use Rattle.gic_screen.specs.declared.event.Event.TheVariants.{Benchmark, Supplemental};
-ghost use Rattle.gic_words.specs.declared.mode.Mode.TheVariants as mode;
-ghost use Rattle.gic_words.specs.Asked.{asked_by};
+ghost use Rattle.gic_words.specs.declared.mode.NetworkMode.TheVariants as mode;
+ghost use Rattle.gic_words.specs.Asked.{asked_by, studied_by, made_by};
 ghost use Rattle.gic_words.specs.declared.fault.Usage.TheVariants as usage;
 ghost use Rattle.gic_words.specs.Command.{given};
 ghost use Rattle.gic_words.specs.Table.{all_options, use_of};
 ghost use Rattle.gic_words.specs.Options.{first_fault, options_of};
+ghost use Rattle.gic_words.specs.Required.{HasRequiredOf};
 
 /// Where no fault is found, each option that the mode requires is given, so that no default stands for it.
 pub fn required_law()
@@ -19,9 +20,9 @@ pub fn required_law()
         use_of m o ≡ Required → first_fault m rows all_options ≡ None → IsSome (given rows o) }
 {}
 
-/// Accepted words name a case.
-pub fn case_named_law()
-    ensures { (words : List (List ℕ)) → IfOk (options_of words) (λ o. IsSome o.case) }
+/// Accepted words give what their mode requires.
+pub fn required_given_law()
+    ensures { (words : List (List ℕ)) → IfOk (options_of words) (λ o. HasRequiredOf o.mode o) }
 {}
 
 /// What some words give that are refused.
@@ -50,6 +51,12 @@ pub fn refused_words_law()
     ensures width_before_event { options_of (codes "field" ∷ codes "--event=" ∷ codes "--width=10001" ∷ codes "--case=p" ∷ []) ≡ Err (usage.Number Width) }
     ensures event_in_check { options_of (codes "check" ∷ codes "--case=p" ∷ codes "--event=storm" ∷ []) ≡ Err (usage.Extra Event) }
     ensures width_in_volts { options_of (codes "volts" ∷ codes "--case=p" ∷ codes "--width=100" ∷ []) ≡ Err (usage.Extra Width) }
+    ensures missing_storm { options_of (codes "study" ∷ codes "--case=p" ∷ codes "--detail=0" ∷ []) ≡ Err (usage.Missing Storm) }
+    ensures detail_too_small { options_of (codes "study" ∷ codes "--case=p" ∷ codes "--storm=s" ∷ codes "--detail=0" ∷ []) ≡ Err (usage.Number Detail) }
+    ensures missing_seed { options_of (codes "make" ∷ codes "--size=x" ∷ []) ≡ Err (usage.Missing Seed) }
+    ensures size_too_small { options_of (codes "make" ∷ codes "--size=1" ∷ codes "--seed=7" ∷ []) ≡ Err (usage.Number Size) }
+    ensures case_in_make { options_of (codes "make" ∷ codes "--seed=7" ∷ codes "--case=p" ∷ []) ≡ Err (usage.Extra Case) }
+    ensures field_in_screen { options_of (codes "screen" ∷ codes "--case=p" ∷ codes "--east=0" ∷ []) ≡ Err (usage.Extra East) }
     ensures north_before_east { options_of (codes "volts" ∷ codes "--east=x" ∷ codes "--north=x" ∷ codes "--case=p" ∷ []) ≡ Err (usage.Number North) }
 {}
 
@@ -67,6 +74,11 @@ pub fn accepted_words_law()
         ≡ Ok (asked_by mode.Field (codes "p") None (pos 0) (pos 0) 100 Benchmark) }
     ensures whole_field { options_of (codes "field" ∷ codes "--case=p" ∷ codes "--north=8000" ∷ codes "--east=-1" ∷ codes "--switch=s" ∷ codes "--width=10" ∷ codes "--event=supplemental" ∷ [])
         ≡ Ok (asked_by mode.Field (codes "p") (Some (codes "s")) (pos 8000) (negsuc 0) 10 Supplemental) }
+    ensures screened { options_of (codes "screen" ∷ codes "--case=p" ∷ codes "--event=supplemental" ∷ [])
+        ≡ Ok (asked_by mode.Screen (codes "p") None (pos 0) (pos 0) 100 Supplemental) }
+    ensures studied { options_of (codes "study" ∷ codes "--case=p" ∷ codes "--storm=s" ∷ codes "--switch=w" ∷ codes "--width=10" ∷ codes "--detail=20000" ∷ [])
+        ≡ Ok (studied_by (codes "p") (codes "s") (Some (codes "w")) 10 (Some 20000) Benchmark) }
+    ensures made { options_of (codes "make" ∷ codes "--seed=0" ∷ codes "--size=1000" ∷ []) ≡ Ok (made_by 0 1000) }
     ensures benchmark { options_of (codes "field" ∷ codes "--case=p" ∷ codes "--event=benchmark" ∷ [])
         ≡ Ok (asked_by mode.Field (codes "p") None (pos 0) (pos 0) 100 Benchmark) }
 {}

@@ -1,12 +1,12 @@
 //! The modes, and the options that each has a use for.
 ghost use Rattle.std.specs.Prelude.{◌≡◌};
-ghost use Rattle.gic_words.specs.Table.{word_of, all_modes, mode_of, required_by, allowed_by, use_of};
+ghost use Rattle.gic_words.specs.Table.{network_word_of, word_of, all_modes, mode_of, required_by, allowed_over_network, allowed_by, use_of};
 
 use crate::option::Opt;
 
-/// What words may ask for.
+/// What words may ask of the network of a case.
 #[derive(Clone, Copy, Debug, PartialEq, Eq)]
-pub enum Mode {
+pub enum NetworkMode {
     /// The voltage of each line in one field.
     Volts,
     /// The elements of the direct-current network.
@@ -15,6 +15,19 @@ pub enum Mode {
     Check,
     /// Potentials and currents in one field, with verdicts.
     Field,
+    /// The worst orientation of the event's uniform field for each transformer, with verdicts.
+    Screen,
+}
+
+/// What words may ask for.
+#[derive(Clone, Copy, Debug, PartialEq, Eq)]
+pub enum Mode {
+    /// Something of the network of a case, with all its switchings in force.
+    Network(NetworkMode),
+    /// A storm over the network of a case, with the switchings in its course: peaks and verdicts.
+    Study,
+    /// A summary of a made case in the field of the benchmark event.
+    Make,
 }
 
 /// Whether a mode has a use for an option.
@@ -28,7 +41,43 @@ pub(crate) enum Use {
     Unused,
 }
 
-static ALL: [Mode; 4] = [Mode::Volts, Mode::List, Mode::Check, Mode::Field];
+static ALL: [Mode; 7] = [
+    Mode::Network(NetworkMode::Volts),
+    Mode::Network(NetworkMode::List),
+    Mode::Network(NetworkMode::Check),
+    Mode::Network(NetworkMode::Field),
+    Mode::Network(NetworkMode::Screen),
+    Mode::Study,
+    Mode::Make,
+];
+
+impl NetworkMode {
+    /// The word that asks for it.
+    fn word(self) -> &'static str
+        ensures { result.now ≡ network_word_of self }
+    {
+        match self {
+            NetworkMode::Volts => "volts",
+            NetworkMode::List => "list",
+            NetworkMode::Check => "check",
+            NetworkMode::Field => "field",
+            NetworkMode::Screen => "screen",
+        }
+    }
+
+    /// The options that it may have besides the case.
+    fn allowed(self) -> &'static [Opt]
+        ensures { result.now ≡ allowed_over_network self }
+    {
+        match self {
+            NetworkMode::Volts => &[Opt::North, Opt::East],
+            NetworkMode::List => &[],
+            NetworkMode::Check => &[Opt::Switch],
+            NetworkMode::Field => &[Opt::North, Opt::East, Opt::Switch, Opt::Width, Opt::Event],
+            NetworkMode::Screen => &[Opt::Switch, Opt::Width, Opt::Event],
+        }
+    }
+}
 
 impl Mode {
     /// The word that asks for it.
@@ -36,10 +85,9 @@ impl Mode {
         ensures { result.now ≡ word_of self }
     {
         match self {
-            Mode::Volts => "volts",
-            Mode::List => "list",
-            Mode::Check => "check",
-            Mode::Field => "field",
+            Mode::Network(mode) => mode.word(),
+            Mode::Study => "study",
+            Mode::Make => "make",
         }
     }
 
@@ -63,7 +111,9 @@ impl Mode {
         ensures { result.now ≡ required_by self }
     {
         match self {
-            Mode::Volts | Mode::List | Mode::Check | Mode::Field => &[Opt::Case],
+            Mode::Network(_) => &[Opt::Case],
+            Mode::Study => &[Opt::Case, Opt::Storm],
+            Mode::Make => &[Opt::Seed, Opt::Size],
         }
     }
 
@@ -72,10 +122,9 @@ impl Mode {
         ensures { result.now ≡ allowed_by self }
     {
         match self {
-            Mode::Volts => &[Opt::North, Opt::East],
-            Mode::List => &[],
-            Mode::Check => &[Opt::Switch],
-            Mode::Field => &[Opt::North, Opt::East, Opt::Switch, Opt::Width, Opt::Event],
+            Mode::Network(mode) => mode.allowed(),
+            Mode::Study => &[Opt::Switch, Opt::Width, Opt::Detail, Opt::Event],
+            Mode::Make => &[],
         }
     }
 

@@ -3,9 +3,10 @@ ghost use Rattle.std.specs.Prelude.{◌≡◌, ◌≤◌, IfOk, IfSome, map, str
 ghost use Rattle.clap.specs.Words.{rows_of, found_of};
 ghost use Rattle.gic_base.specs.declared.limits.TheConstants.{MOST_FIELD};
 ghost use Rattle.gic_question.specs.Ranges.{IsWithinRanges};
+ghost use Rattle.gic_words.specs.Required.{IsSize, AreWithinRanges};
 ghost use Rattle.gic_words.specs.Command.{given};
 ghost use Rattle.gic_words.specs.Within.{IsWithin};
-ghost use Rattle.gic_words.specs.Options.{number_of, field_of, width_of, named_event, question_of, options_by, mode_in};
+ghost use Rattle.gic_words.specs.Options.{number_of, count_of, field_of, width_of, named_event, question_of, options_by, mode_in};
 ghost use Rattle.gic_words.specs.Options.{options_of, options_of_rows};
 ghost use Rattle.gic_words.specs.Reads.{ReadsWords, KeepsTaken};
 
@@ -25,11 +26,19 @@ use std::alloc::{AllocError, Global};
 #[derive(Drop)]
 pub struct Options {
     pub mode: Mode,
-    /// The name of the case's file; each mode requires it.
+    /// The name of the case's file; each mode but `make` requires it.
     pub case: Option<FileName>,
+    /// The name of the storm's file; `study` requires it.
+    pub storm: Option<FileName>,
     /// The name of the switchings' file.
     pub switch: Option<FileName>,
     pub question: Question,
+    /// The step that is shown in detail, from 1 to 20000.
+    pub detail: Option<u32>,
+    /// The seed of a made case; `make` requires it.
+    pub seed: Option<u32>,
+    /// Its number of sites, from 2 to 1000; `make` requires it.
+    pub size: Option<u16>,
 }
 
 /// The name of a file, where it is given.
@@ -91,6 +100,37 @@ fn width(matches: &ArgMatches<'_>) -> u32
     }
 }
 
+/// The step that is shown in detail.
+fn detail(matches: &ArgMatches<'_>) -> Option<u32>
+    ensures { result ≡ count_of (rows_of (found_of matches.now)) Opt.Detail }
+{
+    match number(matches, Opt::Detail) {
+        Some(value) => Some(value as u32),
+        None => None,
+    }
+}
+
+/// The seed of a made case.
+fn seed(matches: &ArgMatches<'_>) -> Option<u32>
+    ensures { result ≡ count_of (rows_of (found_of matches.now)) Opt.Seed }
+{
+    match number(matches, Opt::Seed) {
+        Some(value) => Some(value as u32),
+        None => None,
+    }
+}
+
+/// The number of sites of a made case.
+fn size(matches: &ArgMatches<'_>) -> Option<u16>
+    ensures value { result ≡ count_of (rows_of (found_of matches.now)) Opt.Size }
+    ensures within { IfSome result IsSize }
+{
+    match number(matches, Opt::Size) {
+        Some(value) => Some(value as u16),
+        None => None,
+    }
+}
+
 /// The event that transformers are screened for.
 fn event(matches: &ArgMatches<'_>) -> Event
     ensures { result ≡ named_event (rows_of (found_of matches.now)) }
@@ -120,15 +160,20 @@ fn question_in(matches: &ArgMatches<'_>) -> Question
 /// The options that the matches give for a mode.
 fn options_by(alloc: Global, mode: Mode, matches: &ArgMatches<'_>) -> Result<Options, AllocError>
     ensures value { IfOk result (λ o. o ≡ options_by mode (rows_of (found_of matches.now))) }
-    ensures within { IfOk result (λ o. IsWithinRanges o.question) }
+    ensures within { IfOk result AreWithinRanges }
 {
     let case = file(alloc, matches, Opt::Case)?;
+    let storm = file(alloc, matches, Opt::Storm)?;
     let switch = file(alloc, matches, Opt::Switch)?;
     Ok(Options {
         mode,
         case,
+        storm,
         switch,
         question: question_in(matches),
+        detail: detail(matches),
+        seed: seed(matches),
+        size: size(matches),
     })
 }
 
@@ -142,7 +187,7 @@ fn mode_of(matches: &ArgMatches<'_>) -> Option<Mode>
 /// The options of the matches.
 fn read_matches(alloc: Global, matches: &ArgMatches<'_>) -> Result<Options, WordsRefusal>
     ensures right { ReadsWords (options_of_rows (rows_of (found_of matches.now))) result }
-    ensures within { IfOk result (λ o. IsWithinRanges o.question) }
+    ensures within { IfOk result AreWithinRanges }
 {
     let Some(mode) = mode_of(matches) else {
         return Err(WordsRefusal::Usage(Usage::Mode));
@@ -160,7 +205,7 @@ pub fn read_words(alloc: Global, words: &[String]) -> Result<Options, WordsRefus
     ensures right { ReadsWords (options_of (map string_bytes words.now)) result }
     ensures taken { KeepsTaken (map string_bytes words.now) result }
     // The numbers are in their ranges.
-    ensures within { IfOk result (λ o. IsWithinRanges o.question) }
+    ensures within { IfOk result AreWithinRanges }
 {
     match parse(alloc, words) {
         Ok(matches) => read_matches(alloc, &matches),

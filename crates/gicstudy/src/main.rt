@@ -1,6 +1,7 @@
 //! The program `gicstudy`: analyses geomagnetically induced currents in a transmission network.
 #![tactic(auto)]
 
+use gic_monitor::{DwellMonitor, EarthMonitor, Monitor};
 use gic_study::gicstudy;
 use gic_system::{FileLibrary, StreamSink};
 use std::alloc::Global;
@@ -17,8 +18,9 @@ fn words(rt: &HostRuntime, alloc: Global) -> io::Result<Vec<String>> {
     Ok(words)
 }
 
-/// Makes the library and the sinks, does what the words ask for, and ends with the status. Words that are no texts end
-/// it with status 2, and want of memory for them with status 11; nothing is written then.
+/// Makes the library, the sinks and the monitors of dwells and of earthings, does what the words ask for, and ends with
+/// the status. Words that are no texts end it with status 2, and want of memory for these things with status 11; nothing is
+/// written then.
 fn main(rt: HostRuntime) -> ExitCode {
     let alloc = rt.alloc();
     let words = match words(&rt, alloc) {
@@ -26,8 +28,18 @@ fn main(rt: HostRuntime) -> ExitCode {
         Err(error) if error.kind() == ErrorKind::OutOfMemory => return ExitCode::from(11),
         Err(_) => return ExitCode::from(2),
     };
+    let mut monitors: Vec<Box<dyn Monitor>> = Vec::new(alloc);
+    let (Ok(dwells), Ok(earthings)) = (
+        Box::new(alloc, DwellMonitor::new(alloc)),
+        Box::new(alloc, EarthMonitor::new(alloc)),
+    ) else {
+        return ExitCode::from(11);
+    };
+    if monitors.push(dwells).is_err() || monitors.push(earthings).is_err() {
+        return ExitCode::from(11);
+    }
     let mut out = StreamSink::new(rt.stdout());
     let mut err = StreamSink::new(rt.stderr());
     let mut library = FileLibrary::new(rt);
-    ExitCode::from(gicstudy(alloc, &words, &mut library, &mut out, &mut err))
+    ExitCode::from(gicstudy(alloc, &words, &mut library, &mut out, &mut err, monitors))
 }

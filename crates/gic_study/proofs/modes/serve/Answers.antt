@@ -1,12 +1,13 @@
-use Rattle.std.proofs.Common.{sym, subst}
-use Rattle.gic_words.specs.declared.mode.Mode.{Mode}
-use Rattle.gic_stand.specs.Serves.{Serves, shown}
-use Rattle.gic_stand.specs.Standing.{steps_of}
-use Rattle.gic_study.specs.Modes.{need_of, IsRightText}
+use Rattle.gic_stand.specs.Serves.{shown}
+use Rattle.gic_study.proofs.Served.{over_network, over_storm}
 use Rattle.gic_study.proofs.modes.serve.Goals as goal
 
-pub returns-in-Field : goal.returns-in-Field
-returns-in-Field g c =
-    subst (λ (m : Mode). Serves (need_of m) c.args.inputs.now.case (steps_of c.args.inputs.now) (IsRightText m c.args.inputs.now)
-    (shown g.S.Sink.written g.S.Sink.faults c.args.out.now) (shown g.S.Sink.written g.S.Sink.faults c.field.new.out) c.field.result)
-    (sym c.in-Field.is) c.field.ensures
+pub returns-in-Network : goal.returns-in-Network
+returns-in-Network g c =
+    over_network _ c.args.asked.now c.in-Network.mode c.in-Network.inputs (shown g.S.Sink.written g.S.Sink.faults c.args.out.now) (shown g.S.Sink.written g.S.Sink.faults c.serve_network.new.out)
+    c.serve_network.result c.in-Network.is c.serve_network.ensures
+
+pub returns-in-Study : goal.returns-in-Study
+returns-in-Study g c =
+    over_storm _ c.args.asked.now c.in-Study.inputs c.in-Study.detail (shown g.S.Sink.written g.S.Sink.faults c.args.out.now) (shown g.S.Sink.written g.S.Sink.faults c.study.new.out)
+    c.study.result c.in-Study.is c.study.ensures

@@ -1,0 +1,12 @@
+-- The ranges of what is asked for.
+use Rattle.gic_question.specs.Ranges.{IsWithinRanges}
+use Rattle.gic_course.specs.Steps.{IsStormOf}
+use Rattle.gic_words.specs.Required.{IsSize}
+use Rattle.gic_ask.specs.declared.request.Asked.{Asked}
+use Rattle.gic_ask.specs.declared.request.Asked.TheVariants.{Network, Study, Make}
+
+-- the question of a network, with a storm that was read with its case, and the size of a made one
+abbrev pub IsAskedWithinRanges : Asked → Type 0
+IsAskedWithinRanges (Network mode inputs) = IsWithinRanges inputs.question
+IsAskedWithinRanges (Study inputs detail) = IsWithinRanges inputs.inputs.question × IsStormOf inputs
+IsAskedWithinRanges (Make seed size) = IsSize size
