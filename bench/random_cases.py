@@ -1,10 +1,11 @@
 #!/usr/bin/env python3
-"""Writes folders of random networks for `field`, one network a folder, to be checked by a solver of another make.
+"""Writes folders of random networks, one network a folder, to be checked by a solver of another make.
 
-    python3 bench/random_cases.py DIR [COUNT] [SEED] [NODES] [--limits]
+    python3 bench/random_cases.py DIR [COUNT] [SEED] [NODES] [--mode=MODE] [--limits]
 
-Each folder of DIR has the case `p`, often a list of switchings `s`, and the file `words` with the words of one run, one
-word a line. COUNT networks are written (100), the same ones for the same SEED (1), each of at most NODES nodes (200).
+Each folder of DIR has the case `p`, often a list of switchings `s`, and the file `words` with the words of one run of
+MODE (`field` where it is not given, or `screen`, or `study` with a storm `t` besides), one word a line. COUNT networks are
+written (100), the same ones for the same SEED (1), each of at most NODES nodes (200).
 Transformers are of all four kinds, with and without neutral resistors and blocking devices; some lines are blocked, some
 substations have no ground, and some networks are not earthed, or not well enough to be solved: then the answer is a
 refusal. Three networks in four are made so that each bus has a way to earth before anything is switched. With --limits
@@ -13,9 +14,11 @@ all resistances are near one of the two ends of their range.
 
 import os
 import random
+import re
 import sys
 
 AT_LIMITS = "--limits" in sys.argv
+MODES = ["field", "screen", "study"]
 KINDS = ["delta-wye", "wye-wye", "auto", "delta-delta"]
 
 
@@ -112,10 +115,10 @@ def network(draw, nodes):
     return "\n".join(tables) + "\n", items, resistors
 
 
-def switchings(draw, items, resistors):
+def switchings(draw, items, resistors, latest=60):
     lines, time = ["time,item,action"], 0
     for _ in range(draw.randint(0, 6)):
-        time += draw.randint(0, 60)
+        time += draw.randint(0, latest)
         if resistors and draw.random() < 0.3:
             lines.append(f"{time},{draw.choice(resistors)},{draw.choice(['block', 'unblock'])}")
         else:
@@ -123,26 +126,60 @@ def switchings(draw, items, resistors):
     return "\n".join(lines) + "\n"
 
 
+def storm(draw, zones):
+    """A storm of up to twelve steps, with one field for all zones or with fields by zone, and how many steps it has."""
+    by_zone, time, steps = draw.random() < 0.6, 0, draw.randint(1, 12)
+    lines = ["time,zone,north,east" if by_zone else "time,north,east"]
+    for _ in range(steps):
+        for zone in draw.sample(zones + ["*"], draw.randint(1, len(zones) + 1)) if by_zone else [None]:
+            field = f"{draw.randint(-20000, 20000)},{draw.randint(-20000, 20000)}"
+            lines.append(f"{time},{zone},{field}" if by_zone else f"{time},{field}")
+        time += draw.randint(1, 60)
+    return "\n".join(lines) + "\n", steps
+
+
+def words_of(draw, mode, steps):
+    """The words of a run, but for the switchings."""
+    words = [mode, "--case=p"]
+    if mode == "field":
+        words += [f"--north={draw.randint(-20000, 20000)}", f"--east={draw.randint(-20000, 20000)}"]
+    if mode == "study":
+        words.append("--storm=t")
+        if draw.random() < 0.6:
+            words.append(f"--detail={draw.randint(1, steps + 1)}")
+    if draw.random() < 0.5:
+        words.append(f"--width={draw.choice([10, 11, 50, 1000, 10000])}")
+    if draw.random() < 0.3:
+        words.append("--event=supplemental")
+    return words
+
+
+def run(draw, mode, nodes):
+    """The files of one folder."""
+    text, items, resistors = network(draw, draw.randint(2, nodes))
+    files, steps = {"p": text}, 0
+    if mode == "study":
+        files["t"], steps = storm(draw, sorted(set(re.findall(r'"(Z[0-9]+)"', text))))
+    words = words_of(draw, mode, steps)
+    if items and draw.random() < (0.7 if mode == "study" else 0.4):
+        files["s"] = switchings(draw, items, resistors, 150 if mode == "study" else 60)
+        words.append("--switch=s")
+    files["words"] = "\n".join(words) + "\n"
+    return files
+
+
 def main():
-    folder = sys.argv[1]
-    numbers = [int(word) for word in sys.argv[2:] if word != "--limits"]
+    plain = [word for word in sys.argv[1:] if not word.startswith("--")]
+    mode = next((word[7:] for word in sys.argv if word.startswith("--mode=")), "field")
+    if mode not in MODES:
+        sys.exit(f"random_cases.py: a mode is one of {', '.join(MODES)}")
+    folder, numbers = plain[0], [int(word) for word in plain[1:]]
     count, seed, nodes = numbers + [100, 1, 200][len(numbers):]
     for place in range(count):
         draw = random.Random(seed * 1000003 + place)
-        text, items, resistors = network(draw, draw.randint(2, nodes))
-        words = ["field", "--case=p", f"--north={draw.randint(-20000, 20000)}", f"--east={draw.randint(-20000, 20000)}"]
-        files = {"p": text}
-        if items and draw.random() < 0.4:
-            files["s"] = switchings(draw, items, resistors)
-            words.append("--switch=s")
-        if draw.random() < 0.5:
-            words.append(f"--width={draw.choice([10, 11, 50, 1000, 10000])}")
-        if draw.random() < 0.3:
-            words.append("--event=supplemental")
-        files["words"] = "\n".join(words) + "\n"
         where = os.path.join(folder, f"network_{place:04}")
         os.makedirs(where, exist_ok=True)
-        for name, content in files.items():
+        for name, content in run(draw, mode, nodes).items():
             with open(os.path.join(where, name), "w") as file:
                 file.write(content)
 
