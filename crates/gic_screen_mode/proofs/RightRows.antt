@@ -45,6 +45,7 @@ row_right case standing north east width half t north_view east_view row one oth
       to_east = subst (λ (e : Ends). IsRightEffective case standing east t e) (sym is.east_is) (other.right.effective t inside);
       at_worst = λ s r solves. is.holds (effective_numerator case s t) (effective_denominator case t s) (effective_numerator case r t) (effective_denominator case t r)
           ((one.right.effective t inside).holds s solves.in_north) ((other.right.effective t inside).holds r solves.in_east);
+      in_order = is.in_order;
       north_narrow = subst (λ (e : Ends). IsAtMostWide width e.low e.high) (sym is.north_is) (wider (effective_at north_view t) half width (omega arith) first);
       east_narrow = subst (λ (e : Ends). IsAtMostWide width e.low e.high) (sym is.east_is) (wider (effective_at east_view t) half width (omega arith) second);
       worst_narrow = wider row.worst (2 * half) width twice third;
@@ -62,7 +63,6 @@ pub rows_screened : (case : Lists) (standing : List Placed) (north east : ℕ �
 rows_screened case standing north east width half north_view east_view rows one other least twice count filled = record {
   count = count;
   right = λ t inside. row_right case standing north east width half t north_view east_view (row_at rows t) one other inside least twice (filled t (subst (λ n. t < n) (sym count) inside));
-  in_order = λ t inside. (filled t (subst (λ n. t < n) (sym count) inside)).in_order;
 }
 
 -- the verdicts on screened rows are true
@@ -80,7 +80,7 @@ rows_right across under at_least case standing north east q rows sound screened 
         below = λ said one other solves.
             under worst.low worst.high (effective_numerator case one t) (effective_denominator case t one) (effective_numerator case other t) (effective_denominator case t other) threshold high_volts earthed
             (some_denominator case t one sound inside solves.in_north.denominator_above_0) (some_denominator case t other sound inside solves.in_east.denominator_above_0)
-            (screened.in_order t inside) said ((screened.right t inside).at_worst one other solves);
+            (screened.right t inside).in_order said ((screened.right t inside).at_worst one other solves);
         reaches = λ said one other solves.
             at_least worst.low worst.high (effective_numerator case one t) (effective_denominator case t one) (effective_numerator case other t) (effective_denominator case t other) threshold high_volts earthed
             said ((screened.right t inside).at_worst one other solves);

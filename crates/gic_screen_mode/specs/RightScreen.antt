@@ -29,12 +29,13 @@ pub record AreSolutionsOf (standing : List Placed) (north east : ℕ → ℤ) (t
   pub in_north : IsSolution standing north to_north
   pub in_east : IsSolution standing east to_east
 
--- each interval holds what it stands for in every solution, and none is wider than asked
+-- each interval holds what it stands for in every solution, and none is wider than asked; the worst one ends no lower than it begins
 pub record IsRightRow (case : Lists) (standing : List Placed) (north east : ℕ → ℤ) (width t : ℕ) (row : Row) : Type 0 where
   pub to_north : IsRightEffective case standing north t row.north
   pub to_east : IsRightEffective case standing east t row.east
   pub at_worst : (one other : Solution) → AreSolutionsOf standing north east one other →
       EnclosesWorst row.worst.low row.worst.high (effective_numerator case one t) (effective_denominator case t one) (effective_numerator case other t) (effective_denominator case t other)
+  pub in_order : row.worst.low ≤ℤ row.worst.high
   pub north_narrow : IsAtMostWide width row.north.low row.north.high
   pub east_narrow : IsAtMostWide width row.east.low row.east.high
   pub worst_narrow : IsAtMostWide width row.worst.low row.worst.high

@@ -1,5 +1,5 @@
 -- What a screen needs, and what it leaves. For the contracts of this crate.
-use Rattle.std.specs.Prelude.{◌≡◌, ℕ, ◌<◌, List, length, ℤ, pos, ◌≤ℤ◌}
+use Rattle.std.specs.Prelude.{◌≡◌, ℕ, ◌<◌, List, length, ℤ, pos}
 use Rattle.gic_case.specs.Lists.{Lists}
 use Rattle.gic_effective.specs.ViewLengths.{HasViewLengths}
 use Rattle.gic_induce.specs.LineVolts.{volts_of}
@@ -31,8 +31,7 @@ pub record IsScreenRoomFor (case : Lists) (room : ScreenRoom) : Type 0 where
   pub east_view : HasViewLengths case room.east
   pub row_count : length room.rows ≡ length case.transformers
 
--- one right row a transformer, the ends of its worst interval in order
+-- one right row a transformer
 pub record AreScreened (case : Lists) (standing : List Placed) (north east : ℕ → ℤ) (width : ℕ) (rows : List Row) : Type 0 where
   pub count : length rows ≡ length case.transformers
   pub right : (t : ℕ) → t < length case.transformers → IsRightRow case standing north east width t (row_at rows t)
-  pub in_order : (t : ℕ) → t < length case.transformers → (row_at rows t).worst.low ≤ℤ (row_at rows t).worst.high
