@@ -41,7 +41,7 @@ says words files plans before now (Err (Input (input.Refused (input_refusal.Usag
 says words files plans before now (Err (Input (input.CannotRead file))) explained = record {
   done = λ e. absurd (omega (arith, e));
   usage = λ e. absurd (omega (arith, e));
-  unread = λ e. (file, explained.asks.failed file refl);
+  unread = λ e. (file, explained);
   unwritten = λ e. absurd (omega (arith, e));
   case_refused = λ e. absurd (omega (arith, e));
   storm_refused = λ e. absurd (omega (arith, e));

@@ -13,7 +13,7 @@ use Rattle.gic_ask.specs.Asks.{CouldNotRead}
 use Rattle.gic_ask.specs.Held.{held_for}
 use Rattle.gic_ask.specs.Outcome.{Refuses, Lacks, Accepts, outcome}
 use Rattle.gic_ask.specs.declared.fault.File.{File}
-use Rattle.gic_ask.specs.declared.fault.InputFault.TheVariants.{Refused}
+use Rattle.gic_ask.specs.declared.fault.InputFault.TheVariants.{Refused, CannotRead}
 use Rattle.gic_ask.specs.declared.fault.InputRefusal.{InputRefusal}
 use Rattle.gic_ask.specs.declared.fault.InputRefusal.TheVariants.{Usage, TooLong, Case, Storm, Switch}
 use Rattle.gic_ask.specs.declared.request.Asked.{Asked}
@@ -64,7 +64,7 @@ AcceptedIsReported = (words : List (List ℕ)) (files : Files) (plans : Plans) (
 pub record StatusSays (words : List (List ℕ)) (files : Option Files) (plans : Plans) (before now : Moment) (status : ℕ) : Type 0 where
   pub done : status ≡ 0 → Served words files plans before now (Ok tt)
   pub usage : status ≡ 2 → (u : UsageFault) × Unasked words files before now (Refused (Usage u))
-  pub unread : status ≡ 3 → (file : File) × CouldNotRead words file before.failures now.failures
+  pub unread : status ≡ 3 → (file : File) × Unasked words files before now (CannotRead file)
   pub unwritten : status ≡ 4 → Served words files plans before now (Err report.CannotWrite) × Rose before.out.faults now.out.faults
   pub case_refused : status ≡ 5 → (e : CaseRefusal) × Unasked words files before now (Refused (Case e))
   pub storm_refused : status ≡ 6 → (e : StormRefusal) × Unasked words files before now (Refused (Storm e))
