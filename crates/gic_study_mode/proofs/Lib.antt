@@ -3,3 +3,4 @@ pub mod EnclosedPeaks
 pub mod TrueVerdicts
 pub mod PeakCells
 pub mod RightStudies
+pub mod Seats

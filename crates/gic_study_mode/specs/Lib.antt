@@ -1,4 +1,5 @@
 pub mod Roster
+pub mod Seats
 pub mod Asked
 pub mod Seen
 pub mod Made

@@ -1,7 +1,8 @@
 //! The roster of a case.
 ghost use Rattle.std.specs.Prelude.{◌≡◌, ◌^◌, ◌<◌, ◌≤◌, ◌+◌, ◌++◌, ◌∷◌, List, length, map, IfOk, OnOk};
 ghost use Rattle.gic_case.specs.declared.item.Substation.{Substation};
-ghost use Rattle.gic_study_mode.specs.Roster.{seats_from, rated_of, roster_of};
+ghost use Rattle.gic_study_mode.specs.Roster.{rated_of, roster_of};
+ghost use Rattle.gic_study_mode.specs.Seats.{seats_from};
 
 use gic_base::{ElementId, OutOfMemory};
 use gic_case::{Case, Substation};
@@ -51,6 +52,7 @@ fn units_of(alloc: Global, case: &Case) -> Result<Vec<Rated>, OutOfMemory>
 }
 
 /// The roster of a case, with the threshold of an event.
+#[tactic(auto, using(crate::proofs::Seats::all_seats))]
 pub(crate) fn roster_of(alloc: Global, case: &Case, event: Event) -> Result<Roster, OutOfMemory>
     ensures { IfOk result (λ roster. roster ≡ roster_of case.now event) }
 {

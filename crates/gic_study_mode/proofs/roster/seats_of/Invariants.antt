@@ -1,5 +1,5 @@
 use Rattle.std.proofs.Common.{◌≡◌, ◌++◌, ◌≤◌, drop, length}
-use Rattle.gic_study_mode.specs.Roster.{seats_from}
+use Rattle.gic_study_mode.specs.Seats.{seats_from}
 use Rattle.gic_study_mode.proofs.roster.seats_of.Given as goal
 
 -- the seats so far, and those of the substations that are left, are all
