@@ -1,12 +1,11 @@
 -- The earthings, one substation after another, are those of the element list.
-use Rattle.std.proofs.Common.{◌≡◌, ◌∙◌, ℕ, ◌+◌, Option, Some, None, List, [], ◌∷◌, ◌++◌, map, drop, refl, sym, ap, ap₂}
+use Rattle.std.proofs.Common.{◌≡◌, ◌∙◌, ℕ, ◌+◌, Some, None, List, [], ◌∷◌, ◌++◌, map, drop, refl, sym, ap, ap₂}
 use Rattle.std.proofs.lemmas.List.{get_or-map}
 use Rattle.std.specs.Prelude.{is_some, if◌then◌else◌}
 use Rattle.std.specs.List.{enumerate_from, flat_map}
 use Rattle.gic_case.specs.Lists.{Lists}
 use Rattle.gic_case.specs.declared.item.Substation.{Substation}
 use Rattle.gic_model.specs.declared.parts.Item.TheVariants as item
-use Rattle.gic_monitor.specs.declared.roster.Seat.{Seat}
 use Rattle.gic_winding.specs.ElementList.{earthing_of, item_name}
 use Rattle.gic_report.proofs.ListParts.{drop_first}
 use Rattle.gic_study_mode.specs.Roster.{seat_at, seats_of}

@@ -1,7 +1,8 @@
 //! The report of the mode.
-ghost use Rattle.std.specs.Prelude.{map};
+ghost use Rattle.std.specs.Prelude.{◌≡◌, map, Err};
 ghost use Rattle.gic_question.specs.Ranges.{IsWithinRanges};
-ghost use Rattle.gic_stand.specs.Needs.{Solved};
+ghost use Rattle.gic_stand.specs.declared.fault.ReportFault.TheVariants.{Memory};
+ghost use Rattle.gic_stand.specs.Needs.{Solved, IsMet};
 ghost use Rattle.gic_stand.specs.Serves.{Serves, shown};
 ghost use Rattle.gic_monitor.specs.OnBoard.{monitors_of};
 ghost use Rattle.gic_course.specs.Steps.{IsStormOf, storm_steps};
@@ -24,7 +25,7 @@ use gic_winding::laws::limits_law;
 use std::alloc::Global;
 
 /// Shows the steps to monitors that have begun, and writes the report, where the network can be solved at each step. The
-/// texts of the monitors alone take memory.
+/// texts of the monitors alone take memory, so want of it is told of no other network.
 fn study_steps<S: Sink>(
     alloc: Global,
     inputs: &StormInputs,
@@ -35,9 +36,10 @@ fn study_steps<S: Sink>(
 ) -> Result<(), ReportFault>
     requires ranges { IsWithinRanges inputs.now.inputs.question }
     requires room { IsMadeFor inputs.now detail room.old }
-    ensures { Serves Solved inputs.now.inputs.case (storm_steps inputs.now)
+    ensures serves { Serves Solved inputs.now.inputs.case (storm_steps inputs.now)
         (IsRightStudy inputs.now detail (λ roster views. map (λ m. (⟦<dyn Monitor as Monitor>⟧ m.vtable).outlook m.value views) (monitors_of board.old)))
         (shown S.written S.faults out.old) (shown S.written S.faults out.new) result }
+    ensures memory { result ≡ Err Memory → IsMet Solved (storm_steps inputs.now) }
 {
     existence_law();
     limits_law();

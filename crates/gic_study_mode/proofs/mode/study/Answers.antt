@@ -26,4 +26,4 @@ returns g c =
     ∙ ap (map (λ m. (goal.Monitor-dyn g (m.vtable, m.value)).plan m.value c.in_ok-room.room.roster views)) c.new-board.ensures
     ∙ ap (λ (roster : RosterView). plans roster views) c.in_ok-room.ensures.roster in
     serves_by Solved case (storm_steps inputs) (IsRightStudy inputs c.args.detail (λ roster views. outlooks views)) (IsRightStudy inputs c.args.detail plans) _ _ c.study_steps.result
-    (by_plans inputs c.args.detail outlooks plans same) c.study_steps.ensures
+    (by_plans inputs c.args.detail outlooks plans same) c.study_steps.ensures.serves

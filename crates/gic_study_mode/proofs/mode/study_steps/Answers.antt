@@ -18,8 +18,8 @@ write_seen-writing-requires-clause-absolutes g c =
     peaks_have_absolutes c.args.inputs.now c.asked_step-asked.result _ _ c.see_steps.new.views c.see_steps.ensures.seen c.existence_law.ensures c.peak_is_absolute_law.ensures.not_negative
     c.peaks_enclose_law.ensures.transformers c.keeps_rules.ensures (c.limits_law.ensures c.args.inputs.now.inputs.case c.keeps_rules.ensures) c.in_ok-expect_solvable.ensures.met.solvable c.see_steps.ensures.some
 
-pub returns : goal.returns
-returns g c =
+pub returns-clause-serves : goal.returns-clause-serves
+returns-clause-serves g c =
     let inputs = c.args.inputs.now in
     let before : List View → List (List ℕ) = λ views. map (λ m. (goal.Monitor-dyn g (m.vtable, m.value)).outlook m.value views) (monitors_of c.args.board.now) in
     served Solved inputs.inputs.case (storm_steps inputs) (IsRightStudy inputs c.args.detail (λ roster views. before views)) _ _ _
