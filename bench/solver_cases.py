@@ -62,7 +62,7 @@ def chain(stations, ground):
 
 def realistic(path):
     """The lines of the file `realistic` in a script of examples."""
-    script = pathlib.Path(path).read_text().split("file realistic\n")[1]
+    script = pathlib.Path(path).read_text().split("file realistic\n")[1].split("\nfile ")[0]
     return "".join(line[2:] for line in script.splitlines(keepends=True) if line.startswith("| "))
 
 
