@@ -10,4 +10,5 @@ mod vector;
 
 pub use checking::rows_positive;
 pub use raising::{Unresolved, bound};
+pub use row::is_row_positive;
 pub use vector::BoundVector;

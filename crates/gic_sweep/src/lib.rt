@@ -15,6 +15,7 @@ mod steps;
 mod sweeping;
 
 pub use driving::{GRAINS, drive, in_grains, micro_paths};
+pub use node_sums::{conductance, rounded_residual};
 pub use solver::{
     Improvement, MOST_ROUNDS, Solver, improve, is_settled, reach, residual, residuals, sweep, zeros,
 };

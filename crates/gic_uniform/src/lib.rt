@@ -6,5 +6,5 @@ mod solving;
 mod uniform;
 
 pub use room::{Room, make_room};
-pub use solving::{expect_solvable, solve_view};
+pub use solving::{expect_solvable, settle_guesses, solve_view};
 pub use uniform::uniform_volts;

@@ -21,6 +21,24 @@ pub struct Room {
     pub(crate) potentials: Potentials,
 }
 
+impl Room {
+    ghost use Rattle.std.specs.Prelude.{◌≡◌};
+
+    /// The entries that a look at the network left, by nodes.
+    pub fn vector(&self) -> &BoundVector
+        ensures { result.now ≡ self.now.vector }
+    {
+        &self.vector
+    }
+
+    /// The guesses, by nodes.
+    pub fn solver(&self) -> &Solver
+        ensures { result.now ≡ self.now.solver }
+    {
+        &self.solver
+    }
+}
+
 /// Room for the network of a case.
 #[tactic(auto, using(gic_stand::proofs::Rooms::room_for))]
 pub fn make_room(alloc: Global, case: &Case, net: &Net) -> Result<Room, OutOfMemory>

@@ -1,6 +1,7 @@
 //! A network, looked at once and then solved in any voltages.
 ghost use Rattle.std.specs.Prelude.{◌≡◌, ◌<◌, length, slice_index, IfErr, OnOk};
 ghost use Rattle.gic_base.specs.declared.limits.TheConstants.{MOST_WALK};
+ghost use Rattle.gic_model.specs.Guess.{IsSettled};
 ghost use Rattle.gic_model.specs.Voltages.{number_at};
 ghost use Rattle.gic_net.specs.Net.{standing};
 ghost use Rattle.gic_bound.specs.Entries.{IsBoundWithin};
@@ -15,7 +16,7 @@ use crate::room::Room;
 use gic_bound::BoundVector;
 use gic_case::Case;
 use gic_effective::fill_view;
-use gic_enclose::{Potentials, solve};
+use gic_enclose::{Potentials, settle, solve};
 use gic_exists::laws::existence_law;
 use gic_model::Volts;
 use gic_model::laws::potential_law;
@@ -59,6 +60,38 @@ fn solve_uncounted<L: Ledger>(
 {
     let mut steps: Steps<L> = Steps::new(blank);
     solve(net, volts, vector, width, solver, out, &mut steps);
+}
+
+/// Settles the guesses in these voltages, as `settle` does, and counts none of its steps.
+fn settle_uncounted<L: Ledger>(
+    net: &Net,
+    volts: &Volts,
+    vector: &BoundVector,
+    solver: &mut Solver,
+    blank: Blank,
+)
+    requires name { blank.name ≡ L.name }
+    requires parts { blank.parts ≡ L.parts }
+    requires some { 0 < blank.parts }
+    requires volts { length volts.now ≡ length net.now.network.list }
+    requires nodes { length solver.old ≡ net.now.network.nodes }
+    requires bound { IsBoundWithin (standing net.now) MOST_WALK (slice_index vector.now) }
+    ensures settled { IsSettled (standing net.now) (number_at volts.now) (number_at solver.new) }
+    ensures same_length { length solver.new ≡ length solver.old }
+{
+    let mut steps: Steps<L> = Steps::new(blank);
+    settle(net, volts, vector, solver, &mut steps);
+}
+
+/// Settles the guesses in the room in these voltages, whatever they were. Takes no memory.
+pub fn settle_guesses(case: &Case, net: &Net, volts: &Volts, room: &mut Room)
+    requires net { net.now.network ≡ elements_of case.now }
+    requires volts { length volts.now ≡ length net.now.network.list }
+    requires ready { IsReadyFor case.now (standing net.now) room.old }
+    ensures settled { IsSettled (standing net.now) (number_at volts.now) (number_at room.new.solver) }
+    ensures ready { IsReadyFor case.now (standing net.now) room.new }
+{
+    settle_uncounted::<Brand>(net, volts, &room.vector, &mut room.solver, Blank::new(1));
 }
 
 /// Fills a view of the network of a case in these voltages, in intervals no wider than `width` mV or mA. Takes no memory.
