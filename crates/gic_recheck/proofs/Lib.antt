@@ -1,0 +1,10 @@
+pub mod Holds
+pub mod Endings
+pub mod PotentialLines
+pub mod Refusing
+pub mod Determined
+pub mod NodeNames
+pub mod PassingText
+pub mod LineRefusals
+pub mod Telling
+pub mod Volts

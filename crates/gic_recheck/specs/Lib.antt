@@ -1,0 +1,5 @@
+pub mod RecheckText
+pub mod Accepted
+pub mod Told
+pub mod RightRecheck
+pub mod Determines

@@ -1,0 +1,47 @@
+-- How refusals of a certificate are told.
+use Rattle.std.specs.Prelude.{◌≡◌, ℕ, ◌<◌, List, [], ℤ, slice_index_or, ⊤}
+use Rattle.gic_base.specs.declared.id.NodeId.{NodeId}
+use Rattle.gic_case.specs.Lists.{Lists, node_names}
+use Rattle.gic_model.specs.Sums.{Placed}
+use Rattle.gic_cert.specs.Refusals.{IsFirstRefusal}
+use Rattle.gic_cert.specs.Written.{Certificate}
+use Rattle.gic_cert.specs.declared.refusal.CertRefusal.{CertRefusal}
+use Rattle.gic_cert.specs.declared.refusal.CertRefusal.TheVariants as cert
+use Rattle.gic_stand.specs.declared.fault.ReportFault.TheVariants.{Memory}
+use Rattle.gic_recheck.specs.declared.fault.CertificateRefusal.TheVariants.{Shape, Number, Node, Row, Residual, Radius}
+use Rattle.gic_recheck.specs.declared.fault.RecheckFault.{RecheckFault}
+use Rattle.gic_recheck.specs.declared.fault.RecheckFault.TheVariants.{Refused, Report}
+use Rattle.gic_recheck.specs.Accepted.{IsRefused}
+
+-- the name of a node of the case
+abbrev pub name_at : Lists → NodeId → List ℕ
+name_at case node = slice_index_or (node_names case) node.0 []
+
+-- a refusal with the name of its node; want of memory is told as every mode tells it
+abbrev pub told_as : Lists → CertRefusal → RecheckFault
+told_as case (cert.Shape row) = Refused (Shape row)
+told_as case (cert.Number row) = Refused (Number row)
+told_as case (cert.Node row) = Refused (Node row)
+told_as case (cert.Row node) = Refused (Row (name_at case node))
+told_as case (cert.Residual node) = Refused (Residual (name_at case node))
+told_as case (cert.Radius node) = Refused (Radius (name_at case node))
+told_as case cert.Memory = Report Memory
+
+-- the node of a refusal, where it tells one, is one of the first so many
+abbrev pub IsNodeWithin : (nodes : ℕ) → CertRefusal → Type 0
+IsNodeWithin nodes (cert.Row node) = node.0 < nodes
+IsNodeWithin nodes (cert.Residual node) = node.0 < nodes
+IsNodeWithin nodes (cert.Radius node) = node.0 < nodes
+IsNodeWithin nodes _ = ⊤
+
+-- the fault tells the first rule that a certificate breaks
+pub record IsToldBreak (case : Lists) (nodes : ℕ) (standing : List Placed) (volts : ℕ → ℤ) (c : Certificate) (fault : RecheckFault) : Type 0 where
+  pub refusal : CertRefusal
+  pub first : IsFirstRefusal nodes standing volts c refusal
+  pub told : fault ≡ told_as case refusal
+
+-- the fault is the refusal of these bytes, or want of memory
+abbrev pub IsFaultOf : Lists → List Placed → (bytes : List ℕ) → RecheckFault → Type 0
+IsFaultOf case standing bytes (Refused refusal) = IsRefused case standing bytes refusal
+IsFaultOf case standing bytes (Report Memory) = ⊤
+IsFaultOf case standing bytes (Report _) = ⊥

@@ -1,0 +1,12 @@
+//! The mode `recheck`: the potentials that a certificate shows, whoever made it.
+#![tactic(auto)]
+
+mod accepting;
+mod fault;
+pub mod laws;
+mod mode;
+mod potentials;
+mod text;
+
+pub use fault::{CertificateRefusal, RecheckFault};
+pub use mode::recheck;
