@@ -1,0 +1,3 @@
+pub mod LossText
+pub mod Seen
+pub mod Bounds

@@ -1,0 +1,17 @@
+//! Laws over the definitions, each the contract of a function that does nothing: a function whose proof rests on a law
+//! calls it.
+ghost use Rattle.std.specs.Prelude.{ℕ, List, codes};
+ghost use Rattle.gic_monitor.specs.RosterView.{RosterView};
+ghost use Rattle.gic_loss.specs.declared.table_loss.NamedFactor.{NamedFactor};
+ghost use Rattle.gic_loss.specs.LossText.{volt_factors, volt_text, table_factors, table_text};
+ghost use Rattle.gic_loss.specs.Bounds.{LossesAreBounded};
+
+/// Losses are bounded: over one view or more that enclose the effective currents of the units, the exact total of factor
+/// times absolute current is at most the high end that the monitor prints at every view, and at least the low end at one
+/// of them.
+pub fn losses_are_bounded_law()
+    ensures by_volts { (scale : ℕ) (roster : RosterView) →
+        LossesAreBounded (codes "loss") (volt_factors scale roster) (volt_text scale roster) }
+    ensures by_table { (table : List NamedFactor) (roster : RosterView) →
+        LossesAreBounded (codes "table") (table_factors table roster) (table_text table roster) }
+{}

@@ -1,0 +1,17 @@
+//! The reactive loss of saturated transformers, taken as proportional to their effective current: two monitors, which
+//! differ in where the factor of a transformer comes from.
+#![tactic(auto)]
+
+mod current;
+pub mod laws;
+mod limits;
+mod table_loss;
+#[cfg(test)]
+mod tests;
+mod total;
+mod totals;
+mod volt_loss;
+
+pub use limits::MOST_SCALE;
+pub use table_loss::{NamedFactor, TableLoss};
+pub use volt_loss::VoltLoss;
