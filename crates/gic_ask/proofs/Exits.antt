@@ -13,7 +13,7 @@ use Rattle.gic_stand.specs.declared.inputs.Inputs.{Inputs}
 use Rattle.gic_course.specs.declared.inputs.StormInputs.{StormInputs}
 use Rattle.gic_words.specs.declared.fault.Usage.{Usage}
 use Rattle.gic_ask.specs.Contents.{Given, Nothing, Whole, Contents, MayGive, MayHandOut, name_of_file}
-use Rattle.gic_ask.specs.Outcome.{Outcome, Accepts, reading, reading_case, reading_storm, reading_switchings, reading_inputs, reading_storm_inputs, reading_numbers, asking, outcome}
+use Rattle.gic_ask.specs.Outcome.{Outcome, Accepts, reading, reading_case, reading_storm, reading_switchings, reading_certificate, reading_inputs, reading_storm_inputs, reading_recheck, reading_numbers, asking, outcome}
 use Rattle.gic_ask.specs.Asks.{Asks, IsAnswer, CouldNotRead}
 use Rattle.gic_ask.specs.Steps.{Passes, Steps, Reads, HasFailedFetch}
 use Rattle.gic_ask.specs.declared.fault.File.{File}
@@ -29,13 +29,14 @@ use Rattle.gic_storm.specs.declared.refusal.StormRefusal.{StormRefusal}
 use Rattle.gic_switch.specs.Rules.{switchings_of}
 use Rattle.gic_switch.specs.declared.refusal.SwitchRefusal.{SwitchRefusal}
 use Rattle.gic_ask.specs.declared.request.Asked.{Asked}
-use Rattle.gic_ask.specs.declared.request.Asked.TheVariants.{Network, Study}
+use Rattle.gic_ask.specs.declared.request.Asked.TheVariants.{Network, Study, Recheck}
 
--- what was handed out of the files
+-- what was handed out of the files, where no certificate is asked for
 abbrev pub of_each : (case storm switch : Given) → Contents
 of_each case storm switch file.Case = case
 of_each case storm switch file.Storm = storm
 of_each case storm switch file.Switch = switch
+of_each case storm switch file.Certificate = Nothing
 
 -- a name, if any, that nothing was handed out for
 none_given : (files : Option Files) (name : Option (List ℕ)) → IfSome name (λ n. MayGive files n Nothing)
@@ -48,6 +49,7 @@ each_handed : (files : Option Files) (o : Options) (case storm switch : Given) �
 each_handed files o case storm switch c t s file.Case = c
 each_handed files o case storm switch c t s file.Storm = t
 each_handed files o case storm switch c t s file.Switch = s
+each_handed files o case storm switch c t s file.Certificate = none_given files o.cert
 
 none_handed : (files : Option Files) (o : Options) → MayHandOut files o (of_each Nothing Nothing Nothing)
 none_handed files o = each_handed files o Nothing Nothing Nothing (none_given files o.case) (none_given files o.storm) (none_given files o.switch)
@@ -330,6 +332,17 @@ switchings_refused files name text bytes held case refusal named may same e =
       passes = λ next. ap (λ (r : Result (List Switching) SwitchRefusal). reading r SwitchRefused (λ rows. next (Some rows))) (ap (switchings_of case) (sym same) ∙ e);
     })
 
+-- a certificate that is handed on
+pub certificate_given : (files : Option Files) (name : Option (List ℕ)) (text bytes handed : List ℕ)
+    → name ≡ Some text → MayGive files text (Whole bytes) → handed ≡ bytes → Steps {A = List ℕ} files name (reading_certificate name) (Ok handed)
+certificate_given files name text bytes handed named may same =
+    subst (λ (n : Option (List ℕ)). Steps {A = List ℕ} files n (reading_certificate n) (Ok handed)) (sym named)
+    (record {
+      given = Whole bytes;
+      may = may;
+      passes = λ next. ap next (sym same);
+    })
+
 -- the answer is this fault
 pub answered : {A : Type 0} (answer : Result A InputFault) (fault : InputFault) → IsErrAnd answer (λ e. e ≡ fault) → answer ≡ Err fault
 answered (Ok done) fault h = absurd h
@@ -415,4 +428,86 @@ made_is_asked words files before now o answer e is asked read = record {
   handed = handed_by files o (options_of words) (of_each Nothing Nothing Nothing) e (none_handed files o);
   asked = answer_by (outcome words (of_each Nothing Nothing Nothing)) (reading_numbers o.seed o.size) answer (of_options words o mode.Make (of_each Nothing Nothing Nothing) e is) asked;
   failed = λ file h. absurd (unread answer read file h);
+}
+
+-- ---- a certificate that is asked to be checked
+
+-- what was handed out, and this of the certificate
+abbrev with_certificate : Contents → (certificate : Given) → Contents
+with_certificate contents certificate file.Case = contents file.Case
+with_certificate contents certificate file.Storm = contents file.Storm
+with_certificate contents certificate file.Switch = contents file.Switch
+with_certificate contents certificate file.Certificate = certificate
+
+certificate_handed : (files : Option Files) (o : Options) (contents : Contents) (certificate : Given) → MayHandOut files o contents → IfSome o.cert (λ n. MayGive files n certificate)
+    → MayHandOut files o (with_certificate contents certificate)
+certificate_handed files o contents certificate h c file.Case = h file.Case
+certificate_handed files o contents certificate h c file.Storm = h file.Storm
+certificate_handed files o contents certificate h c file.Switch = h file.Switch
+certificate_handed files o contents certificate h c file.Certificate = c
+
+-- inputs that are not read
+pub recheck_inputs_fail : (files : Option Files) (before now : List (List ℕ)) (o : Options) (fault : InputFault)
+    → Reads {A = Inputs} files o (reading_inputs o) before now (Err fault)
+    → Reads {A = Asked} files o (reading_recheck o) before now (Err fault)
+recheck_inputs_fail files before now o fault r = record {
+  contents = r.contents;
+  handed = r.handed;
+  passes = fails_first {B = Asked} (reading_inputs o r.contents)
+      (λ last inputs. reading_certificate o.cert (r.contents file.Certificate) (λ certificate. last (Recheck inputs certificate))) fault r.passes;
+  failed = λ file h. r.failed file (same_fault h);
+}
+
+-- a certificate that is not handed out
+pub certificate_fails : (files later : Option Files) (before between now : List (List ℕ)) (o : Options) (inputs : Inputs) (fault : InputFault)
+    → Reads {A = Inputs} files o (reading_inputs o) before between (Ok inputs)
+    → later ≡ files → between ≡ before
+    → Steps {A = List ℕ} later o.cert (reading_certificate o.cert) (Err fault)
+    → HasFailedFetch {A = List ℕ} file.Certificate between now o.cert (Err fault)
+    → Reads {A = Asked} files o (reading_recheck o) before now (Err fault)
+certificate_fails files later before between now o inputs fault r content failures at failing =
+    let s : Steps {A = List ℕ} files o.cert (reading_certificate o.cert) (Err fault) =
+    subst (λ (f : Option Files). Steps {A = List ℕ} f o.cert (reading_certificate o.cert) (Err fault)) content at in
+    let failed : HasFailedFetch {A = List ℕ} file.Certificate before now o.cert (Err fault) =
+    subst (λ (b : List (List ℕ)). HasFailedFetch {A = List ℕ} file.Certificate b now o.cert (Err fault)) failures failing in
+    record {
+      contents = with_certificate r.contents s.given;
+      handed = certificate_handed files o r.contents s.given r.handed s.may;
+      passes = fails_second {B = Asked} (reading_inputs o r.contents) inputs
+          (λ inputs last. reading_certificate o.cert s.given (λ certificate. last (Recheck inputs certificate))) fault r.passes
+          (fails_first {B = Asked} (reading_certificate o.cert s.given) (λ last certificate. last (Recheck inputs certificate)) fault s.passes);
+      failed = fetch_failed (List ℕ) Asked o file.Certificate before now fault failed;
+    }
+
+-- all is handed out
+pub certificate_is_asked : (files later : Option Files) (before between now : List (List ℕ)) (o : Options) (inputs : Inputs) (certificate : List ℕ)
+    → Reads {A = Inputs} files o (reading_inputs o) before between (Ok inputs)
+    → later ≡ files
+    → Steps {A = List ℕ} later o.cert (reading_certificate o.cert) (Ok certificate)
+    → Reads {A = Asked} files o (reading_recheck o) before now (Ok (Recheck inputs certificate))
+certificate_is_asked files later before between now o inputs certificate r content at =
+    let s : Steps {A = List ℕ} files o.cert (reading_certificate o.cert) (Ok certificate) =
+    subst (λ (f : Option Files). Steps {A = List ℕ} f o.cert (reading_certificate o.cert) (Ok certificate)) content at in
+    record {
+      contents = with_certificate r.contents s.given;
+      handed = certificate_handed files o r.contents s.given r.handed s.may;
+      passes = λ last. r.passes (λ inputs. reading_certificate o.cert s.given (λ certificate. last (Recheck inputs certificate))) ∙ s.passes (λ certificate. last (Recheck inputs certificate));
+      failed = λ file h. grind (arith, h);
+    }
+
+-- what a step hands on is accepted
+accepted_by : (step : (Asked → Outcome) → Outcome) (answer : Result Asked InputFault) → Passes {A = Asked} step answer → IsAnswer (step (λ asked. Accepts asked)) answer
+accepted_by step (Ok asked) h = h (λ asked. Accepts asked)
+accepted_by step (Err fault) h = ends_with step (λ asked. Accepts asked) fault h
+
+-- a certificate is asked for, or not handed out
+pub recheck_is_asked : (words : List (List ℕ)) (files : Option Files) (before now : List (List ℕ)) (o : Options) (answer : Result Asked InputFault)
+    → options_of words ≡ Ok o → o.mode ≡ mode.Recheck → Reads {A = Asked} files o (reading_recheck o) before now answer
+    → Asks words files before now answer
+recheck_is_asked words files before now o answer e is r = record {
+  contents = r.contents;
+  handed = handed_by files o (options_of words) r.contents e r.handed;
+  asked = answer_by (outcome words r.contents) (reading_recheck o r.contents (λ asked. Accepts asked)) answer
+      (of_options words o mode.Recheck r.contents e is) (accepted_by (reading_recheck o r.contents) answer r.passes);
+  failed = λ file h. named_failed words o file before now e (r.failed file h);
 }

@@ -17,9 +17,9 @@ use Rattle.gic_words.specs.declared.mode.Mode.TheVariants as mode
 use Rattle.gic_words.specs.declared.options.Options.{Options}
 use Rattle.gic_words.specs.declared.fault.Usage.{Usage}
 use Rattle.gic_ask.specs.Contents.{Given, Nothing, Long, Whole, Contents}
-use Rattle.gic_ask.specs.Outcome.{Outcome, Refuses, Accepts, reading, reading_case, reading_storm, reading_switchings, reading_numbers, asking}
+use Rattle.gic_ask.specs.Outcome.{Outcome, Refuses, Accepts, reading, reading_case, reading_storm, reading_switchings, reading_certificate, reading_numbers, asking}
 use Rattle.gic_ask.specs.WordsRefused.{UsageIsOfWords}
-use Rattle.gic_ask.specs.declared.request.Asked.TheVariants.{Network, Study}
+use Rattle.gic_ask.specs.declared.request.Asked.TheVariants.{Network, Study, Recheck}
 use Rattle.gic_ask.specs.declared.fault.File.TheVariants as file
 use Rattle.gic_ask.specs.declared.fault.InputRefusal.TheVariants.{Usage as UsageRefusal, Case as CaseRefused, Storm as StormRefused, Switch as SwitchRefused}
 
@@ -59,6 +59,12 @@ switchings_other u case (Some name) Nothing next other e = grind (arith, e)
 switchings_other u case (Some name) Long next other e = grind (arith, e)
 switchings_other u case (Some name) (Whole bytes) next other e = rows_read u (switchings_of case bytes) (λ rows. next (Some rows)) (λ rows. other (Some rows)) e
 
+certificate_other : (u : Usage) (name : Option (List ℕ)) (g : Given) (next : List ℕ → Outcome) → IsSome name → ((bytes : List ℕ) → IsOther u (next bytes)) → IsOther u (reading_certificate name g next)
+certificate_other u None g next named other e = grind (arith, named)
+certificate_other u (Some name) Nothing next named other e = grind (arith, e)
+certificate_other u (Some name) Long next named other e = grind (arith, e)
+certificate_other u (Some name) (Whole bytes) next named other e = other bytes e
+
 numbers_other : (u : Usage) (seed size : Option ℕ) → IsSome seed → IsSome size → IsOther u (reading_numbers seed size)
 numbers_other u None size seeded sized e = grind (arith, seeded)
 numbers_other u (Some seed) None seeded sized e = grind (arith, sized)
@@ -75,6 +81,11 @@ other_by_mode u mode.Study o contents given =
     (λ case. storm_other u case o.storm (contents file.Storm) (λ storm. reading_switchings case o.switch (contents file.Switch) (last case storm)) given.1
     (λ storm. switchings_other u case o.switch (contents file.Switch) (last case storm) (λ rows e. grind (arith, e))))
 other_by_mode u mode.Make o contents given = numbers_other u o.seed o.size given.0 given.1
+other_by_mode u mode.Recheck o contents given =
+    let last : Lists → Option (List Switching) → List ℕ → Outcome = λ case rows bytes. Accepts (Recheck (record { case = case; switchings = rows; question = o.question }) bytes) in
+    case_other u o.case (contents file.Case) (λ case. reading_switchings case o.switch (contents file.Switch) (λ rows. reading_certificate o.cert (contents file.Certificate) (last case rows))) given.0
+    (λ case. switchings_other u case o.switch (contents file.Switch) (λ rows. reading_certificate o.cert (contents file.Certificate) (last case rows))
+    (λ rows. certificate_other u o.cert (contents file.Certificate) (last case rows) given.1 (λ bytes e. grind (arith, e))))
 
 same_usage : (v u : Usage) → Refuses (UsageRefusal v) ≡ Refuses (UsageRefusal u) → v ≡ u
 same_usage v u e = grind (arith, e)

@@ -12,6 +12,8 @@ use Rattle.gic_storm.specs.declared.refusal.StormRefusal.{StormRefusal}
 use Rattle.gic_case.specs.Rules.{case_of}
 use Rattle.gic_case.specs.declared.refusal.CaseRefusal.{CaseRefusal}
 use Rattle.gic_model.specs.declared.parts.Switching.{Switching}
+use Rattle.gic_switch.specs.Rules.{switchings_of}
+use Rattle.gic_switch.specs.declared.refusal.SwitchRefusal.{SwitchRefusal}
 use Rattle.gic_words.specs.Options.{options_of}
 use Rattle.gic_words.specs.declared.mode.Mode.{Mode}
 use Rattle.gic_words.specs.declared.mode.Mode.TheVariants as mode
@@ -20,14 +22,14 @@ use Rattle.gic_words.specs.declared.fault.Usage.{Usage}
 use Rattle.gic_ask.specs.Asks.{IsAnswer}
 use Rattle.gic_ask.specs.Contents.{Given, Nothing, Long, Whole, Contents, MayGive, MayHandOut}
 use Rattle.gic_ask.specs.Held.{held, held_bytes, held_by_length, held_for, AnswersOfFiles}
-use Rattle.gic_ask.specs.Outcome.{Outcome, Lacks, Accepts, reading, reading_case, reading_storm, reading_switchings, asking, outcome}
+use Rattle.gic_ask.specs.Outcome.{Outcome, Lacks, Accepts, reading, reading_case, reading_storm, reading_switchings, reading_certificate, asking, outcome}
 use Rattle.gic_ask.specs.declared.fault.File.{File}
 use Rattle.gic_ask.specs.declared.fault.File.TheVariants as file
 use Rattle.gic_ask.specs.declared.fault.InputFault.{InputFault}
 use Rattle.gic_ask.specs.declared.fault.InputFault.TheVariants.{Refused, CannotRead, Memory}
-use Rattle.gic_ask.specs.declared.fault.InputRefusal.TheVariants.{Usage as UsageRefusal, Case as CaseRefused, Storm as StormRefused}
+use Rattle.gic_ask.specs.declared.fault.InputRefusal.TheVariants.{Usage as UsageRefusal, Case as CaseRefused, Storm as StormRefused, Switch as SwitchRefused}
 use Rattle.gic_ask.specs.declared.request.Asked.{Asked}
-use Rattle.gic_ask.specs.declared.request.Asked.TheVariants.{Network, Study}
+use Rattle.gic_ask.specs.declared.request.Asked.TheVariants.{Network, Study, Recheck}
 
 -- what may be given of a length is what is held
 long_held : (b : Bool) (n : ℕ) (bytes : List ℕ) → LIMIT < n → nat_lt LIMIT n ≡ b → held_by_length b bytes ≡ Long
@@ -63,16 +65,40 @@ after_case name Nothing next other h = inl refl
 after_case name Long next other h = inl refl
 after_case name (Whole bytes) next other h = after_reading (case_of bytes) next other h
 
-same_switchings : (case : Lists) (name : List ℕ) (g other : Given) (next : Option (List Switching) → Outcome) → (g ≡ Nothing) ⊎ (other ≡ g)
-    → IsSameOrLacks (reading_switchings case (Some name) g next) (reading_switchings case (Some name) other next)
-same_switchings case name g other next (inl none) = inr (file.Switch, ap (λ (x : Given). reading_switchings case (Some name) x next) none)
-same_switchings case name g other next (inr same) = inl (ap (λ (x : Given). reading_switchings case (Some name) x next) (sym same))
+after_rows_reading : (r : Result (List Switching) SwitchRefusal) (next other : List Switching → Outcome) → ((rows : List Switching) → IsSameOrLacks (next rows) (other rows))
+    → IsSameOrLacks (reading r SwitchRefused next) (reading r SwitchRefused other)
+after_rows_reading (Ok rows) next other h = h rows
+after_rows_reading (Err e) next other h = inl refl
 
-after_switchings : (files : Files) (case : Lists) (name : Option (List ℕ)) (g : Given) (next : Option (List Switching) → Outcome)
+after_switchings_given : (case : Lists) (name : List ℕ) (g : Given) (next other : Option (List Switching) → Outcome) → ((rows : Option (List Switching)) → IsSameOrLacks (next rows) (other rows))
+    → IsSameOrLacks (reading_switchings case (Some name) g next) (reading_switchings case (Some name) g other)
+after_switchings_given case name Nothing next other h = inl refl
+after_switchings_given case name Long next other h = inl refl
+after_switchings_given case name (Whole bytes) next other h = after_rows_reading (switchings_of case bytes) (λ rows. next (Some rows)) (λ rows. other (Some rows)) (λ rows. h (Some rows))
+
+same_switchings : (case : Lists) (name : List ℕ) (g held_now : Given) (next other : Option (List Switching) → Outcome) → (g ≡ Nothing) ⊎ (held_now ≡ g)
+    → ((rows : Option (List Switching)) → IsSameOrLacks (next rows) (other rows)) → IsSameOrLacks (reading_switchings case (Some name) g next) (reading_switchings case (Some name) held_now other)
+same_switchings case name g held_now next other (inl none) h = inr (file.Switch, ap (λ (x : Given). reading_switchings case (Some name) x next) none)
+same_switchings case name g held_now next other (inr same) h =
+    subst (λ (x : Given). IsSameOrLacks (reading_switchings case (Some name) g next) (reading_switchings case (Some name) x other)) (sym same) (after_switchings_given case name g next other h)
+
+after_switchings : (files : Files) (case : Lists) (name : Option (List ℕ)) (g : Given) (next other : Option (List Switching) → Outcome)
     → ((text : List ℕ) → name ≡ Some text → MayGive (Some files) text g)
-    → IsSameOrLacks (reading_switchings case name g next) (reading_switchings case name (held files name) next)
-after_switchings files case None g next may = inl refl
-after_switchings files case (Some name) g next may = same_switchings case name g (held files (Some name)) next (given_or_held files name g (may name refl))
+    → ((rows : Option (List Switching)) → IsSameOrLacks (next rows) (other rows))
+    → IsSameOrLacks (reading_switchings case name g next) (reading_switchings case name (held files name) other)
+after_switchings files case None g next other may h = h None
+after_switchings files case (Some name) g next other may h = same_switchings case name g (held files (Some name)) next other (given_or_held files name g (may name refl)) h
+
+same_certificate : (name : List ℕ) (g held_now : Given) (next : List ℕ → Outcome) → (g ≡ Nothing) ⊎ (held_now ≡ g)
+    → IsSameOrLacks (reading_certificate (Some name) g next) (reading_certificate (Some name) held_now next)
+same_certificate name g held_now next (inl none) = inr (file.Certificate, ap (λ (x : Given). reading_certificate (Some name) x next) none)
+same_certificate name g held_now next (inr same) = inl (ap (λ (x : Given). reading_certificate (Some name) x next) (sym same))
+
+after_certificate : (files : Files) (name : Option (List ℕ)) (g : Given) (next : List ℕ → Outcome)
+    → ((text : List ℕ) → name ≡ Some text → MayGive (Some files) text g)
+    → IsSameOrLacks (reading_certificate name g next) (reading_certificate name (held files name) next)
+after_certificate files None g next may = inl refl
+after_certificate files (Some name) g next may = same_certificate name g (held files (Some name)) next (given_or_held files name g (may name refl))
 
 same_case : (files : Files) (name : List ℕ) (g : Given) (next other : Lists → Outcome) → (g ≡ Nothing) ⊎ (held files (Some name) ≡ g)
     → ((case : Lists) → IsSameOrLacks (next case) (other case)) → IsSameOrLacks (reading_case (Some name) g next) (reading_case (Some name) (held files (Some name)) other)
@@ -124,8 +150,9 @@ same_by_mode files (mode.Network m) o contents may =
     (λ case. reading_switchings case o.switch (contents file.Switch) (last case))
     (λ case. reading_switchings case o.switch (held files o.switch) (last case))
     (λ text e. named files o.case (contents file.Case) text e (may file.Case))
-    (λ case. after_switchings files case o.switch (contents file.Switch) (last case)
-    (λ text e. named files o.switch (contents file.Switch) text e (may file.Switch)))
+    (λ case. after_switchings files case o.switch (contents file.Switch) (last case) (last case)
+    (λ text e. named files o.switch (contents file.Switch) text e (may file.Switch))
+    (λ rows. inl refl))
 same_by_mode files mode.Study o contents may =
     let last : Lists → StormView → Option (List Switching) → Outcome = λ case storm rows. Accepts (Study (record { inputs = record { case = case; switchings = rows; question = o.question }; storm = storm }) o.detail) in
     named_case files o.case (contents file.Case)
@@ -136,9 +163,22 @@ same_by_mode files mode.Study o contents may =
     (λ storm. reading_switchings case o.switch (contents file.Switch) (last case storm))
     (λ storm. reading_switchings case o.switch (held files o.switch) (last case storm))
     (λ text e. named files o.storm (contents file.Storm) text e (may file.Storm))
-    (λ storm. after_switchings files case o.switch (contents file.Switch) (last case storm)
-    (λ text e. named files o.switch (contents file.Switch) text e (may file.Switch))))
+    (λ storm. after_switchings files case o.switch (contents file.Switch) (last case storm) (last case storm)
+    (λ text e. named files o.switch (contents file.Switch) text e (may file.Switch))
+    (λ rows. inl refl)))
 same_by_mode files mode.Make o contents may = inl refl
+same_by_mode files mode.Recheck o contents may =
+    let last : Lists → Option (List Switching) → List ℕ → Outcome = λ case rows bytes. Accepts (Recheck (record { case = case; switchings = rows; question = o.question }) bytes) in
+    named_case files o.case (contents file.Case)
+    (λ case. reading_switchings case o.switch (contents file.Switch) (λ rows. reading_certificate o.cert (contents file.Certificate) (last case rows)))
+    (λ case. reading_switchings case o.switch (held files o.switch) (λ rows. reading_certificate o.cert (held files o.cert) (last case rows)))
+    (λ text e. named files o.case (contents file.Case) text e (may file.Case))
+    (λ case. after_switchings files case o.switch (contents file.Switch)
+    (λ rows. reading_certificate o.cert (contents file.Certificate) (last case rows))
+    (λ rows. reading_certificate o.cert (held files o.cert) (last case rows))
+    (λ text e. named files o.switch (contents file.Switch) text e (may file.Switch))
+    (λ rows. after_certificate files o.cert (contents file.Certificate) (last case rows)
+    (λ text e. named files o.cert (contents file.Certificate) text e (may file.Certificate))))
 
 same_words : (files : Files) (r : Result Options Usage) (contents : Contents) → IfOk r (λ o. MayHandOut (Some files) o contents)
     → IsSameOrLacks (reading r UsageRefusal (λ o. asking o.mode o contents)) (reading r UsageRefusal (λ o. asking o.mode o (held_for files r)))

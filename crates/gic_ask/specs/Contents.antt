@@ -6,13 +6,14 @@ use Rattle.gic_base.specs.Files.{Files}
 use Rattle.gic_base.specs.declared.limits.TheConstants.{LIMIT}
 use Rattle.gic_words.specs.declared.options.Options.{Options}
 use Rattle.gic_ask.specs.declared.fault.File.{File}
-use Rattle.gic_ask.specs.declared.fault.File.TheVariants.{Case, Storm, Switch}
+use Rattle.gic_ask.specs.declared.fault.File.TheVariants.{Case, Storm, Switch, Certificate}
 
 -- the name that the options give for a file
 abbrev pub name_of_file : File → Options → Option (List ℕ)
 name_of_file Case o = o.case
 name_of_file Storm o = o.storm
 name_of_file Switch o = o.switch
+name_of_file Certificate o = o.cert
 
 -- of a file: nothing, that it is longer than 16777216 bytes, `LIMIT`, or its bytes
 pub data Given : Type 0 where

@@ -21,7 +21,7 @@ use Rattle.gic_ask.specs.declared.fault.File.TheVariants as file
 use Rattle.gic_ask.specs.declared.fault.InputRefusal.{InputRefusal}
 use Rattle.gic_ask.specs.declared.fault.InputRefusal.TheVariants.{Usage, TooLong, Case, Storm, Switch}
 use Rattle.gic_ask.specs.declared.request.Asked.{Asked}
-use Rattle.gic_ask.specs.declared.request.Asked.TheVariants.{Network, Study, Make}
+use Rattle.gic_ask.specs.declared.request.Asked.TheVariants.{Network, Study, Make, Recheck}
 
 -- the first refusal, the first file that was not handed out, or what is accepted
 pub data Outcome : Type 0 where
@@ -55,6 +55,11 @@ abbrev pub reading_switchings : Lists → (name : Option (List ℕ)) → Given �
 reading_switchings case None given next = next None
 reading_switchings case (Some name) given next = fetching file.Switch given (λ bytes. reading (switchings_of case bytes) Switch (λ rows. next (Some rows)))
 
+-- a certificate, whose bytes are handed on unread; it is always named, since `recheck` requires it
+abbrev pub reading_certificate : (name : Option (List ℕ)) → Given → (List ℕ → Outcome) → Outcome
+reading_certificate None given next = Refuses (Usage (Missing opt.Cert))
+reading_certificate (Some name) given next = fetching file.Certificate given next
+
 -- the inputs of a mode over the network of a case: its files, one after another
 abbrev pub reading_inputs : Options → Contents → (Inputs → Outcome) → Outcome
 reading_inputs o contents next =
@@ -70,6 +75,13 @@ reading_storm_inputs o contents next =
     reading_switchings case o.switch (contents file.Switch) (λ switchings.
     next (record { inputs = record { case = case; switchings = switchings; question = o.question }; storm = storm }))))
 
+-- what `recheck` is given: the inputs of a mode over the network of a case, and then the certificate
+abbrev pub reading_recheck : Options → Contents → (Asked → Outcome) → Outcome
+reading_recheck o contents next =
+    reading_inputs o contents (λ inputs.
+    reading_certificate o.cert (contents file.Certificate) (λ certificate.
+    next (Recheck inputs certificate)))
+
 -- the numbers of a made case; they are always given, since the mode requires them
 abbrev pub reading_numbers : (seed size : Option ℕ) → Outcome
 reading_numbers None size = Refuses (Usage (Missing opt.Seed))
@@ -81,6 +93,7 @@ abbrev pub asking : Mode → Options → Contents → Outcome
 asking (mode.Network m) o contents = reading_inputs o contents (λ inputs. Accepts (Network m inputs))
 asking mode.Study o contents = reading_storm_inputs o contents (λ inputs. Accepts (Study inputs o.detail))
 asking mode.Make o contents = reading_numbers o.seed o.size
+asking mode.Recheck o contents = reading_recheck o contents (λ asked. Accepts asked)
 
 -- the words, and then the files that they name, each fetched and then read
 abbrev pub outcome : List (List ℕ) → Contents → Outcome

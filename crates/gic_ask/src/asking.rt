@@ -8,10 +8,12 @@ ghost use Rattle.gic_ask.specs.declared.fault.InputRefusal.TheVariants as refusa
 ghost use Rattle.gic_ask.specs.declared.fault.File.TheVariants as file;
 ghost use Rattle.gic_ask.specs.Asks.{Asks, IsAnswer};
 ghost use Rattle.gic_ask.specs.Contents.{MayGive, Whole};
-ghost use Rattle.gic_ask.specs.Outcome.{reading_case, reading_storm, reading_switchings, reading_inputs, reading_storm_inputs, reading_numbers};
+ghost use Rattle.gic_question.specs.Ranges.{IsWithinRanges};
+ghost use Rattle.gic_ask.specs.Outcome.{reading_case, reading_storm, reading_switchings, reading_certificate, reading_inputs, reading_storm_inputs, reading_recheck, reading_numbers};
 ghost use Rattle.gic_ask.specs.Steps.{FetchFails, Steps, HasFailedFetch, Reads};
 ghost use Rattle.gic_ask.specs.Within.{IsAskedWithinRanges};
 
+use crate::bytes::FileBytes;
 use crate::fault::{File, InputFault, InputRefusal};
 use crate::request::Asked;
 use gic_base::{FetchRefusal, Library, read_whole};
@@ -120,6 +122,22 @@ fn switchings<L: Library>(
     }
 }
 
+/// Fetches the certificate that is named. Without a name it would be missing; `recheck` requires one.
+fn certificate<L: Library>(
+    alloc: Global,
+    library: &mut L,
+    name: &Option<FileName>,
+) -> Result<FileBytes, InputFault>
+    ensures step { Steps (L.content library.old) name.now (reading_certificate name.now) result }
+    ensures failed { HasFailedFetch file.Certificate (L.failures library.old) (L.failures library.new) name.now result }
+{
+    let Some(name) = name else {
+        return Err(missing(Opt::Cert));
+    };
+    let bytes = fetch_file(alloc, library, name.as_str(), File::Certificate)?;
+    Ok(FileBytes::new(bytes))
+}
+
 /// The inputs of a mode over the network of a case: its files, one after another.
 fn inputs<L: Library>(
     alloc: Global,
@@ -127,6 +145,7 @@ fn inputs<L: Library>(
     options: &Options,
 ) -> Result<Inputs, InputFault>
     ensures content { L.content library.new ≡ L.content library.old }
+    ensures failures { OnOk result (L.failures library.new ≡ L.failures library.old) }
     ensures reads { Reads (L.content library.old) options.now (reading_inputs options.now)
         (L.failures library.old) (L.failures library.new) result }
     ensures question { IfOk result (λ inputs. inputs.question ≡ options.now.question) }
@@ -160,6 +179,24 @@ fn storm_inputs<L: Library>(
         question: options.question,
     };
     Ok(StormInputs { inputs, storm })
+}
+
+/// What `recheck` is given: the files of a mode over the network of a case, and then the certificate.
+fn rechecked<L: Library>(
+    alloc: Global,
+    library: &mut L,
+    options: &Options,
+) -> Result<Asked, InputFault>
+    ensures reads { Reads (L.content library.old) options.now (reading_recheck options.now)
+        (L.failures library.old) (L.failures library.new) result }
+    ensures ranges { IsWithinRanges options.now.question → IfOk result IsAskedWithinRanges }
+{
+    let inputs = inputs(alloc, library, options)?;
+    let certificate = certificate(alloc, library, &options.cert)?;
+    Ok(Asked::Recheck {
+        inputs,
+        certificate,
+    })
 }
 
 /// The made case that the options ask for. Without its numbers one would be missing; the mode requires both.
@@ -205,5 +242,6 @@ pub fn ask<L: Library>(
             })
         }
         Mode::Make => made(&options),
+        Mode::Recheck => rechecked(alloc, library, &options),
     }
 }

@@ -24,7 +24,8 @@ impl TextFile {
         Ok(())
     }
 
-    /// Adds so many lines, where `@` stands for their numbers from 0.
+    /// Adds so many lines, where `@` stands for their numbers from 0, and `^` for how many are left with this one, below
+    /// zero where the number is odd.
     pub(crate) fn add_many(
         &mut self,
         alloc: Global,
@@ -32,9 +33,12 @@ impl TextFile {
         line: &str,
     ) -> Result<(), AllocError> {
         for number in 0..count {
+            let sign = if number % 2 == 0 { "" } else { "-" };
+            let left = format!(in alloc; "{sign}{}", count - number)?;
             let number = format!(in alloc; "{number}")?;
             let numbered = line.replace(alloc, "@", number.as_str())?;
-            self.add(numbered.as_str())?;
+            let turned = numbered.as_str().replace(alloc, "^", left.as_str())?;
+            self.add(turned.as_str())?;
         }
         Ok(())
     }

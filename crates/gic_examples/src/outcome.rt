@@ -3,6 +3,7 @@ ghost use Rattle.std.specs.Prelude.{None};
 
 use crate::files::{TextFile, bytes_of};
 use gic_base::{MemoryLibrary, MemorySink, Sink, WriteFailed};
+use gic_loss::VoltLoss;
 use gic_monitor::{DwellMonitor, EarthMonitor, Monitor};
 use gic_study::gicstudy;
 use std::alloc::{AllocError, Global};
@@ -86,7 +87,7 @@ fn library_of(
     Ok(MemoryLibrary::new(alloc, shelf, Vec::from_slice(alloc, failing)?))
 }
 
-/// Makes the top call with the monitors that the program attaches: of dwells, then of earthings.
+/// Makes the top call with the monitors that the program attaches: of dwells, of earthings, and of losses.
 fn call<S: Sink>(
     alloc: Global,
     words: &[String],
@@ -97,6 +98,7 @@ fn call<S: Sink>(
     let mut monitors: Vec<Box<dyn Monitor>> = Vec::new(alloc);
     monitors.push(Box::new(alloc, DwellMonitor::new(alloc))?)?;
     monitors.push(Box::new(alloc, EarthMonitor::new(alloc))?)?;
+    monitors.push(Box::new(alloc, VoltLoss::new(alloc, 1))?)?;
     Ok(gicstudy(alloc, words, library, out, err, monitors))
 }
 

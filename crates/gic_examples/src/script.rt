@@ -58,7 +58,7 @@ impl Script {
             "run-prefixes" => {
                 self.ended = run_prefixes(self.alloc, rest, self.files.as_slice())?;
             }
-            "file" | "|" | "from" | "times" | "fill" | "cut" | "byte" => {
+            "file" | "output" | "|" | "from" | "line" | "times" | "fill" | "cut" | "byte" => {
                 self.write(word, rest)?;
             }
             _ => {
@@ -124,9 +124,16 @@ impl Script {
     /// Begins a file, or writes to the one that was begun last.
     fn write(&mut self, word: &str, rest: &str) -> Result<(), AllocError> {
         let alloc = self.alloc;
-        if word == "file" {
-            self.files.push(TextFile::new(alloc, rest)?)?;
+        if word == "file" || word == "output" {
+            let mut file = TextFile::new(alloc, rest)?;
+            if word == "output" {
+                file.bytes.extend_from_slice(self.ended.out.as_slice())?;
+            }
+            self.files.push(file)?;
             return Ok(());
+        }
+        if word == "line" {
+            return self.copy_line(rest);
         }
         let earlier = Vec::from_slice(alloc, bytes_of(self.files.as_slice(), rest))?;
         let Some(file) = self.files.last_mut() else {
@@ -144,6 +151,20 @@ impl Script {
             _ => file.cut(rest.parse::<usize>().unwrap_or(0)),
         }
         Ok(())
+    }
+
+    /// Copies a line of an earlier file to the one that was begun last: its number, from 1, and the file's name.
+    fn copy_line(&mut self, rest: &str) -> Result<(), AllocError> {
+        let (number, name) = rest.split_once(' ').unwrap_or((rest, ""));
+        let place = number.parse::<usize>().unwrap_or(1).saturating_sub(1);
+        let earlier = Vec::from_slice(self.alloc, bytes_of(self.files.as_slice(), name))?;
+        let Ok(text) = str::from_utf8(earlier.as_slice()) else {
+            return Ok(());
+        };
+        match (self.files.last_mut(), text.lines().nth(place)) {
+            (Some(file), Some(line)) => file.add(line),
+            _ => Ok(()),
+        }
     }
 
     /// The next line of the output that was not compared yet.

@@ -10,16 +10,21 @@ use Rattle.gic_ask.specs.declared.fault.InputFault.{InputFault}
 use Rattle.gic_ask.specs.declared.fault.InputFault.TheVariants as input
 use Rattle.gic_ask.specs.declared.fault.InputRefusal.{InputRefusal}
 use Rattle.gic_ask.specs.declared.request.Asked.{Asked}
-use Rattle.gic_stand.specs.Needs.{IsMet, IsUnmet}
+use Rattle.gic_ask.specs.declared.request.Asked.TheVariants.{Network, Study, Make, Recheck}
+use Rattle.gic_recheck.specs.Determines.{AcceptedIsNotRefused}
+use Rattle.gic_recheck.specs.declared.fault.CertificateRefusal.{CertificateRefusal}
+use Rattle.gic_stand.specs.Needs.{Nothing, IsMet, IsUnmet}
+use Rattle.gic_stand.specs.Standing.{standing_of, steps_of}
+use Rattle.gic_stand.proofs.Served.{met_nothing}
 use Rattle.gic_stand.specs.declared.fault.NetworkRefusal.{NetworkRefusal}
 use Rattle.gic_stand.specs.declared.fault.ReportFault.{ReportFault}
 use Rattle.gic_stand.specs.declared.fault.ReportFault.TheVariants as report
 use Rattle.gic_study.specs.Answers.{Moment, Explains, Answer, status_of}
 use Rattle.gic_study.specs.Faults.{status_of_fault}
-use Rattle.gic_study.specs.Modes.{Plans, need_of, case_asked, steps_asked}
-use Rattle.gic_study.specs.Laws.{RefusalsAreAnswered, LackedFilesAreWantOfMemory, AcceptedIsReported, UnmetNeedsAreAnswered, CanRead}
+use Rattle.gic_study.specs.Modes.{Plans, need_of, case_asked, steps_asked, IsRightText, AcceptsCertificate, RefusesCertificate}
+use Rattle.gic_study.specs.Laws.{RefusalsAreAnswered, LackedFilesAreWantOfMemory, AcceptedIsReported, UnmetNeedsAreAnswered, RefusedCertificatesAreAnswered, CanRead}
 use Rattle.gic_study.specs.declared.fault.Fault.{Fault}
-use Rattle.gic_study.specs.declared.fault.Fault.TheVariants.{Input, Report}
+use Rattle.gic_study.specs.declared.fault.Fault.TheVariants.{Input, Report, Certificate}
 use Rattle.gic_study.proofs.MetNeeds.{unmet_or_met, same_kind}
 
 abbrev accepted_in : Outcome → Asked → Asked
@@ -46,6 +51,8 @@ refused_by law words files plans before now (Ok done) e can refusal is =
     absurd (grind (arith, sym (law words files before.failures now.failures (Ok e.asked) e.asks can) ∙ is))
 refused_by law words files plans before now (Err (Report fault)) e can refusal is =
     absurd (grind (arith, sym (law words files before.failures now.failures (Ok e.asked) e.asks can) ∙ is))
+refused_by law words files plans before now (Err (Certificate r)) e can refusal is =
+    absurd (grind (arith, sym (law words files before.failures now.failures (Ok e.asked) e.asks can) ∙ is))
 refused_by law words files plans before now (Err (Input (input.Refused r))) e can refusal is =
     inl (ap (λ (x : InputRefusal). status_of_fault (Input (input.Refused x))) (same_refusal r refusal (sym (law words files before.failures now.failures (Err (input.Refused r)) e.asks can) ∙ is)))
 refused_by law words files plans before now (Err (Input (input.CannotRead file))) e can refusal is =
@@ -64,6 +71,8 @@ lacked_by law words files plans before now (Ok done) e can file is =
     absurd (grind (arith, sym (law words files before.failures now.failures (Ok e.asked) e.asks can) ∙ is))
 lacked_by law words files plans before now (Err (Report fault)) e can file is =
     absurd (grind (arith, sym (law words files before.failures now.failures (Ok e.asked) e.asks can) ∙ is))
+lacked_by law words files plans before now (Err (Certificate r)) e can file is =
+    absurd (grind (arith, sym (law words files before.failures now.failures (Ok e.asked) e.asks can) ∙ is))
 lacked_by law words files plans before now (Err (Input (input.Refused r))) e can file is =
     absurd (grind (arith, sym (law words files before.failures now.failures (Err (input.Refused r)) e.asks can) ∙ is))
 lacked_by law words files plans before now (Err (Input (input.CannotRead other))) e can file is = absurd (can other (e.asks.failed other refl))
@@ -78,27 +87,51 @@ met_by : (a asked : Asked) → a ≡ asked → IsMet (need_of asked) (steps_aske
     → IsMet (need_of a) (steps_asked a)
 met_by a asked e met = subst (λ (x : Asked). IsMet (need_of x) (steps_asked x)) (sym e) met
 
-reported_by : (law : AnswersOfFiles) (words : List (List ℕ)) (files : Files) (plans : Plans) (before now : Moment) (answer : Answer)
+-- a certificate is not both refused and accepted
+refused_or_accepted : AcceptedIsNotRefused → (asked : Asked) (refusal : CertificateRefusal) → RefusesCertificate asked refusal → ¬ AcceptsCertificate asked
+refused_or_accepted never (Network m inputs) refusal refused accepted = refused
+refused_or_accepted never (Study inputs detail) refusal refused accepted = refused
+refused_or_accepted never (Make seed size) refusal refused accepted = refused
+refused_or_accepted never (Recheck inputs certificate) refusal refused accepted = never inputs.case (standing_of inputs.case inputs.switchings) certificate accepted.0 refusal accepted.1 refused
+
+-- what is right of a certificate shows that it is accepted
+right_accepts : (plans : Plans) (asked : Asked) (text : List ℕ) → IsRightText plans asked text → AcceptsCertificate asked
+right_accepts plans (Network m inputs) text right = tt
+right_accepts plans (Study inputs detail) text right = tt
+right_accepts plans (Make seed size) text right = tt
+right_accepts plans (Recheck inputs certificate) text right = (right.certificate, right.accepted)
+
+-- where a certificate is asked to be checked, nothing is needed of the network
+refused_needs_nothing : (asked : Asked) (refusal : CertificateRefusal) (network : NetworkRefusal) → RefusesCertificate asked refusal → ¬ IsUnmet (need_of asked) (case_asked asked) (steps_asked asked) network
+refused_needs_nothing (Network m inputs) refusal network refused unmet = refused
+refused_needs_nothing (Study inputs detail) refusal network refused unmet = refused
+refused_needs_nothing (Make seed size) refusal network refused unmet = refused
+refused_needs_nothing (Recheck inputs certificate) refusal network refused unmet = unmet_or_met Nothing inputs.case (steps_of inputs) network unmet (met_nothing (steps_of inputs))
+
+reported_by : (law : AnswersOfFiles) (never : AcceptedIsNotRefused) (words : List (List ℕ)) (files : Files) (plans : Plans) (before now : Moment) (answer : Answer)
     → Explains words (Some files) plans before now answer → CanRead words before now
     → (asked : Asked) → outcome words (held_for files (options_of words)) ≡ Accepts asked
-    → IsMet (need_of asked) (steps_asked asked) → ¬ Rose before.out.faults now.out.faults
+    → IsMet (need_of asked) (steps_asked asked) → AcceptsCertificate asked → ¬ Rose before.out.faults now.out.faults
     → (status_of answer ≡ 0) ⊎ (status_of answer ≡ 11)
-reported_by law words files plans before now (Ok done) e can asked is met stood = inl refl
-reported_by law words files plans before now (Err (Report report.CannotWrite)) e can asked is met stood = absurd (stood e.serves.cause)
-reported_by law words files plans before now (Err (Report report.Memory)) e can asked is met stood = inr refl
-reported_by law words files plans before now (Err (Report (report.Refused r))) e can asked is met stood =
+reported_by law never words files plans before now (Ok done) e can asked is met accepted stood = inl refl
+reported_by law never words files plans before now (Err (Report report.CannotWrite)) e can asked is met accepted stood = absurd (stood e.serves.cause)
+reported_by law never words files plans before now (Err (Report report.Memory)) e can asked is met accepted stood = inr refl
+reported_by law never words files plans before now (Err (Report (report.Refused r))) e can asked is met accepted stood =
     let same : e.asked ≡ asked = same_asked e.asked asked (sym (law words files before.failures now.failures (Ok e.asked) e.asks can) ∙ is) in
     absurd (unmet_or_met (need_of e.asked) (case_asked e.asked) (steps_asked e.asked) r e.serves.0 (met_by e.asked asked same met))
-reported_by law words files plans before now (Err (Input (input.Refused r))) e can asked is met stood =
+reported_by law never words files plans before now (Err (Certificate r)) e can asked is met accepted stood =
+    let same : e.asked ≡ asked = same_asked e.asked asked (sym (law words files before.failures now.failures (Ok e.asked) e.asks can) ∙ is) in
+    absurd (refused_or_accepted never asked r (subst (λ (x : Asked). RefusesCertificate x r) same e.refused) accepted)
+reported_by law never words files plans before now (Err (Input (input.Refused r))) e can asked is met accepted stood =
     absurd (grind (arith, sym (law words files before.failures now.failures (Err (input.Refused r)) e.asks can) ∙ is))
-reported_by law words files plans before now (Err (Input (input.CannotRead file))) e can asked is met stood =
+reported_by law never words files plans before now (Err (Input (input.CannotRead file))) e can asked is met accepted stood =
     absurd (grind (arith, sym (law words files before.failures now.failures (Err (input.CannotRead file)) e.asks can) ∙ is))
-reported_by law words files plans before now (Err (Input input.Memory)) e can asked is met stood = inr refl
+reported_by law never words files plans before now (Err (Input input.Memory)) e can asked is met accepted stood = inr refl
 
-pub accepted_is_reported : AnswersOfFiles → AcceptedIsReported
-accepted_is_reported law words files plans before now told told' status e can asked is met stood =
+pub accepted_is_reported : AnswersOfFiles → AcceptedIsNotRefused → AcceptedIsReported
+accepted_is_reported law never words files plans before now told told' status e can asked is met accepted stood =
     subst (λ n. (n ≡ 0) ⊎ (n ≡ 11)) (sym e.status_is)
-    (reported_by law words files plans before now e.answer e.explained can asked is met stood)
+    (reported_by law never words files plans before now e.answer e.explained can asked is met accepted stood)
 
 unmet_by : (a asked : Asked) (refusal : NetworkRefusal) → a ≡ asked → IsUnmet (need_of asked) (case_asked asked) (steps_asked asked) refusal
     → IsUnmet (need_of a) (case_asked a) (steps_asked a) refusal
@@ -119,6 +152,9 @@ unmet_answered law words files plans before now (Err (Report report.Memory)) e c
 unmet_answered law words files plans before now (Err (Report (report.Refused r))) e can asked is refusal unmet =
     let same : e.asked ≡ asked = same_asked e.asked asked (sym (law words files before.failures now.failures (Ok e.asked) e.asks can) ∙ is) in
     inl (same_kind (need_of e.asked) (case_asked e.asked) (steps_asked e.asked) r refusal e.serves.0 (unmet_by e.asked asked refusal same unmet))
+unmet_answered law words files plans before now (Err (Certificate r)) e can asked is refusal unmet =
+    let same : e.asked ≡ asked = same_asked e.asked asked (sym (law words files before.failures now.failures (Ok e.asked) e.asks can) ∙ is) in
+    absurd (refused_needs_nothing asked r refusal (subst (λ (x : Asked). RefusesCertificate x r) same e.refused) unmet)
 unmet_answered law words files plans before now (Err (Input (input.Refused r))) e can asked is refusal unmet =
     absurd (grind (arith, sym (law words files before.failures now.failures (Err (input.Refused r)) e.asks can) ∙ is))
 unmet_answered law words files plans before now (Err (Input (input.CannotRead file))) e can asked is refusal unmet =
@@ -129,3 +165,31 @@ pub unmet_needs_are_answered : AnswersOfFiles → UnmetNeedsAreAnswered
 unmet_needs_are_answered law words files plans before now told told' status e can asked is refusal unmet =
     subst (λ n. (n ≡ status_of_fault (Report (report.Refused refusal))) ⊎ (n ≡ 11)) (sym e.status_is)
     (unmet_answered law words files plans before now e.answer e.explained can asked is refusal unmet)
+
+-- the refusal of a certificate is answered
+certificate_answered : (law : AnswersOfFiles) (never : AcceptedIsNotRefused) (words : List (List ℕ)) (files : Files) (plans : Plans) (before now : Moment) (answer : Answer)
+    → Explains words (Some files) plans before now answer → CanRead words before now
+    → (asked : Asked) → outcome words (held_for files (options_of words)) ≡ Accepts asked
+    → (refusal : CertificateRefusal) → RefusesCertificate asked refusal
+    → (status_of answer ≡ 13) ⊎ (status_of answer ≡ 11)
+certificate_answered law never words files plans before now (Ok done) e can asked is refusal refused =
+    let same : e.asked ≡ asked = same_asked e.asked asked (sym (law words files before.failures now.failures (Ok e.asked) e.asks can) ∙ is) in
+    absurd (refused_or_accepted never asked refusal refused (subst AcceptsCertificate same (right_accepts plans e.asked e.serves.text e.serves.right)))
+certificate_answered law never words files plans before now (Err (Report report.CannotWrite)) e can asked is refusal refused =
+    let same : e.asked ≡ asked = same_asked e.asked asked (sym (law words files before.failures now.failures (Ok e.asked) e.asks can) ∙ is) in
+    absurd (refused_or_accepted never asked refusal refused (subst AcceptsCertificate same (right_accepts plans e.asked e.serves.text e.serves.right)))
+certificate_answered law never words files plans before now (Err (Report report.Memory)) e can asked is refusal refused = inr refl
+certificate_answered law never words files plans before now (Err (Report (report.Refused r))) e can asked is refusal refused =
+    let same : asked ≡ e.asked = sym (same_asked e.asked asked (sym (law words files before.failures now.failures (Ok e.asked) e.asks can) ∙ is)) in
+    absurd (refused_needs_nothing e.asked refusal r (subst (λ (x : Asked). RefusesCertificate x refusal) same refused) e.serves.0)
+certificate_answered law never words files plans before now (Err (Certificate r)) e can asked is refusal refused = inl refl
+certificate_answered law never words files plans before now (Err (Input (input.Refused r))) e can asked is refusal refused =
+    absurd (grind (arith, sym (law words files before.failures now.failures (Err (input.Refused r)) e.asks can) ∙ is))
+certificate_answered law never words files plans before now (Err (Input (input.CannotRead file))) e can asked is refusal refused =
+    absurd (grind (arith, sym (law words files before.failures now.failures (Err (input.CannotRead file)) e.asks can) ∙ is))
+certificate_answered law never words files plans before now (Err (Input input.Memory)) e can asked is refusal refused = inr refl
+
+pub refused_certificates_are_answered : AnswersOfFiles → AcceptedIsNotRefused → RefusedCertificatesAreAnswered
+refused_certificates_are_answered law never words files plans before now told told' status e can asked is refusal refused =
+    subst (λ n. (n ≡ 13) ⊎ (n ≡ 11)) (sym e.status_is)
+    (certificate_answered law never words files plans before now e.answer e.explained can asked is refusal refused)

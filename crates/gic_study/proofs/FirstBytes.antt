@@ -7,7 +7,7 @@ use Rattle.gic_words.specs.declared.mode.Mode.{Mode}
 use Rattle.gic_words.specs.declared.mode.Mode.TheVariants as mode
 use Rattle.gic_stand.specs.declared.inputs.Inputs.{Inputs}
 use Rattle.gic_ask.specs.declared.request.Asked.{Asked}
-use Rattle.gic_ask.specs.declared.request.Asked.TheVariants.{Network, Study, Make}
+use Rattle.gic_ask.specs.declared.request.Asked.TheVariants.{Network, Study, Make, Recheck}
 use Rattle.gic_study.specs.Modes.{Plans, mode_asked, IsRightOverNetwork, IsRightText}
 use Rattle.gic_study.specs.Laws.{TextsTellModes}
 
@@ -25,12 +25,14 @@ begins_over_network network.List inputs text right = ap (λ (t : List ℕ). firs
 begins_over_network network.Check inputs text right = ap (λ (t : List ℕ). first_two t) right
 begins_over_network network.Field inputs text right = ap (λ (t : List ℕ). first_two t) right.text_is
 begins_over_network network.Screen inputs text right = ap (λ (t : List ℕ). first_two t) right.text_is
+begins_over_network network.Certify inputs text right = ap (λ (t : List ℕ). first_two t) right.text_is
 
 begins : (plans : Plans) (asked : Asked) (text : List ℕ) → IsRightText plans asked text → first_two text ≡ mark_of (mode_asked asked)
 unfolding first_two
 begins plans (Network m inputs) text right = begins_over_network m inputs text right
 begins plans (Study inputs detail) text right = ap (λ (t : List ℕ). first_two t) right.text_is
 begins plans (Make seed size) text right = ap (λ (t : List ℕ). first_two t) right.text_is
+begins plans (Recheck inputs certificate) text right = ap (λ (t : List ℕ). first_two t) right.text_is
 
 -- the mode whose word begins so
 abbrev marked : ℕ → Mode
@@ -39,8 +41,10 @@ marked mark = if mark == mark_of (mode.Network network.Volts) then mode.Network 
     else (if mark == mark_of (mode.Network network.Check) then mode.Network network.Check
     else (if mark == mark_of (mode.Network network.Field) then mode.Network network.Field
     else (if mark == mark_of (mode.Network network.Screen) then mode.Network network.Screen
+    else (if mark == mark_of (mode.Network network.Certify) then mode.Network network.Certify
     else (if mark == mark_of mode.Study then mode.Study
-    else mode.Make)))))
+    else (if mark == mark_of mode.Make then mode.Make
+    else mode.Recheck)))))))
 
 -- no two modes begin alike
 marked_as : (m : Mode) → marked (mark_of m) ≡ m
@@ -49,8 +53,10 @@ marked_as (mode.Network network.List) = refl
 marked_as (mode.Network network.Check) = refl
 marked_as (mode.Network network.Field) = refl
 marked_as (mode.Network network.Screen) = refl
+marked_as (mode.Network network.Certify) = refl
 marked_as mode.Study = refl
 marked_as mode.Make = refl
+marked_as mode.Recheck = refl
 
 pub texts_tell_modes : TextsTellModes
 texts_tell_modes plans others asked other text right right' =

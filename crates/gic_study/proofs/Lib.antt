@@ -5,3 +5,4 @@ pub mod MetNeeds
 pub mod Ended
 pub mod Statuses
 pub mod FirstBytes
+pub mod Certified

@@ -8,7 +8,7 @@ use Rattle.gic_stand.specs.declared.fault.NetworkRefusal.TheVariants as network
 use Rattle.gic_study.specs.Answers.{Moment, Answer, Explains, status_of}
 use Rattle.gic_study.specs.Laws.{StatusSays, StatusesSay}
 use Rattle.gic_study.specs.Modes.{Plans}
-use Rattle.gic_study.specs.declared.fault.Fault.TheVariants.{Input, Report}
+use Rattle.gic_study.specs.declared.fault.Fault.TheVariants.{Input, Report, Certificate}
 
 says : (words : List (List ℕ)) (files : Option Files) (plans : Plans) (before now : Moment) (answer : Answer) → Explains words files plans before now answer
     → StatusSays words files plans before now (status_of answer)
@@ -23,6 +23,7 @@ says words files plans before now (Ok done) explained = record {
   unearthed = λ e. absurd (omega (arith, e));
   unresolved = λ e. absurd (omega (arith, e));
   too_long = λ e. absurd (omega (arith, e));
+  certificate_refused = λ e. absurd (omega (arith, e));
   nothing = λ not_done not_unwritten. absurd (not_done refl);
 }
 says words files plans before now (Err (Input (input.Refused (input_refusal.Usage u)))) explained = record {
@@ -36,6 +37,7 @@ says words files plans before now (Err (Input (input.Refused (input_refusal.Usag
   unearthed = λ e. absurd (omega (arith, e));
   unresolved = λ e. absurd (omega (arith, e));
   too_long = λ e. absurd (omega (arith, e));
+  certificate_refused = λ e. absurd (omega (arith, e));
   nothing = λ not_done not_unwritten. explained.kept;
 }
 says words files plans before now (Err (Input (input.CannotRead file))) explained = record {
@@ -49,6 +51,7 @@ says words files plans before now (Err (Input (input.CannotRead file))) explaine
   unearthed = λ e. absurd (omega (arith, e));
   unresolved = λ e. absurd (omega (arith, e));
   too_long = λ e. absurd (omega (arith, e));
+  certificate_refused = λ e. absurd (omega (arith, e));
   nothing = λ not_done not_unwritten. explained.kept;
 }
 says words files plans before now (Err (Report report.CannotWrite)) explained = record {
@@ -62,6 +65,7 @@ says words files plans before now (Err (Report report.CannotWrite)) explained = 
   unearthed = λ e. absurd (omega (arith, e));
   unresolved = λ e. absurd (omega (arith, e));
   too_long = λ e. absurd (omega (arith, e));
+  certificate_refused = λ e. absurd (omega (arith, e));
   nothing = λ not_done not_unwritten. absurd (not_unwritten refl);
 }
 says words files plans before now (Err (Input (input.Refused (input_refusal.Case r)))) explained = record {
@@ -75,6 +79,7 @@ says words files plans before now (Err (Input (input.Refused (input_refusal.Case
   unearthed = λ e. absurd (omega (arith, e));
   unresolved = λ e. absurd (omega (arith, e));
   too_long = λ e. absurd (omega (arith, e));
+  certificate_refused = λ e. absurd (omega (arith, e));
   nothing = λ not_done not_unwritten. explained.kept;
 }
 says words files plans before now (Err (Input (input.Refused (input_refusal.Storm r)))) explained = record {
@@ -88,6 +93,7 @@ says words files plans before now (Err (Input (input.Refused (input_refusal.Stor
   unearthed = λ e. absurd (omega (arith, e));
   unresolved = λ e. absurd (omega (arith, e));
   too_long = λ e. absurd (omega (arith, e));
+  certificate_refused = λ e. absurd (omega (arith, e));
   nothing = λ not_done not_unwritten. explained.kept;
 }
 says words files plans before now (Err (Input (input.Refused (input_refusal.Switch r)))) explained = record {
@@ -101,6 +107,7 @@ says words files plans before now (Err (Input (input.Refused (input_refusal.Swit
   unearthed = λ e. absurd (omega (arith, e));
   unresolved = λ e. absurd (omega (arith, e));
   too_long = λ e. absurd (omega (arith, e));
+  certificate_refused = λ e. absurd (omega (arith, e));
   nothing = λ not_done not_unwritten. explained.kept;
 }
 says words files plans before now (Err (Report (report.Refused (network.Unearthed step node)))) explained = record {
@@ -114,6 +121,7 @@ says words files plans before now (Err (Report (report.Refused (network.Unearthe
   unearthed = λ e. (step, (node, explained));
   unresolved = λ e. absurd (omega (arith, e));
   too_long = λ e. absurd (omega (arith, e));
+  certificate_refused = λ e. absurd (omega (arith, e));
   nothing = λ not_done not_unwritten. explained.serves.1;
 }
 says words files plans before now (Err (Report (report.Refused (network.Unresolved step node)))) explained = record {
@@ -127,6 +135,7 @@ says words files plans before now (Err (Report (report.Refused (network.Unresolv
   unearthed = λ e. absurd (omega (arith, e));
   unresolved = λ e. (step, (node, explained));
   too_long = λ e. absurd (omega (arith, e));
+  certificate_refused = λ e. absurd (omega (arith, e));
   nothing = λ not_done not_unwritten. explained.serves.1;
 }
 says words files plans before now (Err (Input (input.Refused (input_refusal.TooLong file)))) explained = record {
@@ -140,6 +149,7 @@ says words files plans before now (Err (Input (input.Refused (input_refusal.TooL
   unearthed = λ e. absurd (omega (arith, e));
   unresolved = λ e. absurd (omega (arith, e));
   too_long = λ e. (file, explained);
+  certificate_refused = λ e. absurd (omega (arith, e));
   nothing = λ not_done not_unwritten. explained.kept;
 }
 says words files plans before now (Err (Input input.Memory)) explained = record {
@@ -153,6 +163,7 @@ says words files plans before now (Err (Input input.Memory)) explained = record 
   unearthed = λ e. absurd (omega (arith, e));
   unresolved = λ e. absurd (omega (arith, e));
   too_long = λ e. absurd (omega (arith, e));
+  certificate_refused = λ e. absurd (omega (arith, e));
   nothing = λ not_done not_unwritten. explained.kept;
 }
 says words files plans before now (Err (Report report.Memory)) explained = record {
@@ -166,7 +177,22 @@ says words files plans before now (Err (Report report.Memory)) explained = recor
   unearthed = λ e. absurd (omega (arith, e));
   unresolved = λ e. absurd (omega (arith, e));
   too_long = λ e. absurd (omega (arith, e));
+  certificate_refused = λ e. absurd (omega (arith, e));
   nothing = λ not_done not_unwritten. explained.serves;
+}
+says words files plans before now (Err (Certificate refusal)) explained = record {
+  done = λ e. absurd (omega (arith, e));
+  usage = λ e. absurd (omega (arith, e));
+  unread = λ e. absurd (omega (arith, e));
+  unwritten = λ e. absurd (omega (arith, e));
+  case_refused = λ e. absurd (omega (arith, e));
+  storm_refused = λ e. absurd (omega (arith, e));
+  switch_refused = λ e. absurd (omega (arith, e));
+  unearthed = λ e. absurd (omega (arith, e));
+  unresolved = λ e. absurd (omega (arith, e));
+  too_long = λ e. absurd (omega (arith, e));
+  certificate_refused = λ e. (refusal, explained);
+  nothing = λ not_done not_unwritten. explained.kept;
 }
 
 pub statuses_say : StatusesSay

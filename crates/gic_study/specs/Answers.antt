@@ -8,12 +8,13 @@ use Rattle.gic_base.specs.Pieces.{AppendsPart}
 use Rattle.gic_ask.specs.Asks.{Asks}
 use Rattle.gic_ask.specs.declared.fault.InputFault.{InputFault}
 use Rattle.gic_ask.specs.declared.request.Asked.{Asked}
+use Rattle.gic_recheck.specs.declared.fault.CertificateRefusal.{CertificateRefusal}
 use Rattle.gic_stand.specs.Serves.{Shown, shown, Serves}
 use Rattle.gic_stand.specs.declared.fault.ReportFault.{ReportFault}
 use Rattle.gic_study.specs.Faults.{status_of_fault, line_of_fault}
-use Rattle.gic_study.specs.Modes.{Plans, need_of, case_asked, steps_asked, IsRightText}
+use Rattle.gic_study.specs.Modes.{Plans, need_of, case_asked, steps_asked, IsRightText, RefusesCertificate}
 use Rattle.gic_study.specs.declared.fault.Fault.{Fault}
-use Rattle.gic_study.specs.declared.fault.Fault.TheVariants.{Input, Report}
+use Rattle.gic_study.specs.declared.fault.Fault.TheVariants.{Input, Report, Certificate}
 
 -- what the library and the output show at one moment: the names whose fetch failed, and the sink
 pub record Moment : Type 0 where
@@ -34,6 +35,13 @@ pub record Served (words : List (List ℕ)) (files : Option Files) (plans : Plan
   pub asks : Asks words files before.failures now.failures (Ok asked)
   pub serves : Serves (need_of asked) (case_asked asked) (steps_asked asked) (IsRightText plans asked) before.out now.out answer
 
+-- a certificate is asked to be checked, and refused for this reason; nothing was written
+pub record Uncertified (words : List (List ℕ)) (files : Option Files) (before now : Moment) (refusal : CertificateRefusal) : Type 0 where
+  pub asked : Asked
+  pub asks : Asks words files before.failures now.failures (Ok asked)
+  pub refused : RefusesCertificate asked refusal
+  pub kept : Keeps before.out.bytes now.out.bytes
+
 -- all of a report, or the fault that ended the call
 abbrev pub Answer : Type 0
 Answer = Result (Unit {0}) Fault
@@ -43,11 +51,19 @@ abbrev pub status_of : Answer → ℕ
 status_of (Ok done) = 0
 status_of (Err fault) = status_of_fault fault
 
+-- how the call for what is asked for ends
+abbrev pub Concludes : Plans → Asked → (before now : Shown) → Answer → Type 0
+Concludes plans asked before now (Ok done) = Serves (need_of asked) (case_asked asked) (steps_asked asked) (IsRightText plans asked) before now (Ok done)
+Concludes plans asked before now (Err (Report fault)) = Serves (need_of asked) (case_asked asked) (steps_asked asked) (IsRightText plans asked) before now (Err fault)
+Concludes plans asked before now (Err (Certificate refusal)) = RefusesCertificate asked refusal × Keeps before.bytes now.bytes
+Concludes plans asked before now (Err (Input fault)) = ⊥
+
 -- why a call has this answer
 abbrev pub Explains : List (List ℕ) → Option Files → Plans → (before now : Moment) → Answer → Type 0
 Explains words files plans before now (Ok done) = Served words files plans before now (Ok done)
 Explains words files plans before now (Err (Report fault)) = Served words files plans before now (Err fault)
 Explains words files plans before now (Err (Input fault)) = Unasked words files before now fault
+Explains words files plans before now (Err (Certificate refusal)) = Uncertified words files before now refusal
 
 -- the line was written, or a front part of it where a write failed
 pub record TellsLine (before now : Shown) (line : List ℕ) : Type 0 where

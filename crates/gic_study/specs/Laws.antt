@@ -4,7 +4,11 @@ use Rattle.std.specs.declared.option.Option.{Option}
 use Rattle.std.specs.Io.KnownBytes.{Keeps}
 use Rattle.gic_base.specs.Causes.{Rose}
 use Rattle.gic_base.specs.Files.{Files}
+use Rattle.gic_ask.specs.declared.request.Asked.TheVariants.{Recheck}
+use Rattle.gic_case.specs.Sound.{IsSound}
 use Rattle.gic_case.specs.declared.refusal.CaseRefusal.{CaseRefusal}
+use Rattle.gic_certify.specs.RightCertify.{IsRightCertify}
+use Rattle.gic_recheck.specs.declared.fault.CertificateRefusal.{CertificateRefusal}
 use Rattle.gic_storm.specs.declared.refusal.StormRefusal.{StormRefusal}
 use Rattle.gic_switch.specs.declared.refusal.SwitchRefusal.{SwitchRefusal}
 use Rattle.gic_words.specs.Options.{options_of}
@@ -19,12 +23,13 @@ use Rattle.gic_ask.specs.declared.fault.InputRefusal.TheVariants.{Usage, TooLong
 use Rattle.gic_ask.specs.declared.request.Asked.{Asked}
 use Rattle.gic_stand.specs.Needs.{IsMet, IsUnmet}
 use Rattle.gic_stand.specs.Serves.{Shown}
+use Rattle.gic_stand.specs.declared.inputs.Inputs.{Inputs}
 use Rattle.gic_stand.specs.declared.fault.NetworkRefusal.{NetworkRefusal}
 use Rattle.gic_stand.specs.declared.fault.NetworkRefusal.TheVariants.{Unearthed, Unresolved}
 use Rattle.gic_stand.specs.declared.fault.ReportFault.TheVariants as report
-use Rattle.gic_study.specs.Answers.{Ends, Moment, Served, Unasked}
+use Rattle.gic_study.specs.Answers.{Ends, Moment, Served, Unasked, Uncertified}
 use Rattle.gic_study.specs.Faults.{status_of_fault}
-use Rattle.gic_study.specs.Modes.{Plans, mode_asked, need_of, case_asked, steps_asked, IsRightText}
+use Rattle.gic_study.specs.Modes.{Plans, mode_asked, need_of, case_asked, steps_asked, IsRightText, AcceptsCertificate, RefusesCertificate}
 use Rattle.gic_study.specs.declared.fault.Fault.TheVariants.{Input, Report}
 
 -- no fetch of a file that the words name failed between these moments
@@ -52,12 +57,19 @@ UnmetNeedsAreAnswered = (words : List (List ℕ)) (files : Files) (plans : Plans
     (refusal : NetworkRefusal) → IsUnmet (need_of asked) (case_asked asked) (steps_asked asked) refusal →
     (status ≡ status_of_fault (Report (report.Refused refusal))) ⊎ (status ≡ 11)
 
--- what is accepted is reported, where moreover its need is met and no write failed
+-- a refusal of the certificate that is asked to be checked is answered
+abbrev pub RefusedCertificatesAreAnswered : Type 0
+RefusedCertificatesAreAnswered = (words : List (List ℕ)) (files : Files) (plans : Plans) (before now : Moment) (told told' : Shown) (status : ℕ) →
+    Ends words (Some files) plans before now told told' status → CanRead words before now →
+    (asked : Asked) → outcome words (held_for files (options_of words)) ≡ Accepts asked →
+    (refusal : CertificateRefusal) → RefusesCertificate asked refusal → (status ≡ 13) ⊎ (status ≡ 11)
+
+-- what is accepted is reported, its certificate too where it is given one, where moreover its need is met and no write failed
 abbrev pub AcceptedIsReported : Type 0
 AcceptedIsReported = (words : List (List ℕ)) (files : Files) (plans : Plans) (before now : Moment) (told told' : Shown) (status : ℕ) →
     Ends words (Some files) plans before now told told' status → CanRead words before now →
     (asked : Asked) → outcome words (held_for files (options_of words)) ≡ Accepts asked →
-    IsMet (need_of asked) (steps_asked asked) → ¬ Rose before.out.faults now.out.faults →
+    IsMet (need_of asked) (steps_asked asked) → AcceptsCertificate asked → ¬ Rose before.out.faults now.out.faults →
     (status ≡ 0) ⊎ (status ≡ 11)
 
 -- what each status says
@@ -72,6 +84,7 @@ pub record StatusSays (words : List (List ℕ)) (files : Option Files) (plans : 
   pub unearthed : status ≡ 8 → (step : ℕ) × ((node : List ℕ) × Served words files plans before now (Err (report.Refused (Unearthed step node))))
   pub unresolved : status ≡ 9 → (step : ℕ) × ((node : List ℕ) × Served words files plans before now (Err (report.Refused (Unresolved step node))))
   pub too_long : status ≡ 10 → (file : File) × Unasked words files before now (Refused (TooLong file))
+  pub certificate_refused : status ≡ 13 → (e : CertificateRefusal) × Uncertified words files before now e
   pub nothing : status ≢ 0 → status ≢ 4 → Keeps before.out.bytes now.out.bytes
 
 abbrev pub StatusesSay : Type 0
@@ -82,3 +95,8 @@ StatusesSay = (words : List (List ℕ)) (files : Option Files) (plans : Plans) (
 abbrev pub TextsTellModes : Type 0
 TextsTellModes = (plans others : Plans) (asked other : Asked) (text : List ℕ) →
     IsRightText plans asked text → IsRightText others other text → mode_asked asked ≡ mode_asked other
+
+-- what is a right text of `certify` is accepted by `recheck`, over the same case and the same switchings
+abbrev pub CertifiedIsAccepted : Type 0
+CertifiedIsAccepted = (inputs other : Inputs) (text : List ℕ) → IsSound inputs.case → other.case ≡ inputs.case → other.switchings ≡ inputs.switchings →
+    IsRightCertify inputs text → AcceptsCertificate (Recheck other text)

@@ -5,12 +5,13 @@ ghost use Rattle.gic_base.specs.Causes.{HasCause};
 ghost use Rattle.gic_base.specs.Pieces.{AppendsPart};
 ghost use Rattle.gic_text.specs.Words.{spaced};
 ghost use Rattle.gic_storm.specs.declared.refusal.StormRefusal.TheVariants.{Number};
-ghost use Rattle.gic_study.specs.Faults.{usage_words, case_words, column_word, storm_row_words, storm_words, switch_words, input_words, network_words, memory_words, file_word, part_word, row_words, field_words, switch_row_words, node_words, told_line, line_of_fault};
+ghost use Rattle.gic_study.specs.Faults.{usage_words, case_words, column_word, storm_row_words, storm_words, switch_words, input_words, network_words, certificate_row_words, certificate_words, memory_words, file_word, part_word, row_words, field_words, switch_row_words, node_words, told_line, line_of_fault};
 
 use crate::fault::Fault;
 use gic_ask::{File, InputFault, InputRefusal};
 use gic_base::{Name, Sink, WriteFailed, write_all};
 use gic_case::{CaseRefusal, Field, Part};
+use gic_recheck::CertificateRefusal;
 use gic_stand::{NetworkRefusal, ReportFault};
 use gic_storm::{StormField, StormRefusal};
 use gic_switch::SwitchRefusal;
@@ -68,6 +69,7 @@ fn file_word(file: File) -> &'static str
         File::Case => "case",
         File::Storm => "storm",
         File::Switch => "switch",
+        File::Certificate => "cert",
     }
 }
 
@@ -311,6 +313,36 @@ fn write_network<E: Sink>(refusal: NetworkRefusal, err: &mut E) -> Result<(), Wr
     }
 }
 
+/// Writes the line of a line of the certificate that breaks a rule.
+fn write_certificate_row<E: Sink>(what: &str, row: u32, err: &mut E) -> Result<(), WriteFailed>
+    ensures all { OnOk result (Appends (E.written err.old) (E.written err.new) (told_line (certificate_row_words what.now row))) }
+    ensures part { AppendsPart (E.written err.old) (E.written err.new) (told_line (certificate_row_words what.now row)) }
+    ensures cause { HasCause (E.faults err.old) (E.faults err.new) result }
+{
+    let mut buffer = itoa::Buffer::new();
+    write_line(&["cert:", what, "in", "row", buffer.format(row)], err)
+}
+
+/// Writes the line of a refused certificate.
+fn write_certificate<E: Sink>(refusal: CertificateRefusal, err: &mut E) -> Result<(), WriteFailed>
+    ensures all { OnOk result (Appends (E.written err.old) (E.written err.new) (told_line (certificate_words refusal))) }
+    ensures part { AppendsPart (E.written err.old) (E.written err.new) (told_line (certificate_words refusal)) }
+    ensures cause { HasCause (E.faults err.old) (E.faults err.new) result }
+{
+    match refusal {
+        CertificateRefusal::Shape { row } => write_certificate_row("shape", row, err),
+        CertificateRefusal::Number { row } => write_certificate_row("number", row, err),
+        CertificateRefusal::Node { row } => write_certificate_row("node", row, err),
+        CertificateRefusal::Row { node } => write_named(&["cert:", "row", "at", "node"], node, err),
+        CertificateRefusal::Residual { node } => {
+            write_named(&["cert:", "residual", "at", "node"], node, err)
+        }
+        CertificateRefusal::Radius { node } => {
+            write_named(&["cert:", "radius", "at", "node"], node, err)
+        }
+    }
+}
+
 /// Writes the line of want of memory.
 fn write_memory<E: Sink>(err: &mut E) -> Result<(), WriteFailed>
     ensures all { OnOk result (Appends (E.written err.old) (E.written err.new) (told_line memory_words)) }
@@ -334,5 +366,6 @@ pub(crate) fn write_fault<E: Sink>(fault: &Fault, err: &mut E) -> Result<(), Wri
         Fault::Report(ReportFault::Refused(refusal)) => write_network(*refusal, err),
         Fault::Report(ReportFault::CannotWrite) => write_line(&["cannot", "write"], err),
         Fault::Input(InputFault::Memory) | Fault::Report(ReportFault::Memory) => write_memory(err),
+        Fault::Certificate(refusal) => write_certificate(*refusal, err),
     }
 }

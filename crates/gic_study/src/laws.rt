@@ -1,7 +1,8 @@
 //! What follows of how a call ended.
-ghost use Rattle.gic_study.specs.Laws.{RefusalsAreAnswered, LackedFilesAreWantOfMemory, UnmetNeedsAreAnswered, AcceptedIsReported, StatusesSay, TextsTellModes};
+ghost use Rattle.gic_study.specs.Laws.{RefusalsAreAnswered, LackedFilesAreWantOfMemory, UnmetNeedsAreAnswered, RefusedCertificatesAreAnswered, AcceptedIsReported, StatusesSay, TextsTellModes, CertifiedIsAccepted};
 
 use gic_ask::laws::answers_of_files_law;
+use gic_recheck::laws::{accepted_is_not_refused_law, passing_text_is_accepted_law};
 
 /// A refusal by the words and the files is answered.
 pub fn refusals_are_answered_law()
@@ -24,11 +25,20 @@ pub fn unmet_needs_are_answered_law()
     answers_of_files_law();
 }
 
+/// A certificate that is refused is told so.
+pub fn refused_certificates_are_answered_law()
+    ensures { RefusedCertificatesAreAnswered }
+{
+    answers_of_files_law();
+    accepted_is_not_refused_law();
+}
+
 /// What is accepted is reported.
 pub fn accepted_is_reported_law()
     ensures { AcceptedIsReported }
 {
     answers_of_files_law();
+    accepted_is_not_refused_law();
 }
 
 /// What each status says.
@@ -40,3 +50,10 @@ pub fn statuses_say_law()
 pub fn texts_tell_modes_law()
     ensures { TextsTellModes }
 {}
+
+/// What `certify` writes, `recheck` accepts.
+pub fn certified_is_accepted_law()
+    ensures { CertifiedIsAccepted }
+{
+    passing_text_is_accepted_law();
+}

@@ -4,15 +4,19 @@ ghost use Rattle.gic_question.specs.Ranges.{IsWithinRanges};
 ghost use Rattle.gic_stand.specs.Serves.{Serves, shown};
 ghost use Rattle.gic_stand.specs.Standing.{steps_of};
 ghost use Rattle.gic_ask.specs.Within.{IsAskedWithinRanges};
-ghost use Rattle.gic_study.specs.Modes.{need_over_network, need_of, case_asked, steps_asked, IsRightOverNetwork, IsRightText};
+ghost use Rattle.gic_study.specs.Answers.{Concludes};
+ghost use Rattle.gic_study.specs.Modes.{need_over_network, IsRightOverNetwork};
 
+use crate::fault::{Fault, rechecked, reported};
 use gic_ask::Asked;
 use gic_base::Sink;
+use gic_certify::certify;
 use gic_check::check;
 use gic_field::field;
 use gic_list::list;
 use gic_make_mode::make;
 use gic_monitor::Monitor;
+use gic_recheck::recheck;
 use gic_screen_mode::screen;
 use gic_stand::{Inputs, ReportFault};
 use gic_study_mode::study;
@@ -37,6 +41,7 @@ fn serve_network<S: Sink>(
         NetworkMode::Check => check(alloc, inputs, out),
         NetworkMode::Field => field(alloc, inputs, out),
         NetworkMode::Screen => screen(alloc, inputs, out),
+        NetworkMode::Certify => certify(alloc, inputs, out),
     }
 }
 
@@ -46,14 +51,18 @@ pub(crate) fn serve<S: Sink>(
     asked: &Asked,
     monitors: Vec<Box<dyn Monitor>>,
     out: &mut S,
-) -> Result<(), ReportFault>
+) -> Result<(), Fault>
     requires { IsAskedWithinRanges asked.now }
-    ensures { Serves (need_of asked.now) (case_asked asked.now) (steps_asked asked.now) (IsRightText (λ roster views. map (λ m. plan m roster views) monitors.items) asked.now)
+    ensures { Concludes (λ roster views. map (λ m. plan m roster views) monitors.items) asked.now
         (shown S.written S.faults out.old) (shown S.written S.faults out.new) result }
 {
     match asked {
-        Asked::Network { mode, inputs } => serve_network(alloc, *mode, inputs, out),
-        Asked::Study { inputs, detail } => study(alloc, inputs, *detail, monitors, out),
-        Asked::Make { seed, size } => make(alloc, *seed, *size, out),
+        Asked::Network { mode, inputs } => reported(serve_network(alloc, *mode, inputs, out)),
+        Asked::Study { inputs, detail } => reported(study(alloc, inputs, *detail, monitors, out)),
+        Asked::Make { seed, size } => reported(make(alloc, *seed, *size, out)),
+        Asked::Recheck {
+            inputs,
+            certificate,
+        } => rechecked(recheck(alloc, inputs, certificate.as_slice(), out)),
     }
 }

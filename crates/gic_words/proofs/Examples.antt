@@ -6,10 +6,10 @@ use Rattle.gic_text.specs.Decimal.{read_decimal, whole_of}
 use Rattle.gic_words.specs.Command.{command_of_words, faults_of, matches_of_words}
 use Rattle.gic_words.specs.Table.{is_among, mode_of, use_of}
 use Rattle.gic_words.specs.Options.{options_of}
-use Rattle.gic_words.specs.declared.option.Opt.TheVariants.{Case, Storm, Switch, North, East, Width, Detail, Seed, Size, Event}
+use Rattle.gic_words.specs.declared.option.Opt.TheVariants.{Case, Storm, Switch, North, East, Width, Detail, Seed, Size, Event, Cert}
 use Rattle.gic_screen.specs.declared.event.Event.TheVariants.{Benchmark, Supplemental}
 use Rattle.gic_words.specs.declared.mode.NetworkMode.TheVariants as mode
-use Rattle.gic_words.specs.Asked.{asked_by, studied_by, made_by}
+use Rattle.gic_words.specs.Asked.{asked_by, studied_by, made_by, rechecked_by}
 use Rattle.gic_words.specs.declared.fault.Usage.TheVariants as usage
 
 pub no_words : options_of [] ≡ Err usage.Words
@@ -188,3 +188,47 @@ pub studied : options_of (codes "study" ∷ codes "--case=p" ∷ codes "--storm=
     ≡ Ok (studied_by (codes "p") (codes "s") (Some (codes "w")) 10 (Some 20000) Benchmark)
 unfolding clap_on_literals command_of_words faults_of matches_of_words options_of is_among mode_of use_of read_decimal whole_of
 studied = refl
+
+pub missing_cert : options_of (codes "recheck" ∷ codes "--case=p" ∷ codes "--switch=s" ∷ []) ≡ Err (usage.Missing Cert)
+unfolding clap_on_literals command_of_words faults_of matches_of_words options_of is_among mode_of use_of
+missing_cert = refl
+
+pub case_before_cert : options_of (codes "recheck" ∷ codes "--north=x" ∷ []) ≡ Err (usage.Missing Case)
+unfolding clap_on_literals command_of_words faults_of matches_of_words options_of is_among mode_of use_of
+case_before_cert = refl
+
+pub field_in_recheck : options_of (codes "recheck" ∷ codes "--case=p" ∷ codes "--cert=c" ∷ codes "--north=0" ∷ []) ≡ Err (usage.Extra North)
+unfolding clap_on_literals command_of_words faults_of matches_of_words options_of is_among mode_of use_of
+field_in_recheck = refl
+
+pub cert_in_field : options_of (codes "field" ∷ codes "--case=p" ∷ codes "--cert=c" ∷ []) ≡ Err (usage.Extra Cert)
+unfolding clap_on_literals command_of_words faults_of matches_of_words options_of is_among mode_of use_of
+cert_in_field = refl
+
+pub event_before_cert : options_of (codes "check" ∷ codes "--cert=c" ∷ codes "--event=benchmark" ∷ codes "--case=p" ∷ []) ≡ Err (usage.Extra Event)
+unfolding clap_on_literals command_of_words faults_of matches_of_words options_of is_among mode_of use_of
+event_before_cert = refl
+
+pub missing_case_of_certify : options_of (codes "certify" ∷ codes "--width=9" ∷ []) ≡ Err (usage.Missing Case)
+unfolding clap_on_literals command_of_words faults_of matches_of_words options_of is_among mode_of use_of
+missing_case_of_certify = refl
+
+pub width_in_certify : options_of (codes "certify" ∷ codes "--case=p" ∷ codes "--width=100" ∷ []) ≡ Err (usage.Extra Width)
+unfolding clap_on_literals command_of_words faults_of matches_of_words options_of is_among mode_of use_of
+width_in_certify = refl
+
+pub east_too_far : options_of (codes "certify" ∷ codes "--case=p" ∷ codes "--east=-20001" ∷ []) ≡ Err (usage.Number East)
+unfolding clap_on_literals command_of_words faults_of matches_of_words options_of is_among mode_of use_of read_decimal whole_of
+east_too_far = refl
+
+pub certified : options_of (codes "certify" ∷ codes "--case=p" ∷ codes "--north=-500" ∷ codes "--switch=s" ∷ []) ≡ Ok (asked_by mode.Certify (codes "p") (Some (codes "s")) (negsuc 499) (pos 0) 100 Benchmark)
+unfolding clap_on_literals command_of_words faults_of matches_of_words options_of is_among mode_of use_of read_decimal whole_of
+certified = refl
+
+pub rechecked : options_of (codes "recheck" ∷ codes "--cert=c" ∷ codes "--case=p" ∷ []) ≡ Ok (rechecked_by (codes "p") (codes "c") None)
+unfolding clap_on_literals command_of_words faults_of matches_of_words options_of is_among mode_of use_of
+rechecked = refl
+
+pub rechecked_with_switchings : options_of (codes "recheck" ∷ codes "--case=p" ∷ codes "--cert=" ∷ codes "--switch=s" ∷ []) ≡ Ok (rechecked_by (codes "p") [] (Some (codes "s")))
+unfolding clap_on_literals command_of_words faults_of matches_of_words options_of is_among mode_of use_of
+rechecked_with_switchings = refl

@@ -19,6 +19,7 @@ asked_by m case switch north east width event =
       detail = None;
       seed = None;
       size = None;
+      cert = None;
     }
 
 -- a made case, by its seed and its number of sites
@@ -32,6 +33,7 @@ made_by seed size = record {
   detail = None;
   seed = Some seed;
   size = Some size;
+  cert = None;
 }
 
 -- a storm over a case, the step in detail and what may stand beside them
@@ -45,4 +47,19 @@ studied_by case storm switch width detail event = record {
   detail = detail;
   seed = None;
   size = None;
+  cert = None;
+}
+
+-- a certificate over a case, and the switchings that may stand beside them
+abbrev pub rechecked_by : (case cert : List ℕ) → (switch : Option (List ℕ)) → Options
+rechecked_by case cert switch = record {
+  mode = mode.Recheck;
+  case = Some case;
+  storm = None;
+  switch = switch;
+  question = record { north = pos 0; east = pos 0; width = 100; event = Benchmark };
+  detail = None;
+  seed = None;
+  size = None;
+  cert = Some cert;
 }

@@ -13,7 +13,7 @@ use Rattle.gic_words.specs.declared.mode.Mode.TheVariants as mode
 use Rattle.gic_words.specs.declared.mode.Use.{Use}
 use Rattle.gic_words.specs.declared.mode.Use.TheVariants.{Required, Allowed, Unused}
 use Rattle.gic_words.specs.declared.option.Opt.{Opt}
-use Rattle.gic_words.specs.declared.option.Opt.TheVariants.{Case, Storm, Switch, North, East, Width, Detail, Seed, Size, Event}
+use Rattle.gic_words.specs.declared.option.Opt.TheVariants.{Case, Storm, Switch, North, East, Width, Detail, Seed, Size, Event, Cert}
 
 -- ---- the options
 
@@ -29,6 +29,7 @@ name_of Detail = codes "detail"
 name_of Seed = codes "seed"
 name_of Size = codes "size"
 name_of Event = codes "event"
+name_of Cert = codes "cert"
 
 -- an option as it is written
 abbrev pub flag : Opt → List ℕ
@@ -36,7 +37,7 @@ flag option = codes "--" ++ name_of option
 
 -- in the order in which their faults are found
 abbrev pub all_options : List Opt
-all_options = Case ∷ Storm ∷ Switch ∷ North ∷ East ∷ Width ∷ Detail ∷ Seed ∷ Size ∷ Event ∷ []
+all_options = Case ∷ Storm ∷ Switch ∷ North ∷ East ∷ Width ∷ Detail ∷ Seed ∷ Size ∷ Event ∷ Cert ∷ []
 
 -- the form of the values of an option; fields are within `MOST_FIELD`, 20000 mV/km, either way, widths from 10 to 10000 mV or mA, a storm has at most `MOST_ROWS`, 20000, steps, seeds are numbers of 32 bits, and made cases have from 2 to 1000 sites
 abbrev pub form_of : Opt → Form
@@ -50,6 +51,7 @@ form_of Detail = form.Number (pos 1) (pos MOST_ROWS)
 form_of Seed = form.Number (pos 0) (pos 4294967295)
 form_of Size = form.Number (pos 2) (pos 1000)
 form_of Event = form.Event
+form_of Cert = form.Name
 
 -- the place of an option in the table
 abbrev pub place_of : Opt → ℕ
@@ -63,6 +65,7 @@ place_of Detail = 6
 place_of Seed = 7
 place_of Size = 8
 place_of Event = 9
+place_of Cert = 10
 
 -- whether an option is one of these
 unfoldable pub is_among : Opt → List Opt → Bool
@@ -77,17 +80,19 @@ network_word_of network.List = codes "list"
 network_word_of network.Check = codes "check"
 network_word_of network.Field = codes "field"
 network_word_of network.Screen = codes "screen"
+network_word_of network.Certify = codes "certify"
 
 -- the word that asks for a mode
 abbrev pub word_of : Mode → List ℕ
 word_of (mode.Network m) = network_word_of m
 word_of mode.Study = codes "study"
 word_of mode.Make = codes "make"
+word_of mode.Recheck = codes "recheck"
 
 abbrev pub all_modes : List Mode
 all_modes =
     mode.Network network.Volts ∷ mode.Network network.List ∷ mode.Network network.Check ∷ mode.Network network.Field ∷ mode.Network network.Screen
-    ∷ mode.Study ∷ mode.Make ∷ []
+    ∷ mode.Network network.Certify ∷ mode.Study ∷ mode.Make ∷ mode.Recheck ∷ []
 
 -- the mode that a word names
 unfoldable pub mode_of : List ℕ → Option Mode
@@ -98,6 +103,7 @@ abbrev pub required_by : Mode → List Opt
 required_by (mode.Network m) = Case ∷ []
 required_by mode.Study = Case ∷ Storm ∷ []
 required_by mode.Make = Seed ∷ Size ∷ []
+required_by mode.Recheck = Case ∷ Cert ∷ []
 
 -- the further options that a mode over the network of a case may have
 abbrev pub allowed_over_network : NetworkMode → List Opt
@@ -106,12 +112,14 @@ allowed_over_network network.List = []
 allowed_over_network network.Check = Switch ∷ []
 allowed_over_network network.Field = North ∷ East ∷ Switch ∷ Width ∷ Event ∷ []
 allowed_over_network network.Screen = Switch ∷ Width ∷ Event ∷ []
+allowed_over_network network.Certify = North ∷ East ∷ Switch ∷ []
 
 -- the further options that a mode may have
 abbrev pub allowed_by : Mode → List Opt
 allowed_by (mode.Network m) = allowed_over_network m
 allowed_by mode.Study = Switch ∷ Width ∷ Detail ∷ Event ∷ []
 allowed_by mode.Make = []
+allowed_by mode.Recheck = Switch ∷ []
 
 -- what use a mode has for an option
 unfoldable pub use_of : Mode → Opt → Use

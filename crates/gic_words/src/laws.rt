@@ -4,10 +4,10 @@ ghost use Rattle.clap.specs.Words.{Row};
 ghost use Rattle.gic_words.specs.declared.mode.Mode.{Mode};
 ghost use Rattle.gic_words.specs.declared.mode.Use.TheVariants.{Required};
 ghost use Rattle.gic_words.specs.declared.option.Opt.{Opt};
-ghost use Rattle.gic_words.specs.declared.option.Opt.TheVariants.{Case, Storm, Switch, North, East, Width, Detail, Seed, Size, Event};
+ghost use Rattle.gic_words.specs.declared.option.Opt.TheVariants.{Case, Storm, Switch, North, East, Width, Detail, Seed, Size, Event, Cert};
 ghost use Rattle.gic_screen.specs.declared.event.Event.TheVariants.{Benchmark, Supplemental};
 ghost use Rattle.gic_words.specs.declared.mode.NetworkMode.TheVariants as mode;
-ghost use Rattle.gic_words.specs.Asked.{asked_by, studied_by, made_by};
+ghost use Rattle.gic_words.specs.Asked.{asked_by, studied_by, made_by, rechecked_by};
 ghost use Rattle.gic_words.specs.declared.fault.Usage.TheVariants as usage;
 ghost use Rattle.gic_words.specs.Command.{given};
 ghost use Rattle.gic_words.specs.Table.{all_options, use_of};
@@ -57,6 +57,14 @@ pub fn refused_words_law()
     ensures size_too_small { options_of (codes "make" ∷ codes "--size=1" ∷ codes "--seed=7" ∷ []) ≡ Err (usage.Number Size) }
     ensures case_in_make { options_of (codes "make" ∷ codes "--seed=7" ∷ codes "--case=p" ∷ []) ≡ Err (usage.Extra Case) }
     ensures field_in_screen { options_of (codes "screen" ∷ codes "--case=p" ∷ codes "--east=0" ∷ []) ≡ Err (usage.Extra East) }
+    ensures missing_cert { options_of (codes "recheck" ∷ codes "--case=p" ∷ codes "--switch=s" ∷ []) ≡ Err (usage.Missing Cert) }
+    ensures case_before_cert { options_of (codes "recheck" ∷ codes "--north=x" ∷ []) ≡ Err (usage.Missing Case) }
+    ensures field_in_recheck { options_of (codes "recheck" ∷ codes "--case=p" ∷ codes "--cert=c" ∷ codes "--north=0" ∷ []) ≡ Err (usage.Extra North) }
+    ensures cert_in_field { options_of (codes "field" ∷ codes "--case=p" ∷ codes "--cert=c" ∷ []) ≡ Err (usage.Extra Cert) }
+    ensures event_before_cert { options_of (codes "check" ∷ codes "--cert=c" ∷ codes "--event=benchmark" ∷ codes "--case=p" ∷ []) ≡ Err (usage.Extra Event) }
+    ensures missing_case_of_certify { options_of (codes "certify" ∷ codes "--width=9" ∷ []) ≡ Err (usage.Missing Case) }
+    ensures width_in_certify { options_of (codes "certify" ∷ codes "--case=p" ∷ codes "--width=100" ∷ []) ≡ Err (usage.Extra Width) }
+    ensures east_too_far { options_of (codes "certify" ∷ codes "--case=p" ∷ codes "--east=-20001" ∷ []) ≡ Err (usage.Number East) }
     ensures north_before_east { options_of (codes "volts" ∷ codes "--east=x" ∷ codes "--north=x" ∷ codes "--case=p" ∷ []) ≡ Err (usage.Number North) }
 {}
 
@@ -79,6 +87,12 @@ pub fn accepted_words_law()
     ensures studied { options_of (codes "study" ∷ codes "--case=p" ∷ codes "--storm=s" ∷ codes "--switch=w" ∷ codes "--width=10" ∷ codes "--detail=20000" ∷ [])
         ≡ Ok (studied_by (codes "p") (codes "s") (Some (codes "w")) 10 (Some 20000) Benchmark) }
     ensures made { options_of (codes "make" ∷ codes "--seed=0" ∷ codes "--size=1000" ∷ []) ≡ Ok (made_by 0 1000) }
+    ensures certified { options_of (codes "certify" ∷ codes "--case=p" ∷ codes "--north=-500" ∷ codes "--switch=s" ∷ [])
+        ≡ Ok (asked_by mode.Certify (codes "p") (Some (codes "s")) (negsuc 499) (pos 0) 100 Benchmark) }
+    ensures rechecked { options_of (codes "recheck" ∷ codes "--cert=c" ∷ codes "--case=p" ∷ [])
+        ≡ Ok (rechecked_by (codes "p") (codes "c") None) }
+    ensures rechecked_with_switchings { options_of (codes "recheck" ∷ codes "--case=p" ∷ codes "--cert=" ∷ codes "--switch=s" ∷ [])
+        ≡ Ok (rechecked_by (codes "p") [] (Some (codes "s"))) }
     ensures benchmark { options_of (codes "field" ∷ codes "--case=p" ∷ codes "--event=benchmark" ∷ [])
         ≡ Ok (asked_by mode.Field (codes "p") None (pos 0) (pos 0) 100 Benchmark) }
 {}

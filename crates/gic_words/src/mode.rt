@@ -17,6 +17,8 @@ pub enum NetworkMode {
     Field,
     /// The worst orientation of the event's uniform field for each transformer, with verdicts.
     Screen,
+    /// A certificate of the potentials in one field, which can be checked without solving.
+    Certify,
 }
 
 /// What words may ask for.
@@ -28,6 +30,8 @@ pub enum Mode {
     Study,
     /// A summary of a made case in the field of the benchmark event.
     Make,
+    /// The potentials that a certificate shows of the network of a case, with all its switchings in force.
+    Recheck,
 }
 
 /// Whether a mode has a use for an option.
@@ -41,14 +45,16 @@ pub(crate) enum Use {
     Unused,
 }
 
-static ALL: [Mode; 7] = [
+static ALL: [Mode; 9] = [
     Mode::Network(NetworkMode::Volts),
     Mode::Network(NetworkMode::List),
     Mode::Network(NetworkMode::Check),
     Mode::Network(NetworkMode::Field),
     Mode::Network(NetworkMode::Screen),
+    Mode::Network(NetworkMode::Certify),
     Mode::Study,
     Mode::Make,
+    Mode::Recheck,
 ];
 
 impl NetworkMode {
@@ -62,6 +68,7 @@ impl NetworkMode {
             NetworkMode::Check => "check",
             NetworkMode::Field => "field",
             NetworkMode::Screen => "screen",
+            NetworkMode::Certify => "certify",
         }
     }
 
@@ -75,6 +82,7 @@ impl NetworkMode {
             NetworkMode::Check => &[Opt::Switch],
             NetworkMode::Field => &[Opt::North, Opt::East, Opt::Switch, Opt::Width, Opt::Event],
             NetworkMode::Screen => &[Opt::Switch, Opt::Width, Opt::Event],
+            NetworkMode::Certify => &[Opt::North, Opt::East, Opt::Switch],
         }
     }
 }
@@ -88,6 +96,7 @@ impl Mode {
             Mode::Network(mode) => mode.word(),
             Mode::Study => "study",
             Mode::Make => "make",
+            Mode::Recheck => "recheck",
         }
     }
 
@@ -114,6 +123,7 @@ impl Mode {
             Mode::Network(_) => &[Opt::Case],
             Mode::Study => &[Opt::Case, Opt::Storm],
             Mode::Make => &[Opt::Seed, Opt::Size],
+            Mode::Recheck => &[Opt::Case, Opt::Cert],
         }
     }
 
@@ -125,6 +135,7 @@ impl Mode {
             Mode::Network(mode) => mode.allowed(),
             Mode::Study => &[Opt::Switch, Opt::Width, Opt::Detail, Opt::Event],
             Mode::Make => &[],
+            Mode::Recheck => &[Opt::Switch],
         }
     }
 

@@ -39,6 +39,8 @@ pub struct Options {
     pub seed: Option<u32>,
     /// Its number of sites, from 2 to 1000; `make` requires it.
     pub size: Option<u16>,
+    /// The name of the certificate's file; `recheck` requires it.
+    pub cert: Option<FileName>,
 }
 
 /// The name of a file, where it is given.
@@ -165,6 +167,7 @@ fn options_by(alloc: Global, mode: Mode, matches: &ArgMatches<'_>) -> Result<Opt
     let case = file(alloc, matches, Opt::Case)?;
     let storm = file(alloc, matches, Opt::Storm)?;
     let switch = file(alloc, matches, Opt::Switch)?;
+    let cert = file(alloc, matches, Opt::Cert)?;
     Ok(Options {
         mode,
         case,
@@ -174,6 +177,7 @@ fn options_by(alloc: Global, mode: Mode, matches: &ArgMatches<'_>) -> Result<Opt
         detail: detail(matches),
         seed: seed(matches),
         size: size(matches),
+        cert,
     })
 }
 

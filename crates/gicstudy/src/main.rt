@@ -1,6 +1,7 @@
 //! The program `gicstudy`: analyses geomagnetically induced currents in a transmission network.
 #![tactic(auto)]
 
+use gic_loss::VoltLoss;
 use gic_monitor::{DwellMonitor, EarthMonitor, Monitor};
 use gic_study::gicstudy;
 use gic_system::{FileLibrary, StreamSink};
@@ -18,9 +19,9 @@ fn words(rt: &HostRuntime, alloc: Global) -> io::Result<Vec<String>> {
     Ok(words)
 }
 
-/// Makes the library, the sinks and the monitors of dwells and of earthings, does what the words ask for, and ends with
-/// the status. Words that are no texts end it with status 2, and want of memory for these things with status 11; nothing is
-/// written then.
+/// Makes the library, the sinks and the monitors of dwells, of earthings and of losses, does what the words ask for, and
+/// ends with the status. Words that are no texts end it with status 2, and want of memory for these things with status 11;
+/// nothing is written then.
 fn main(rt: HostRuntime) -> ExitCode {
     let alloc = rt.alloc();
     let words = match words(&rt, alloc) {
@@ -29,13 +30,17 @@ fn main(rt: HostRuntime) -> ExitCode {
         Err(_) => return ExitCode::from(2),
     };
     let mut monitors: Vec<Box<dyn Monitor>> = Vec::new(alloc);
-    let (Ok(dwells), Ok(earthings)) = (
+    let (Ok(dwells), Ok(earthings), Ok(losses)) = (
         Box::new(alloc, DwellMonitor::new(alloc)),
         Box::new(alloc, EarthMonitor::new(alloc)),
+        Box::new(alloc, VoltLoss::new(alloc, 1)),
     ) else {
         return ExitCode::from(11);
     };
-    if monitors.push(dwells).is_err() || monitors.push(earthings).is_err() {
+    if monitors.push(dwells).is_err()
+        || monitors.push(earthings).is_err()
+        || monitors.push(losses).is_err()
+    {
         return ExitCode::from(11);
     }
     let mut out = StreamSink::new(rt.stdout());

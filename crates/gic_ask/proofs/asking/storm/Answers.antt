@@ -1,4 +1,4 @@
-use Rattle.std.proofs.Common.{rules, Some}
+use Rattle.std.proofs.Common.{rules}
 use Rattle.gic_ask.proofs.Exits.{storm_read, storm_refused}
 use Rattle.gic_ask.proofs.asking.storm.Goals as goal
 

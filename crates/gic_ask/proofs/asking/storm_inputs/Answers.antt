@@ -1,4 +1,4 @@
-use Rattle.std.proofs.Common.{rules, Ok, Err, sym, subst}
+use Rattle.std.proofs.Common.{sym, subst}
 use Rattle.gic_course.specs.declared.inputs.StormInputs.{StormInputs}
 use Rattle.gic_ask.specs.Outcome.{reading_storm_inputs}
 use Rattle.gic_ask.specs.Steps.{Reads}
