@@ -1,0 +1,5 @@
+pub mod Rows
+pub mod SeriesText
+pub mod RightSeries
+pub mod Made
+pub mod Determines

@@ -1,0 +1,13 @@
+-- What a series makes before it looks at any step. For the contracts of this crate.
+use Rattle.std.specs.Prelude.{◌≡◌, length}
+use Rattle.gic_storm.specs.Steps.{steps_in}
+use Rattle.gic_effective.specs.ViewLengths.{HasViewLengths}
+use Rattle.gic_course.specs.declared.inputs.StormInputs.{StormInputs}
+use Rattle.gic_course.specs.CourseOf.{IsCourseOf}
+use Rattle.gic_series.specs.declared.room.Room.{Room}
+
+-- the course is that of the storm, the view has a place for each node, element and transformer of the case, and there is a row for each step
+pub record IsMadeFor (inputs : StormInputs) (room : Room) : Type 0 where
+  pub course : IsCourseOf inputs room.course
+  pub view : HasViewLengths inputs.inputs.case room.view
+  pub one_each : length room.rows ≡ length (steps_in inputs.storm.rows)

@@ -1,0 +1,26 @@
+-- What the mode shows of a step, with its interval as its two ends.
+use Rattle.std.specs.Prelude.{ℕ, List, slice_index_or}
+use Rattle.gic_fixed.specs.Ends.{Ends, ends_of, no_ends}
+use Rattle.gic_view.specs.View.{View, effective_at}
+use Rattle.gic_series.specs.declared.rows.SeriesRow.{SeriesRow}
+
+-- the step's number and its time in seconds, and the transformer's signed effective current in mA per phase
+pub record Row : Type 0 where
+  pub number : ℕ
+  pub time : ℕ
+  pub effective : Ends
+
+abbrev pub row_of : SeriesRow → Row
+row_of row = record { number = row.number; time = row.time; effective = ends_of row.effective }
+
+-- number and time 0, and an interval that holds 0 alone
+abbrev pub no_row : Row
+no_row = record { number = 0; time = 0; effective = no_ends }
+
+-- the row at this place; past the last one that of number and time 0
+abbrev pub row_at : List Row → ℕ → Row
+row_at rows place = slice_index_or rows place no_row
+
+-- what a view shows of the transformer at a place
+abbrev pub shown_row : View → (transformer : ℕ) → Row
+shown_row view transformer = record { number = view.number; time = view.time; effective = effective_at view transformer }

@@ -1,0 +1,18 @@
+-- The report of one transformer's effective current at each step of a storm.
+use Rattle.std.specs.Prelude.{ℕ, List, [], ◌∷◌, ◌++◌, length, map, codes, decimal}
+use Rattle.gic_report.specs.SharedLines.{Words, word_line}
+use Rattle.gic_report.specs.ItemText.{ends_words}
+use Rattle.gic_series.specs.Rows.{Row}
+
+-- the line of what is asked: the width, the transformer's name, and how many steps the storm has
+abbrev pub setting_line : (width : ℕ) → (name : List ℕ) → (steps : ℕ) → Words
+setting_line width name steps = codes "width" ∷ decimal width ∷ codes "transformer" ∷ name ∷ codes "steps" ∷ decimal steps ∷ []
+
+-- the line of a step, with its time in seconds and the interval
+abbrev pub step_line : Row → Words
+step_line row = codes "step" ∷ decimal row.number ∷ codes "time" ∷ decimal row.time ∷ ends_words row.effective
+
+-- the lines of the report, with one for each step
+abbrev pub series_report : (width : ℕ) → (name : List ℕ) → List Row → List Words
+series_report width name rows =
+    word_line (codes "series") ∷ setting_line width name (length rows) ∷ (map step_line rows ++ word_line (codes "end") ∷ [])

@@ -1,0 +1,13 @@
+//! The mode `series`: the signed effective current of one transformer at each step of a storm.
+#![tactic(auto)]
+
+pub mod laws;
+mod mode;
+mod room;
+mod rows;
+mod steps;
+#[cfg(test)]
+mod tests;
+mod text;
+
+pub use mode::series;

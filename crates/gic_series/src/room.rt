@@ -1,0 +1,40 @@
+//! What a series makes before it looks at any step.
+ghost use Rattle.std.specs.Prelude.{IfOk};
+ghost use Rattle.gic_course.specs.Steps.{IsStormOf};
+ghost use Rattle.gic_series.specs.Made.{IsMadeFor};
+
+use crate::rows::SeriesRows;
+use gic_base::OutOfMemory;
+use gic_course::{Course, StormInputs};
+use gic_text::LineBuilder;
+use gic_view::StepView;
+use std::alloc::Global;
+
+/// All that a series takes memory for. It is made before any step is looked at.
+#[derive(Drop)]
+pub(crate) struct Room {
+    pub(crate) line: LineBuilder,
+    pub(crate) course: Course,
+    /// The view of each step in turn.
+    pub(crate) view: StepView,
+    /// A row for each step.
+    pub(crate) rows: SeriesRows,
+}
+
+/// Room for a series of this storm.
+#[tactic(auto, using(gic_stand::proofs::Rooms::room_for))]
+pub(crate) fn make_room(alloc: Global, inputs: &StormInputs) -> Result<Room, OutOfMemory>
+    requires { IsStormOf inputs.now }
+    ensures { IfOk result (IsMadeFor inputs.now) }
+{
+    let line = LineBuilder::new(alloc)?;
+    let course = Course::new(alloc, inputs)?;
+    let view = course.blank_view(alloc, inputs)?;
+    let rows = SeriesRows::new(alloc, inputs.storm.steps())?;
+    Ok(Room {
+        line,
+        course,
+        view,
+        rows,
+    })
+}

@@ -1,0 +1,100 @@
+//! The report of one transformer's effective current at each step of a storm.
+ghost use Rattle.std.specs.Prelude.{◌≤◌, length, map, OnOk};
+ghost use Rattle.std.specs.Io.KnownBytes.{Appends};
+ghost use Rattle.gic_base.specs.Causes.{HasCause};
+ghost use Rattle.gic_base.specs.Pieces.{AppendsPart};
+ghost use Rattle.gic_base.specs.declared.limits.TheConstants.{MOST_ROWS};
+ghost use Rattle.gic_text.specs.Lines.{line_text, lines_text};
+ghost use Rattle.gic_series.specs.Rows.{row_of};
+ghost use Rattle.gic_series.specs.SeriesText.{setting_line, step_line, series_report};
+
+use crate::rows::SeriesRow;
+use gic_base::{Name, Sink, WriteFailed, write_all};
+use gic_report::{add_ends, write_word};
+use gic_text::LineBuilder;
+
+/// Writes the line of what is asked: the width of intervals in mA, the transformer's name, and how many steps there are.
+#[tactic(auto, using(gic_text::proofs::Sizes::line_room))]
+fn write_setting<S: Sink>(
+    width: u32,
+    name: &Name,
+    steps: u32,
+    line: &mut LineBuilder,
+    out: &mut S,
+) -> Result<(), WriteFailed>
+    ensures all { OnOk result (Appends (S.written out.old) (S.written out.new)
+        (line_text (setting_line width name.now steps))) }
+    ensures part { AppendsPart (S.written out.old) (S.written out.new)
+        (line_text (setting_line width name.now steps)) }
+    ensures cause { HasCause (S.faults out.old) (S.faults out.new) result }
+{
+    line.start();
+    line.word(b"width");
+    line.number(i128::from(width));
+    line.word(b"transformer");
+    line.word(name.as_bytes());
+    line.word(b"steps");
+    line.number(i128::from(steps));
+    write_all(out, line.finish())
+}
+
+/// Writes the line of a step.
+#[tactic(auto, using(gic_text::proofs::Sizes::line_room))]
+fn write_step<S: Sink>(
+    row: &SeriesRow,
+    line: &mut LineBuilder,
+    out: &mut S,
+) -> Result<(), WriteFailed>
+    ensures all { OnOk result (Appends (S.written out.old) (S.written out.new)
+        (line_text (step_line (row_of row.now)))) }
+    ensures part { AppendsPart (S.written out.old) (S.written out.new)
+        (line_text (step_line (row_of row.now))) }
+    ensures cause { HasCause (S.faults out.old) (S.faults out.new) result }
+{
+    line.start();
+    line.word(b"step");
+    line.number(i128::from(row.number));
+    line.word(b"time");
+    line.number(i128::from(row.time));
+    add_ends(row.effective, line);
+    write_all(out, line.finish())
+}
+
+/// Writes a line for each step.
+fn write_steps<S: Sink>(
+    rows: &[SeriesRow],
+    line: &mut LineBuilder,
+    out: &mut S,
+) -> Result<(), WriteFailed>
+    ensures all { OnOk result (Appends (S.written out.old) (S.written out.new)
+        (lines_text (map step_line (map row_of rows.now)))) }
+    ensures part { AppendsPart (S.written out.old) (S.written out.new)
+        (lines_text (map step_line (map row_of rows.now))) }
+    ensures cause { HasCause (S.faults out.old) (S.faults out.new) result }
+{
+    for row in rows {
+        write_step(row, line, out)?;
+    }
+    Ok(())
+}
+
+/// Writes the whole report.
+pub(crate) fn write_series<S: Sink>(
+    width: u32,
+    name: &Name,
+    rows: &[SeriesRow],
+    line: &mut LineBuilder,
+    out: &mut S,
+) -> Result<(), WriteFailed>
+    requires { length rows.now ≤ MOST_ROWS }
+    ensures all { OnOk result (Appends (S.written out.old) (S.written out.new)
+        (lines_text (series_report width name.now (map row_of rows.now)))) }
+    ensures part { AppendsPart (S.written out.old) (S.written out.new)
+        (lines_text (series_report width name.now (map row_of rows.now))) }
+    ensures cause { HasCause (S.faults out.old) (S.faults out.new) result }
+{
+    write_word(b"series", line, out)?;
+    write_setting(width, name, rows.len() as u32, line, out)?;
+    write_steps(rows, line, out)?;
+    write_word(b"end", line, out)
+}
