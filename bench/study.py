@@ -6,7 +6,8 @@ doubles, and prints a table. `study.sh` calls it.
 
 PROGRAM is the built program, SUPERPOSE the built `baselines/superpose.c`, and each CASE a file. Times are the least of some
 runs. The time of a step is that of more than 20 steps by the number of those more; what is left of a run of 20 steps is
-reading, preparing the bases and writing. A case of more than ten zones gets as many steps as 20000 rows allow.
+reading, preparing the bases and writing. A case of more than a hundred zones gets 500 steps, each with one field for all zones:
+its steps are slow enough to be timed so.
 """
 
 import os
@@ -18,6 +19,7 @@ import tempfile
 import time
 
 FEW, MANY, MOST = 20, 2000, 20000
+SLOW = 500
 ROWS = 20000
 
 
@@ -71,7 +73,7 @@ def main():
             zones = sorted(set(re.findall(r'zone = "([^"]+)"', text)))
             with open(os.path.join(folder, "case"), "w") as out:
                 out.write(text)
-            many = MANY if len(zones) * MANY <= 10 * ROWS else ROWS // len(zones)
+            many = MANY if len(zones) <= 100 else SLOW
             counts = [FEW, many] + ([MOST] if many == MANY else [])
             for steps in counts:
                 with open(os.path.join(folder, f"storm{steps}"), "w") as out:
