@@ -5,3 +5,7 @@ pub mod Shares
 pub mod ShareLaws
 pub mod WorkedShares
 pub mod Laws
+pub mod Starting
+pub mod Caps
+pub mod StartLaws
+pub mod WorkedStarts

@@ -12,8 +12,8 @@ pub record IsUnderCapped (standing : List Placed) (v : ℕ → ℕ) : Type 0 whe
   pub dead_0 : (k : ℕ) → IsFalse (is_live standing k) → v k ≡ 0
   pub under : (other : ℕ → ℕ) → IsCappedVector standing other → (k : ℕ) → v k ≤ other k
 
--- the entry at the node k is too small: the node is live, the entry is below `FULL_WALK`, and the row rule fails
-pub record IsTooSmall (standing : List Placed) (v : ℕ → ℕ) (k : ℕ) : Type 0 where
+-- the entry at the node k is too small: the node is live, the entry is below the cap, and the row rule fails
+pub record IsTooSmall (standing : List Placed) (cap v : ℕ → ℕ) (k : ℕ) : Type 0 where
   pub live : IsLive standing k
-  pub room : v k < FULL_WALK
+  pub room : v k < cap k
   pub row : ¬ (IsRowPositive standing v k)

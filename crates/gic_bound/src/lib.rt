@@ -1,14 +1,22 @@
 //! Bound vectors: how far each node can lie from earth, and the least vector that tells it.
 #![tactic(auto)]
 
+mod cap;
 mod checking;
 pub mod laws;
+mod lifting;
 mod raising;
+mod room;
 mod row;
 mod span;
+mod starting;
 mod vector;
 
+pub use cap::Cap;
 pub use checking::rows_positive;
-pub use raising::{Unresolved, bound};
+pub use lifting::raise_under;
+pub use raising::{Unresolved, bound, bound_from, sink, some_bound};
+pub use room::Room;
 pub use row::is_row_positive;
+pub use starting::is_start;
 pub use vector::BoundVector;

@@ -1,12 +1,15 @@
-//! The least capped vector, by raising entries that are too small.
-ghost use Rattle.std.specs.Prelude.{◌≡◌, ℕ, ◌+◌, ◌<◌, ◌≤◌, ◌↔◌, length, slice_index, slice_set, sum, IsTrue, IsFalse, IsOk, OnOk, IfErr, IfNone, IfSome};
-ghost use Rattle.gic_model.specs.Bound.{IsEarthedWithin, IsLeastCappedVector};
+//! The least capped vector, or some bound vector, by raising entries that are too small.
+ghost use Rattle.std.specs.Prelude.{◌≡◌, ℕ, ◌<◌, ◌≤◌, ◌↔◌, length, slice_index, IsTrue, IsOk, OnOk, OnErr, IfErr, IfNone, IfSome};
+ghost use Rattle.gic_model.specs.Bound.{IsCappedVector, IsEarthedWithin, IsLeastCappedVector};
 ghost use Rattle.gic_net.specs.Net.{standing};
 ghost use Rattle.gic_bound.specs.Entries.{IsBoundWithin};
-ghost use Rattle.gic_bound.specs.Raising.{IsUnderCapped, IsTooSmall};
+ghost use Rattle.gic_bound.specs.Raising.{IsUnderCapped};
 
+use crate::cap::Cap;
 use crate::laws::least_capped_vector_law;
-use crate::row::is_row_positive;
+use crate::lifting::{raise_briefly, raise_under};
+use crate::room::Room;
+use crate::starting::{begin, lower, make_start, sink_briefly};
 use crate::vector::BoundVector;
 use gic_base::NodeId;
 use gic_base::limits::{FULL_WALK, MOST_WALK};
@@ -33,55 +36,130 @@ pub fn bound(net: &Net, out: &mut BoundVector) -> Result<(), Unresolved>
 
     ensures same_length { length out.new ≡ length out.old }
 {
+    raise_from_1(net, out);
+    told(net, out)
+}
+
+/// As [`bound`], with what the vector was before as a proposal: the nearer that is to the least capped vector, the less
+/// there is to do. Where it doesn't serve, [`bound`] goes on. The vector and the room are for as many nodes as the net
+/// has.
+pub fn bound_from(net: &Net, out: &mut BoundVector, room: &mut Room) -> Result<(), Unresolved>
+    requires nodes { length out.old ≡ net.now.network.nodes }
+    requires room { room.old ≡ net.now.network.nodes }
+    ensures least { IsLeastCappedVector (standing net.now) (slice_index out.new) }
+    ensures earthed { IsOk result ↔ IsEarthedWithin (standing net.now) MOST_WALK }
+    ensures bound { OnOk result (IsBoundWithin (standing net.now) MOST_WALK (slice_index out.new)) }
+
+    // The named node has the entry `FULL_WALK`, and no node before it has.
+    ensures full { IfErr result (λ refusal. slice_index out.new refusal.node.0 ≡ FULL_WALK) }
+    ensures first { IfErr result (λ refusal. (k : ℕ) → k < refusal.node.0 → slice_index out.new k ≤ MOST_WALK) }
+
+    ensures same_length { length out.new ≡ length out.old }
+    ensures same_room { room.new ≡ room.old }
+{
+    if !make_start(net, out, &mut room.vector, room.waiting.as_mut_slice()) {
+        return bound(net, out);
+    }
+    raise_fully(net, out, room.waiting.as_mut_slice());
+    told(net, out)
+}
+
+/// Makes the vector a bound vector of the net without an entry above [`MOST_WALK`], where there is one, by raising what
+/// it was; else the least capped vector. Where what it was doesn't serve, [`bound`] goes on; where it holds nothing of use,
+/// [`bound`] is the better call. The vector and the room are for as many nodes as the net has.
+pub fn some_bound(net: &Net, out: &mut BoundVector, room: &mut Room) -> Result<(), Unresolved>
+    requires nodes { length out.old ≡ net.now.network.nodes }
+    requires room { room.old ≡ net.now.network.nodes }
+    ensures earthed { IsOk result ↔ IsEarthedWithin (standing net.now) MOST_WALK }
+    ensures bound { OnOk result (IsBoundWithin (standing net.now) MOST_WALK (slice_index out.new)) }
+
+    // As `bound` does: the named node has the entry `FULL_WALK` in the least capped vector, and no node before it has.
+    ensures least { OnErr result (IsLeastCappedVector (standing net.now) (slice_index out.new)) }
+    ensures full { IfErr result (λ refusal. slice_index out.new refusal.node.0 ≡ FULL_WALK) }
+    ensures first { IfErr result (λ refusal. (k : ℕ) → k < refusal.node.0 → slice_index out.new k ≤ MOST_WALK) }
+
+    ensures same_length { length out.new ≡ length out.old }
+    ensures same_room { room.new ≡ room.old }
+{
+    if !raise_proposed(net, out, room.waiting.as_mut_slice()) {
+        return bound(net, out);
+    }
+    if is_below_full(net, out) {
+        return Ok(());
+    }
+    sink(net, out, room);
+    told(net, out)
+}
+
+/// Makes a capped vector the least one. The vector and the room are for as many nodes as the net has.
+pub fn sink(net: &Net, out: &mut BoundVector, room: &mut Room)
+    requires nodes { length out.old ≡ net.now.network.nodes }
+    requires room { room.old ≡ net.now.network.nodes }
+    requires capped { IsCappedVector (standing net.now) (slice_index out.old) }
+    ensures least { IsLeastCappedVector (standing net.now) (slice_index out.new) }
+    ensures same_length { length out.new ≡ length out.old }
+    ensures same_room { room.new ≡ room.old }
+{
+    if sink_briefly(net, out, &mut room.vector, room.waiting.as_mut_slice()) {
+        return;
+    }
+    raise_from_1(net, out);
+}
+
+/// Makes the vector the least capped one, by raising from 1 at live nodes.
+fn raise_from_1(net: &Net, out: &mut BoundVector)
+    requires { length out.old ≡ net.now.network.nodes }
+    ensures least { IsLeastCappedVector (standing net.now) (slice_index out.new) }
+    ensures same_length { length out.new ≡ length out.old }
+{
+    begin(net, out);
+    raise_fully(net, out, &mut []);
+}
+
+/// Raises a vector that is at no node above any capped one to the least capped one.
+fn raise_fully(net: &Net, out: &mut BoundVector, waiting: &mut [u16])
+    requires nodes { length out.old ≡ net.now.network.nodes }
+    requires under { IsUnderCapped (standing net.now) (slice_index out.old) }
+    ensures least { IsLeastCappedVector (standing net.now) (slice_index out.new) }
+    ensures same_length { length out.new ≡ length out.old }
+{
+    raise_under(net, &Cap::Full, out, waiting);
+}
+
+/// Raises a vector of any entries for a few passes, and answers whether it is a capped one then.
+fn raise_proposed(net: &Net, out: &mut BoundVector, waiting: &mut [u16]) -> bool
+    requires { length out.old ≡ net.now.network.nodes }
+    ensures capped { IsTrue result → IsCappedVector (standing net.now) (slice_index out.new) }
+    ensures same_length { length out.new ≡ length out.old }
+{
+    lower(net, 0, out);
+    raise_briefly(net, &Cap::Full, out, waiting)
+}
+
+/// What the least capped vector tells: whether the network is earthed within [`MOST_WALK`], and else where it is not.
+fn told(net: &Net, vector: &BoundVector) -> Result<(), Unresolved>
+    requires nodes { length vector.now ≡ net.now.network.nodes }
+    requires least { IsLeastCappedVector (standing net.now) (slice_index vector.now) }
+    ensures earthed { IsOk result ↔ IsEarthedWithin (standing net.now) MOST_WALK }
+    ensures bound { OnOk result (IsBoundWithin (standing net.now) MOST_WALK (slice_index vector.now)) }
+    ensures full { IfErr result (λ refusal. slice_index vector.now refusal.node.0 ≡ FULL_WALK) }
+    ensures first { IfErr result (λ refusal. (k : ℕ) → k < refusal.node.0 → slice_index vector.now k ≤ MOST_WALK) }
+{
     least_capped_vector_law();
     net.within_limits();
-    begin(net, out);
-    while raise_all(net, out) {}
-    match first_full(net, out) {
+    match first_full(net, vector) {
         Some(node) => Err(Unresolved { node }),
         None => Ok(()),
     }
 }
 
-/// Makes the entries 1 at live nodes and 0 at dead ones.
-fn begin(net: &Net, out: &mut BoundVector)
-    requires { length out.old ≡ net.now.network.nodes }
-    ensures under { IsUnderCapped (standing net.now) (slice_index out.new) }
-    ensures same_length { length out.new ≡ length out.old }
+/// Whether a capped vector is a bound vector, which it is where no entry is [`FULL_WALK`].
+fn is_below_full(net: &Net, vector: &BoundVector) -> bool
+    requires nodes { length vector.now ≡ net.now.network.nodes }
+    requires capped { IsCappedVector (standing net.now) (slice_index vector.now) }
+    ensures { IsTrue result ↔ IsBoundWithin (standing net.now) MOST_WALK (slice_index vector.now) }
 {
-    for node in 0..net.nodes() {
-        let entry = if net.live(NodeId(node)) { 1 } else { 0 };
-        out.set(NodeId(node), entry);
-    }
-}
-
-/// Raises each entry that is too small by 1, node by node, and answers whether there was one.
-fn raise_all(net: &Net, out: &mut BoundVector) -> bool
-    requires nodes { length out.old ≡ net.now.network.nodes }
-    requires under { IsUnderCapped (standing net.now) (slice_index out.old) }
-    ensures under { IsUnderCapped (standing net.now) (slice_index out.new) }
-    ensures least { IsFalse result → IsLeastCappedVector (standing net.now) (slice_index out.new) }
-    ensures higher { IsTrue result → sum out.old < sum out.new }
-    ensures same_length { length out.new ≡ length out.old }
-{
-    let mut raised = false;
-    for node in 0..net.nodes() {
-        if is_too_small(net, out, NodeId(node)) {
-            raise(out, NodeId(node));
-            raised = true;
-        }
-    }
-    raised
-}
-
-/// Raises the entry at a node by 1.
-fn raise(vector: &mut BoundVector, node: NodeId)
-    requires node { node.0 < length vector.old }
-    requires room { slice_index vector.old node.0 < FULL_WALK }
-    ensures { vector.new ≡ slice_set vector.old node.0 (slice_index vector.old node.0 + 1) }
-{
-    let entry = vector.entry(node);
-    vector.set(node, entry + 1);
+    first_full(net, vector).is_none()
 }
 
 /// The first node with the entry [`FULL_WALK`].
@@ -97,13 +175,4 @@ fn first_full(net: &Net, vector: &BoundVector) -> Option<NodeId>
         }
     }
     None
-}
-
-/// Whether the entry at a node is too small.
-fn is_too_small(net: &Net, vector: &BoundVector, node: NodeId) -> bool
-    requires nodes { length vector.now ≡ net.now.network.nodes }
-    requires node { node.0 < net.now.network.nodes }
-    ensures { IsTrue result ↔ IsTooSmall (standing net.now) (slice_index vector.now) node.0 }
-{
-    net.live(node) && vector.entry(node) < FULL_WALK && !is_row_positive(net, vector, node)
 }

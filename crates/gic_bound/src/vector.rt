@@ -22,7 +22,7 @@ impl Model for BoundVector {
 }
 
 impl BoundVector {
-    ghost use Rattle.std.specs.Prelude.{◌≡◌, ◌≤◌, ◌<◌, [], length, replicate, slice_index, slice_set, All, Contains, IfOk};
+    ghost use Rattle.std.specs.Prelude.{◌≡◌, ◌≤◌, ◌<◌, ◌↔◌, [], length, replicate, slice_index, slice_set, All, Contains, IfOk, IsTrue};
     ghost use Rattle.gic_bound.specs.Entries.{AreCapped};
 
     /// For a network of this many nodes; all entries are 0.
@@ -31,6 +31,13 @@ impl BoundVector {
     {
         let entries = vec![in alloc; 0; nodes as usize]?;
         Ok(BoundVector { entries })
+    }
+
+    /// No entry is above [`FULL_WALK`].
+    pub fn is_capped(&self)
+        ensures { AreCapped (slice_index self.now) }
+    {
+        let _ = &self.entries;
     }
 
     /// The entry at a node. The answer also tells that no entry is above [`FULL_WALK`].
@@ -49,6 +56,21 @@ impl BoundVector {
         ensures { self.new ≡ slice_set self.old node.0 value }
     {
         self.entries[node.0 as usize] = value;
+    }
+
+    /// Makes the entries those of another vector, which is for as many nodes.
+    pub fn copy_from(&mut self, other: &BoundVector)
+        requires { length other.now ≡ length self.old }
+        ensures { self.new ≡ other.now }
+    {
+        self.entries.copy_from_slice(&other.entries);
+    }
+
+    /// Whether the entries are those of another vector.
+    pub fn is_same(&self, other: &BoundVector) -> bool
+        ensures { IsTrue result ↔ (self.now ≡ other.now) }
+    {
+        self.entries == other.entries
     }
 
     /// The greatest entry, 0 if there is none.

@@ -5,7 +5,7 @@ ghost use Rattle.gic_net.specs.Net.{standing};
 
 use crate::texts::{CASE_P, REALISTIC_CASE};
 use gic_base::{NodeId, OutOfMemory};
-use gic_bound::{BoundVector, bound, rows_positive};
+use gic_bound::{BoundVector, Room, bound, bound_from, rows_positive, some_bound};
 use gic_case::read_case;
 use gic_model::Item;
 use gic_net::Net;
@@ -120,6 +120,40 @@ fn tells_bound_vectors(rt: HostRuntime) -> Result<(), Fail> {
     for (text, entries, opens, wanted) in table {
         let is_bound = is_bound_vector(rt.alloc(), text, entries, Item::Line(2), opens)?;
         assert_eq!(rt; is_bound, wanted);
+    }
+    Ok(())
+}
+
+/// The entries of the least bound vector of a case, which has one, and of some bound vector, both from these entries.
+fn found_from(alloc: Global, text: &str, entries: &[u16]) -> Result<(Vec<u16>, Vec<u16>), Fail> {
+    let case = read_case(alloc, text.as_bytes())?;
+    let list = elements(alloc, &case)?;
+    let net = Net::build(alloc, &list)?;
+    let nodes = net.nodes();
+    let mut room = Room::new(alloc, nodes)?;
+    let mut least = vector_of(alloc, nodes, entries)?;
+    bound_from(&net, &mut least, &mut room)?;
+    let mut some = vector_of(alloc, nodes, entries)?;
+    some_bound(&net, &mut some, &mut room)?;
+    let least_entries = entries_of(alloc, &least, nodes)?;
+    let some_entries = entries_of(alloc, &some, nodes)?;
+    Ok((least_entries, some_entries))
+}
+
+/// Of case P, from its least vector, from one below it, from twice it, which is a bound vector too, and from full
+/// entries.
+#[test]
+fn finds_bound_vectors_from_proposals(rt: HostRuntime) -> Result<(), Fail> {
+    let table: [(&[u16], &[u16]); 4] = [
+        (&[31, 31, 33, 33], &[31, 31, 33, 33]),
+        (&[30, 31, 32, 33], &[31, 31, 33, 33]),
+        (&[62, 62, 66, 66], &[62, 62, 66, 66]),
+        (&[4097, 4097, 4097, 4097], &[31, 31, 33, 33]),
+    ];
+    for (from, wanted) in table {
+        let (least, some) = found_from(rt.alloc(), CASE_P, from)?;
+        assert!(rt; least.as_slice() == [31, 31, 33, 33].as_slice());
+        assert!(rt; some.as_slice() == wanted);
     }
     Ok(())
 }

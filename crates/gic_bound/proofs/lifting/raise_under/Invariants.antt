@@ -1,0 +1,14 @@
+use Rattle.std.proofs.Common.{◌≡◌, ◌*◌, ◌-◌, length, slice_index, sum}
+use Rattle.gic_bound.specs.Caps.{cap_entry}
+use Rattle.gic_net.specs.Net.{standing}
+use Rattle.gic_bound.specs.Starting.{IsUnderHeld}
+use Rattle.gic_bound.proofs.lifting.raise_under.Given as goal
+
+abbrev pub invariant-loop : goal.invariant-loop
+invariant-loop l = record {
+  count : length l.out ≡ l.net.network.nodes;
+  under : IsUnderHeld (standing l.net) (slice_index l.fn.out) (cap_entry (standing l.net) l.cap) (slice_index l.out);
+}
+
+abbrev pub decreases-loop : goal.decreases-loop
+decreases-loop l = l.net.network.nodes * 4097 - sum l.out

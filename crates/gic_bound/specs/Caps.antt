@@ -1,0 +1,17 @@
+-- What a cap lets entries be.
+use Rattle.std.specs.Prelude.{ℕ, ◌≡◌, List, length, slice_index}
+use Rattle.gic_base.specs.declared.limits.TheConstants.{FULL_WALK}
+use Rattle.gic_model.specs.Sums.{Placed}
+use Rattle.gic_bound.specs.Shares.{entries_where_live}
+use Rattle.gic_bound.specs.declared.cap.Cap.{Cap}
+use Rattle.gic_bound.specs.declared.cap.Cap.TheVariants.{Full, Entries}
+
+-- the greatest entry at a node
+abbrev pub cap_entry : List Placed → Cap → ℕ → ℕ
+cap_entry standing Full = entries_where_live standing (λ k. FULL_WALK)
+cap_entry standing (Entries vector) = slice_index vector.now
+
+-- the cap's vector, where it has one, has an entry for each of this many nodes
+abbrev pub IsCapFor : ℕ → Cap → Type 0
+IsCapFor nodes Full = Unit
+IsCapFor nodes (Entries vector) = length vector.now ≡ nodes
