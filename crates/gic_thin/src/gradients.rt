@@ -1,0 +1,80 @@
+//! Conjugate gradients.
+ghost use Rattle.std.specs.Prelude.{◌≡◌, ◌<◌, ◌≤◌};
+
+use crate::system::System;
+use crate::vectors::Vectors;
+
+/// The turns of one solution, at most.
+pub const MOST_TURNS: u32 = 64;
+
+/// The turns in which the currents may come no closer to 0, one after the other.
+const MOST_VAIN: u32 = 4;
+
+/// How far the currents of a solution are from 0.
+#[derive(Clone, Copy)]
+struct Distances {
+    first: i128,
+    least: i128,
+    last: i128,
+    /// The turns since the least.
+    vain: u32,
+}
+
+/// Notes how far the currents are after a turn.
+fn note(distances: Distances, far: i128) -> Distances {
+    if far < distances.least {
+        Distances {
+            first: distances.first,
+            least: far,
+            last: far,
+            vain: 0,
+        }
+    } else {
+        Distances {
+            first: distances.first,
+            least: distances.least,
+            last: far,
+            vain: distances.vain.saturating_add(1),
+        }
+    }
+}
+
+/// Whether a solution to so many bits is at its end: it has these bits, or gains no more.
+fn is_over(distances: Distances, bits: u32) -> bool
+    requires { bits < 64 }
+{
+    distances.last <= distances.first >> (2 * bits)
+        || distances.last <= 0
+        || distances.vain > MOST_VAIN
+}
+
+/// Finds potentials that balance the currents to about so many bits, `2 ^ lift` times too great, and says how many turns
+/// it took. The currents are changed.
+pub(crate) fn solve(system: &System, lift: u32, bits: u32, vectors: &mut Vectors) -> u32
+    requires nodes { vectors.old ≡ system.now }
+    requires lift { lift < 128 }
+    requires bits { bits < 64 }
+    ensures same { vectors.new ≡ vectors.old }
+    ensures few { result ≤ MOST_TURNS }
+{
+    let far = vectors.begin(system, lift);
+    let mut distances = Distances {
+        first: far,
+        least: far,
+        last: far,
+        vain: 0,
+    };
+    if far <= 0 {
+        return 0;
+    }
+    for turn in 0..MOST_TURNS {
+        let before = distances.last;
+        let far = vectors.advance(system, lift, before);
+        distances = note(distances, far);
+        if is_over(distances, bits) {
+            return turn + 1;
+        }
+        vectors.turn(before, far);
+    }
+    MOST_TURNS
+}

@@ -1,0 +1,28 @@
+//! A rough correction of guesses by thinned elimination and conjugate gradients, in whole numbers. It promises bounds
+//! alone: no number leaves its limits.
+#![tactic(auto)]
+
+mod dividing;
+mod draws;
+mod eliminating;
+mod elimination;
+mod factors;
+mod gathering;
+mod gradients;
+mod numbers;
+mod ordering;
+mod parts;
+mod preconditioning;
+mod products;
+mod scaling;
+mod star;
+mod system;
+mod thinning;
+mod tying;
+mod vectors;
+mod web;
+mod wires;
+mod wiring;
+
+pub use gradients::MOST_TURNS;
+pub use thinning::Thinning;

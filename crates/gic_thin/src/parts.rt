@@ -1,0 +1,73 @@
+//! The parts that lists are made of.
+ghost use Rattle.std.specs.Prelude.{◌^◌, ◌≤◌, ◌<◌};
+
+use gic_base::limits::MOST_ELEMENTS;
+use gic_model::End;
+
+/// The halves of all links, at most: an element makes one link, which has two.
+pub const MOST_HALVES: usize = 2 * MOST_ELEMENTS;
+
+/// The entries of the factors, at most.
+pub const MOST_ENTRIES: usize = 4 * MOST_ELEMENTS;
+
+/// The far ends of a star, at most.
+pub const MOST_ARMS: usize = 512;
+
+/// Where a list of halves ends.
+pub const NO_HALF: u16 = u16::MAX;
+
+/// A standing element: its ends, and its conductance in units of 2^-36 siemens.
+#[derive(Clone, Copy)]
+pub struct Wire {
+    pub siemens: u64,
+    pub from: u16,
+    pub to: End,
+    ghost small: { siemens ≤ 2 ^ 48 },
+}
+
+/// Half of a link, in the list of the node at one end: the node at the other end, the link's conductance in units of
+/// 2^-36 siemens, and the next half of the list. The two halves of a link lie side by side, the first at an even place.
+#[derive(Clone, Copy)]
+pub struct Half {
+    pub siemens: u64,
+    pub far: u16,
+    pub next: u16,
+}
+
+/// A node of the web: its list of halves, how many of them lead to nodes that are left, where it stood in the last star
+/// that it was in, whether it is eliminated, and what it has to earth in units of 2^-36 siemens.
+#[derive(Clone, Copy)]
+pub struct Knot {
+    pub earthing: u64,
+    pub first: u16,
+    pub links: u16,
+    pub place: u16,
+    pub gone: bool,
+}
+
+/// An arm of a star: the node at its far end, a half that leads there, and its conductance in units of 2^-36 siemens.
+#[derive(Clone, Copy)]
+pub struct Arm {
+    pub siemens: u64,
+    pub far: u16,
+    pub half: u16,
+}
+
+/// A node's elimination: 1 over its conductance, which is `inverse / 2 ^ bits`, and where its entries begin and end.
+#[derive(Clone, Copy)]
+pub struct Step {
+    pub inverse: u64,
+    pub start: u32,
+    pub end: u32,
+    pub node: u16,
+    pub bits: u8,
+    ghost small: { inverse ≤ 2 ^ 62 },
+    ghost few_bits: { bits < 128 },
+}
+
+/// What a far end has of a node's current, in units of 2^-32.
+#[derive(Clone, Copy)]
+pub struct Entry {
+    pub share: u32,
+    pub far: u16,
+}

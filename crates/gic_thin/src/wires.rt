@@ -1,0 +1,72 @@
+//! The standing elements of a network.
+use crate::parts::Wire;
+use crate::wiring::put_wires;
+use gic_base::OutOfMemory;
+use gic_base::limits::{MOST_AT_A_NODE, MOST_ELEMENTS};
+use gic_model::End;
+use gic_net::Net;
+use std::alloc::Global;
+use std::marker::Model;
+
+/// The standing elements of a network. It is seen as the number of nodes.
+#[derive(Drop)]
+pub struct Wires {
+    wires: Vec<Wire>,
+    count: usize,
+    nodes: u16,
+}
+
+impl Model for Wires {
+    ghost use Rattle.std.specs.Prelude.{ℕ, ◌≤◌, length};
+    ghost use Rattle.gic_thin.specs.Inside.{AreWiresInside};
+
+    ghost Value = { ℕ };
+
+    ghost view = { λ w. w.nodes };
+
+    ghost invariant = { λ w. AreWiresInside w.nodes w.wires.items × (w.count ≤ length w.wires.items) };
+}
+
+ghost use Rattle.std.specs.Prelude.{◌≡◌, ◌<◌, ◌≤◌, IfOk, length};
+ghost use Rattle.gic_thin.specs.Inside.{AreWiresInside};
+
+impl Wires {
+    /// For a network of this many nodes, with room for `MOST_AT_A_NODE` elements at each node and for `MOST_ELEMENTS` in
+    /// all.
+    pub(crate) fn new(alloc: Global, nodes: u16) -> Result<Wires, OutOfMemory>
+        ensures { IfOk result (λ wires. wires ≡ nodes) }
+    {
+        let wires = empty_wires(alloc, nodes)?;
+        Ok(Wires {
+            wires,
+            count: 0,
+            nodes,
+        })
+    }
+
+    /// Takes the standing elements of a net.
+    pub(crate) fn take(&mut self, net: &Net)
+        requires { self.old ≡ net.now.network.nodes }
+        ensures { self.new ≡ self.old }
+    {
+        self.count = put_wires(net, self.wires.as_mut_slice());
+    }
+
+    pub(crate) fn as_slice(&self) -> &[Wire]
+        ensures { AreWiresInside self.now result.now }
+    {
+        &self.wires.as_slice()[..self.count]
+    }
+}
+
+fn empty_wires(alloc: Global, nodes: u16) -> Result<Vec<Wire>, OutOfMemory>
+    ensures { IfOk result (λ wires. AreWiresInside nodes wires.items) }
+{
+    let wire = Wire {
+        siemens: 0,
+        from: 0,
+        to: End::Earth,
+    };
+    let wires = vec![in alloc; wire; (MOST_AT_A_NODE * nodes as usize).min(MOST_ELEMENTS)]?;
+    Ok(wires)
+}
