@@ -1,0 +1,4 @@
+pub mod Plan
+pub mod Removing
+pub mod State
+pub mod Laws
