@@ -42,10 +42,6 @@ written_back : (w : Option Written) → IfSome w IsWrittenNode →
 written_back None h = refl
 written_back (Some w) h = written_some w.entry w.guess w.radius h.entry_some
 
-pub written_same : (c : Certificate) (k v : ℕ) (x : ℤ) (r : ℕ) → IsWritten c → v ≡ entry_of c k → x ≡ guess_of c k → r ≡ radius_of c k → written_of v x r ≡ written_at c k
-written_same c k v x r h ev ex er =
-    ap (λ n. written_of n x r) ev ∙ ap (λ z. written_of (entry_of c k) z r) ex ∙ ap (λ n. written_of (entry_of c k) (guess_of c k) n) er ∙ written_back (written_at c k) (h.each k)
-
 -- the numbers that are no further than the radius from the guess
 abbrev interval_in : Option Written → Option Ends
 interval_in w = cond (is_some w) (Some (record {

@@ -3,7 +3,7 @@ use Rattle.std.proofs.Common.{◌≡◌, ℕ, ◌==◌, ◌≢◌, Bool, true, f
 use Rattle.std.specs.Prelude.{codes}
 use Rattle.std.specs.List.{AllByRecursion}
 use Rattle.std.proofs.lemmas.Bool.Decides.{nat_tests}
-use Rattle.std.proofs.lemmas.List.{take_all, take_at}
+use Rattle.std.proofs.lemmas.List.{take_at}
 use Rattle.gic_text.specs.Lines.{lines_text}
 use Rattle.gic_text.specs.Words.{spaced, IsWord, IsLine}
 use Rattle.gic_text.proofs.Injective.{line_text-cons}
@@ -13,10 +13,7 @@ use Rattle.gic_cert.specs.declared.refusal.CertRefusal.TheVariants as refusals
 use Rattle.gic_cert.specs.Cuts.{words_from, words_of, lines_from, lines_of}
 use Rattle.gic_cert.specs.Reading.{is_only, breaks_behind, IsFirstOf}
 
--- a line that ends within the words that are looked at, and one that doesn't
-pub whole_words : (words all : Words) → length words ≤ MOST_WORDS → words ≡ all → words ≡ take MOST_WORDS all
-whole_words words all few same = sym (take_all MOST_WORDS words few) ∙ ap (take MOST_WORDS) same
-
+-- a line that doesn't end within the words that are looked at
 pub first_words : (words rest all : Words) → length words ≡ MOST_WORDS → words ++ rest ≡ all → words ≡ take MOST_WORDS all
 first_words words rest all many same = sym (take_at words rest MOST_WORDS many) ∙ ap (take MOST_WORDS) same
 

@@ -11,7 +11,7 @@ use Rattle.gic_cert.specs.Written.{Certificate}
 use Rattle.gic_cert.specs.declared.refusal.CertRefusal.{CertRefusal}
 use Rattle.gic_cert.specs.declared.refusal.CertRefusal.TheVariants as cert
 use Rattle.gic_uniform.specs.Uniform.{uniform_volts}
-use Rattle.gic_recheck.specs.Accepted.{IsAccepted, IsUnpassed}
+use Rattle.gic_recheck.specs.Accepted.{IsAccepted, IsUnpassed, PassesOwn, BreaksOwn}
 use Rattle.gic_recheck.specs.Determines.{AcceptedIsNotRefused}
 use Rattle.gic_recheck.specs.declared.fault.CertificateRefusal.TheVariants.{Shape, Number, Node, Row, Residual, Radius}
 
@@ -27,12 +27,9 @@ same_certificate reading c other e f = ap (λ (r : Result Certificate CertRefusa
 not_read : (reading : Result Certificate CertRefusal) (c : Certificate) (refusal : CertRefusal) → reading ≡ Ok c → ¬ (reading ≡ Err refusal)
 not_read reading c refusal e f = grind (arith, sym e ∙ f)
 
-abbrev PassesOwn : Lists → List Placed → Certificate → Type 0
-PassesOwn case standing c = IsPassing (elements_of case).nodes standing (uniform_volts case c.north c.east) c
-
 -- a certificate that passes breaks no rule
 breaks_none : (case : Lists) (standing : List Placed) (c : Certificate) (refusal : CertRefusal) → PassesOwn case standing c
-    → ¬ IsFirstRefusal (elements_of case).nodes standing (uniform_volts case c.north c.east) c refusal
+    → ¬ BreaksOwn case standing c refusal
 breaks_none case standing c (cert.Row node) passes first = first.broken (passes.vector.rows node.0 first.live)
 breaks_none case standing c (cert.Residual node) passes first = first.1.broken (passes.residuals node.0 first.1.live)
 breaks_none case standing c (cert.Radius node) passes first = first.2.broken (passes.radii node.0 first.2.live)

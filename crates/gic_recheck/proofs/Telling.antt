@@ -3,13 +3,12 @@ use Rattle.std.proofs.Common.{◌≡◌, ◌≢◌, ℕ, ◌<◌, ℤ, List, Ok,
 use Rattle.gic_case.specs.Lists.{Lists}
 use Rattle.gic_model.specs.Standing.{IsLive}
 use Rattle.gic_model.specs.Sums.{Placed}
-use Rattle.gic_winding.specs.ElementList.{elements_of}
 use Rattle.gic_cert.specs.Reading.{certificate_nodes, cert_of}
 use Rattle.gic_cert.specs.Refusals.{IsFirstRefusal}
 use Rattle.gic_cert.specs.Written.{Certificate}
 use Rattle.gic_cert.specs.declared.refusal.CertRefusal.{CertRefusal}
 use Rattle.gic_cert.specs.declared.refusal.CertRefusal.TheVariants as cert
-use Rattle.gic_uniform.specs.Uniform.{uniform_volts}
+use Rattle.gic_recheck.specs.Accepted.{BreaksOwn}
 use Rattle.gic_recheck.specs.Told.{told_as, IsNodeWithin, IsToldBreak, IsFaultOf}
 use Rattle.gic_recheck.specs.declared.fault.RecheckFault.{RecheckFault}
 use Rattle.gic_recheck.proofs.LineRefusals.{of_line}
@@ -51,7 +50,7 @@ reading_told case standing bytes cert.Memory h = tt
 
 -- so is a rule that the certificate breaks which the bytes are
 break_refuses : (case : Lists) (standing : List Placed) (bytes : List ℕ) (c : Certificate) (refusal : CertRefusal) → cert_of (certificate_nodes case standing) bytes ≡ Ok c
-    → IsFirstRefusal (elements_of case).nodes standing (uniform_volts case c.north c.east) c refusal → IsFaultOf case standing bytes (told_as case refusal)
+    → BreaksOwn case standing c refusal → IsFaultOf case standing bytes (told_as case refusal)
 break_refuses case standing bytes c (cert.Row node) read first = record { certificate = c; read = read; node = node; first = first; named = refl }
 break_refuses case standing bytes c (cert.Residual node) read first = record { certificate = c; read = read; node = node; first = first; named = refl }
 break_refuses case standing bytes c (cert.Radius node) read first = record { certificate = c; read = read; node = node; first = first; named = refl }
@@ -61,5 +60,5 @@ break_refuses case standing bytes c (cert.Node row) read first = absurd first
 break_refuses case standing bytes c cert.Memory read first = absurd first
 
 pub break_told : (case : Lists) (standing : List Placed) (bytes : List ℕ) (c : Certificate) (fault : RecheckFault) → cert_of (certificate_nodes case standing) bytes ≡ Ok c
-    → IsToldBreak case (elements_of case).nodes standing (uniform_volts case c.north c.east) c fault → IsFaultOf case standing bytes fault
+    → IsToldBreak case standing c fault → IsFaultOf case standing bytes fault
 break_told case standing bytes c fault read told = subst (IsFaultOf case standing bytes) (sym told.told) (break_refuses case standing bytes c told.refusal read told.first)

@@ -15,18 +15,30 @@ use Rattle.gic_uniform.specs.Uniform.{uniform_volts}
 use Rattle.gic_recheck.specs.declared.fault.CertificateRefusal.{CertificateRefusal}
 use Rattle.gic_recheck.specs.declared.fault.CertificateRefusal.TheVariants.{Shape, Number, Node, Row, Residual, Radius}
 
--- the bytes are this certificate of the case, and it passes for the voltages of its own field
+-- the certificate passes for the voltages of its own field
+abbrev pub PassesOwn : Lists → List Placed → Certificate → Type 0
+PassesOwn case standing c = IsPassing (elements_of case).nodes standing (uniform_volts case c.north c.east) c
+
+-- this is the first rule that the certificate breaks, for the voltages of its own field
+abbrev pub BreaksOwn : Lists → List Placed → Certificate → CertRefusal → Type 0
+BreaksOwn case standing c refusal = IsFirstRefusal (elements_of case).nodes standing (uniform_volts case c.north c.east) c refusal
+
+-- the name of a node of the case
+abbrev pub name_at : Lists → NodeId → List ℕ
+name_at case node = slice_index_or (node_names case) node.0 []
+
+-- the bytes are this certificate of the case, and it passes
 pub record IsAccepted (case : Lists) (standing : List Placed) (bytes : List ℕ) (c : Certificate) : Type 0 where
   pub read : cert_of (certificate_nodes case standing) bytes ≡ Ok c
-  pub passes : IsPassing (elements_of case).nodes standing (uniform_volts case c.north c.east) c
+  pub passes : PassesOwn case standing c
 
 -- the bytes are a certificate of the case, and this is the first rule that it breaks; the node has this name
 pub record IsUnpassed (case : Lists) (standing : List Placed) (bytes : List ℕ) (rule : NodeId → CertRefusal) (name : List ℕ) : Type 0 where
   pub certificate : Certificate
   pub read : cert_of (certificate_nodes case standing) bytes ≡ Ok certificate
   pub node : NodeId
-  pub first : IsFirstRefusal (elements_of case).nodes standing (uniform_volts case certificate.north certificate.east) certificate (rule node)
-  pub named : name ≡ slice_index_or (node_names case) node.0 []
+  pub first : BreaksOwn case standing certificate (rule node)
+  pub named : name ≡ name_at case node
 
 -- why the bytes are refused: they are no certificate of the case, or one that doesn't pass
 abbrev pub IsRefused : Lists → List Placed → (bytes : List ℕ) → CertificateRefusal → Type 0

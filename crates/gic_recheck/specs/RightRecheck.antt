@@ -1,5 +1,5 @@
 -- What a report of a certificate has to say, and how the call ends that writes it.
-use Rattle.std.specs.Prelude.{◌≡◌, ℕ, ◌<◌, List, Option, option_map, Ok, Err, Result, length, map, pos}
+use Rattle.std.specs.Prelude.{◌≡◌, ℕ, ◌<◌, List, [], ◌∷◌, Option, option_map, Ok, Err, Result, length, map, pos}
 use Rattle.std.specs.List.{range_with_len}
 use Rattle.std.specs.Io.KnownBytes.{Keeps}
 use Rattle.gic_case.specs.Lists.{Lists, node_names}
@@ -11,8 +11,7 @@ use Rattle.gic_cert.specs.Written.{Certificate, interval_of}
 use Rattle.gic_effective.specs.RightView.{IsRightNode}
 use Rattle.gic_stand.specs.Needs.{Nothing}
 use Rattle.gic_stand.specs.Serves.{Shown, Serves}
-use Rattle.gic_stand.specs.Standing.{standing_of, steps_of}
-use Rattle.gic_stand.specs.declared.fault.ReportFault.{ReportFault}
+use Rattle.gic_stand.specs.Standing.{standing_of}
 use Rattle.gic_stand.specs.declared.inputs.Inputs.{Inputs}
 use Rattle.gic_text.specs.Lines.{lines_text}
 use Rattle.gic_uniform.specs.Uniform.{uniform_volts}
@@ -49,14 +48,12 @@ pub record ShowsAccepted (case : Lists) (standing : List Placed) (bytes : List �
 abbrev pub IsRightRecheck : Inputs → (bytes : List ℕ) → List ℕ → Type 0
 IsRightRecheck inputs bytes = ShowsAccepted inputs.case (standing_of inputs.case inputs.switchings) bytes
 
--- how the call ends: as a mode that needs nothing of the network, or with the refusal of the certificate and nothing written
-abbrev pub ServesRecheck : Inputs → (bytes : List ℕ) → (before now : Shown) → Result (Unit {0}) RecheckFault → Type 0
-ServesRecheck inputs bytes before now (Ok done) = Serves Nothing inputs.case (steps_of inputs) (IsRightRecheck inputs bytes) before now (Ok done)
-ServesRecheck inputs bytes before now (Err (Report fault)) = Serves Nothing inputs.case (steps_of inputs) (IsRightRecheck inputs bytes) before now (Err fault)
-ServesRecheck inputs bytes before now (Err (Refused refusal)) =
-    IsRefused inputs.case (standing_of inputs.case inputs.switchings) bytes refusal × Keeps before.bytes now.bytes
+-- how the call ends over this standing network: as a mode that needs nothing of it, or with the refusal of the certificate and nothing written
+abbrev pub ServesCertificate : Lists → List Placed → (bytes : List ℕ) → (before now : Shown) → Result (Unit {0}) RecheckFault → Type 0
+ServesCertificate case standing bytes before now (Ok done) = Serves Nothing case (standing ∷ []) (ShowsAccepted case standing bytes) before now (Ok done)
+ServesCertificate case standing bytes before now (Err (Report fault)) = Serves Nothing case (standing ∷ []) (ShowsAccepted case standing bytes) before now (Err fault)
+ServesCertificate case standing bytes before now (Err (Refused refusal)) = IsRefused case standing bytes refusal × Keeps before.bytes now.bytes
 
--- how the call ends that shows a certificate once it is accepted
-abbrev pub shown_so : Result (Unit {0}) ReportFault → Result (Unit {0}) RecheckFault
-shown_so (Ok done) = Ok done
-shown_so (Err fault) = Err (Report fault)
+-- how it ends with all switchings in force
+abbrev pub ServesRecheck : Inputs → (bytes : List ℕ) → (before now : Shown) → Result (Unit {0}) RecheckFault → Type 0
+ServesRecheck inputs = ServesCertificate inputs.case (standing_of inputs.case inputs.switchings)

@@ -1,21 +1,16 @@
 -- How refusals of a certificate are told.
-use Rattle.std.specs.Prelude.{◌≡◌, ℕ, ◌<◌, List, [], ℤ, slice_index_or, ⊤}
-use Rattle.gic_base.specs.declared.id.NodeId.{NodeId}
-use Rattle.gic_case.specs.Lists.{Lists, node_names}
+use Rattle.std.specs.Prelude.{◌≡◌, ℕ, ◌<◌, List, ⊤, Ok, Err, Result}
+use Rattle.gic_base.specs.declared.sink.WriteFailed.{WriteFailed}
+use Rattle.gic_case.specs.Lists.{Lists}
 use Rattle.gic_model.specs.Sums.{Placed}
-use Rattle.gic_cert.specs.Refusals.{IsFirstRefusal}
 use Rattle.gic_cert.specs.Written.{Certificate}
 use Rattle.gic_cert.specs.declared.refusal.CertRefusal.{CertRefusal}
 use Rattle.gic_cert.specs.declared.refusal.CertRefusal.TheVariants as cert
-use Rattle.gic_stand.specs.declared.fault.ReportFault.TheVariants.{Memory}
+use Rattle.gic_stand.specs.declared.fault.ReportFault.TheVariants.{CannotWrite, Memory}
 use Rattle.gic_recheck.specs.declared.fault.CertificateRefusal.TheVariants.{Shape, Number, Node, Row, Residual, Radius}
 use Rattle.gic_recheck.specs.declared.fault.RecheckFault.{RecheckFault}
 use Rattle.gic_recheck.specs.declared.fault.RecheckFault.TheVariants.{Refused, Report}
-use Rattle.gic_recheck.specs.Accepted.{IsRefused}
-
--- the name of a node of the case
-abbrev pub name_at : Lists → NodeId → List ℕ
-name_at case node = slice_index_or (node_names case) node.0 []
+use Rattle.gic_recheck.specs.Accepted.{IsRefused, BreaksOwn, name_at}
 
 -- a refusal with the name of its node; want of memory is told as every mode tells it
 abbrev pub told_as : Lists → CertRefusal → RecheckFault
@@ -35,9 +30,9 @@ IsNodeWithin nodes (cert.Radius node) = node.0 < nodes
 IsNodeWithin nodes _ = ⊤
 
 -- the fault tells the first rule that a certificate breaks
-pub record IsToldBreak (case : Lists) (nodes : ℕ) (standing : List Placed) (volts : ℕ → ℤ) (c : Certificate) (fault : RecheckFault) : Type 0 where
+pub record IsToldBreak (case : Lists) (standing : List Placed) (c : Certificate) (fault : RecheckFault) : Type 0 where
   pub refusal : CertRefusal
-  pub first : IsFirstRefusal nodes standing volts c refusal
+  pub first : BreaksOwn case standing c refusal
   pub told : fault ≡ told_as case refusal
 
 -- the fault is the refusal of these bytes, or want of memory
@@ -45,3 +40,8 @@ abbrev pub IsFaultOf : Lists → List Placed → (bytes : List ℕ) → RecheckF
 IsFaultOf case standing bytes (Refused refusal) = IsRefused case standing bytes refusal
 IsFaultOf case standing bytes (Report Memory) = ⊤
 IsFaultOf case standing bytes (Report _) = ⊥
+
+-- how the writing of a report ends
+abbrev pub shown_so : Result (Unit {0}) WriteFailed → Result (Unit {0}) RecheckFault
+shown_so (Ok done) = Ok done
+shown_so (Err failed) = Err (Report CannotWrite)

@@ -1,15 +1,17 @@
 //! Whether a certificate is accepted, and why not.
 ghost use Rattle.std.specs.Prelude.{◌≡◌, length, Ok, IfOk, IfErr, OnOk};
-ghost use Rattle.gic_cert.specs.Passing.{HasNodes, IsPassing};
+ghost use Rattle.gic_cert.specs.Passing.{HasNodes};
 ghost use Rattle.gic_cert.specs.Reading.{certificate_nodes, cert_of};
 ghost use Rattle.gic_model.specs.Voltages.{number_at};
 ghost use Rattle.gic_net.specs.Net.{standing};
-ghost use Rattle.gic_recheck.specs.Accepted.{IsAccepted};
+ghost use Rattle.gic_recheck.specs.Accepted.{PassesOwn};
 ghost use Rattle.gic_recheck.specs.Told.{told_as, IsNodeWithin, IsToldBreak, IsFaultOf};
 ghost use Rattle.gic_case.specs.Lists.{node_names};
+ghost use Rattle.gic_uniform.specs.Uniform.{uniform_volts};
 ghost use Rattle.gic_winding.specs.ElementList.{elements_of};
 
 use crate::fault::{CertificateRefusal, RecheckFault};
+use gic_base::OutOfMemory;
 use gic_case::{Case, node_name};
 use gic_cert::{Cert, CertRefusal, check, read_cert};
 use gic_model::{Elements, Volts};
@@ -43,24 +45,35 @@ fn told(case: &Case, refusal: CertRefusal) -> RecheckFault
     }
 }
 
-/// Whether a certificate of the case passes for these voltages, and the first rule that it breaks. Takes no memory, so its
-/// answer is never want of it.
-fn expect_passing(case: &Case, net: &Net, volts: &Volts, cert: &Cert) -> Result<(), RecheckFault>
+/// Whether a certificate of the case passes for the voltages of its own field, and the first rule that it breaks. Takes no
+/// memory.
+pub(crate) fn expect_passing(
+    case: &Case,
+    net: &Net,
+    volts: &Volts,
+    cert: &Cert,
+) -> Result<(), RecheckFault>
     requires net { net.now.network ≡ elements_of case.now }
-    requires volts { length volts.now ≡ length net.now.network.list }
+    requires count { length volts.now ≡ length net.now.network.list }
+    requires volts { number_at volts.now ≡ uniform_volts case.now cert.now.north cert.now.east }
     requires nodes { HasNodes net.now.network.nodes (standing net.now) cert.now }
-    ensures passes { OnOk result (IsPassing net.now.network.nodes (standing net.now) (number_at volts.now) cert.now) }
-    ensures refused { IfErr result (IsToldBreak case.now net.now.network.nodes (standing net.now) (number_at volts.now) cert.now) }
+    ensures passes { OnOk result (PassesOwn case.now (standing net.now) cert.now) }
+    ensures refused { IfErr result (IsToldBreak case.now (standing net.now) cert.now) }
 {
     net.within_limits();
     match check(net, volts, cert) {
         Ok(()) => Ok(()),
-        Err(refusal) => Err(told(case, refusal)),
+        Err(broken) => Err(told(case, broken)),
     }
 }
 
 /// Reads a certificate over the network of a case.
-fn read(alloc: Global, case: &Case, net: &Net, bytes: &[u8]) -> Result<Cert, RecheckFault>
+pub(crate) fn read(
+    alloc: Global,
+    case: &Case,
+    net: &Net,
+    bytes: &[u8],
+) -> Result<Cert, RecheckFault>
     requires { net.now.network ≡ elements_of case.now }
     ensures read { IfOk result (λ cert. cert_of (certificate_nodes case.now (standing net.now)) bytes.now ≡ Ok cert) }
     ensures nodes { IfOk result (HasNodes net.now.network.nodes (standing net.now)) }
@@ -72,23 +85,16 @@ fn read(alloc: Global, case: &Case, net: &Net, bytes: &[u8]) -> Result<Cert, Rec
     }
 }
 
-/// The certificate that these bytes are over the network of a case, where it passes for the voltages of its own field.
-pub(crate) fn accept(
+/// The voltages of the elements of a case in a certificate's own field, in nanovolts.
+pub(crate) fn own_volts(
     alloc: Global,
     case: &Case,
     elements: &Elements,
-    net: &Net,
-    bytes: &[u8],
-) -> Result<Cert, RecheckFault>
-    requires elements { elements.now ≡ elements_of case.now }
-    requires net { net.now.network ≡ elements_of case.now }
-    ensures accepted { IfOk result (IsAccepted case.now (standing net.now) bytes.now) }
-    ensures refused { IfErr result (IsFaultOf case.now (standing net.now) bytes.now) }
+    cert: &Cert,
+) -> Result<Volts, OutOfMemory>
+    requires { elements.now ≡ elements_of case.now }
+    ensures own { IfOk result (λ volts. number_at volts ≡ uniform_volts case.now cert.now.north cert.now.east) }
+    ensures count { IfOk result (λ volts. length volts ≡ length (elements_of case.now).list) }
 {
-    let cert = read(alloc, case, net, bytes)?;
-    let volts = uniform_volts(alloc, case, elements, cert.north(), cert.east())?;
-    match expect_passing(case, net, &volts, &cert) {
-        Ok(()) => Ok(cert),
-        Err(fault) => Err(fault),
-    }
+    uniform_volts(alloc, case, elements, cert.north(), cert.east())
 }

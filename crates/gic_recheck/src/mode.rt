@@ -1,67 +1,77 @@
 //! The report of the mode.
-ghost use Rattle.std.specs.Prelude.{◌≡◌, ◌∷◌, [], ℕ, List, length};
+ghost use Rattle.std.specs.Prelude.{◌≡◌, ◌≢◌, ℕ, List, length, map, Ok, Err};
+ghost use Rattle.gic_cert.specs.Passing.{HasNodes};
+ghost use Rattle.gic_cert.specs.Reading.{certificate_nodes, cert_of};
+ghost use Rattle.gic_model.specs.Voltages.{number_at};
 ghost use Rattle.gic_net.specs.Net.{standing};
-ghost use Rattle.gic_recheck.specs.Accepted.{IsAccepted};
-ghost use Rattle.gic_recheck.specs.RightRecheck.{ShowsAccepted, ServesRecheck, shown_so};
-ghost use Rattle.gic_stand.specs.Needs.{Nothing};
-ghost use Rattle.gic_stand.specs.Serves.{Serves, shown};
+ghost use Rattle.gic_recheck.specs.RightRecheck.{potentials_of, ServesCertificate, ServesRecheck};
+ghost use Rattle.gic_recheck.specs.Told.{shown_so};
+ghost use Rattle.gic_recheck.specs.declared.fault.RecheckFault.TheVariants.{Report};
+ghost use Rattle.gic_stand.specs.Serves.{shown};
+ghost use Rattle.gic_stand.specs.declared.fault.ReportFault.TheVariants.{Memory};
+ghost use Rattle.gic_uniform.specs.Uniform.{uniform_volts};
+ghost use Rattle.gic_view.specs.Kept.{optional_ends};
 ghost use Rattle.gic_winding.specs.ElementList.{elements_of};
 
-use crate::accepting::accept;
+use crate::accepting::{expect_passing, own_volts, read};
 use crate::fault::RecheckFault;
 use crate::potentials::potentials;
 use crate::text::write_recheck;
-use gic_base::Sink;
+use gic_base::{Sink, WriteFailed};
 use gic_case::Case;
 use gic_cert::Cert;
 use gic_cert::laws::passing_law;
+use gic_fixed::Interval;
+use gic_model::Volts;
 use gic_net::Net;
-use gic_stand::{Inputs, ReportFault, ended, standing_net};
+use gic_stand::{Inputs, ReportFault, standing_net};
 use gic_text::LineBuilder;
 use gic_winding::elements;
 use std::alloc::Global;
 
-/// Writes the report of a certificate over this network. All that takes memory is made before the first write.
+/// How the writing of a report ended.
+fn shown_so(writing: Result<(), WriteFailed>) -> Result<(), RecheckFault>
+    ensures { result ≡ shown_so writing }
+{
+    match writing {
+        Ok(()) => Ok(()),
+        Err(_) => Err(RecheckFault::Report(ReportFault::CannotWrite)),
+    }
+}
+
+/// Writes the report of a certificate over this network, where it passes for the voltages of its own field. Takes no memory.
 fn show<S: Sink>(
-    alloc: Global,
     case: &Case,
     net: &Net,
+    volts: &Volts,
     cert: &Cert,
+    intervals: &[Option<Interval>],
     line: &mut LineBuilder,
     out: &mut S,
-) -> Result<(), ReportFault>
+) -> Result<(), RecheckFault>
     requires net { net.now.network ≡ elements_of case.now }
-    requires nodes { length cert.now.nodes ≡ net.now.network.nodes }
-    ensures { (bytes : List ℕ) → IsAccepted case.now (standing net.now) bytes cert.now →
-        Serves Nothing case.now (standing net.now ∷ []) (ShowsAccepted case.now (standing net.now) bytes)
+    requires count { length volts.now ≡ length net.now.network.list }
+    requires volts { number_at volts.now ≡ uniform_volts case.now cert.now.north cert.now.east }
+    requires nodes { HasNodes net.now.network.nodes (standing net.now) cert.now }
+    requires intervals { map optional_ends intervals.now ≡ potentials_of cert.now }
+    ensures serves { (bytes : List ℕ) → cert_of (certificate_nodes case.now (standing net.now)) bytes ≡ Ok cert.now →
+        ServesCertificate case.now (standing net.now) bytes
         (shown S.written S.faults out.old) (shown S.written S.faults out.new) result }
+    ensures memory { result ≢ Err (Report Memory) }
 {
     passing_law();
     net.within_limits();
-    let intervals = potentials(alloc, net.nodes(), cert)?;
-    let writing = write_recheck(
-        case,
-        cert.north(),
-        cert.east(),
-        intervals.as_slice(),
-        line,
-        out,
-    );
-    ended(writing)
-}
-
-/// How the showing of a certificate that is accepted ended.
-fn shown_so(showing: Result<(), ReportFault>) -> Result<(), RecheckFault>
-    ensures { result ≡ shown_so showing }
-{
-    match showing {
-        Ok(()) => Ok(()),
-        Err(fault) => Err(RecheckFault::Report(fault)),
+    match expect_passing(case, net, volts, cert) {
+        Err(fault) => Err(fault),
+        Ok(()) => {
+            let writing = write_recheck(case, cert.north(), cert.east(), intervals, line, out);
+            shown_so(writing)
+        }
     }
 }
 
 /// Writes the potentials that a certificate of the case shows, with all rows of the switchings in force, where it is
-/// accepted; it may come from anybody.
+/// accepted; it may come from anybody. All that takes memory is made before the certificate is checked.
 pub fn recheck<S: Sink>(
     alloc: Global,
     inputs: &Inputs,
@@ -75,7 +85,16 @@ pub fn recheck<S: Sink>(
     let case = &inputs.case;
     let elements = elements(alloc, case)?;
     let net = standing_net(alloc, &elements, &inputs.switchings)?;
-    let cert = accept(alloc, case, &elements, &net, bytes)?;
-    let showing = show(alloc, case, &net, &cert, &mut line, out);
-    shown_so(showing)
+    let cert = read(alloc, case, &net, bytes)?;
+    let volts = own_volts(alloc, case, &elements, &cert)?;
+    let intervals = potentials(alloc, net.nodes(), &cert)?;
+    show(
+        case,
+        &net,
+        &volts,
+        &cert,
+        intervals.as_slice(),
+        &mut line,
+        out,
+    )
 }

@@ -1,50 +1,59 @@
-use Rattle.std.proofs.Common.{◌≡◌, ℕ, ℤ, List, [], ◌∷◌, Option, length, map, refl, sym, ap, subst, ◌∙◌, arith}
+use Rattle.std.proofs.Common.{◌≡◌, ℕ, ℤ, List, Option, length, map, refl, sym, ap, subst, ◌∙◌, arith}
 use Rattle.std.specs.Io.KnownBytes.{Appends}
 use Rattle.std.proofs.lemmas.Result.{on_ok_weaker}
 use Rattle.gic_base.specs.Pieces.{AppendsPart}
 use Rattle.gic_case.specs.Lists.{node_names}
 use Rattle.gic_cert.specs.Passing.{IsPassing}
-use Rattle.gic_fixed.specs.declared.interval.Interval.{Interval}
 use Rattle.gic_induce.specs.Voltage.{IsFieldWithin}
 use Rattle.gic_model.specs.Network.{Network}
-use Rattle.gic_uniform.specs.Uniform.{uniform_volts}
-use Rattle.gic_winding.specs.ElementList.{elements_of}
 use Rattle.gic_net.specs.Net.{standing, stands}
-use Rattle.gic_stand.specs.Needs.{Nothing}
 use Rattle.gic_stand.proofs.CaseNodes.{nodes_named}
-use Rattle.gic_stand.proofs.Served.{served, met_nothing}
 use Rattle.gic_text.specs.Lines.{lines_text}
-use Rattle.gic_recheck.specs.RecheckText.{recheck_report}
-use Rattle.gic_recheck.specs.RightRecheck.{ShowsAccepted}
+use Rattle.gic_uniform.specs.Uniform.{uniform_volts}
 use Rattle.gic_view.specs.Kept.{optional_ends}
+use Rattle.gic_winding.specs.ElementList.{elements_of}
+use Rattle.gic_recheck.specs.RecheckText.{recheck_report}
+use Rattle.gic_recheck.proofs.Endings.{writing_served, writing_not_memory, fault_served, break_not_memory}
 use Rattle.gic_recheck.proofs.Holds.{shows_right}
+use Rattle.gic_recheck.proofs.Telling.{break_told}
 use Rattle.gic_recheck.proofs.Volts.{own_report}
 use Rattle.gic_recheck.proofs.mode.show.Goals as goal
 
-pub returns : goal.returns
-returns g c = λ bytes accepted.
+pub returns-in-Ok-clause-serves : goal.returns-in-Ok-clause-serves
+returns-in-Ok-clause-serves g c = λ bytes read.
     let case = c.args.case.now in
     let net = c.args.net.now in
     let cert = c.args.cert.now in
     let north : IsFieldWithin c.north.result = subst IsFieldWithin (sym c.north.ensures.value) c.north.ensures.written.north in
     let east : IsFieldWithin c.east.result = subst IsFieldWithin (sym c.east.ensures) c.north.ensures.written.east in
-    let shown = map optional_ends c.as_slice.result.now in
+    let shown = map optional_ends c.args.intervals.now in
     let text = own_report case c.north.result c.east.result shown north east
     ∙ ap (λ (z : ℤ). lines_text (recheck_report case z c.east.result shown)) c.north.ensures.value
     ∙ ap (λ (z : ℤ). lines_text (recheck_report case cert.north z shown)) c.east.ensures
-    ∙ ap (λ (l : List (Option Interval)). lines_text (recheck_report case cert.north cert.east (map optional_ends l))) c.as_slice.ensures.value
-    ∙ ap (λ l. lines_text (recheck_report case cert.north cert.east l)) c.in_ok-intervals.ensures in
+    ∙ ap (λ l. lines_text (recheck_report case cert.north cert.east l)) c.requires.intervals in
     let nodes : net.network.nodes ≡ (elements_of case).nodes = ap (λ (n : Network). n.nodes) c.requires.net in
     let named : net.network.nodes ≡ length (node_names case) = nodes ∙ nodes_named case in
-    let passes = subst (λ (n : ℕ). IsPassing n (standing net) (uniform_volts case cert.north cert.east) cert) (sym nodes) accepted.passes in
-    served Nothing case _ (ShowsAccepted case (standing net) bytes) _ _ _ c.write_recheck-writing.result c.ended.result
-    (met_nothing (standing net ∷ []))
+    let own = c.in-Ok.ensures.passes in
+    let passes = subst (λ (n : ℕ). IsPassing n (standing net) (uniform_volts case cert.north cert.east) cert) (sym nodes) own in
+    writing_served case (standing net) bytes _ _ _ c.write_recheck-writing.result c.shown_so.result
     (record {
       certificate = cert;
-      accepted = accepted;
+      accepted = record { read = read; passes = own };
       holds = λ k within. shows_right c.passing_law.ensures net.network (stands net) (uniform_volts case cert.north cert.east) cert c.within_limits.ensures passes k (omega (arith, within, named));
       text_is = refl;
     })
     (on_ok_weaker c.write_recheck-writing.result (λ p. subst (Appends _ _) text p) c.write_recheck-writing.ensures.all)
     (subst (AppendsPart _ _) text c.write_recheck-writing.ensures.part)
-    c.write_recheck-writing.ensures.cause c.ended.ensures
+    c.write_recheck-writing.ensures.cause c.shown_so.ensures
+
+pub returns-in-Ok-clause-memory : goal.returns-in-Ok-clause-memory
+returns-in-Ok-clause-memory g c = writing_not_memory c.write_recheck-writing.result c.shown_so.result c.shown_so.ensures
+
+pub returns-in-Err-clause-serves : goal.returns-in-Err-clause-serves
+returns-in-Err-clause-serves g c = λ bytes read.
+    fault_served c.args.case.now (standing c.args.net.now) bytes _ c.in-Err.fault
+    (break_told c.args.case.now (standing c.args.net.now) bytes c.args.cert.now c.in-Err.fault read c.in-Err.ensures.refused)
+
+pub returns-in-Err-clause-memory : goal.returns-in-Err-clause-memory
+returns-in-Err-clause-memory g c = λ e.
+    break_not_memory c.args.case.now (standing c.args.net.now) c.args.cert.now c.in-Err.fault c.in-Err.ensures.refused (grind (arith, e))
