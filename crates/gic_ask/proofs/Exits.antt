@@ -13,13 +13,14 @@ use Rattle.gic_stand.specs.declared.inputs.Inputs.{Inputs}
 use Rattle.gic_course.specs.declared.inputs.StormInputs.{StormInputs}
 use Rattle.gic_words.specs.declared.fault.Usage.{Usage}
 use Rattle.gic_ask.specs.Contents.{Given, Nothing, Whole, Contents, MayGive, MayHandOut, name_of_file}
-use Rattle.gic_ask.specs.Outcome.{Outcome, Accepts, reading, reading_case, reading_storm, reading_switchings, reading_certificate, reading_inputs, reading_storm_inputs, reading_recheck, reading_numbers, asking, outcome}
+use Rattle.gic_ask.specs.Outcome.{Outcome, Accepts, reading, reading_case, reading_storm, reading_switchings, reading_certificate, reading_inputs, reading_over_case, reading_storm_inputs, reading_recheck, reading_series, reading_numbers, transformer_asked, asking, outcome}
 use Rattle.gic_ask.specs.Asks.{Asks, IsAnswer, CouldNotRead}
 use Rattle.gic_ask.specs.Steps.{Passes, Steps, Reads, HasFailedFetch}
 use Rattle.gic_ask.specs.declared.fault.File.{File}
 use Rattle.gic_ask.specs.declared.fault.File.TheVariants as file
 use Rattle.gic_ask.specs.declared.fault.InputFault.{InputFault}
 use Rattle.gic_ask.specs.declared.fault.InputFault.TheVariants.{Refused, CannotRead, Memory}
+use Rattle.gic_ask.specs.declared.fault.InputRefusal.{InputRefusal}
 use Rattle.gic_ask.specs.declared.fault.InputRefusal.TheVariants.{Usage as UsageRefusal, Case as CaseRefused, Storm as StormRefused, Switch as SwitchRefused}
 use Rattle.gic_case.specs.Rules.{case_of}
 use Rattle.gic_case.specs.declared.refusal.CaseRefusal.{CaseRefusal}
@@ -29,7 +30,7 @@ use Rattle.gic_storm.specs.declared.refusal.StormRefusal.{StormRefusal}
 use Rattle.gic_switch.specs.Rules.{switchings_of}
 use Rattle.gic_switch.specs.declared.refusal.SwitchRefusal.{SwitchRefusal}
 use Rattle.gic_ask.specs.declared.request.Asked.{Asked}
-use Rattle.gic_ask.specs.declared.request.Asked.TheVariants.{Network, Study, Recheck}
+use Rattle.gic_ask.specs.declared.request.Asked.TheVariants.{Network, Study, Recheck, Series}
 
 -- what was handed out of the files, where no certificate is asked for
 abbrev pub of_each : (case storm switch : Given) → Contents
@@ -169,97 +170,119 @@ all_read files later before now o case switchings c content at =
       failed = λ file h. grind (arith, h);
     }
 
--- ---- the inputs of a study
+-- ---- the inputs of a mode over a storm
 
 -- the inputs with these files
 storm_inputs_with : Options → Lists → StormView → Option (List Switching) → StormInputs
 storm_inputs_with o case storm rows = record { inputs = record { case = case; switchings = rows; question = o.question }; storm = storm }
 
--- a case that is not read
-pub study_case_fails : (files : Option Files) (before now : List (List ℕ)) (o : Options) (fault : InputFault)
-    → Steps {A = Lists} files o.case (reading_case o.case) (Err fault)
-    → HasFailedFetch {A = Lists} file.Case before now o.case (Err fault)
-    → Reads {A = StormInputs} files o (reading_storm_inputs o) before now (Err fault)
+-- a storm that is not read
+pub storm_fails : (files : Option Files) (before now : List (List ℕ)) (o : Options) (case : Lists) (fault : InputFault)
+    → Steps {A = StormView} files o.storm (reading_storm case o.storm) (Err fault)
+    → HasFailedFetch {A = StormView} file.Storm before now o.storm (Err fault)
+    → Reads {A = StormInputs} files o (reading_over_case o case) before now (Err fault)
 unfolding storm_inputs_with
-study_case_fails files before now o fault s failed = record {
-  contents = of_each s.given Nothing Nothing;
-  handed = each_handed files o s.given Nothing Nothing s.may (none_given files o.storm) (none_given files o.switch);
-  passes = fails_first {B = StormInputs} (reading_case o.case s.given)
-      (λ last case. reading_storm case o.storm Nothing (λ storm. reading_switchings case o.switch Nothing (λ rows. last (storm_inputs_with o case storm rows)))) fault s.passes;
-  failed = fetch_failed Lists StormInputs o file.Case before now fault failed;
+storm_fails files before now o case fault t failed = record {
+  contents = of_each Nothing t.given Nothing;
+  handed = each_handed files o Nothing t.given Nothing (none_given files o.case) t.may (none_given files o.switch);
+  passes = fails_first {B = StormInputs} (reading_storm case o.storm t.given)
+      (λ last storm. reading_switchings case o.switch Nothing (λ rows. last (storm_inputs_with o case storm rows))) fault t.passes;
+  failed = fetch_failed StormView StormInputs o file.Storm before now fault failed;
 }
 
--- a storm that is not read
-pub storm_fails : (files later : Option Files) (before between now : List (List ℕ)) (o : Options) (case : Lists) (fault : InputFault)
-    → Steps {A = Lists} files o.case (reading_case o.case) (Ok case)
-    → later ≡ files → between ≡ before
-    → Steps {A = StormView} later o.storm (reading_storm case o.storm) (Err fault)
-    → HasFailedFetch {A = StormView} file.Storm between now o.storm (Err fault)
-    → Reads {A = StormInputs} files o (reading_storm_inputs o) before now (Err fault)
-unfolding storm_inputs_with
-storm_fails files later before between now o case fault c content failures at failing =
-    let t : Steps {A = StormView} files o.storm (reading_storm case o.storm) (Err fault) =
-    subst (λ (f : Option Files). Steps {A = StormView} f o.storm (reading_storm case o.storm) (Err fault)) content at in
-    let failed : HasFailedFetch {A = StormView} file.Storm before now o.storm (Err fault) =
-    subst (λ (b : List (List ℕ)). HasFailedFetch {A = StormView} file.Storm b now o.storm (Err fault)) failures failing in
-    record {
-      contents = of_each c.given t.given Nothing;
-      handed = each_handed files o c.given t.given Nothing c.may t.may (none_given files o.switch);
-      passes = fails_second {B = StormInputs} (reading_case o.case c.given) case
-          (λ case last. reading_storm case o.storm t.given (λ storm. reading_switchings case o.switch Nothing (λ rows. last (storm_inputs_with o case storm rows)))) fault c.passes
-          (fails_first {B = StormInputs} (reading_storm case o.storm t.given) (λ last storm. reading_switchings case o.switch Nothing (λ rows. last (storm_inputs_with o case storm rows))) fault t.passes);
-      failed = fetch_failed StormView StormInputs o file.Storm before now fault failed;
-    }
-
 -- switchings that are not read
-pub study_switchings_fail : (files mid later : Option Files) (before first between now : List (List ℕ)) (o : Options) (case : Lists) (storm : StormView) (fault : InputFault)
-    → Steps {A = Lists} files o.case (reading_case o.case) (Ok case)
-    → mid ≡ files → first ≡ before
-    → Steps {A = StormView} mid o.storm (reading_storm case o.storm) (Ok storm)
-    → later ≡ mid → between ≡ first
+pub storm_switchings_fail : (files later : Option Files) (before between now : List (List ℕ)) (o : Options) (case : Lists) (storm : StormView) (fault : InputFault)
+    → Steps {A = StormView} files o.storm (reading_storm case o.storm) (Ok storm)
+    → later ≡ files → between ≡ before
     → Steps {A = Option (List Switching)} later o.switch (reading_switchings case o.switch) (Err fault)
     → HasFailedFetch {A = Option (List Switching)} file.Switch between now o.switch (Err fault)
-    → Reads {A = StormInputs} files o (reading_storm_inputs o) before now (Err fault)
+    → Reads {A = StormInputs} files o (reading_over_case o case) before now (Err fault)
 unfolding storm_inputs_with
-study_switchings_fail files mid later before first between now o case storm fault c content failures stormed content2 failures2 at failing =
-    let t : Steps {A = StormView} files o.storm (reading_storm case o.storm) (Ok storm) =
-    subst (λ (f : Option Files). Steps {A = StormView} f o.storm (reading_storm case o.storm) (Ok storm)) content stormed in
+storm_switchings_fail files later before between now o case storm fault t content failures at failing =
     let s : Steps {A = Option (List Switching)} files o.switch (reading_switchings case o.switch) (Err fault) =
-    subst (λ (f : Option Files). Steps {A = Option (List Switching)} f o.switch (reading_switchings case o.switch) (Err fault)) (content2 ∙ content) at in
+    subst (λ (f : Option Files). Steps {A = Option (List Switching)} f o.switch (reading_switchings case o.switch) (Err fault)) content at in
     let failed : HasFailedFetch {A = Option (List Switching)} file.Switch before now o.switch (Err fault) =
-    subst (λ (b : List (List ℕ)). HasFailedFetch {A = Option (List Switching)} file.Switch b now o.switch (Err fault)) (failures2 ∙ failures) failing in
+    subst (λ (b : List (List ℕ)). HasFailedFetch {A = Option (List Switching)} file.Switch b now o.switch (Err fault)) failures failing in
     record {
-      contents = of_each c.given t.given s.given;
-      handed = each_handed files o c.given t.given s.given c.may t.may s.may;
-      passes = fails_second {B = StormInputs} (reading_case o.case c.given) case
-          (λ case last. reading_storm case o.storm t.given (λ storm. reading_switchings case o.switch s.given (λ rows. last (storm_inputs_with o case storm rows)))) fault c.passes
-          (fails_second {B = StormInputs} (reading_storm case o.storm t.given) storm
+      contents = of_each Nothing t.given s.given;
+      handed = each_handed files o Nothing t.given s.given (none_given files o.case) t.may s.may;
+      passes = fails_second {B = StormInputs} (reading_storm case o.storm t.given) storm
           (λ storm last. reading_switchings case o.switch s.given (λ rows. last (storm_inputs_with o case storm rows))) fault t.passes
-          (fails_first {B = StormInputs} (reading_switchings case o.switch s.given) (λ last rows. last (storm_inputs_with o case storm rows)) fault s.passes));
+          (fails_first {B = StormInputs} (reading_switchings case o.switch s.given) (λ last rows. last (storm_inputs_with o case storm rows)) fault s.passes);
       failed = fetch_failed (Option (List Switching)) StormInputs o file.Switch before now fault failed;
     }
 
 -- all is read
-pub study_read : (files mid later : Option Files) (before now : List (List ℕ)) (o : Options) (case : Lists) (storm : StormView) (switchings : Option (List Switching))
-    → Steps {A = Lists} files o.case (reading_case o.case) (Ok case)
-    → mid ≡ files
-    → Steps {A = StormView} mid o.storm (reading_storm case o.storm) (Ok storm)
-    → later ≡ mid
+pub over_case_read : (files later : Option Files) (before now : List (List ℕ)) (o : Options) (case : Lists) (storm : StormView) (switchings : Option (List Switching))
+    → Steps {A = StormView} files o.storm (reading_storm case o.storm) (Ok storm)
+    → later ≡ files
     → Steps {A = Option (List Switching)} later o.switch (reading_switchings case o.switch) (Ok switchings)
-    → Reads {A = StormInputs} files o (reading_storm_inputs o) before now (Ok (record { inputs = record { case = case; switchings = switchings; question = o.question }; storm = storm }))
+    → Reads {A = StormInputs} files o (reading_over_case o case) before now (Ok (record { inputs = record { case = case; switchings = switchings; question = o.question }; storm = storm }))
 unfolding storm_inputs_with
-study_read files mid later before now o case storm switchings c content stormed content2 at =
-    let t : Steps {A = StormView} files o.storm (reading_storm case o.storm) (Ok storm) =
-    subst (λ (f : Option Files). Steps {A = StormView} f o.storm (reading_storm case o.storm) (Ok storm)) content stormed in
+over_case_read files later before now o case storm switchings t content at =
     let s : Steps {A = Option (List Switching)} files o.switch (reading_switchings case o.switch) (Ok switchings) =
-    subst (λ (f : Option Files). Steps {A = Option (List Switching)} f o.switch (reading_switchings case o.switch) (Ok switchings)) (content2 ∙ content) at in
+    subst (λ (f : Option Files). Steps {A = Option (List Switching)} f o.switch (reading_switchings case o.switch) (Ok switchings)) content at in
     record {
-      contents = of_each c.given t.given s.given;
-      handed = each_handed files o c.given t.given s.given c.may t.may s.may;
-      passes = λ last. c.passes (λ case. reading_storm case o.storm t.given (λ storm. reading_switchings case o.switch s.given (λ rows. last (storm_inputs_with o case storm rows))))
-          ∙ (t.passes (λ storm. reading_switchings case o.switch s.given (λ rows. last (storm_inputs_with o case storm rows)))
-          ∙ s.passes (λ rows. last (storm_inputs_with o case storm rows)));
+      contents = of_each Nothing t.given s.given;
+      handed = each_handed files o Nothing t.given s.given (none_given files o.case) t.may s.may;
+      passes = λ last. t.passes (λ storm. reading_switchings case o.switch s.given (λ rows. last (storm_inputs_with o case storm rows)))
+          ∙ s.passes (λ rows. last (storm_inputs_with o case storm rows));
       failed = λ file h. grind (arith, h);
+    }
+
+-- ---- a case, and what is read after it
+
+-- what was handed out, and this of the case
+abbrev with_case : Contents → (case : Given) → Contents
+with_case contents case file.Case = case
+with_case contents case file.Storm = contents file.Storm
+with_case contents case file.Switch = contents file.Switch
+with_case contents case file.Certificate = contents file.Certificate
+
+case_handed : (files : Option Files) (o : Options) (contents : Contents) (case : Given) → MayHandOut files o contents → IfSome o.case (λ n. MayGive files n case)
+    → MayHandOut files o (with_case contents case)
+case_handed files o contents case h c file.Case = c
+case_handed files o contents case h c file.Storm = h file.Storm
+case_handed files o contents case h c file.Switch = h file.Switch
+case_handed files o contents case h c file.Certificate = h file.Certificate
+
+-- a step that hands a value on, and a longer one behind it
+passes_after : {A B : Type 0} (step : (A → Outcome) → Outcome) (a : A) (more : A → (B → Outcome) → Outcome) (answer : Result B InputFault) → Passes {A = A} step (Ok a)
+    → Passes {A = B} (more a) answer → Passes {A = B} (λ last. step (λ x. more x last)) answer
+passes_after step a more (Ok b) h k = λ last. h (λ x. more x last) ∙ k last
+passes_after step a more (Err fault) h k = fails_second step a more fault h k
+
+-- the further files are those of these moments
+at_these : {A : Type 0} (files later : Option Files) (before between now : List (List ℕ)) (o : Options) (step : Contents → (A → Outcome) → Outcome) (answer : Result A InputFault)
+    → later ≡ files → between ≡ before → Reads {A = A} later o step between now answer → Reads {A = A} files o step before now answer
+at_these {A} files later before between now o step answer content failures at =
+    subst (λ (b : List (List ℕ)). Reads {A = A} files o step b now answer) failures (subst (λ (f : Option Files). Reads {A = A} f o step between now answer) content at)
+
+-- a study's case that is not read
+pub study_case_fails : (files : Option Files) (before now : List (List ℕ)) (o : Options) (fault : InputFault)
+    → Steps {A = Lists} files o.case (reading_case o.case) (Err fault)
+    → HasFailedFetch {A = Lists} file.Case before now o.case (Err fault)
+    → Reads {A = StormInputs} files o (reading_storm_inputs o) before now (Err fault)
+study_case_fails files before now o fault s failed = record {
+  contents = of_each s.given Nothing Nothing;
+  handed = each_handed files o s.given Nothing Nothing s.may (none_given files o.storm) (none_given files o.switch);
+  passes = fails_first {B = StormInputs} (reading_case o.case s.given) (λ last case. reading_over_case o case (of_each s.given Nothing Nothing) last) fault s.passes;
+  failed = fetch_failed Lists StormInputs o file.Case before now fault failed;
+}
+
+-- and one that is read, whatever comes after it
+pub study_case_read : (files later : Option Files) (before between now : List (List ℕ)) (o : Options) (case : Lists) (answer : Result StormInputs InputFault)
+    → Steps {A = Lists} files o.case (reading_case o.case) (Ok case)
+    → later ≡ files → between ≡ before
+    → Reads {A = StormInputs} later o (reading_over_case o case) between now answer
+    → Reads {A = StormInputs} files o (reading_storm_inputs o) before now answer
+study_case_read files later before between now o case answer c content failures at =
+    let r = at_these {A = StormInputs} files later before between now o (reading_over_case o case) answer content failures at in
+    record {
+      contents = with_case r.contents c.given;
+      handed = case_handed files o r.contents c.given r.handed c.may;
+      passes = passes_after {B = StormInputs} (reading_case o.case c.given) case (λ case last. reading_over_case o case r.contents last) answer c.passes r.passes;
+      failed = r.failed;
     }
 
 -- a case that is read
@@ -509,5 +532,100 @@ recheck_is_asked words files before now o answer e is r = record {
   handed = handed_by files o (options_of words) r.contents e r.handed;
   asked = answer_by (outcome words r.contents) (reading_recheck o r.contents (λ asked. Accepts asked)) answer
       (of_options words o mode.Recheck r.contents e is) (accepted_by (reading_recheck o r.contents) answer r.passes);
+  failed = λ file h. named_failed words o file before now e (r.failed file h);
+}
+
+-- ---- one transformer over a storm
+
+-- what comes after the case
+after_case : Options → Contents → Lists → (Asked → Outcome) → Outcome
+after_case o contents case last =
+    reading (transformer_asked case o.transformer) (λ refusal. refusal) (λ transformer. reading_over_case o case contents (λ inputs. last (Series inputs transformer)))
+
+-- a case that is not read
+pub series_case_fails : (files : Option Files) (before now : List (List ℕ)) (o : Options) (fault : InputFault)
+    → Steps {A = Lists} files o.case (reading_case o.case) (Err fault)
+    → HasFailedFetch {A = Lists} file.Case before now o.case (Err fault)
+    → Reads {A = Asked} files o (reading_series o) before now (Err fault)
+unfolding after_case
+series_case_fails files before now o fault s failed = record {
+  contents = of_each s.given Nothing Nothing;
+  handed = each_handed files o s.given Nothing Nothing s.may (none_given files o.storm) (none_given files o.switch);
+  passes = fails_first {B = Asked} (reading_case o.case s.given) (λ last case. after_case o (of_each s.given Nothing Nothing) case last) fault s.passes;
+  failed = fetch_failed Lists Asked o file.Case before now fault failed;
+}
+
+-- a transformer that is not found; no further file is asked for
+pub transformer_fails : (files : Option Files) (before now : List (List ℕ)) (o : Options) (case : Lists) (refusal : InputRefusal)
+    → Steps {A = Lists} files o.case (reading_case o.case) (Ok case)
+    → Err refusal ≡ transformer_asked case o.transformer
+    → Reads {A = Asked} files o (reading_series o) before now (Err (Refused refusal))
+unfolding after_case
+transformer_fails files before now o case refusal c is = record {
+  contents = of_each c.given Nothing Nothing;
+  handed = each_handed files o c.given Nothing Nothing c.may (none_given files o.storm) (none_given files o.switch);
+  passes = λ last. c.passes (λ case. after_case o (of_each c.given Nothing Nothing) case last)
+      ∙ ap (λ (r : Result ℕ InputRefusal). reading r (λ refusal. refusal) (λ transformer. reading_over_case o case (of_each c.given Nothing Nothing) (λ inputs. last (Series inputs transformer)))) (sym is);
+  failed = λ file h. grind (arith, h);
+}
+
+-- what comes after the case, where the transformer is found
+after_found : (o : Options) (contents : Contents) (case : Lists) (transformer : ℕ) → Ok transformer ≡ transformer_asked case o.transformer → (last : Asked → Outcome)
+    → after_case o contents case last ≡ reading_over_case o case contents (λ inputs. last (Series inputs transformer))
+unfolding after_case
+after_found o contents case transformer is last =
+    ap (λ (r : Result ℕ InputRefusal). reading r (λ refusal. refusal) (λ place. reading_over_case o case contents (λ inputs. last (Series inputs place)))) (sym is)
+
+found_fails : (o : Options) (contents : Contents) (case : Lists) (transformer : ℕ) (fault : InputFault) → Ok transformer ≡ transformer_asked case o.transformer
+    → Passes {A = StormInputs} (reading_over_case o case contents) (Err fault) → Passes {A = Asked} (after_case o contents case) (Err fault)
+found_fails o contents case transformer (Refused r) is h = λ last. after_found o contents case transformer is last ∙ h (λ inputs. last (Series inputs transformer))
+found_fails o contents case transformer (CannotRead file) is h = λ last. after_found o contents case transformer is last ∙ h (λ inputs. last (Series inputs transformer))
+found_fails o contents case transformer Memory is h = tt
+
+-- further files that are not read
+pub series_fails : (files later : Option Files) (before between now : List (List ℕ)) (o : Options) (case : Lists) (transformer : ℕ) (fault : InputFault)
+    → Steps {A = Lists} files o.case (reading_case o.case) (Ok case)
+    → later ≡ files → between ≡ before
+    → Ok transformer ≡ transformer_asked case o.transformer
+    → Reads {A = StormInputs} later o (reading_over_case o case) between now (Err fault)
+    → Reads {A = Asked} files o (reading_series o) before now (Err fault)
+unfolding after_case
+series_fails files later before between now o case transformer fault c content failures is at =
+    let r = at_these {A = StormInputs} files later before between now o (reading_over_case o case) (Err fault) content failures at in
+    record {
+      contents = with_case r.contents c.given;
+      handed = case_handed files o r.contents c.given r.handed c.may;
+      passes = fails_second {B = Asked} (reading_case o.case c.given) case (λ case last. after_case o r.contents case last) fault c.passes
+          (found_fails o r.contents case transformer fault is r.passes);
+      failed = λ file h. r.failed file (same_fault h);
+    }
+
+-- all is read
+pub series_read : (files later : Option Files) (before between now : List (List ℕ)) (o : Options) (case : Lists) (transformer : ℕ) (inputs : StormInputs)
+    → Steps {A = Lists} files o.case (reading_case o.case) (Ok case)
+    → later ≡ files → between ≡ before
+    → Ok transformer ≡ transformer_asked case o.transformer
+    → Reads {A = StormInputs} later o (reading_over_case o case) between now (Ok inputs)
+    → Reads {A = Asked} files o (reading_series o) before now (Ok (Series inputs transformer))
+unfolding after_case
+series_read files later before between now o case transformer inputs c content failures is at =
+    let r = at_these {A = StormInputs} files later before between now o (reading_over_case o case) (Ok inputs) content failures at in
+    record {
+      contents = with_case r.contents c.given;
+      handed = case_handed files o r.contents c.given r.handed c.may;
+      passes = λ last. c.passes (λ case. after_case o r.contents case last)
+          ∙ (after_found o r.contents case transformer is last ∙ r.passes (λ inputs. last (Series inputs transformer)));
+      failed = λ file h. grind (arith, h);
+    }
+
+-- one transformer over a storm is asked for, or what is needed for it is not read
+pub series_is_asked : (words : List (List ℕ)) (files : Option Files) (before now : List (List ℕ)) (o : Options) (answer : Result Asked InputFault)
+    → options_of words ≡ Ok o → o.mode ≡ mode.Series → Reads {A = Asked} files o (reading_series o) before now answer
+    → Asks words files before now answer
+series_is_asked words files before now o answer e is r = record {
+  contents = r.contents;
+  handed = handed_by files o (options_of words) r.contents e r.handed;
+  asked = answer_by (outcome words r.contents) (reading_series o r.contents (λ asked. Accepts asked)) answer
+      (of_options words o mode.Series r.contents e is) (accepted_by (reading_series o r.contents) answer r.passes);
   failed = λ file h. named_failed words o file before now e (r.failed file h);
 }

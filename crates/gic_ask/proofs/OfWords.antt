@@ -1,6 +1,6 @@
 -- A refusal of the words is one of the words alone.
 use Rattle.std.proofs.Common.{◌≡◌, ℕ, List, Option, Some, None, Result, Ok, Err, ap, arith}
-use Rattle.std.specs.Prelude.{IfOk, IsSome}
+use Rattle.std.specs.Prelude.{IfOk, IsSome, ok_or}
 use Rattle.gic_case.specs.Lists.{Lists}
 use Rattle.gic_case.specs.Rules.{case_of}
 use Rattle.gic_case.specs.declared.refusal.CaseRefusal.{CaseRefusal}
@@ -16,12 +16,13 @@ use Rattle.gic_words.specs.declared.mode.Mode.{Mode}
 use Rattle.gic_words.specs.declared.mode.Mode.TheVariants as mode
 use Rattle.gic_words.specs.declared.options.Options.{Options}
 use Rattle.gic_words.specs.declared.fault.Usage.{Usage}
+use Rattle.gic_course.specs.declared.inputs.StormInputs.{StormInputs}
 use Rattle.gic_ask.specs.Contents.{Given, Nothing, Long, Whole, Contents}
-use Rattle.gic_ask.specs.Outcome.{Outcome, Refuses, Accepts, reading, reading_case, reading_storm, reading_switchings, reading_certificate, reading_numbers, asking}
+use Rattle.gic_ask.specs.Outcome.{Outcome, Refuses, Accepts, reading, reading_case, reading_storm, reading_switchings, reading_certificate, reading_over_case, reading_numbers, transformer_named, transformer_asked, asking}
 use Rattle.gic_ask.specs.WordsRefused.{UsageIsOfWords}
-use Rattle.gic_ask.specs.declared.request.Asked.TheVariants.{Network, Study, Recheck}
+use Rattle.gic_ask.specs.declared.request.Asked.TheVariants.{Network, Study, Recheck, Series}
 use Rattle.gic_ask.specs.declared.fault.File.TheVariants as file
-use Rattle.gic_ask.specs.declared.fault.InputRefusal.TheVariants.{Usage as UsageRefusal, Case as CaseRefused, Storm as StormRefused, Switch as SwitchRefused}
+use Rattle.gic_ask.specs.declared.fault.InputRefusal.TheVariants.{Usage as UsageRefusal, Case as CaseRefused, UnknownTransformer, Storm as StormRefused, Switch as SwitchRefused}
 
 -- the outcome doesn't refuse the words
 abbrev IsOther : Usage → Outcome → Type 0
@@ -65,6 +66,22 @@ certificate_other u (Some name) Nothing next named other e = grind (arith, e)
 certificate_other u (Some name) Long next named other e = grind (arith, e)
 certificate_other u (Some name) (Whole bytes) next named other e = other bytes e
 
+over_case_other : (u : Usage) (o : Options) (case : Lists) (contents : Contents) (next : StormInputs → Outcome) → IsSome o.storm → ((inputs : StormInputs) → IsOther u (next inputs))
+    → IsOther u (reading_over_case o case contents next)
+over_case_other u o case contents next named other =
+    let last : StormView → Option (List Switching) → Outcome = λ storm rows. next (record { inputs = record { case = case; switchings = rows; question = o.question }; storm = storm }) in
+    storm_other u case o.storm (contents file.Storm) (λ storm. reading_switchings case o.switch (contents file.Switch) (last storm)) named
+    (λ storm. switchings_other u case o.switch (contents file.Switch) (last storm) (λ rows. other (record { inputs = record { case = case; switchings = rows; question = o.question }; storm = storm })))
+
+found_other : (u : Usage) (found : Option ℕ) (next : ℕ → Outcome) → ((place : ℕ) → IsOther u (next place)) → IsOther u (reading (ok_or found UnknownTransformer) (λ refusal. refusal) next)
+found_other u None next other e = grind (arith, e)
+found_other u (Some place) next other e = other place e
+
+transformer_other : (u : Usage) (case : Lists) (name : Option (List ℕ)) (next : ℕ → Outcome) → IsSome name → ((place : ℕ) → IsOther u (next place))
+    → IsOther u (reading (transformer_asked case name) (λ refusal. refusal) next)
+transformer_other u case None next named other e = grind (arith, named)
+transformer_other u case (Some name) next named other e = found_other u (transformer_named case name) next other e
+
 numbers_other : (u : Usage) (seed size : Option ℕ) → IsSome seed → IsSome size → IsOther u (reading_numbers seed size)
 numbers_other u None size seeded sized e = grind (arith, seeded)
 numbers_other u (Some seed) None seeded sized e = grind (arith, sized)
@@ -76,16 +93,20 @@ other_by_mode u (mode.Network m) o contents named =
     case_other u o.case (contents file.Case) (λ case. reading_switchings case o.switch (contents file.Switch) (last case)) named
     (λ case. switchings_other u case o.switch (contents file.Switch) (last case) (λ rows e. grind (arith, e)))
 other_by_mode u mode.Study o contents given =
-    let last : Lists → StormView → Option (List Switching) → Outcome = λ case storm rows. Accepts (Study (record { inputs = record { case = case; switchings = rows; question = o.question }; storm = storm }) o.detail) in
-    case_other u o.case (contents file.Case) (λ case. reading_storm case o.storm (contents file.Storm) (λ storm. reading_switchings case o.switch (contents file.Switch) (last case storm))) given.0
-    (λ case. storm_other u case o.storm (contents file.Storm) (λ storm. reading_switchings case o.switch (contents file.Switch) (last case storm)) given.1
-    (λ storm. switchings_other u case o.switch (contents file.Switch) (last case storm) (λ rows e. grind (arith, e))))
+    let last : StormInputs → Outcome = λ inputs. Accepts (Study inputs o.detail) in
+    case_other u o.case (contents file.Case) (λ case. reading_over_case o case contents last) given.0
+    (λ case. over_case_other u o case contents last given.1 (λ inputs e. grind (arith, e)))
 other_by_mode u mode.Make o contents given = numbers_other u o.seed o.size given.0 given.1
 other_by_mode u mode.Recheck o contents given =
     let last : Lists → Option (List Switching) → List ℕ → Outcome = λ case rows bytes. Accepts (Recheck (record { case = case; switchings = rows; question = o.question }) bytes) in
     case_other u o.case (contents file.Case) (λ case. reading_switchings case o.switch (contents file.Switch) (λ rows. reading_certificate o.cert (contents file.Certificate) (last case rows))) given.0
     (λ case. switchings_other u case o.switch (contents file.Switch) (λ rows. reading_certificate o.cert (contents file.Certificate) (last case rows))
     (λ rows. certificate_other u o.cert (contents file.Certificate) (last case rows) given.1 (λ bytes e. grind (arith, e))))
+other_by_mode u mode.Series o contents given =
+    let last : ℕ → StormInputs → Outcome = λ place inputs. Accepts (Series inputs place) in
+    case_other u o.case (contents file.Case) (λ case. reading (transformer_asked case o.transformer) (λ refusal. refusal) (λ place. reading_over_case o case contents (last place))) given.0
+    (λ case. transformer_other u case o.transformer (λ place. reading_over_case o case contents (last place)) given.1.1
+    (λ place. over_case_other u o case contents (last place) given.1.0 (λ inputs e. grind (arith, e))))
 
 same_usage : (v u : Usage) → Refuses (UsageRefusal v) ≡ Refuses (UsageRefusal u) → v ≡ u
 same_usage v u e = grind (arith, e)

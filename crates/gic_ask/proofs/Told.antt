@@ -22,14 +22,16 @@ use Rattle.gic_words.specs.declared.fault.Usage.{Usage}
 use Rattle.gic_ask.specs.Asks.{IsAnswer}
 use Rattle.gic_ask.specs.Contents.{Given, Nothing, Long, Whole, Contents, MayGive, MayHandOut}
 use Rattle.gic_ask.specs.Held.{held, held_bytes, held_by_length, held_for, AnswersOfFiles}
-use Rattle.gic_ask.specs.Outcome.{Outcome, Lacks, Accepts, reading, reading_case, reading_storm, reading_switchings, reading_certificate, asking, outcome}
+use Rattle.gic_ask.specs.Outcome.{Outcome, Lacks, Accepts, reading, reading_case, reading_storm, reading_switchings, reading_certificate, reading_over_case, transformer_asked, asking, outcome}
 use Rattle.gic_ask.specs.declared.fault.File.{File}
 use Rattle.gic_ask.specs.declared.fault.File.TheVariants as file
 use Rattle.gic_ask.specs.declared.fault.InputFault.{InputFault}
 use Rattle.gic_ask.specs.declared.fault.InputFault.TheVariants.{Refused, CannotRead, Memory}
 use Rattle.gic_ask.specs.declared.fault.InputRefusal.TheVariants.{Usage as UsageRefusal, Case as CaseRefused, Storm as StormRefused, Switch as SwitchRefused}
 use Rattle.gic_ask.specs.declared.request.Asked.{Asked}
-use Rattle.gic_ask.specs.declared.request.Asked.TheVariants.{Network, Study, Recheck}
+use Rattle.gic_ask.specs.declared.request.Asked.TheVariants.{Network, Study, Recheck, Series}
+use Rattle.gic_course.specs.declared.inputs.StormInputs.{StormInputs}
+use Rattle.gic_ask.specs.declared.fault.InputRefusal.{InputRefusal}
 
 -- what may be given of a length is what is held
 long_held : (b : Bool) (n : ℕ) (bytes : List ℕ) → LIMIT < n → nat_lt LIMIT n ≡ b → held_by_length b bytes ≡ Long
@@ -142,6 +144,25 @@ IfNamed files name g = IfSome name (λ n. MayGive (Some files) n g)
 named : (files : Files) (name : Option (List ℕ)) (g : Given) (text : List ℕ) → name ≡ Some text → IfNamed files name g → MayGive (Some files) text g
 named files name g text e h = subst (λ (n : Option (List ℕ)). IfNamed files n g) e h
 
+-- the further files of a mode over a storm
+after_over_case : (files : Files) (o : Options) (contents : Contents) → MayHandOut (Some files) o contents → (case : Lists) (next : StormInputs → Outcome)
+    → IsSameOrLacks (reading_over_case o case contents next) (reading_over_case o case (held_for files (Ok o)) next)
+after_over_case files o contents may case next =
+    let last : StormView → Option (List Switching) → Outcome = λ storm rows. next (record { inputs = record { case = case; switchings = rows; question = o.question }; storm = storm }) in
+    after_storm files case o.storm (contents file.Storm)
+    (λ storm. reading_switchings case o.switch (contents file.Switch) (last storm))
+    (λ storm. reading_switchings case o.switch (held files o.switch) (last storm))
+    (λ text e. named files o.storm (contents file.Storm) text e (may file.Storm))
+    (λ storm. after_switchings files case o.switch (contents file.Switch) (last storm) (last storm)
+    (λ text e. named files o.switch (contents file.Switch) text e (may file.Switch))
+    (λ rows. inl refl))
+
+-- a transformer that is looked for
+after_transformer : (r : Result ℕ InputRefusal) (next other : ℕ → Outcome) → ((place : ℕ) → IsSameOrLacks (next place) (other place))
+    → IsSameOrLacks (reading r (λ refusal. refusal) next) (reading r (λ refusal. refusal) other)
+after_transformer (Ok place) next other h = h place
+after_transformer (Err refusal) next other h = inl refl
+
 same_by_mode : (files : Files) (m : Mode) (o : Options) (contents : Contents) → MayHandOut (Some files) o contents
     → IsSameOrLacks (asking m o contents) (asking m o (held_for files (Ok o)))
 same_by_mode files (mode.Network m) o contents may =
@@ -154,18 +175,12 @@ same_by_mode files (mode.Network m) o contents may =
     (λ text e. named files o.switch (contents file.Switch) text e (may file.Switch))
     (λ rows. inl refl))
 same_by_mode files mode.Study o contents may =
-    let last : Lists → StormView → Option (List Switching) → Outcome = λ case storm rows. Accepts (Study (record { inputs = record { case = case; switchings = rows; question = o.question }; storm = storm }) o.detail) in
+    let last : StormInputs → Outcome = λ inputs. Accepts (Study inputs o.detail) in
     named_case files o.case (contents file.Case)
-    (λ case. reading_storm case o.storm (contents file.Storm) (λ storm. reading_switchings case o.switch (contents file.Switch) (last case storm)))
-    (λ case. reading_storm case o.storm (held files o.storm) (λ storm. reading_switchings case o.switch (held files o.switch) (last case storm)))
+    (λ case. reading_over_case o case contents last)
+    (λ case. reading_over_case o case (held_for files (Ok o)) last)
     (λ text e. named files o.case (contents file.Case) text e (may file.Case))
-    (λ case. after_storm files case o.storm (contents file.Storm)
-    (λ storm. reading_switchings case o.switch (contents file.Switch) (last case storm))
-    (λ storm. reading_switchings case o.switch (held files o.switch) (last case storm))
-    (λ text e. named files o.storm (contents file.Storm) text e (may file.Storm))
-    (λ storm. after_switchings files case o.switch (contents file.Switch) (last case storm) (last case storm)
-    (λ text e. named files o.switch (contents file.Switch) text e (may file.Switch))
-    (λ rows. inl refl)))
+    (λ case. after_over_case files o contents may case last)
 same_by_mode files mode.Make o contents may = inl refl
 same_by_mode files mode.Recheck o contents may =
     let last : Lists → Option (List Switching) → List ℕ → Outcome = λ case rows bytes. Accepts (Recheck (record { case = case; switchings = rows; question = o.question }) bytes) in
@@ -179,6 +194,16 @@ same_by_mode files mode.Recheck o contents may =
     (λ text e. named files o.switch (contents file.Switch) text e (may file.Switch))
     (λ rows. after_certificate files o.cert (contents file.Certificate) (last case rows)
     (λ text e. named files o.cert (contents file.Certificate) text e (may file.Certificate))))
+same_by_mode files mode.Series o contents may =
+    let last : ℕ → StormInputs → Outcome = λ place inputs. Accepts (Series inputs place) in
+    named_case files o.case (contents file.Case)
+    (λ case. reading (transformer_asked case o.transformer) (λ refusal. refusal) (λ place. reading_over_case o case contents (last place)))
+    (λ case. reading (transformer_asked case o.transformer) (λ refusal. refusal) (λ place. reading_over_case o case (held_for files (Ok o)) (last place)))
+    (λ text e. named files o.case (contents file.Case) text e (may file.Case))
+    (λ case. after_transformer (transformer_asked case o.transformer)
+    (λ place. reading_over_case o case contents (last place))
+    (λ place. reading_over_case o case (held_for files (Ok o)) (last place))
+    (λ place. after_over_case files o contents may case (last place)))
 
 same_words : (files : Files) (r : Result Options Usage) (contents : Contents) → IfOk r (λ o. MayHandOut (Some files) o contents)
     → IsSameOrLacks (reading r UsageRefusal (λ o. asking o.mode o contents)) (reading r UsageRefusal (λ o. asking o.mode o (held_for files r)))

@@ -1,5 +1,5 @@
 -- What the words and the files ask for.
-use Rattle.std.specs.Prelude.{ℕ, List, Ok, Err, Result, None, Some}
+use Rattle.std.specs.Prelude.{ℕ, List, Ok, Err, Result, None, Some, bytes_eq, ok_or, position}
 use Rattle.std.specs.declared.option.Option.{Option}
 use Rattle.gic_case.specs.Lists.{Lists}
 use Rattle.gic_case.specs.Rules.{case_of}
@@ -19,9 +19,9 @@ use Rattle.gic_ask.specs.Contents.{Given, Nothing, Long, Whole, Contents}
 use Rattle.gic_ask.specs.declared.fault.File.{File}
 use Rattle.gic_ask.specs.declared.fault.File.TheVariants as file
 use Rattle.gic_ask.specs.declared.fault.InputRefusal.{InputRefusal}
-use Rattle.gic_ask.specs.declared.fault.InputRefusal.TheVariants.{Usage, TooLong, Case, Storm, Switch}
+use Rattle.gic_ask.specs.declared.fault.InputRefusal.TheVariants.{Usage, TooLong, Case, UnknownTransformer, Storm, Switch}
 use Rattle.gic_ask.specs.declared.request.Asked.{Asked}
-use Rattle.gic_ask.specs.declared.request.Asked.TheVariants.{Network, Study, Make, Recheck}
+use Rattle.gic_ask.specs.declared.request.Asked.TheVariants.{Network, Study, Make, Recheck, Series}
 
 -- the first refusal, the first file that was not handed out, or what is accepted
 pub data Outcome : Type 0 where
@@ -45,7 +45,7 @@ abbrev pub reading_case : (name : Option (List ℕ)) → Given → (Lists → Ou
 reading_case None given next = Refuses (Usage (Missing opt.Case))
 reading_case (Some name) given next = fetching file.Case given (λ bytes. reading (case_of bytes) Case next)
 
--- a storm over the case; it is always named, since a study requires it
+-- a storm over the case; it is always named, since each mode over a storm requires it
 abbrev pub reading_storm : Lists → (name : Option (List ℕ)) → Given → (StormView → Outcome) → Outcome
 reading_storm case None given next = Refuses (Usage (Missing opt.Storm))
 reading_storm case (Some name) given next = fetching file.Storm given (λ bytes. reading (storm_of (zone_names case.zones) bytes) Storm next)
@@ -67,13 +67,35 @@ reading_inputs o contents next =
     reading_switchings case o.switch (contents file.Switch) (λ switchings.
     next (record { case = case; switchings = switchings; question = o.question })))
 
+-- the inputs of a mode over a storm, once its case is read: its further files, one after another
+abbrev pub reading_over_case : Options → Lists → Contents → (StormInputs → Outcome) → Outcome
+reading_over_case o case contents next =
+    reading_storm case o.storm (contents file.Storm) (λ storm.
+    reading_switchings case o.switch (contents file.Switch) (λ switchings.
+    next (record { inputs = record { case = case; switchings = switchings; question = o.question }; storm = storm })))
+
 -- the inputs of a study: its files, one after another
 abbrev pub reading_storm_inputs : Options → Contents → (StormInputs → Outcome) → Outcome
 reading_storm_inputs o contents next =
     reading_case o.case (contents file.Case) (λ case.
-    reading_storm case o.storm (contents file.Storm) (λ storm.
-    reading_switchings case o.switch (contents file.Switch) (λ switchings.
-    next (record { inputs = record { case = case; switchings = switchings; question = o.question }; storm = storm }))))
+    reading_over_case o case contents next)
+
+-- the place of the transformer of the case that has this name; no two have one name
+abbrev pub transformer_named : Lists → (name : List ℕ) → Option ℕ
+transformer_named case name = position (λ t. bytes_eq t.name name) case.transformers
+
+-- the transformer that is asked for; it is always named, since `series` requires it
+abbrev pub transformer_asked : Lists → (name : Option (List ℕ)) → Result ℕ InputRefusal
+transformer_asked case None = Err (Usage (Missing opt.Transformer))
+transformer_asked case (Some name) = ok_or (transformer_named case name) UnknownTransformer
+
+-- what `series` is given: a case, in which the transformer is looked for at once, and then the further files of a mode over a storm
+abbrev pub reading_series : Options → Contents → (Asked → Outcome) → Outcome
+reading_series o contents next =
+    reading_case o.case (contents file.Case) (λ case.
+    reading (transformer_asked case o.transformer) (λ refusal. refusal) (λ transformer.
+    reading_over_case o case contents (λ inputs.
+    next (Series inputs transformer))))
 
 -- what `recheck` is given: the inputs of a mode over the network of a case, and then the certificate
 abbrev pub reading_recheck : Options → Contents → (Asked → Outcome) → Outcome
@@ -94,6 +116,7 @@ asking (mode.Network m) o contents = reading_inputs o contents (λ inputs. Accep
 asking mode.Study o contents = reading_storm_inputs o contents (λ inputs. Accepts (Study inputs o.detail))
 asking mode.Make o contents = reading_numbers o.seed o.size
 asking mode.Recheck o contents = reading_recheck o contents (λ asked. Accepts asked)
+asking mode.Series o contents = reading_series o contents (λ asked. Accepts asked)
 
 -- the words, and then the files that they name, each fetched and then read
 abbrev pub outcome : List (List ℕ) → Contents → Outcome

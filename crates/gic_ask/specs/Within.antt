@@ -1,13 +1,15 @@
 -- The ranges of what is asked for.
+use Rattle.std.specs.Prelude.{◌<◌, length}
 use Rattle.gic_question.specs.Ranges.{IsWithinRanges}
 use Rattle.gic_course.specs.Steps.{IsStormOf}
 use Rattle.gic_words.specs.Required.{IsSize}
 use Rattle.gic_ask.specs.declared.request.Asked.{Asked}
-use Rattle.gic_ask.specs.declared.request.Asked.TheVariants.{Network, Study, Make, Recheck}
+use Rattle.gic_ask.specs.declared.request.Asked.TheVariants.{Network, Study, Make, Recheck, Series}
 
--- the question of a network, with a storm that was read with its case, and the size of a made one
+-- the question of a network, with a storm that was read with its case, the size of a made one, and the place of a transformer of the case
 abbrev pub IsAskedWithinRanges : Asked → Type 0
 IsAskedWithinRanges (Network mode inputs) = IsWithinRanges inputs.question
 IsAskedWithinRanges (Study inputs detail) = IsWithinRanges inputs.inputs.question × IsStormOf inputs
 IsAskedWithinRanges (Make seed size) = IsSize size
 IsAskedWithinRanges (Recheck inputs certificate) = IsWithinRanges inputs.question
+IsAskedWithinRanges (Series inputs transformer) = IsWithinRanges inputs.inputs.question × (IsStormOf inputs × (transformer < length inputs.inputs.case.transformers))

@@ -9,12 +9,13 @@ ghost use Rattle.gic_ask.specs.declared.fault.File.TheVariants as file;
 ghost use Rattle.gic_ask.specs.Asks.{Asks, IsAnswer};
 ghost use Rattle.gic_ask.specs.Contents.{MayGive, Whole};
 ghost use Rattle.gic_question.specs.Ranges.{IsWithinRanges};
-ghost use Rattle.gic_ask.specs.Outcome.{reading_case, reading_storm, reading_switchings, reading_certificate, reading_inputs, reading_storm_inputs, reading_recheck, reading_numbers};
+ghost use Rattle.gic_ask.specs.Outcome.{reading_case, reading_storm, reading_switchings, reading_certificate, reading_inputs, reading_over_case, reading_storm_inputs, reading_recheck, reading_series, reading_numbers};
 ghost use Rattle.gic_ask.specs.Steps.{FetchFails, Steps, HasFailedFetch, Reads};
 ghost use Rattle.gic_ask.specs.Within.{IsAskedWithinRanges};
 
 use crate::bytes::FileBytes;
 use crate::fault::{File, InputFault, InputRefusal};
+use crate::finding::transformer;
 use crate::request::Asked;
 use gic_base::{FetchRefusal, Library, read_whole};
 use gic_case::{Case, CaseRefusal, read_case};
@@ -75,7 +76,8 @@ fn case<L: Library>(
     }
 }
 
-/// Fetches and reads the storm over a case that is named. Without a name it would be missing; a study requires one.
+/// Fetches and reads the storm over a case that is named. Without a name it would be missing; each mode over a storm
+/// requires one.
 fn storm<L: Library>(
     alloc: Global,
     library: &mut L,
@@ -159,6 +161,29 @@ fn inputs<L: Library>(
     })
 }
 
+/// The inputs of a mode over a storm, once its case is read: its further files, one after another.
+fn inputs_over_case<L: Library>(
+    alloc: Global,
+    library: &mut L,
+    options: &Options,
+    case: Case,
+) -> Result<StormInputs, InputFault>
+    ensures reads { Reads (L.content library.old) options.now (reading_over_case options.now case)
+        (L.failures library.old) (L.failures library.new) result }
+    ensures case { IfOk result (λ inputs. inputs.inputs.case ≡ case) }
+    ensures question { IfOk result (λ inputs. inputs.inputs.question ≡ options.now.question) }
+    ensures storm { IfOk result IsStormOf }
+{
+    let storm = storm(alloc, library, &options.storm, &case)?;
+    let switchings = switchings(alloc, library, &options.switch, &case)?;
+    let inputs = Inputs {
+        case,
+        switchings,
+        question: options.question,
+    };
+    Ok(StormInputs { inputs, storm })
+}
+
 /// The inputs of a study: its files, one after another.
 fn storm_inputs<L: Library>(
     alloc: Global,
@@ -171,14 +196,30 @@ fn storm_inputs<L: Library>(
     ensures storm { IfOk result IsStormOf }
 {
     let case = case(alloc, library, &options.case)?;
-    let storm = storm(alloc, library, &options.storm, &case)?;
-    let switchings = switchings(alloc, library, &options.switch, &case)?;
-    let inputs = Inputs {
-        case,
-        switchings,
-        question: options.question,
+    inputs_over_case(alloc, library, options, case)
+}
+
+/// What `series` is given: a case, in which the transformer is looked for at once, and then the further files of a mode
+/// over a storm.
+fn series<L: Library>(
+    alloc: Global,
+    library: &mut L,
+    options: &Options,
+) -> Result<Asked, InputFault>
+    ensures reads { Reads (L.content library.old) options.now (reading_series options.now)
+        (L.failures library.old) (L.failures library.new) result }
+    ensures ranges { IsWithinRanges options.now.question → IfOk result IsAskedWithinRanges }
+{
+    let case = case(alloc, library, &options.case)?;
+    let transformer = match transformer(&options.transformer, &case) {
+        Ok(place) => place,
+        Err(refusal) => return Err(InputFault::Refused(refusal)),
     };
-    Ok(StormInputs { inputs, storm })
+    let inputs = inputs_over_case(alloc, library, options, case)?;
+    Ok(Asked::Series {
+        inputs,
+        transformer,
+    })
 }
 
 /// What `recheck` is given: the files of a mode over the network of a case, and then the certificate.
@@ -243,5 +284,6 @@ pub fn ask<L: Library>(
         }
         Mode::Make => made(&options),
         Mode::Recheck => rechecked(alloc, library, &options),
+        Mode::Series => series(alloc, library, &options),
     }
 }

@@ -10,7 +10,7 @@ use Rattle.gic_ask.specs.declared.fault.InputFault.{InputFault}
 use Rattle.gic_ask.specs.declared.fault.InputFault.TheVariants as input
 use Rattle.gic_ask.specs.declared.fault.InputRefusal.{InputRefusal}
 use Rattle.gic_ask.specs.declared.request.Asked.{Asked}
-use Rattle.gic_ask.specs.declared.request.Asked.TheVariants.{Network, Study, Make, Recheck}
+use Rattle.gic_ask.specs.declared.request.Asked.TheVariants.{Network, Study, Make, Recheck, Series}
 use Rattle.gic_recheck.specs.Determines.{AcceptedIsNotRefused}
 use Rattle.gic_recheck.specs.declared.fault.CertificateRefusal.{CertificateRefusal}
 use Rattle.gic_stand.specs.Needs.{Nothing, IsMet, IsUnmet}
@@ -92,6 +92,7 @@ refused_or_accepted : AcceptedIsNotRefused → (asked : Asked) (refusal : Certif
 refused_or_accepted never (Network m inputs) refusal refused accepted = refused
 refused_or_accepted never (Study inputs detail) refusal refused accepted = refused
 refused_or_accepted never (Make seed size) refusal refused accepted = refused
+refused_or_accepted never (Series inputs transformer) refusal refused accepted = refused
 refused_or_accepted never (Recheck inputs certificate) refusal refused accepted = never inputs.case (standing_of inputs.case inputs.switchings) certificate accepted.0 refusal accepted.1 refused
 
 -- what is right of a certificate shows that it is accepted
@@ -99,6 +100,7 @@ right_accepts : (plans : Plans) (asked : Asked) (text : List ℕ) → IsRightTex
 right_accepts plans (Network m inputs) text right = tt
 right_accepts plans (Study inputs detail) text right = tt
 right_accepts plans (Make seed size) text right = tt
+right_accepts plans (Series inputs transformer) text right = tt
 right_accepts plans (Recheck inputs certificate) text right = (right.certificate, right.accepted)
 
 -- where a certificate is asked to be checked, nothing is needed of the network
@@ -106,6 +108,7 @@ refused_needs_nothing : (asked : Asked) (refusal : CertificateRefusal) (network 
 refused_needs_nothing (Network m inputs) refusal network refused unmet = refused
 refused_needs_nothing (Study inputs detail) refusal network refused unmet = refused
 refused_needs_nothing (Make seed size) refusal network refused unmet = refused
+refused_needs_nothing (Series inputs transformer) refusal network refused unmet = refused
 refused_needs_nothing (Recheck inputs certificate) refusal network refused unmet = unmet_or_met Nothing inputs.case (steps_of inputs) network unmet (met_nothing (steps_of inputs))
 
 reported_by : (law : AnswersOfFiles) (never : AcceptedIsNotRefused) (words : List (List ℕ)) (files : Files) (plans : Plans) (before now : Moment) (answer : Answer)

@@ -7,7 +7,7 @@ use Rattle.gic_words.specs.declared.mode.Mode.{Mode}
 use Rattle.gic_words.specs.declared.mode.Mode.TheVariants as mode
 use Rattle.gic_stand.specs.declared.inputs.Inputs.{Inputs}
 use Rattle.gic_ask.specs.declared.request.Asked.{Asked}
-use Rattle.gic_ask.specs.declared.request.Asked.TheVariants.{Network, Study, Make, Recheck}
+use Rattle.gic_ask.specs.declared.request.Asked.TheVariants.{Network, Study, Make, Recheck, Series}
 use Rattle.gic_study.specs.Modes.{Plans, mode_asked, IsRightOverNetwork, IsRightText}
 use Rattle.gic_study.specs.Laws.{TextsTellModes}
 
@@ -33,6 +33,7 @@ begins plans (Network m inputs) text right = begins_over_network m inputs text r
 begins plans (Study inputs detail) text right = ap (λ (t : List ℕ). first_two t) right.text_is
 begins plans (Make seed size) text right = ap (λ (t : List ℕ). first_two t) right.text_is
 begins plans (Recheck inputs certificate) text right = ap (λ (t : List ℕ). first_two t) right.text_is
+begins plans (Series inputs transformer) text right = ap (λ (t : List ℕ). first_two t) right.text_is
 
 -- the mode whose word begins so
 abbrev marked : ℕ → Mode
@@ -44,7 +45,8 @@ marked mark = if mark == mark_of (mode.Network network.Volts) then mode.Network 
     else (if mark == mark_of (mode.Network network.Certify) then mode.Network network.Certify
     else (if mark == mark_of mode.Study then mode.Study
     else (if mark == mark_of mode.Make then mode.Make
-    else mode.Recheck)))))))
+    else (if mark == mark_of mode.Recheck then mode.Recheck
+    else mode.Series))))))))
 
 -- no two modes begin alike
 marked_as : (m : Mode) → marked (mark_of m) ≡ m
@@ -57,6 +59,7 @@ marked_as (mode.Network network.Certify) = refl
 marked_as mode.Study = refl
 marked_as mode.Make = refl
 marked_as mode.Recheck = refl
+marked_as mode.Series = refl
 
 pub texts_tell_modes : TextsTellModes
 texts_tell_modes plans others asked other text right right' =

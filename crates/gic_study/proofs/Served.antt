@@ -7,7 +7,7 @@ use Rattle.gic_stand.specs.Serves.{Shown, Serves}
 use Rattle.gic_stand.specs.Standing.{standing_of, steps_of}
 use Rattle.gic_stand.specs.declared.fault.ReportFault.{ReportFault}
 use Rattle.gic_ask.specs.declared.request.Asked.{Asked}
-use Rattle.gic_ask.specs.declared.request.Asked.TheVariants.{Network, Study, Make, Recheck}
+use Rattle.gic_ask.specs.declared.request.Asked.TheVariants.{Network, Study, Make, Recheck, Series}
 use Rattle.gic_course.specs.declared.inputs.StormInputs.{StormInputs}
 use Rattle.gic_course.specs.Steps.{storm_steps}
 use Rattle.gic_make.specs.Made.{made_case}
@@ -16,8 +16,9 @@ use Rattle.gic_recheck.specs.RightRecheck.{ServesRecheck}
 use Rattle.gic_recheck.specs.declared.fault.RecheckFault.{RecheckFault}
 use Rattle.gic_recheck.specs.declared.fault.RecheckFault.TheVariants as recheck
 use Rattle.gic_study_mode.specs.RightStudy.{IsRightStudy}
-use Rattle.gic_study.specs.Answers.{Answer, Concludes}
-use Rattle.gic_study.specs.Faults.{reported, rechecked}
+use Rattle.gic_series.specs.RightSeries.{IsRightSeries}
+use Rattle.gic_study.specs.Answers.{Answer}
+use Rattle.gic_study.specs.Concluding.{Concludes, reported, rechecked}
 use Rattle.gic_study.specs.Modes.{Plans, need_over_network, need_of, case_asked, steps_asked, IsRightOverNetwork, IsRightText}
 
 -- how a call ends that was reported
@@ -41,6 +42,12 @@ pub over_storm : (plans : Plans) (asked : Asked) (inputs : StormInputs) (detail 
     → Concludes plans asked before now whole
 over_storm plans asked inputs detail before now answer whole is served ends =
     subst (ConcludesSo plans before now whole) (sym is) (subst (Concludes plans (Study inputs detail) before now) (sym ends) (concludes_reported plans (Study inputs detail) before now answer served))
+
+pub of_transformer : (plans : Plans) (asked : Asked) (inputs : StormInputs) (transformer : ℕ) (before now : Shown) (answer : Result (Unit {0}) ReportFault) (whole : Answer) → asked ≡ Series inputs transformer
+    → Serves Solved inputs.inputs.case (storm_steps inputs) (IsRightSeries inputs transformer) before now answer → whole ≡ reported answer
+    → Concludes plans asked before now whole
+of_transformer plans asked inputs transformer before now answer whole is served ends =
+    subst (ConcludesSo plans before now whole) (sym is) (subst (Concludes plans (Series inputs transformer) before now) (sym ends) (concludes_reported plans (Series inputs transformer) before now answer served))
 
 pub of_made_case : (plans : Plans) (asked : Asked) (seed size : ℕ) (before now : Shown) (answer : Result (Unit {0}) ReportFault) (whole : Answer) → asked ≡ Make seed size
     → Serves Nothing (made_case seed size) (standing_of (made_case seed size) None ∷ []) (IsRightMake seed size) before now answer → whole ≡ reported answer

@@ -23,6 +23,7 @@ says words files plans before now (Ok done) explained = record {
   unearthed = λ e. absurd (omega (arith, e));
   unresolved = λ e. absurd (omega (arith, e));
   too_long = λ e. absurd (omega (arith, e));
+  transformer_unknown = λ e. absurd (omega (arith, e));
   certificate_refused = λ e. absurd (omega (arith, e));
   nothing = λ not_done not_unwritten. absurd (not_done refl);
 }
@@ -37,6 +38,7 @@ says words files plans before now (Err (Input (input.Refused (input_refusal.Usag
   unearthed = λ e. absurd (omega (arith, e));
   unresolved = λ e. absurd (omega (arith, e));
   too_long = λ e. absurd (omega (arith, e));
+  transformer_unknown = λ e. absurd (omega (arith, e));
   certificate_refused = λ e. absurd (omega (arith, e));
   nothing = λ not_done not_unwritten. explained.kept;
 }
@@ -51,6 +53,7 @@ says words files plans before now (Err (Input (input.CannotRead file))) explaine
   unearthed = λ e. absurd (omega (arith, e));
   unresolved = λ e. absurd (omega (arith, e));
   too_long = λ e. absurd (omega (arith, e));
+  transformer_unknown = λ e. absurd (omega (arith, e));
   certificate_refused = λ e. absurd (omega (arith, e));
   nothing = λ not_done not_unwritten. explained.kept;
 }
@@ -65,6 +68,7 @@ says words files plans before now (Err (Report report.CannotWrite)) explained = 
   unearthed = λ e. absurd (omega (arith, e));
   unresolved = λ e. absurd (omega (arith, e));
   too_long = λ e. absurd (omega (arith, e));
+  transformer_unknown = λ e. absurd (omega (arith, e));
   certificate_refused = λ e. absurd (omega (arith, e));
   nothing = λ not_done not_unwritten. absurd (not_unwritten refl);
 }
@@ -79,6 +83,7 @@ says words files plans before now (Err (Input (input.Refused (input_refusal.Case
   unearthed = λ e. absurd (omega (arith, e));
   unresolved = λ e. absurd (omega (arith, e));
   too_long = λ e. absurd (omega (arith, e));
+  transformer_unknown = λ e. absurd (omega (arith, e));
   certificate_refused = λ e. absurd (omega (arith, e));
   nothing = λ not_done not_unwritten. explained.kept;
 }
@@ -93,6 +98,7 @@ says words files plans before now (Err (Input (input.Refused (input_refusal.Stor
   unearthed = λ e. absurd (omega (arith, e));
   unresolved = λ e. absurd (omega (arith, e));
   too_long = λ e. absurd (omega (arith, e));
+  transformer_unknown = λ e. absurd (omega (arith, e));
   certificate_refused = λ e. absurd (omega (arith, e));
   nothing = λ not_done not_unwritten. explained.kept;
 }
@@ -107,6 +113,7 @@ says words files plans before now (Err (Input (input.Refused (input_refusal.Swit
   unearthed = λ e. absurd (omega (arith, e));
   unresolved = λ e. absurd (omega (arith, e));
   too_long = λ e. absurd (omega (arith, e));
+  transformer_unknown = λ e. absurd (omega (arith, e));
   certificate_refused = λ e. absurd (omega (arith, e));
   nothing = λ not_done not_unwritten. explained.kept;
 }
@@ -121,6 +128,7 @@ says words files plans before now (Err (Report (report.Refused (network.Unearthe
   unearthed = λ e. (step, (node, explained));
   unresolved = λ e. absurd (omega (arith, e));
   too_long = λ e. absurd (omega (arith, e));
+  transformer_unknown = λ e. absurd (omega (arith, e));
   certificate_refused = λ e. absurd (omega (arith, e));
   nothing = λ not_done not_unwritten. explained.serves.1;
 }
@@ -135,6 +143,7 @@ says words files plans before now (Err (Report (report.Refused (network.Unresolv
   unearthed = λ e. absurd (omega (arith, e));
   unresolved = λ e. (step, (node, explained));
   too_long = λ e. absurd (omega (arith, e));
+  transformer_unknown = λ e. absurd (omega (arith, e));
   certificate_refused = λ e. absurd (omega (arith, e));
   nothing = λ not_done not_unwritten. explained.serves.1;
 }
@@ -149,6 +158,7 @@ says words files plans before now (Err (Input (input.Refused (input_refusal.TooL
   unearthed = λ e. absurd (omega (arith, e));
   unresolved = λ e. absurd (omega (arith, e));
   too_long = λ e. (file, explained);
+  transformer_unknown = λ e. absurd (omega (arith, e));
   certificate_refused = λ e. absurd (omega (arith, e));
   nothing = λ not_done not_unwritten. explained.kept;
 }
@@ -163,6 +173,7 @@ says words files plans before now (Err (Input input.Memory)) explained = record 
   unearthed = λ e. absurd (omega (arith, e));
   unresolved = λ e. absurd (omega (arith, e));
   too_long = λ e. absurd (omega (arith, e));
+  transformer_unknown = λ e. absurd (omega (arith, e));
   certificate_refused = λ e. absurd (omega (arith, e));
   nothing = λ not_done not_unwritten. explained.kept;
 }
@@ -177,8 +188,24 @@ says words files plans before now (Err (Report report.Memory)) explained = recor
   unearthed = λ e. absurd (omega (arith, e));
   unresolved = λ e. absurd (omega (arith, e));
   too_long = λ e. absurd (omega (arith, e));
+  transformer_unknown = λ e. absurd (omega (arith, e));
   certificate_refused = λ e. absurd (omega (arith, e));
   nothing = λ not_done not_unwritten. explained.serves;
+}
+says words files plans before now (Err (Input (input.Refused input_refusal.UnknownTransformer))) explained = record {
+  done = λ e. absurd (omega (arith, e));
+  usage = λ e. absurd (omega (arith, e));
+  unread = λ e. absurd (omega (arith, e));
+  unwritten = λ e. absurd (omega (arith, e));
+  case_refused = λ e. absurd (omega (arith, e));
+  storm_refused = λ e. absurd (omega (arith, e));
+  switch_refused = λ e. absurd (omega (arith, e));
+  unearthed = λ e. absurd (omega (arith, e));
+  unresolved = λ e. absurd (omega (arith, e));
+  too_long = λ e. absurd (omega (arith, e));
+  transformer_unknown = λ e. explained;
+  certificate_refused = λ e. absurd (omega (arith, e));
+  nothing = λ not_done not_unwritten. explained.kept;
 }
 says words files plans before now (Err (Certificate refusal)) explained = record {
   done = λ e. absurd (omega (arith, e));
@@ -191,6 +218,7 @@ says words files plans before now (Err (Certificate refusal)) explained = record
   unearthed = λ e. absurd (omega (arith, e));
   unresolved = λ e. absurd (omega (arith, e));
   too_long = λ e. absurd (omega (arith, e));
+  transformer_unknown = λ e. absurd (omega (arith, e));
   certificate_refused = λ e. (refusal, explained);
   nothing = λ not_done not_unwritten. explained.kept;
 }

@@ -51,13 +51,6 @@ abbrev pub status_of : Answer → ℕ
 status_of (Ok done) = 0
 status_of (Err fault) = status_of_fault fault
 
--- how the call for what is asked for ends
-abbrev pub Concludes : Plans → Asked → (before now : Shown) → Answer → Type 0
-Concludes plans asked before now (Ok done) = Serves (need_of asked) (case_asked asked) (steps_asked asked) (IsRightText plans asked) before now (Ok done)
-Concludes plans asked before now (Err (Report fault)) = Serves (need_of asked) (case_asked asked) (steps_asked asked) (IsRightText plans asked) before now (Err fault)
-Concludes plans asked before now (Err (Certificate refusal)) = RefusesCertificate asked refusal × Keeps before.bytes now.bytes
-Concludes plans asked before now (Err (Input fault)) = ⊥
-
 -- why a call has this answer
 abbrev pub Explains : List (List ℕ) → Option Files → Plans → (before now : Moment) → Answer → Type 0
 Explains words files plans before now (Ok done) = Served words files plans before now (Ok done)

@@ -19,7 +19,7 @@ use Rattle.gic_ask.specs.Outcome.{Refuses, Lacks, Accepts, outcome}
 use Rattle.gic_ask.specs.declared.fault.File.{File}
 use Rattle.gic_ask.specs.declared.fault.InputFault.TheVariants.{Refused, CannotRead}
 use Rattle.gic_ask.specs.declared.fault.InputRefusal.{InputRefusal}
-use Rattle.gic_ask.specs.declared.fault.InputRefusal.TheVariants.{Usage, TooLong, Case, Storm, Switch}
+use Rattle.gic_ask.specs.declared.fault.InputRefusal.TheVariants.{Usage, TooLong, Case, UnknownTransformer, Storm, Switch}
 use Rattle.gic_ask.specs.declared.request.Asked.{Asked}
 use Rattle.gic_stand.specs.Needs.{IsMet, IsUnmet}
 use Rattle.gic_stand.specs.Serves.{Shown}
@@ -84,6 +84,7 @@ pub record StatusSays (words : List (List ℕ)) (files : Option Files) (plans : 
   pub unearthed : status ≡ 8 → (step : ℕ) × ((node : List ℕ) × Served words files plans before now (Err (report.Refused (Unearthed step node))))
   pub unresolved : status ≡ 9 → (step : ℕ) × ((node : List ℕ) × Served words files plans before now (Err (report.Refused (Unresolved step node))))
   pub too_long : status ≡ 10 → (file : File) × Unasked words files before now (Refused (TooLong file))
+  pub transformer_unknown : status ≡ 12 → Unasked words files before now (Refused UnknownTransformer)
   pub certificate_refused : status ≡ 13 → (e : CertificateRefusal) × Uncertified words files before now e
   pub nothing : status ≢ 0 → status ≢ 4 → Keeps before.out.bytes now.out.bytes
 

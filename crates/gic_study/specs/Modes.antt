@@ -10,7 +10,7 @@ use Rattle.gic_stand.specs.declared.inputs.Inputs.{Inputs}
 use Rattle.gic_stand.specs.Needs.{Need, Nothing, Earthed, Solved}
 use Rattle.gic_stand.specs.Standing.{standing_of, steps_of}
 use Rattle.gic_ask.specs.declared.request.Asked.{Asked}
-use Rattle.gic_ask.specs.declared.request.Asked.TheVariants.{Network, Study, Make, Recheck}
+use Rattle.gic_ask.specs.declared.request.Asked.TheVariants.{Network, Study, Make, Recheck, Series}
 use Rattle.gic_make.specs.Made.{made_case}
 use Rattle.gic_volts.specs.RightVolts.{IsRightVolts}
 use Rattle.gic_list.specs.RightList.{IsRightList}
@@ -24,6 +24,7 @@ use Rattle.gic_recheck.specs.RightRecheck.{IsRightRecheck}
 use Rattle.gic_recheck.specs.declared.fault.CertificateRefusal.{CertificateRefusal}
 use Rattle.gic_make_mode.specs.RightMake.{IsRightMake}
 use Rattle.gic_study_mode.specs.RightStudy.{IsRightStudy}
+use Rattle.gic_series.specs.RightSeries.{IsRightSeries}
 use Rattle.gic_course.specs.Steps.{storm_steps}
 use Rattle.gic_view.specs.View.{View}
 use Rattle.gic_monitor.specs.RosterView.{RosterView}
@@ -34,6 +35,7 @@ mode_asked (Network m inputs) = mode.Network m
 mode_asked (Study inputs detail) = mode.Study
 mode_asked (Make seed size) = mode.Make
 mode_asked (Recheck inputs certificate) = mode.Recheck
+mode_asked (Series inputs transformer) = mode.Series
 
 -- what a mode over the network of a case needs of it at each step
 abbrev pub need_over_network : NetworkMode → Need
@@ -50,6 +52,7 @@ need_of (Network m inputs) = need_over_network m
 need_of (Study inputs detail) = Solved
 need_of (Make seed size) = Nothing
 need_of (Recheck inputs certificate) = Nothing
+need_of (Series inputs transformer) = Solved
 
 -- the case of the network
 abbrev pub case_asked : Asked → Lists
@@ -57,6 +60,7 @@ case_asked (Network m inputs) = inputs.case
 case_asked (Study inputs detail) = inputs.inputs.case
 case_asked (Make seed size) = made_case seed size
 case_asked (Recheck inputs certificate) = inputs.case
+case_asked (Series inputs transformer) = inputs.inputs.case
 
 -- the elements that stand at each step
 abbrev pub steps_asked : Asked → List (List Placed)
@@ -64,6 +68,7 @@ steps_asked (Network m inputs) = steps_of inputs
 steps_asked (Study inputs detail) = storm_steps inputs
 steps_asked (Make seed size) = standing_of (made_case seed size) None ∷ []
 steps_asked (Recheck inputs certificate) = steps_of inputs
+steps_asked (Series inputs transformer) = storm_steps inputs
 
 -- the text is a right report of the network of a case
 abbrev pub IsRightOverNetwork : NetworkMode → Inputs → (text : List ℕ) → Type 0
@@ -84,6 +89,7 @@ IsRightText plans (Network m inputs) = IsRightOverNetwork m inputs
 IsRightText plans (Study inputs detail) = IsRightStudy inputs detail plans
 IsRightText plans (Make seed size) = IsRightMake seed size
 IsRightText plans (Recheck inputs certificate) = IsRightRecheck inputs certificate
+IsRightText plans (Series inputs transformer) = IsRightSeries inputs transformer
 
 -- the certificate that is asked to be checked is accepted; other modes are given none
 abbrev pub AcceptsCertificate : Asked → Type 0

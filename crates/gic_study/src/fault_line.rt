@@ -296,6 +296,7 @@ fn write_input<E: Sink>(refusal: InputRefusal, err: &mut E) -> Result<(), WriteF
         InputRefusal::Usage(usage) => write_usage(usage, err),
         InputRefusal::TooLong(file) => write_line(&["too", "long:", file_word(file)], err),
         InputRefusal::Case(refusal) => write_case(refusal, err),
+        InputRefusal::UnknownTransformer => write_line(&["unknown", "transformer"], err),
         InputRefusal::Storm(refusal) => write_storm(refusal, err),
         InputRefusal::Switch(refusal) => write_switchings(refusal, err),
     }

@@ -4,7 +4,7 @@ ghost use Rattle.gic_question.specs.Ranges.{IsWithinRanges};
 ghost use Rattle.gic_stand.specs.Serves.{Serves, shown};
 ghost use Rattle.gic_stand.specs.Standing.{steps_of};
 ghost use Rattle.gic_ask.specs.Within.{IsAskedWithinRanges};
-ghost use Rattle.gic_study.specs.Answers.{Concludes};
+ghost use Rattle.gic_study.specs.Concluding.{Concludes};
 ghost use Rattle.gic_study.specs.Modes.{need_over_network, IsRightOverNetwork};
 
 use crate::fault::{Fault, rechecked, reported};
@@ -18,6 +18,7 @@ use gic_make_mode::make;
 use gic_monitor::Monitor;
 use gic_recheck::recheck;
 use gic_screen_mode::screen;
+use gic_series::series;
 use gic_stand::{Inputs, ReportFault};
 use gic_study_mode::study;
 use gic_volts::volts;
@@ -64,5 +65,9 @@ pub(crate) fn serve<S: Sink>(
             inputs,
             certificate,
         } => rechecked(recheck(alloc, inputs, certificate.as_slice(), out)),
+        Asked::Series {
+            inputs,
+            transformer,
+        } => reported(series(alloc, inputs, *transformer, out)),
     }
 }

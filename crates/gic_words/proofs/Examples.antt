@@ -6,10 +6,10 @@ use Rattle.gic_text.specs.Decimal.{read_decimal, whole_of}
 use Rattle.gic_words.specs.Command.{command_of_words, faults_of, matches_of_words}
 use Rattle.gic_words.specs.Table.{is_among, mode_of, use_of}
 use Rattle.gic_words.specs.Options.{options_of}
-use Rattle.gic_words.specs.declared.option.Opt.TheVariants.{Case, Storm, Switch, North, East, Width, Detail, Seed, Size, Event, Cert}
+use Rattle.gic_words.specs.declared.option.Opt.TheVariants.{Case, Storm, Switch, North, East, Width, Detail, Seed, Size, Event, Cert, Transformer}
 use Rattle.gic_screen.specs.declared.event.Event.TheVariants.{Benchmark, Supplemental}
 use Rattle.gic_words.specs.declared.mode.NetworkMode.TheVariants as mode
-use Rattle.gic_words.specs.Asked.{asked_by, studied_by, made_by, rechecked_by}
+use Rattle.gic_words.specs.Asked.{asked_by, studied_by, made_by, rechecked_by, series_by}
 use Rattle.gic_words.specs.declared.fault.Usage.TheVariants as usage
 
 pub no_words : options_of [] ≡ Err usage.Words
@@ -232,3 +232,35 @@ rechecked = refl
 pub rechecked_with_switchings : options_of (codes "recheck" ∷ codes "--case=p" ∷ codes "--cert=" ∷ codes "--switch=s" ∷ []) ≡ Ok (rechecked_by (codes "p") [] (Some (codes "s")))
 unfolding clap_on_literals command_of_words faults_of matches_of_words options_of is_among mode_of use_of
 rechecked_with_switchings = refl
+
+pub missing_transformer : options_of (codes "series" ∷ codes "--case=p" ∷ codes "--storm=s" ∷ []) ≡ Err (usage.Missing Transformer)
+unfolding clap_on_literals command_of_words faults_of matches_of_words options_of is_among mode_of use_of
+missing_transformer = refl
+
+pub storm_before_transformer : options_of (codes "series" ∷ codes "--case=p" ∷ codes "--width=9" ∷ []) ≡ Err (usage.Missing Storm)
+unfolding clap_on_literals command_of_words faults_of matches_of_words options_of is_among mode_of use_of
+storm_before_transformer = refl
+
+pub width_before_transformer : options_of (codes "series" ∷ codes "--case=p" ∷ codes "--storm=s" ∷ codes "--width=9" ∷ []) ≡ Err (usage.Number Width)
+unfolding clap_on_literals command_of_words faults_of matches_of_words options_of is_among mode_of use_of read_decimal whole_of
+width_before_transformer = refl
+
+pub event_in_series : options_of (codes "series" ∷ codes "--case=p" ∷ codes "--storm=s" ∷ codes "--transformer=TA" ∷ codes "--event=benchmark" ∷ []) ≡ Err (usage.Extra Event)
+unfolding clap_on_literals command_of_words faults_of matches_of_words options_of is_among mode_of use_of
+event_in_series = refl
+
+pub transformer_in_field : options_of (codes "field" ∷ codes "--case=p" ∷ codes "--transformer=TA" ∷ []) ≡ Err (usage.Extra Transformer)
+unfolding clap_on_literals command_of_words faults_of matches_of_words options_of is_among mode_of use_of
+transformer_in_field = refl
+
+pub cert_before_transformer : options_of (codes "study" ∷ codes "--transformer=TA" ∷ codes "--cert=c" ∷ codes "--storm=s" ∷ codes "--case=p" ∷ []) ≡ Err (usage.Extra Cert)
+unfolding clap_on_literals command_of_words faults_of matches_of_words options_of is_among mode_of use_of
+cert_before_transformer = refl
+
+pub series : options_of (codes "series" ∷ codes "--case=p" ∷ codes "--storm=s" ∷ codes "--transformer=TA" ∷ []) ≡ Ok (series_by (codes "p") (codes "s") (codes "TA") None 100)
+unfolding clap_on_literals command_of_words faults_of matches_of_words options_of is_among mode_of use_of
+series = refl
+
+pub whole_series : options_of (codes "series" ∷ codes "--transformer=" ∷ codes "--width=10" ∷ codes "--switch=w" ∷ codes "--storm=s" ∷ codes "--case=p" ∷ []) ≡ Ok (series_by (codes "p") (codes "s") [] (Some (codes "w")) 10)
+unfolding clap_on_literals command_of_words faults_of matches_of_words options_of is_among mode_of use_of read_decimal whole_of
+whole_series = refl

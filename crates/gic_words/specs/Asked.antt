@@ -20,6 +20,7 @@ asked_by m case switch north east width event =
       seed = None;
       size = None;
       cert = None;
+      transformer = None;
     }
 
 -- a made case, by its seed and its number of sites
@@ -34,6 +35,7 @@ made_by seed size = record {
   seed = Some seed;
   size = Some size;
   cert = None;
+  transformer = None;
 }
 
 -- a storm over a case, the step in detail and what may stand beside them
@@ -48,6 +50,7 @@ studied_by case storm switch width detail event = record {
   seed = None;
   size = None;
   cert = None;
+  transformer = None;
 }
 
 -- a certificate over a case, and the switchings that may stand beside them
@@ -62,4 +65,20 @@ rechecked_by case cert switch = record {
   seed = None;
   size = None;
   cert = Some cert;
+  transformer = None;
+}
+
+-- one transformer at each step of a storm over a case, and what may stand beside them
+abbrev pub series_by : (case storm transformer : List ℕ) → (switch : Option (List ℕ)) → (width : ℕ) → Options
+series_by case storm transformer switch width = record {
+  mode = mode.Series;
+  case = Some case;
+  storm = Some storm;
+  switch = switch;
+  question = record { north = pos 0; east = pos 0; width = width; event = Benchmark };
+  detail = None;
+  seed = None;
+  size = None;
+  cert = None;
+  transformer = Some transformer;
 }

@@ -8,7 +8,7 @@ use Rattle.gic_screen.specs.declared.event.Event.{Event as NamedEvent}
 use Rattle.gic_screen.specs.declared.event.Event.TheVariants.{Benchmark}
 use Rattle.gic_words.specs.Values.{event_of, number_in}
 use Rattle.gic_words.specs.declared.option.Opt.{Opt}
-use Rattle.gic_words.specs.declared.option.Opt.TheVariants.{Case, Storm, Switch, North, East, Width, Detail, Seed, Size, Event, Cert}
+use Rattle.gic_words.specs.declared.option.Opt.TheVariants.{Case, Storm, Switch, North, East, Width, Detail, Seed, Size, Event, Cert, Transformer}
 use Rattle.gic_words.specs.declared.option.Form.{Form}
 use Rattle.gic_words.specs.declared.option.Form.TheVariants as form
 use Rattle.gic_words.specs.declared.mode.Mode.{Mode}
@@ -89,6 +89,7 @@ options_by m rows = record {
   seed = count_of rows Seed;
   size = count_of rows Size;
   cert = given rows Cert;
+  transformer = given rows Transformer;
 }
 
 -- ---- the words

@@ -15,9 +15,10 @@ pub record AreWithinRanges (o : Options) : Type 0 where
   pub question : IsWithinRanges o.question
   pub size : IfSome o.size IsSize
 
--- a case, with a storm for `study` and a certificate for `recheck`, or the numbers of a made one
+-- a case, with a storm for `study`, a certificate for `recheck`, and a storm and a transformer for `series`, or the numbers of a made one
 abbrev pub HasRequiredOf : Mode → Options → Type 0
 HasRequiredOf (mode.Network m) o = IsSome o.case
 HasRequiredOf mode.Study o = IsSome o.case × IsSome o.storm
 HasRequiredOf mode.Make o = IsSome o.seed × IsSome o.size
 HasRequiredOf mode.Recheck o = IsSome o.case × IsSome o.cert
+HasRequiredOf mode.Series o = IsSome o.case × (IsSome o.storm × IsSome o.transformer)

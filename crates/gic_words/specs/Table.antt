@@ -13,7 +13,7 @@ use Rattle.gic_words.specs.declared.mode.Mode.TheVariants as mode
 use Rattle.gic_words.specs.declared.mode.Use.{Use}
 use Rattle.gic_words.specs.declared.mode.Use.TheVariants.{Required, Allowed, Unused}
 use Rattle.gic_words.specs.declared.option.Opt.{Opt}
-use Rattle.gic_words.specs.declared.option.Opt.TheVariants.{Case, Storm, Switch, North, East, Width, Detail, Seed, Size, Event, Cert}
+use Rattle.gic_words.specs.declared.option.Opt.TheVariants.{Case, Storm, Switch, North, East, Width, Detail, Seed, Size, Event, Cert, Transformer}
 
 -- ---- the options
 
@@ -30,6 +30,7 @@ name_of Seed = codes "seed"
 name_of Size = codes "size"
 name_of Event = codes "event"
 name_of Cert = codes "cert"
+name_of Transformer = codes "transformer"
 
 -- an option as it is written
 abbrev pub flag : Opt → List ℕ
@@ -37,7 +38,7 @@ flag option = codes "--" ++ name_of option
 
 -- in the order in which their faults are found
 abbrev pub all_options : List Opt
-all_options = Case ∷ Storm ∷ Switch ∷ North ∷ East ∷ Width ∷ Detail ∷ Seed ∷ Size ∷ Event ∷ Cert ∷ []
+all_options = Case ∷ Storm ∷ Switch ∷ North ∷ East ∷ Width ∷ Detail ∷ Seed ∷ Size ∷ Event ∷ Cert ∷ Transformer ∷ []
 
 -- the form of the values of an option; fields are within `MOST_FIELD`, 20000 mV/km, either way, widths from 10 to 10000 mV or mA, a storm has at most `MOST_ROWS`, 20000, steps, seeds are numbers of 32 bits, and made cases have from 2 to 1000 sites
 abbrev pub form_of : Opt → Form
@@ -52,6 +53,7 @@ form_of Seed = form.Number (pos 0) (pos 4294967295)
 form_of Size = form.Number (pos 2) (pos 1000)
 form_of Event = form.Event
 form_of Cert = form.Name
+form_of Transformer = form.Name
 
 -- the place of an option in the table
 abbrev pub place_of : Opt → ℕ
@@ -66,6 +68,7 @@ place_of Seed = 7
 place_of Size = 8
 place_of Event = 9
 place_of Cert = 10
+place_of Transformer = 11
 
 -- whether an option is one of these
 unfoldable pub is_among : Opt → List Opt → Bool
@@ -88,11 +91,12 @@ word_of (mode.Network m) = network_word_of m
 word_of mode.Study = codes "study"
 word_of mode.Make = codes "make"
 word_of mode.Recheck = codes "recheck"
+word_of mode.Series = codes "series"
 
 abbrev pub all_modes : List Mode
 all_modes =
     mode.Network network.Volts ∷ mode.Network network.List ∷ mode.Network network.Check ∷ mode.Network network.Field ∷ mode.Network network.Screen
-    ∷ mode.Network network.Certify ∷ mode.Study ∷ mode.Make ∷ mode.Recheck ∷ []
+    ∷ mode.Network network.Certify ∷ mode.Study ∷ mode.Make ∷ mode.Recheck ∷ mode.Series ∷ []
 
 -- the mode that a word names
 unfoldable pub mode_of : List ℕ → Option Mode
@@ -104,6 +108,7 @@ required_by (mode.Network m) = Case ∷ []
 required_by mode.Study = Case ∷ Storm ∷ []
 required_by mode.Make = Seed ∷ Size ∷ []
 required_by mode.Recheck = Case ∷ Cert ∷ []
+required_by mode.Series = Case ∷ Storm ∷ Transformer ∷ []
 
 -- the further options that a mode over the network of a case may have
 abbrev pub allowed_over_network : NetworkMode → List Opt
@@ -120,6 +125,7 @@ allowed_by (mode.Network m) = allowed_over_network m
 allowed_by mode.Study = Switch ∷ Width ∷ Detail ∷ Event ∷ []
 allowed_by mode.Make = []
 allowed_by mode.Recheck = Switch ∷ []
+allowed_by mode.Series = Switch ∷ Width ∷ []
 
 -- what use a mode has for an option
 unfoldable pub use_of : Mode → Opt → Use

@@ -4,10 +4,10 @@ ghost use Rattle.clap.specs.Words.{Row};
 ghost use Rattle.gic_words.specs.declared.mode.Mode.{Mode};
 ghost use Rattle.gic_words.specs.declared.mode.Use.TheVariants.{Required};
 ghost use Rattle.gic_words.specs.declared.option.Opt.{Opt};
-ghost use Rattle.gic_words.specs.declared.option.Opt.TheVariants.{Case, Storm, Switch, North, East, Width, Detail, Seed, Size, Event, Cert};
+ghost use Rattle.gic_words.specs.declared.option.Opt.TheVariants.{Case, Storm, Switch, North, East, Width, Detail, Seed, Size, Event, Cert, Transformer};
 ghost use Rattle.gic_screen.specs.declared.event.Event.TheVariants.{Benchmark, Supplemental};
 ghost use Rattle.gic_words.specs.declared.mode.NetworkMode.TheVariants as mode;
-ghost use Rattle.gic_words.specs.Asked.{asked_by, studied_by, made_by, rechecked_by};
+ghost use Rattle.gic_words.specs.Asked.{asked_by, studied_by, made_by, rechecked_by, series_by};
 ghost use Rattle.gic_words.specs.declared.fault.Usage.TheVariants as usage;
 ghost use Rattle.gic_words.specs.Command.{given};
 ghost use Rattle.gic_words.specs.Table.{all_options, use_of};
@@ -62,6 +62,12 @@ pub fn refused_words_law()
     ensures field_in_recheck { options_of (codes "recheck" ∷ codes "--case=p" ∷ codes "--cert=c" ∷ codes "--north=0" ∷ []) ≡ Err (usage.Extra North) }
     ensures cert_in_field { options_of (codes "field" ∷ codes "--case=p" ∷ codes "--cert=c" ∷ []) ≡ Err (usage.Extra Cert) }
     ensures event_before_cert { options_of (codes "check" ∷ codes "--cert=c" ∷ codes "--event=benchmark" ∷ codes "--case=p" ∷ []) ≡ Err (usage.Extra Event) }
+    ensures missing_transformer { options_of (codes "series" ∷ codes "--case=p" ∷ codes "--storm=s" ∷ []) ≡ Err (usage.Missing Transformer) }
+    ensures storm_before_transformer { options_of (codes "series" ∷ codes "--case=p" ∷ codes "--width=9" ∷ []) ≡ Err (usage.Missing Storm) }
+    ensures width_before_transformer { options_of (codes "series" ∷ codes "--case=p" ∷ codes "--storm=s" ∷ codes "--width=9" ∷ []) ≡ Err (usage.Number Width) }
+    ensures event_in_series { options_of (codes "series" ∷ codes "--case=p" ∷ codes "--storm=s" ∷ codes "--transformer=TA" ∷ codes "--event=benchmark" ∷ []) ≡ Err (usage.Extra Event) }
+    ensures transformer_in_field { options_of (codes "field" ∷ codes "--case=p" ∷ codes "--transformer=TA" ∷ []) ≡ Err (usage.Extra Transformer) }
+    ensures cert_before_transformer { options_of (codes "study" ∷ codes "--transformer=TA" ∷ codes "--cert=c" ∷ codes "--storm=s" ∷ codes "--case=p" ∷ []) ≡ Err (usage.Extra Cert) }
     ensures missing_case_of_certify { options_of (codes "certify" ∷ codes "--width=9" ∷ []) ≡ Err (usage.Missing Case) }
     ensures width_in_certify { options_of (codes "certify" ∷ codes "--case=p" ∷ codes "--width=100" ∷ []) ≡ Err (usage.Extra Width) }
     ensures east_too_far { options_of (codes "certify" ∷ codes "--case=p" ∷ codes "--east=-20001" ∷ []) ≡ Err (usage.Number East) }
@@ -93,6 +99,10 @@ pub fn accepted_words_law()
         ≡ Ok (rechecked_by (codes "p") (codes "c") None) }
     ensures rechecked_with_switchings { options_of (codes "recheck" ∷ codes "--case=p" ∷ codes "--cert=" ∷ codes "--switch=s" ∷ [])
         ≡ Ok (rechecked_by (codes "p") [] (Some (codes "s"))) }
+    ensures series { options_of (codes "series" ∷ codes "--case=p" ∷ codes "--storm=s" ∷ codes "--transformer=TA" ∷ [])
+        ≡ Ok (series_by (codes "p") (codes "s") (codes "TA") None 100) }
+    ensures whole_series { options_of (codes "series" ∷ codes "--transformer=" ∷ codes "--width=10" ∷ codes "--switch=w" ∷ codes "--storm=s" ∷ codes "--case=p" ∷ [])
+        ≡ Ok (series_by (codes "p") (codes "s") [] (Some (codes "w")) 10) }
     ensures benchmark { options_of (codes "field" ∷ codes "--case=p" ∷ codes "--event=benchmark" ∷ [])
         ≡ Ok (asked_by mode.Field (codes "p") None (pos 0) (pos 0) 100 Benchmark) }
 {}

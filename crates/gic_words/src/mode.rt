@@ -32,6 +32,8 @@ pub enum Mode {
     Make,
     /// The potentials that a certificate shows of the network of a case, with all its switchings in force.
     Recheck,
+    /// One transformer at each step of a storm over the network of a case, with the switchings in its course.
+    Series,
 }
 
 /// Whether a mode has a use for an option.
@@ -45,7 +47,7 @@ pub(crate) enum Use {
     Unused,
 }
 
-static ALL: [Mode; 9] = [
+static ALL: [Mode; 10] = [
     Mode::Network(NetworkMode::Volts),
     Mode::Network(NetworkMode::List),
     Mode::Network(NetworkMode::Check),
@@ -55,6 +57,7 @@ static ALL: [Mode; 9] = [
     Mode::Study,
     Mode::Make,
     Mode::Recheck,
+    Mode::Series,
 ];
 
 impl NetworkMode {
@@ -97,6 +100,7 @@ impl Mode {
             Mode::Study => "study",
             Mode::Make => "make",
             Mode::Recheck => "recheck",
+            Mode::Series => "series",
         }
     }
 
@@ -124,6 +128,7 @@ impl Mode {
             Mode::Study => &[Opt::Case, Opt::Storm],
             Mode::Make => &[Opt::Seed, Opt::Size],
             Mode::Recheck => &[Opt::Case, Opt::Cert],
+            Mode::Series => &[Opt::Case, Opt::Storm, Opt::Transformer],
         }
     }
 
@@ -136,6 +141,7 @@ impl Mode {
             Mode::Study => &[Opt::Switch, Opt::Width, Opt::Detail, Opt::Event],
             Mode::Make => &[],
             Mode::Recheck => &[Opt::Switch],
+            Mode::Series => &[Opt::Switch, Opt::Width],
         }
     }
 

@@ -13,7 +13,7 @@ ghost use Rattle.gic_words.specs.Reads.{ReadsWords, KeepsTaken};
 use crate::command::{ParseRefusal, mode_word, parse, value_of};
 use crate::fault::{Usage, WordsRefusal, first_fault};
 use crate::mode::Mode;
-use crate::name::FileName;
+use crate::name::{FileName, Text};
 use crate::option::Opt;
 use crate::value::{read_event, read_number};
 use clap::ArgMatches;
@@ -28,7 +28,7 @@ pub struct Options {
     pub mode: Mode,
     /// The name of the case's file; each mode but `make` requires it.
     pub case: Option<FileName>,
-    /// The name of the storm's file; `study` requires it.
+    /// The name of the storm's file; `study` and `series` require it.
     pub storm: Option<FileName>,
     /// The name of the switchings' file.
     pub switch: Option<FileName>,
@@ -41,6 +41,8 @@ pub struct Options {
     pub size: Option<u16>,
     /// The name of the certificate's file; `recheck` requires it.
     pub cert: Option<FileName>,
+    /// What should be the name of a transformer of the case; `series` requires it.
+    pub transformer: Option<Text>,
 }
 
 /// The name of a file, where it is given.
@@ -55,6 +57,19 @@ fn file(
         Some(text) => {
             let name = FileName::copy(alloc, text)?;
             Ok(Some(name))
+        }
+        None => Ok(None),
+    }
+}
+
+/// A text that may be given.
+fn text(alloc: Global, matches: &ArgMatches<'_>, option: Opt) -> Result<Option<Text>, AllocError>
+    ensures { IfOk result (λ text. text ≡ given (rows_of (found_of matches.now)) option) }
+{
+    match value_of(matches, option) {
+        Some(text) => {
+            let text = Text::copy(alloc, text)?;
+            Ok(Some(text))
         }
         None => Ok(None),
     }
@@ -168,6 +183,7 @@ fn options_by(alloc: Global, mode: Mode, matches: &ArgMatches<'_>) -> Result<Opt
     let storm = file(alloc, matches, Opt::Storm)?;
     let switch = file(alloc, matches, Opt::Switch)?;
     let cert = file(alloc, matches, Opt::Cert)?;
+    let transformer = text(alloc, matches, Opt::Transformer)?;
     Ok(Options {
         mode,
         case,
@@ -178,6 +194,7 @@ fn options_by(alloc: Global, mode: Mode, matches: &ArgMatches<'_>) -> Result<Opt
         seed: seed(matches),
         size: size(matches),
         cert,
+        transformer,
     })
 }
 

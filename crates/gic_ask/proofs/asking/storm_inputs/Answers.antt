@@ -2,7 +2,7 @@ use Rattle.std.proofs.Common.{sym, subst}
 use Rattle.gic_course.specs.declared.inputs.StormInputs.{StormInputs}
 use Rattle.gic_ask.specs.Outcome.{reading_storm_inputs}
 use Rattle.gic_ask.specs.Steps.{Reads}
-use Rattle.gic_ask.proofs.Exits.{study_case_fails, storm_fails, study_switchings_fail, study_read, answered}
+use Rattle.gic_ask.proofs.Exits.{study_case_fails, study_case_read, answered}
 use Rattle.gic_ask.proofs.asking.storm_inputs.Goals as goal
 
 pub returns-in_err-case-clause-reads : goal.returns-in_err-case-clause-reads
@@ -11,22 +11,7 @@ returns-in_err-case-clause-reads g c =
     (sym (answered c.from_residual.result c.in_err-case.field-0.0 c.from_residual.ensures.1))
     (study_case_fails _ _ _ _ c.in_err-case.field-0.0 c.in_err-case.ensures.step c.in_err-case.ensures.failed)
 
-pub returns-in_err-storm-clause-reads : goal.returns-in_err-storm-clause-reads
-returns-in_err-storm-clause-reads g c =
-    subst (Reads {A = StormInputs} (g.L.Library.content c.args.library.now) c.args.options.now (reading_storm_inputs c.args.options.now) (g.L.Library.failures c.args.library.now) (g.L.Library.failures c.storm.new.library))
-    (sym (answered c.from_residual-in_err-storm.result c.in_err-storm.field-0.0 c.from_residual-in_err-storm.ensures.1))
-    (storm_fails _ _ _ _ _ _ c.in_ok-case.case c.in_err-storm.field-0.0 c.in_ok-case.ensures.step
-    c.in_ok-case.ensures.content c.in_ok-case.ensures.failures c.in_err-storm.ensures.step c.in_err-storm.ensures.failed)
-
-pub returns-in_err-switchings-clause-reads : goal.returns-in_err-switchings-clause-reads
-returns-in_err-switchings-clause-reads g c =
-    subst (Reads {A = StormInputs} (g.L.Library.content c.args.library.now) c.args.options.now (reading_storm_inputs c.args.options.now) (g.L.Library.failures c.args.library.now) (g.L.Library.failures c.switchings.new.library))
-    (sym (answered c.from_residual-in_err-switchings.result c.in_err-switchings.field-0.0 c.from_residual-in_err-switchings.ensures.1))
-    (study_switchings_fail _ _ _ _ _ _ _ _ c.in_ok-case.case c.in_ok-storm.storm c.in_err-switchings.field-0.0 c.in_ok-case.ensures.step
-    c.in_ok-case.ensures.content c.in_ok-case.ensures.failures c.in_ok-storm.ensures.step
-    c.in_ok-storm.ensures.content c.in_ok-storm.ensures.failures c.in_err-switchings.ensures.step c.in_err-switchings.ensures.failed)
-
 pub returns-clause-reads : goal.returns-clause-reads
 returns-clause-reads g c =
-    study_read _ _ _ _ _ _ c.in_ok-case.case c.in_ok-storm.storm c.in_ok-switchings.switchings
-    c.in_ok-case.ensures.step c.in_ok-case.ensures.content c.in_ok-storm.ensures.step c.in_ok-storm.ensures.content c.in_ok-switchings.ensures.step
+    study_case_read _ _ _ _ _ _ c.in_ok-case.case c.inputs_over_case.result
+    c.in_ok-case.ensures.step c.in_ok-case.ensures.content c.in_ok-case.ensures.failures c.inputs_over_case.ensures.reads

@@ -1,7 +1,7 @@
 use Rattle.std.proofs.Common.{ℕ, List, subst}
 use Rattle.gic_recheck.specs.RightRecheck.{ServesRecheck}
 use Rattle.gic_stand.specs.Serves.{shown}
-use Rattle.gic_study.proofs.Served.{over_network, over_storm, of_made_case, over_certificate}
+use Rattle.gic_study.proofs.Served.{over_network, over_storm, of_transformer, of_made_case, over_certificate}
 use Rattle.gic_study.proofs.modes.serve.Goals as goal
 
 pub returns-in-Network : goal.returns-in-Network
@@ -27,3 +27,8 @@ returns-in-Recheck g c =
     c.recheck.result c.rechecked.result c.in-Recheck.is
     (subst (λ (bytes : List ℕ). ServesRecheck c.in-Recheck.inputs bytes before now c.recheck.result) c.as_slice.ensures c.recheck.ensures)
     c.rechecked.ensures
+
+pub returns-in-Series : goal.returns-in-Series
+returns-in-Series g c =
+    of_transformer _ c.args.asked.now c.in-Series.inputs c.in-Series.transformer (shown g.S.Sink.written g.S.Sink.faults c.args.out.now) (shown g.S.Sink.written g.S.Sink.faults c.series.new.out)
+    c.series.result c.reported-in-Series.result c.in-Series.is c.series.ensures c.reported-in-Series.ensures
