@@ -4,8 +4,8 @@
     python3 bench/random_cases.py DIR [COUNT] [SEED] [NODES] [--mode=MODE] [--limits]
 
 Each folder of DIR has the case `p`, often a list of switchings `s`, and the file `words` with the words of one run of
-MODE (`field` where it is not given, or `screen`, or `study` with a storm `t` besides), one word a line. COUNT networks are
-written (100), the same ones for the same SEED (1), each of at most NODES nodes (200).
+MODE (`field` where it is not given, or `screen`, or `study` or `series` with a storm `t` besides), one word a line.
+COUNT networks are written (100), the same ones for the same SEED (1), each of at most NODES nodes (200).
 Transformers are of all four kinds, with and without neutral resistors and blocking devices; some lines are blocked, some
 substations have no ground, and some networks are not earthed, or not well enough to be solved: then the answer is a
 refusal. Three networks in four are made so that each bus has a way to earth before anything is switched. With --limits
@@ -18,7 +18,8 @@ import re
 import sys
 
 AT_LIMITS = "--limits" in sys.argv
-MODES = ["field", "screen", "study"]
+MODES = ["field", "screen", "study", "series"]
+OVER_STORMS = ["study", "series"]
 KINDS = ["delta-wye", "wye-wye", "auto", "delta-delta"]
 
 
@@ -138,18 +139,21 @@ def storm(draw, zones):
     return "\n".join(lines) + "\n", steps
 
 
-def words_of(draw, mode, steps):
+def words_of(draw, mode, steps, units):
     """The words of a run, but for the switchings."""
     words = [mode, "--case=p"]
     if mode == "field":
         words += [f"--north={draw.randint(-20000, 20000)}", f"--east={draw.randint(-20000, 20000)}"]
-    if mode == "study":
+    if mode in OVER_STORMS:
         words.append("--storm=t")
-        if draw.random() < 0.6:
-            words.append(f"--detail={draw.randint(1, steps + 1)}")
+    if mode == "study" and draw.random() < 0.6:
+        words.append(f"--detail={draw.randint(1, steps + 1)}")
+    if mode == "series":
+        # Some networks have no transformer, and now and then none has the name.
+        words.append(f"--transformer={draw.choice(units) if units and draw.random() < 0.95 else 'none'}")
     if draw.random() < 0.5:
         words.append(f"--width={draw.choice([10, 11, 50, 1000, 10000])}")
-    if draw.random() < 0.3:
+    if mode != "series" and draw.random() < 0.3:
         words.append("--event=supplemental")
     return words
 
@@ -158,11 +162,11 @@ def run(draw, mode, nodes):
     """The files of one folder."""
     text, items, resistors = network(draw, draw.randint(2, nodes))
     files, steps = {"p": text}, 0
-    if mode == "study":
+    if mode in OVER_STORMS:
         files["t"], steps = storm(draw, sorted(set(re.findall(r'"(Z[0-9]+)"', text))))
-    words = words_of(draw, mode, steps)
-    if items and draw.random() < (0.7 if mode == "study" else 0.4):
-        files["s"] = switchings(draw, items, resistors, 150 if mode == "study" else 60)
+    words = words_of(draw, mode, steps, sorted(set(re.findall(r'"(T[0-9]+)"', text))))
+    if items and draw.random() < (0.7 if mode in OVER_STORMS else 0.4):
+        files["s"] = switchings(draw, items, resistors, 150 if mode in OVER_STORMS else 60)
         words.append("--switch=s")
     files["words"] = "\n".join(words) + "\n"
     return files
