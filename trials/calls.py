@@ -1,0 +1,239 @@
+#!/usr/bin/env python3
+"""Refuses, cuts short, interrupts and stalls each read and write in turn, in a run of every mode.
+
+    python3 trials/calls.py PROGRAM [--minutes M] [--seed S] [--jobs N] [--sites N]
+
+The runs are over the sample network with its outage, and over a made network of SITES sites (200), in every mode, and
+over files that are refused, whose line goes to the error stream. What has to come of the call with each number:
+
+- opened or read with an error: status 3, the line of one of the run's files, and nothing on the output;
+- written with an error: status 4, its line, and a front of the report on the output;
+- told on the error stream with an error: the status of the refusal, and nothing on the output;
+- short (one byte at that call, or at each call from it on), stalled, or interrupted once or 9999 times in a row:
+  the same bytes and the same status as of a run that nothing happens to;
+- interrupted at each call from it on: as with an error.
+
+Then come streams of the system: a full one, a closed one, a pipe without a reader, a slow reader and a slow writer.
+"""
+
+import errno
+import functools
+import os
+import random
+import subprocess
+import threading
+import time
+from typing import NamedTuple
+
+import preload
+import shared
+
+FOREVER = 2**63
+# An interrupted call is made again so often, and has failed only then.
+MOST_INTERRUPTIONS = 9999
+ERRORS = {
+    "open": (errno.EIO, errno.EMFILE, errno.EACCES, errno.ENOMEM),
+    "read": (errno.EIO, errno.EAGAIN, errno.EISDIR, errno.ENOMEM),
+    "write": (errno.EIO, errno.ENOSPC, errno.EAGAIN, errno.EPIPE, errno.ENOMEM),
+    "tell": (errno.EIO, errno.ENOSPC, errno.EAGAIN, errno.EPIPE),
+}
+WRITE_LINE = b"gicstudy: cannot write\n"
+FILE_OPTIONS = {"--case", "--storm", "--switch", "--cert"}
+
+
+class Job(NamedTuple):
+    """A run: its folder, its words, and what comes of it where nothing happens to it."""
+
+    folder: str
+    words: list
+    whole: shared.Answer
+
+
+def read_lines(words):
+    """The lines that may tell that a file can't be read."""
+    files = [word[2:].split("=")[0] for word in words if word.split("=")[0] in FILE_OPTIONS]
+    return {f"gicstudy: cannot read {name}\n".encode() for name in files}
+
+
+def is_failed(job, call, answer):
+    """Whether a run ended as it has to where this call failed."""
+    if call in ("open", "read"):
+        return answer.status == 3 and not answer.output and answer.told in read_lines(job.words)
+    if call == "write":
+        front = job.whole.output[: len(answer.output)]
+        is_front = answer.output == front and len(front) < len(job.whole.output)
+        return answer.status == 4 and answer.told == WRITE_LINE and is_front
+    return answer.status == job.whole.status and not answer.output and job.whole.told.startswith(answer.told)
+
+
+def attempt(library, command, job_and_refusal):
+    """The refusal, and what is wrong of the run or None."""
+    job, refusal = job_and_refusal
+    answer, counts = preload.run(library, command + job.words, job.folder, refusal)
+    if counts.refused == 0:
+        is_right = answer == job.whole and refusal.first > getattr(counts, refusal.call)
+    elif is_mild(refusal):
+        is_right = answer == job.whole
+    elif refusal.call == "open" and refusal.how == str(errno.EINTR):
+        is_right = answer == job.whole or is_failed(job, refusal.call, answer)
+    else:
+        is_right = is_failed(job, refusal.call, answer)
+    if is_right:
+        return job, refusal, None
+    return job, refusal, f"{shared.ending(answer.status)}, {len(answer.output)} bytes, told {answer.told[:80]!r}"
+
+
+def is_mild(refusal):
+    """Whether the program has to go on as if nothing had happened."""
+    is_interrupted = refusal.how == str(errno.EINTR) and refusal.call != "open"
+    return refusal.how in ("short", "stall") or (is_interrupted and refusal.length <= MOST_INTERRUPTIONS)
+
+
+def refusals(counts):
+    """What is tried of a run with these counts."""
+    interrupted = str(errno.EINTR)
+    for call, errors in ERRORS.items():
+        for first in range(1, getattr(counts, call) + 2):
+            yield from (preload.Refusal(call, first, 1, str(error)) for error in errors)
+            yield from (preload.Refusal(call, first, length, interrupted) for length in (1, FOREVER))
+            if call != "open":
+                yield preload.Refusal(call, first, MOST_INTERRUPTIONS, interrupted)
+                yield from (preload.Refusal(call, first, length, "short") for length in (1, FOREVER))
+            yield preload.Refusal(call, first, 1, "stall")
+
+
+def words_of_runs():
+    """The words of each run: of every mode, and of runs that are refused."""
+    yield from (shared.words_of(mode) for mode in shared.BUILT)
+    yield from ([mode] for mode in ("volts", "fly"))
+    yield shared.words_of("check", case="t")
+    yield shared.words_of("study", storm="s")
+    yield shared.words_of("field", switch="p")
+    yield shared.words_of("recheck", cert="p")
+
+
+def jobs_of(library, command, folder, faults):
+    """Each run with its counts."""
+    for words in words_of_runs():
+        whole, counts = preload.run(library, command + words, folder)
+        if whole.status not in (0, 2, 5, 6, 7, 13):
+            faults.add(words, "ends with", shared.ending(whole.status), whole.told)
+        yield Job(folder, words, whole), counts
+
+
+# Streams of the system.
+
+
+def with_output(command, job, make_output):
+    """The status and what was told of a run whose output is what `make_output` opens."""
+    output = make_output()
+    ran = subprocess.run(
+        command + job.words,
+        cwd=job.folder,
+        stdin=subprocess.DEVNULL,
+        stdout=output,
+        stderr=subprocess.PIPE,
+        check=False,
+    )
+    os.close(output)
+    return ran.returncode, ran.stderr
+
+
+def pipe_without_reader():
+    reader, writer = os.pipe()
+    os.close(reader)
+    return writer
+
+
+def closed_output(command, job):
+    """A run that has no output at all."""
+    ran = subprocess.run(
+        ["sh", "-c", 'exec "$@" >&-', "sh", *command, *job.words], cwd=job.folder, stderr=subprocess.PIPE, check=False
+    )
+    return ran.returncode, ran.stderr
+
+
+def slow_reader(command, job):
+    """What a reader gets that takes a byte, sleeps, and then takes little by little."""
+    process = subprocess.Popen(
+        command + job.words,
+        bufsize=0,
+        cwd=job.folder,
+        stdin=subprocess.DEVNULL,
+        stdout=subprocess.PIPE,
+        stderr=subprocess.PIPE,
+    )
+    got = process.stdout.read(1)
+    time.sleep(0.2)
+    while part := process.stdout.read(977):
+        got += part
+    told = process.stderr.read()
+    return shared.Answer(process.wait(), got, told)
+
+
+def feed(path, content):
+    """Writes a file into a pipe that is named, little by little."""
+    with open(path, "wb", buffering=0) as pipe:
+        for place in range(0, len(content), 4096):
+            pipe.write(content[place : place + 4096])
+            time.sleep(0.001)
+
+
+def slow_writer(command, job):
+    """A run whose files are pipes that fill slowly."""
+    with shared.scratch() as folder:
+        threads = []
+        for name in "ptsc":
+            if any(word.endswith("=" + name) for word in job.words):
+                os.mkfifo(os.path.join(folder, name))
+                content = shared.read(job.folder, name)
+                threads.append(threading.Thread(target=feed, args=(os.path.join(folder, name), content), daemon=True))
+        for thread in threads:
+            thread.start()
+        answer = shared.run(command + job.words, folder)
+        for thread in threads:
+            thread.join(1)
+        return answer
+
+
+def try_streams(command, job, faults):
+    """Runs a job over streams of the system; how many runs that were."""
+    name = job.words[0]
+    failed = (4, WRITE_LINE)
+    for stream, ended in (
+        ("a full stream", with_output(command, job, lambda: os.open("/dev/full", os.O_WRONLY))),
+        ("a pipe without a reader", with_output(command, job, pipe_without_reader)),
+        ("no output", closed_output(command, job)),
+    ):
+        if ended != failed:
+            faults.add(name, "with", stream, "ends with", shared.ending(ended[0]), ended[1])
+    for stream, answer in (("a slow reader", slow_reader(command, job)), ("slow files", slow_writer(command, job))):
+        if answer != job.whole:
+            faults.add(name, "with", stream, "ends with", shared.ending(answer.status), answer.told)
+    return 5
+
+
+def main():
+    given = shared.arguments(__doc__, 15, [("sites", 200)])
+    command, faults, done, made = shared.command_of(given.program), shared.Faults(), 0, 0
+    clock = shared.Clock(given.minutes)
+    with shared.scratch() as top:
+        library = preload.build(top)
+        tried, streams = [], 0
+        for folder in shared.two_folders(command, top, given.sites):
+            for job, counts in jobs_of(library, command, folder, faults):
+                made += sum(getattr(counts, call) for call in ERRORS)
+                tried += [(job, refusal) for refusal in refusals(counts)]
+                streams += try_streams(command, job, faults) if job.whole.status == 0 else 0
+        random.Random(given.seed).shuffle(tried)
+        work = functools.partial(attempt, library, command)
+        for job, refusal, fault in shared.side_by_side(given.jobs, work, tried, clock):
+            done += 1
+            if fault:
+                faults.add(os.path.basename(job.folder), *job.words, refusal, fault)
+    changed = f"{done} of {len(tried)} runs with a call that was changed"
+    shared.finish(faults, f"{made} calls", changed, f"{streams} runs over streams")
+
+
+if __name__ == "__main__":
+    main()

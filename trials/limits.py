@@ -1,0 +1,294 @@
+#!/usr/bin/env python3
+"""Runs each mode at the limits of its inputs and at half of them, and prints a table of time and memory.
+
+    python3 trials/limits.py PROGRAM [--minutes M] [--seed S] [--jobs N] [--only WORD] [--run-seconds N]
+
+The rows: the network at every limit (7680 nodes, 19968 elements, 256 zones) in every mode, with names as they come and
+of 32 bytes in every place; storms of 20000 steps and 4096 switchings with an epoch each; networks just within 4096 and
+just past it; files of 16777216 bytes of each kind and of one byte more; and files of that size that are hostile.
+
+Times are of the processor, in seconds; memory is the peak, in MiB. Beside each is the same at half the size, and what
+the one is of the other: where the work grows with the size it is 2, and more only where the row says so. A run has
+N seconds (300); one that takes longer has `over`. Rows for which no minutes are left are `not run`. One run is made at
+a time, whatever N is. With --only the rows whose name has WORD are run alone.
+"""
+
+import os
+import re
+import subprocess
+import time
+from typing import Callable, NamedTuple, Optional
+
+import shared  # which finds the modules below
+
+import limit_case
+import made_case
+
+MOST_BYTES = 16777216
+STATIONS = 1024
+MADE_SITES = 1000
+ALL_STEPS, ALL_SWITCHINGS = 20000, 4096
+NAME = re.compile(r'"((?:zone|station|bus|line|unit)-[0-9-]+)"')
+NAME_BYTES = 32
+ADDRESS_SPACE = 6 << 30
+
+
+class Measure(NamedTuple):
+    """A run: its status or None, its time in seconds, its peak of memory in MiB."""
+
+    status: int
+    seconds: float
+    mebibytes: float
+
+
+class Row(NamedTuple):
+    """A row of the table: `fill` writes the files for a size, and `wanted` are the statuses that are right. With no
+    half size nothing is set beside it."""
+
+    name: str
+    words: list
+    fill: Callable
+    full: int
+    half: Optional[int]
+    wanted: tuple = (0,)
+
+
+def measure(command, folder, seconds):
+    """Runs a command with its output thrown away."""
+    limited = ["sh", "-c", f'ulimit -v {ADDRESS_SPACE >> 10}; exec "$@"', "sh", *command]
+    with subprocess.Popen(
+        limited, cwd=folder, stdin=subprocess.DEVNULL, stdout=subprocess.DEVNULL, stderr=subprocess.DEVNULL
+    ) as process:
+        end = time.monotonic() + seconds
+        while True:
+            done, status, usage = os.wait4(process.pid, os.WNOHANG)
+            if done or time.monotonic() > end:
+                break
+            time.sleep(0.005)
+        if not done:
+            process.kill()
+            _, _, usage = os.wait4(process.pid, 0)
+        process.returncode = os.waitstatus_to_exitcode(status) if done else -9
+        took = usage.ru_utime + usage.ru_stime
+        return Measure(process.returncode if done else None, took, usage.ru_maxrss / 1024)
+
+
+# What the files are.
+
+
+def limit_text(stations, ground=None, has_long_names=False):
+    text = "\n".join(limit_case.rows(stations, ground)) + "\n"
+    if has_long_names:
+        text = NAME.sub(lambda name: f'"{name[1].ljust(NAME_BYTES, "x")}"', text)
+    return text
+
+
+def storm_text(steps):
+    return "time,north,east\n" + "".join(
+        f"{step},{step % 40001 - 20000},{20000 - step * 7 % 40001}\n" for step in range(steps)
+    )
+
+
+def fill_limit(command, has_long_names=False, steps=2):
+    """Files of the network at every limit, with a certificate."""
+
+    def fill(folder, stations):
+        text = limit_text(stations, None, has_long_names)
+        shared.write(folder, "p", text)
+        shared.write(folder, "t", storm_text(steps))
+        line = NAME.search(text[text.index("[[line]]") :])[1]
+        shared.write(folder, "s", f"time,item,action\n0,{line},open\n")
+        shared.certify(command, folder)
+
+    return fill
+
+
+def fill_made(folder, steps, switchings=0, sites=MADE_SITES):
+    """A made network; line 1 is opened and closed by turns."""
+    shared.write(folder, "p", "\n".join(made_case.lines(sites, 7)) + "\n")
+    shared.write(folder, "t", storm_text(steps))
+    rows = (f"{row},S{row // 2 % sites},{'close' if row % 2 else 'open'}\n" for row in range(switchings))
+    shared.write(folder, "s", "time,item,action\n" + "".join(rows))
+
+
+def fill_steps(folder, steps):
+    fill_made(folder, steps)
+
+
+def fill_limit_steps(folder, steps):
+    shared.write(folder, "p", limit_text(STATIONS))
+    shared.write(folder, "t", storm_text(steps))
+
+
+def fill_epochs(folder, switchings):
+    fill_made(folder, switchings, switchings)
+
+
+def greatest_ground(command, stations, folder):
+    """The greatest resistance of all grounds, in micro-ohm, with which the network at every limit can be solved."""
+    low, high = 1000, 1000000000
+    while high - low > 1:
+        middle = (low + high) // 2
+        shared.write(folder, "p", limit_text(stations, middle))
+        if shared.run(command + shared.words_of("certify", False), folder).status == 0:
+            low = middle
+        else:
+            high = middle
+    return low
+
+
+def fill_walk(command, more):
+    """The network just within 4096, or with so much more resistance in its grounds."""
+    known = {}
+
+    def fill(folder, stations):
+        if stations not in known:
+            known[stations] = greatest_ground(command, stations, folder)
+        shared.write(folder, "p", limit_text(stations, known[stations] + more))
+
+    return fill
+
+
+PLAIN = b'format = 1\nsubstation = [{ name = "A", ground = 1000000 }]\n'
+STORM = b"time,north,east\n0,1000,0\n"
+SWITCHINGS = b"time,item,action\n0,A,close\n"
+CERTIFICATE = b"certificate\nnodes 1 north 0 east 0\ncert A 1 0 0\nend\n"
+
+
+def padded(content, padding, size):
+    return content + (padding * (size // len(padding) + 1))[: size - len(content)]
+
+
+def fill_file(name, make):
+    """Small files, but for the one of a name, which has a size."""
+
+    def fill(folder, size):
+        files = {"p": PLAIN, "t": STORM, "s": SWITCHINGS, "c": CERTIFICATE, name: make(size)}
+        for other, content in files.items():
+            shared.write(folder, other, content)
+
+    return fill
+
+
+# Contents of a size that are accepted, or refused only at their end.
+LARGE = {
+    "p": ("list", lambda size: padded(PLAIN, b"# a comment\n", size), (0,)),
+    "t": ("study", lambda size: padded(STORM, b"\n", size), (0,)),
+    "s": ("check", lambda size: padded(SWITCHINGS, b"\r\n", size), (0,)),
+    "c": ("recheck", lambda size: padded(CERTIFICATE, b"x", size), (13,)),
+}
+# Contents of a size that give a reader much to do.
+HOSTILE = [
+    ("one long string", "p", "list", lambda size: padded(b'a = "', b"x", size - 1) + b'"'),
+    ("one long key", "p", "list", lambda size: padded(b"", b"k", size - 4) + b" = 1"),
+    ("brackets in brackets", "p", "list", lambda size: padded(b"a = ", b"[", size)),
+    ("short keys", "p", "list", lambda size: "".join(f"k{place}=1\n" for place in range(size // 11)).encode()[:size]),
+    ("short rows", "p", "list", lambda size: padded(b"", b"[[zone]]\n", size - size % 9)),
+    ("dotted keys", "p", "list", lambda size: dotted(size)),
+    ("a long list", "p", "list", lambda size: padded(b"zone = [", b"0,", size - 1) + b"]"),
+    ("an inline table", "p", "list", lambda size: inline(size)),
+    ("one long field", "t", "study", lambda size: padded(b"time,north,east\n", b"0", size)),
+    ("one quoted field", "t", "study", lambda size: padded(b'"', b'""', size)),
+    ("commas", "t", "study", lambda size: padded(b"time,north,east\n", b",", size)),
+    ("short storm rows", "t", "study", lambda size: padded(b"time,north,east\n", b"0,0,0\n", size)),
+    ("short switchings", "s", "check", lambda size: padded(b"time,item,action\n", b"0,A,open\n", size)),
+    ("empty quotes", "s", "check", lambda size: padded(b"time,item,action\n", b'"",', size)),
+    ("line feeds", "c", "recheck", lambda size: padded(b"certificate\n", b"\n", size)),
+    ("spaces", "c", "recheck", lambda size: padded(b"certificate\nnodes", b" ", size)),
+    ("digits", "c", "recheck", lambda size: padded(b"certificate\nnodes ", b"1", size)),
+]
+
+
+def dotted(size):
+    """Keys of forty parts, each another one."""
+    keys = (f"k{place}" + ".a" * 39 + "=1\n" for place in range(size // 88))
+    return "".join(keys).encode()[:size]
+
+
+def inline(size):
+    keys = ",".join(f"k{place}=1" for place in range(size // 11))
+    return ("a = {" + keys)[: size - 1].rsplit(",", 1)[0].encode() + b"}"
+
+
+def rows(command):
+    for mode in shared.BUILT:
+        words = shared.words_of(mode)
+        if mode == "make":
+            words = shared.words_of(mode, size="{size}")
+            yield Row("make, sites", words, lambda folder, size: None, 1000, 500)
+        else:
+            yield Row(f"{mode}, limit", words, fill_limit(command), STATIONS, STATIONS // 2)
+            yield Row(f"{mode}, limit, names of 32 bytes", words, fill_limit(command, True), STATIONS, STATIONS // 2)
+    study = shared.words_of("study", False)
+    switched = [*study, "--switch=s"]
+    yield Row("study, 2000 nodes, 20000 steps", study, fill_steps, ALL_STEPS, ALL_STEPS // 2)
+    yield Row("study, limit, 20000 steps", study, fill_limit_steps, ALL_STEPS, ALL_STEPS // 2)
+    yield Row("study, 2000 nodes, 4096 epochs", switched, fill_epochs, ALL_SWITCHINGS, ALL_SWITCHINGS // 2)
+    for mode in ("field", "screen", "certify"):
+        words = shared.words_of(mode, False)
+        yield Row(f"{mode}, limit, just within 4096", words, fill_walk(command, 0), STATIONS // 2, STATIONS // 4)
+        yield Row(f"{mode}, limit, just past 4096", words, fill_walk(command, 1), STATIONS // 2, STATIONS // 4, (9,))
+    for name, (mode, make, wanted) in LARGE.items():
+        words = shared.words_of(mode, False) + (["--switch=s"] if name == "s" else [])
+        yield Row(f"{mode}, {name} of 16 MiB", words, fill_file(name, make), MOST_BYTES, MOST_BYTES // 2, wanted)
+        yield Row(f"{mode}, {name} of one byte more", words, fill_file(name, make), MOST_BYTES + 1, None, (10,))
+    refused = {"p": (5, 11), "t": (6, 11), "s": (7, 11), "c": (13, 11)}
+    for told, name, mode, make in HOSTILE:
+        words = shared.words_of(mode, False) + (["--switch=s"] if name == "s" else [])
+        fill = fill_file(name, make)
+        yield Row(f"{mode}, {name}: {told}", words, fill, MOST_BYTES, MOST_BYTES // 2, refused[name])
+
+
+def ratio(full, half):
+    return f"{full / half:.2f}" if half > 0.005 else "-"
+
+
+def time_of(measured):
+    return "over" if measured.status is None else f"{measured.seconds:.2f}"
+
+
+def cells(row, full, half):
+    """The cells of a row of the table."""
+    head = [row.name, full.status, row.full, time_of(full)]
+    if half is None:
+        return [*head, "-", "-", f"{full.mebibytes:.0f}", "-", "-"]
+    times = ratio(full.seconds, half.seconds) if None not in (full.status, half.status) else "-"
+    memory = [f"{one.mebibytes:.0f}" for one in (full, half)]
+    return [*head, time_of(half), times, *memory, ratio(full.mebibytes, half.mebibytes)]
+
+
+def measure_row(command, row, size, seconds):
+    """The run of a row at a size, in a folder of its own; None where there is no such size."""
+    if size is None:
+        return None
+    with shared.scratch() as folder:
+        row.fill(folder, size)
+        words = [word.replace("{size}", str(size)) for word in row.words]
+        return measure(command + words, folder, seconds)
+
+
+def main():
+    given = shared.arguments(__doc__, 60, [("only", ""), ("run-seconds", 300)])
+    command, faults, clock = shared.command_of(given.program), shared.Faults(), shared.Clock(given.minutes)
+    heads = ("run", "status", "size", "time", "at half", "ratio", "memory", "at half", "ratio")
+    print("| " + " | ".join(heads) + " |\n|" + "---|" * len(heads), flush=True)
+    run = left = 0
+    for row in rows(command):
+        if given.only not in row.name:
+            continue
+        if clock.is_over():
+            left += 1
+            continue
+        full, half = (
+            measure_row(command, row, size, min(given.run_seconds, max(10, clock.left())))
+            for size in (row.full, row.half)
+        )
+        if full.status is not None and full.status not in row.wanted:
+            faults.add(row.name, "ends with", shared.ending(full.status))
+        print("| " + " | ".join(map(str, cells(row, full, half))) + " |", flush=True)
+        run += 1
+    shared.finish(faults, f"{run} rows", f"{left} not run")
+
+
+if __name__ == "__main__":
+    main()

@@ -1,0 +1,59 @@
+"""Builds and drives `refuse.c`, the library that counts the calls of a run and refuses some of them."""
+
+import os
+import struct
+import subprocess
+import tempfile
+from typing import NamedTuple
+
+import shared
+
+CALLS = ("growth", "open", "read", "write", "tell")
+FORM = struct.Struct("=5QQQqqQ")
+MILLISECOND = 10**6
+
+
+class Counts(NamedTuple):
+    """The calls of a run, as `refuse.c` keeps them; times are of the processor, in nanoseconds."""
+
+    growth: int
+    open: int
+    read: int
+    write: int
+    tell: int
+    refused: int
+    growths_at_write: int
+    latest_growth: int
+    longest_pause: int
+    growths_at_pause: int
+
+
+class Refusal(NamedTuple):
+    """Which calls are refused and how: from the call number `first` on, `length` of them."""
+
+    call: str
+    first: int
+    length: int = 1
+    how: str = "5"
+
+
+def build(folder):
+    """The path of the built library."""
+    library = os.path.join(folder, "refuse.so")
+    source = os.path.join(shared.HERE, "refuse.c")
+    subprocess.run(["cc", "-O2", "-shared", "-fPIC", "-o", library, source], check=True)
+    return library
+
+
+def run(library, command, folder, refusal=None, seconds=shared.RUN_SECONDS):
+    """Runs a command with some calls refused, or none; its answer and its counts."""
+    with tempfile.NamedTemporaryFile(prefix="counts_") as counts:
+        counts.write(bytes(FORM.size))
+        counts.flush()
+        environment = os.environ | {"LD_PRELOAD": library, "TRIAL_COUNTS": counts.name}
+        if refusal is not None:
+            given = ("CALL", refusal.call), ("FIRST", refusal.first), ("LENGTH", refusal.length), ("HOW", refusal.how)
+            environment |= {"TRIAL_" + name: str(value) for name, value in given}
+        answer = shared.run(command, folder, environment, seconds)
+        counts.seek(0)
+        return answer, Counts(*FORM.unpack(counts.read(FORM.size)))

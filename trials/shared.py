@@ -1,0 +1,207 @@
+"""What the trials share: the arguments, the clock, runs of the program, and words for each mode."""
+
+import argparse
+import concurrent.futures
+import os
+import random
+import resource
+import signal
+import subprocess
+import sys
+import tempfile
+import time
+from typing import NamedTuple
+
+HERE = os.path.dirname(os.path.abspath(__file__))
+TOP = os.path.join(HERE, "..")
+sys.dont_write_bytecode = True
+sys.path[:0] = [HERE, os.path.join(HERE, "referee"), os.path.join(TOP, "bench")]
+from words import BUILT, MODES  # noqa: E402
+
+# How long a run may take where a trial says nothing else, in seconds.
+RUN_SECONDS = 120
+MOST_SHOWN = 20
+# The values of a mode's options. Files are `p`, `t`, `s` and `c`.
+VALUES = {
+    "case": "p",
+    "storm": "t",
+    "switch": "s",
+    "north": "8000",
+    "east": "-500",
+    "width": "100",
+    "detail": "2",
+    "seed": "7",
+    "size": "12",
+    "event": "benchmark",
+    "cert": "c",
+    "transformer": "T1",
+}
+
+
+class Answer(NamedTuple):
+    """How a run ended."""
+
+    status: int
+    output: bytes
+    told: bytes
+
+
+class Clock:
+    """The minutes that a trial has."""
+
+    def __init__(self, minutes):
+        self.end = time.monotonic() + 60 * minutes
+
+    def left(self):
+        return max(0.0, self.end - time.monotonic())
+
+    def is_over(self):
+        return self.left() == 0
+
+
+class Faults:
+    """What went wrong; the first of them are printed."""
+
+    def __init__(self):
+        self.count = 0
+
+    def add(self, *words):
+        self.count += 1
+        if self.count <= MOST_SHOWN:
+            print("fault:", *words, flush=True)
+
+
+def arguments(description, minutes, extra=(), has_program=True):
+    """The words of a trial: PROGRAM, --minutes, --seed, --jobs, and `extra` options with their defaults."""
+    parser = argparse.ArgumentParser(
+        description=description, formatter_class=argparse.RawDescriptionHelpFormatter, allow_abbrev=False
+    )
+    if has_program:
+        parser.add_argument("program")
+    parser.add_argument("--minutes", type=float, default=minutes)
+    parser.add_argument("--seed", type=int, default=int(time.time()))
+    parser.add_argument("--jobs", type=int, default=os.cpu_count())
+    for name, default in extra:
+        parser.add_argument("--" + name, type=type(default), default=default)
+    given = parser.parse_args()
+    print(f"seed {given.seed}, {given.minutes:g} minutes at most, {given.jobs} side by side", flush=True)
+    return given
+
+
+def command_of(program):
+    """The command of a program, or of a Python script in its place."""
+    path = os.path.abspath(program)
+    return [sys.executable, path] if path.endswith(".py") else [path]
+
+
+def run(command, folder, environment=None, seconds=RUN_SECONDS):
+    """Runs a command in a folder. One that doesn't end in time has the status None."""
+    try:
+        ran = subprocess.run(
+            command,
+            cwd=folder,
+            env=environment,
+            stdin=subprocess.DEVNULL,
+            capture_output=True,
+            timeout=seconds,
+            check=False,
+        )
+    except subprocess.TimeoutExpired as late:
+        return Answer(None, late.stdout or b"", late.stderr or b"")
+    return Answer(ran.returncode, ran.stdout, ran.stderr)
+
+
+def ending(status):
+    """How a run ended, in words."""
+    if status is None:
+        return "no end in time"
+    return f"status {status}" if status >= 0 else signal.Signals(-status).name
+
+
+def words_of(mode, optional=True, **values):
+    """The words of a run of a mode, with its options at the values of VALUES but for `values`."""
+    required, allowed = MODES[mode]
+    options = required + (allowed if optional else [])
+    return [mode] + [f"--{option}={values.get(option, VALUES[option])}" for option in options]
+
+
+def write(folder, name, content):
+    with open(os.path.join(folder, name), "wb") as file:
+        file.write(content if isinstance(content, bytes) else content.encode())
+
+
+def read(*path):
+    with open(os.path.join(*path), "rb") as file:
+        return file.read()
+
+
+def certify(command, folder):
+    """Writes the certificate `c` of the case and the switchings of a folder, and tells how that ended."""
+    answer = run(command + words_of("certify"), folder)
+    write(folder, "c", answer.output)
+    return answer
+
+
+def sample(folder, steps=12):
+    """The sample network, a transformer of which has a name of made ones, with so many steps of its storm, and its outage."""
+    write(folder, "p", read(TOP, "examples", "valley.toml").replace(b'"N-T1"', b'"T1"'))
+    write(folder, "t", b"\n".join(read(TOP, "examples", "storm.csv").split(b"\n")[: 2 * steps + 1]) + b"\n")
+    write(folder, "s", read(TOP, "examples", "outage.csv"))
+
+
+def made_network(folder, sites, steps=12, seed=7):
+    """A made network of two nodes a site, with a storm and an outage."""
+    import made_case
+
+    draw = random.Random(seed)
+    write(folder, "p", "\n".join(made_case.lines(sites, seed)) + "\n")
+    rows = [f"{10 * step},{draw.randint(-8000, 8000)},{draw.randint(-8000, 8000)}\n" for step in range(steps)]
+    write(folder, "t", "time,north,east\n" + "".join(rows))
+    write(folder, "s", f"time,item,action\n{5 * steps},S1,open\n")
+
+
+def two_folders(command, top, sites):
+    """Folders in `top` with the files of the sample and of a made network, and their certificates."""
+    folders = []
+    for name, fill in (("sample", sample), ("made", lambda folder: made_network(folder, sites))):
+        folder = os.path.join(top, name)
+        os.mkdir(folder)
+        fill(folder)
+        if certify(command, folder).status != 0:
+            sys.exit(f"no certificate of the network {name}")
+        folders.append(folder)
+    return folders
+
+
+def side_by_side(jobs, work, items, clock):
+    """Hands out the results of `work` of each item, in any order, until there are no more or the time is over."""
+    items, running = iter(items), set()
+    with concurrent.futures.ProcessPoolExecutor(jobs) as pool:
+        try:
+            for item in items:
+                running.add(pool.submit(work, item))
+                if len(running) >= 2 * jobs:
+                    done, running = concurrent.futures.wait(running, return_when=concurrent.futures.FIRST_COMPLETED)
+                    for future in done:
+                        yield future.result()
+                if clock.is_over():
+                    break
+            for future in concurrent.futures.as_completed(running):
+                yield future.result()
+        finally:
+            pool.shutdown(cancel_futures=True)
+
+
+def peak_kilobytes():
+    """The greatest memory of any run so far."""
+    return resource.getrusage(resource.RUSAGE_CHILDREN).ru_maxrss
+
+
+def scratch():
+    return tempfile.TemporaryDirectory(prefix="trial_")
+
+
+def finish(faults, *figures):
+    """Prints the line of figures, and ends with status 1 where there are faults."""
+    print(", ".join([*figures, f"{faults.count} faults"]), flush=True)
+    sys.exit(faults.count > 0)

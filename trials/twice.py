@@ -1,0 +1,136 @@
+#!/usr/bin/env python3
+"""Runs the same words over the same bytes in many surroundings: the answers have to be the same, byte for byte.
+
+    python3 trials/twice.py PROGRAM [--minutes M] [--seed S] [--jobs N] [--networks N]
+
+The surroundings: another folder with other names of files, an empty and a large environment, other locales and time
+zones, no random address layout, memory that is filled with other bytes and is handed out in another order, a small
+stack, an output that is a file, no input, a low priority, and the same run again. The runs are those of every mode over
+the sample, over a made network and over N random networks (100), refused ones among them, and faults in the words.
+"""
+
+import functools
+import os
+import random
+import shutil
+import subprocess
+import tempfile
+
+import shared  # which finds the modules below
+
+import studies
+
+LOCALES = ("C", "POSIX", "C.UTF-8", "tr_TR.UTF-8", "de_DE.UTF-8", "ar_EG", "ja_JP.SJIS")
+MADE_SITES = 200
+
+
+def environments():
+    """Environments by what they are."""
+    usual = dict(os.environ)
+    yield "again", usual
+    yield "an empty environment", {}
+    yield "a large environment", usual | {f"NAME_{place}": "x" * 1000 for place in range(500)}
+    for locale in LOCALES:
+        yield f"the locale {locale}", usual | {"LC_ALL": locale, "LANG": locale, "LANGUAGE": locale, "TZ": "Asia/Tokyo"}
+    yield "filled memory", usual | {"MALLOC_PERTURB_": "165"}
+    yield "memory in small parts", usual | {
+        "GLIBC_TUNABLES": "glibc.malloc.mmap_threshold=4096:glibc.malloc.tcache_count=0:glibc.malloc.arena_max=1"
+    }
+    yield "other variables", usual | {"HOME": "/", "PWD": "/", "COLUMNS": "1", "TERM": "dumb", "NO_COLOR": "1"}
+
+
+def wrappers():
+    """Commands before the program, by what they do."""
+    yield "no random addresses", ["setarch", "-R"]
+    yield "a small stack", ["sh", "-c", 'ulimit -s 256; exec "$@"', "sh"]
+    yield "an unlimited stack", ["sh", "-c", 'ulimit -s unlimited; exec "$@"', "sh"]
+    yield "a low priority", ["nice", "-n", "15"]
+    yield "no input", ["sh", "-c", 'exec "$@" <&-', "sh"]
+    yield "other rights of new files", ["sh", "-c", 'umask 777; exec "$@"', "sh"]
+
+
+def in_another_folder(command, folder, words):
+    """The run from / with names of files that are long and lie elsewhere."""
+    with tempfile.TemporaryDirectory(prefix="a folder ü ") as other:
+        moved = []
+        for word in words:
+            option, equals, name = word.partition("=")
+            if equals and os.path.exists(os.path.join(folder, name)) and name:
+                path = os.path.join(other, "x" * 100 + name)
+                shutil.copy(os.path.join(folder, name), path)
+                word = f"{option}={path}"
+            moved.append(word)
+        return shared.run(command + moved, "/")
+
+
+def into_a_file(command, folder, words):
+    with tempfile.TemporaryFile() as output:
+        ran = subprocess.run(
+            command + words, cwd=folder, stdin=subprocess.DEVNULL, stdout=output, stderr=subprocess.PIPE, check=False
+        )
+        output.seek(0)
+        return shared.Answer(ran.returncode, output.read(), ran.stderr)
+
+
+def answers(command, folder, words):
+    """The answer of the run in each of the surroundings."""
+    for name, environment in environments():
+        yield name, shared.run(command + words, folder, environment)
+    for name, wrapper in wrappers():
+        yield name, shared.run(wrapper + command + words, folder)
+    yield "another folder", in_another_folder(command, folder, words)
+    yield "a file", into_a_file(command, folder, words)
+
+
+def words_of_runs(draw):
+    for mode in shared.BUILT:
+        yield shared.words_of(mode, **studies.values(draw))
+    refused = [[], ["fly"], ["volts"], shared.words_of("volts", case="none"), shared.words_of("study", storm="p")]
+    yield draw.choice(refused)
+
+
+def fill_with(draw, folder, item):
+    """Writes the files of one item: the sample, a made network, or a random one."""
+    if item == 0:
+        shared.sample(folder)
+    elif item == 1:
+        shared.made_network(folder, MADE_SITES)
+    else:
+        while not studies.fill(draw, folder, draw.choice(studies.KINDS)):
+            pass
+
+
+def compare(command, seed, clock, item):
+    """How many runs there were, how many words, and the faults."""
+    draw, runs, words_run, faults = random.Random(f"{seed} {item}"), 0, 0, []
+    with shared.scratch() as folder:
+        fill_with(draw, folder, item)
+        shared.certify(command, folder)
+        for words in words_of_runs(draw):
+            first = shared.run(command + words, folder)
+            words_run += 1
+            if first.status is None or first.status < 0:
+                faults.append(f"{words}: {shared.ending(first.status)}")
+            for name, answer in answers(command, folder, words):
+                if clock.is_over():
+                    break
+                runs += 1
+                if answer != first:
+                    faults.append(f"{words} with {name}: {shared.ending(answer.status)}, told {answer.told[:80]!r}")
+    return runs, words_run, [f"seed {seed} network {item}: {fault}" for fault in faults]
+
+
+def main():
+    given = shared.arguments(__doc__, 15, [("networks", 100)])
+    faults, clock = shared.Faults(), shared.Clock(given.minutes)
+    work = functools.partial(compare, shared.command_of(given.program), given.seed, clock)
+    runs = words_run = networks = 0
+    for more, more_words, found in shared.side_by_side(given.jobs, work, range(given.networks + 2), clock):
+        runs, words_run, networks = runs + more, words_run + more_words, networks + 1
+        for fault in found:
+            faults.add(fault)
+    shared.finish(faults, f"{networks} networks", f"{words_run} command lines", f"{runs} runs in other surroundings")
+
+
+if __name__ == "__main__":
+    main()
