@@ -1,0 +1,18 @@
+#!/usr/bin/env bash
+# Runs what the documents show, and compares what is printed with what stands there.
+#
+#     examples/documents.sh [--write] [PROGRAM]
+#
+# PROGRAM is the built program; where it is not given it is ../gicstudy, which builds it first where that is needed. With
+# --write what is printed is put into the documents. `documents.py` says how a block of a document is tied to a command.
+# The last line is `N blocks, M differ`, and the status is 0 only where M is 0. It needs bash and Python 3.11 or later.
+set -eu
+here=$(cd "$(dirname "$(readlink -f "$0")")" && pwd)
+write=
+if [ "${1:-}" = --write ]; then
+    write=--write
+    shift
+fi
+program=$(readlink -f "${1:-$here/../gicstudy}")
+"$program" check --case="$here/valley.toml" >/dev/null
+exec python3 -B "$here/documents.py" $write "$program"
