@@ -51,7 +51,7 @@ pub fn settle<L: Ledger>(
     sweeps_converge_law();
     net.within_limits();
     volts.within_limit();
-    improve(net, volts, bound.walk(), solver, steps);
+    improve(net, volts, solver, steps);
     solver.within_limit();
     sweep(net, volts, solver, steps);
     for phase in 0..PHASES {

@@ -7,44 +7,44 @@ ghost use Rattle.gic_sweep.specs.Guesses.{AreCut};
 use crate::guesses::Guesses;
 use crate::steps::Steps;
 use gic_base::NodeId;
-use gic_relax::Relaxation;
+use gic_thin::Thinning;
 use std::sync::ledger::Ledger;
 
-/// Makes of each old guess the one that a relaxation proposes.
+/// Makes of each old guess the one that a thinning proposes.
 fn propose<L: Ledger>(
-    relaxation: &Relaxation,
+    thinning: &Thinning,
     old: &[i128],
     guesses: &mut Guesses,
     steps: &mut Steps<L>,
 )
-    requires nodes { relaxation.now ≡ length guesses.old }
+    requires nodes { thinning.now ≡ length guesses.old }
     requires room { length old.now ≡ length guesses.old }
     requires cut { AreCut (number_at old.now) }
     ensures same_length { length guesses.new ≡ length guesses.old }
     ensures tick { steps.new ≡ steps.old + 1 }
 {
     let proposed = |node: NodeId| -> i128
-        requires nodes { node.0 < relaxation.now }
+        requires nodes { node.0 < thinning.now }
         requires room { node.0 < length old.now }
         requires cut { AreCut (number_at old.now) }
         ensures { unsigned_abs result ≤ most_guess }
-    { relaxation.proposed(node, old[node.0 as usize]) };
+    { thinning.proposed(node, old[node.0 as usize]) };
     guesses.fill(&proposed, steps);
 }
 
-/// Puts in the guesses that a relaxation proposes, and ticks once. The guesses as they were go into `old`.
+/// Puts in the guesses that a thinning proposes, and ticks once. The guesses as they were go into `old`.
 pub fn propose_all<L: Ledger>(
-    relaxation: &Relaxation,
+    thinning: &Thinning,
     guesses: &mut Guesses,
     old: &mut [i128],
     steps: &mut Steps<L>,
 )
-    requires nodes { relaxation.now ≡ length guesses.old }
+    requires nodes { thinning.now ≡ length guesses.old }
     requires room { length old.old ≡ length guesses.old }
     ensures same_length { length guesses.new ≡ length guesses.old }
     ensures room { length old.new ≡ length old.old }
     ensures tick { steps.new ≡ steps.old + 1 }
 {
     old.copy_from_slice(guesses.as_slice());
-    propose(relaxation, old, guesses, steps);
+    propose(thinning, old, guesses, steps);
 }

@@ -12,7 +12,7 @@ use gic_fixed::Interval;
 use gic_model::Volts;
 use gic_model::laws::rounded_residual_law;
 use gic_net::Net;
-use gic_relax::Relaxation;
+use gic_thin::Thinning;
 use std::alloc::Global;
 use std::marker::Model;
 use std::sync::ledger::Ledger;
@@ -26,7 +26,7 @@ pub struct Solver {
     /// Room for the residuals, rounded down and up.
     low: Vec<i128>,
     high: Vec<i128>,
-    relaxation: Relaxation,
+    thinning: Thinning,
 }
 
 impl Model for Solver {
@@ -37,7 +37,7 @@ impl Model for Solver {
 
     ghost view = { λ s. s.guesses };
 
-    ghost invariant = { λ s. IsRoomFor s.guesses s.before.items s.low.items s.high.items s.relaxation };
+    ghost invariant = { λ s. IsRoomFor s.guesses s.before.items s.low.items s.high.items s.thinning };
 }
 
 ghost use Rattle.std.specs.Prelude.{◌≡◌, ℕ, ℤ, ◌+◌, ◌^◌, ◌<◌, ◌≤◌, ◌*◌, length, IfOk, replicate, pos, ◌-ℤ◌, ◌≤ℤ◌, unsigned_abs, IsTrue, IfSome, IfNone};
@@ -46,10 +46,10 @@ ghost use Rattle.gic_fixed.specs.Encloses.{IsWithin};
 ghost use Rattle.gic_model.specs.Guess.{most_guess, HoldsResidual, IsSettled, IsSettledWithin, diagonal};
 ghost use Rattle.gic_model.specs.Voltages.{number_at};
 ghost use Rattle.gic_net.specs.Net.{standing, row_at};
-ghost use Rattle.gic_relax.specs.declared.passing.TheConstants.{MOST_PASSES};
 ghost use Rattle.gic_sweep.specs.Guesses.{AreCut};
 ghost use Rattle.gic_sweep.specs.Residuals.{HoldResiduals, most_reach};
 ghost use Rattle.gic_sweep.specs.Sweep.{IsSweep};
+ghost use Rattle.gic_thin.specs.declared.gradients.TheConstants.{MOST_TURNS};
 
 impl Solver {
     /// For a network of this many nodes; all guesses are 0.
@@ -60,13 +60,13 @@ impl Solver {
         let before = zeros(alloc, nodes)?;
         let low = zeros(alloc, nodes)?;
         let high = zeros(alloc, nodes)?;
-        let relaxation = Relaxation::new(alloc, nodes)?;
+        let thinning = Thinning::new(alloc, nodes)?;
         Ok(Solver {
             guesses,
             before,
             low,
             high,
-            relaxation,
+            thinning,
         })
     }
 
@@ -130,22 +130,22 @@ impl Solver {
         );
     }
 
-    /// Makes the relaxation ready for a net, whose bound vector has this greatest entry.
-    fn arrange(&mut self, net: &Net, walk: u16)
+    /// Makes the thinning ready for a net.
+    fn arrange(&mut self, net: &Net)
         requires { length self.old ≡ net.now.network.nodes }
         ensures { self.new ≡ self.old }
     {
-        self.relaxation.arrange(net, walk);
+        self.thinning.arrange(net);
     }
 
-    /// Puts guesses in that are likely to be closer, which ticks once, and says how many passes of over-relaxation that
+    /// Puts guesses in that are likely to be closer, which ticks once, and says how many turns of conjugate gradients that
     /// took. Where the residuals are small already, it changes no guess and doesn't tick.
     fn approach<L: Ledger>(&mut self, net: &Net, volts: &Volts, steps: &mut Steps<L>) -> Option<u32>
         requires volts { length volts.now ≡ length net.now.network.list }
         requires nodes { length self.old ≡ net.now.network.nodes }
         ensures same_length { length self.new ≡ length self.old }
-        ensures passes { IfSome result (λ passes. passes ≤ MOST_PASSES) }
-        ensures tick { IfSome result (λ passes. steps.new ≡ steps.old + 1) }
+        ensures turns { IfSome result (λ turns. turns ≤ MOST_TURNS) }
+        ensures tick { IfSome result (λ turns. steps.new ≡ steps.old + 1) }
         ensures no_tick { IfNone result (steps.new ≡ steps.old) }
         ensures same { IfNone result (self.new ≡ self.old) }
     {
@@ -156,9 +156,9 @@ impl Solver {
             &mut self.low,
             &mut self.high,
         );
-        let passes = self.relaxation.correct(self.low.as_slice())?;
-        propose_all(&self.relaxation, &mut self.guesses, &mut self.before, steps);
-        Some(passes)
+        let turns = self.thinning.correct(self.low.as_slice())?;
+        propose_all(&self.thinning, &mut self.guesses, &mut self.before, steps);
+        Some(turns)
     }
 
     /// Whether the residuals show that the guesses are settled.
@@ -209,17 +209,16 @@ pub const MOST_ROUNDS: u8 = 4;
 pub struct Improvement {
     /// How many corrections were made, each with one tick.
     pub rounds: u8,
-    /// How many passes of over-relaxation all of them took.
-    pub passes: u32,
+    /// How many turns of conjugate gradients all of them took.
+    pub turns: u32,
 }
 
 /// Brings the guesses closer to Kirchhoff's law by at most four rough corrections, each of which ticks once. Nothing is
-/// promised of the guesses after a correction: this only saves sweeps. The walk is the greatest entry of the net's bound
-/// vector; the voltages and the guesses are those of the net's elements and nodes.
+/// promised of the guesses after a correction: this only saves sweeps. The voltages and the guesses are those of the
+/// net's elements and nodes.
 pub fn improve<L: Ledger>(
     net: &Net,
     volts: &Volts,
-    walk: u16,
     solver: &mut Solver,
     steps: &mut Steps<L>,
 ) -> Improvement
@@ -227,26 +226,26 @@ pub fn improve<L: Ledger>(
     requires nodes { length solver.old ≡ net.now.network.nodes }
     ensures tick { steps.new ≡ steps.old + result.rounds }
     ensures few_rounds { result.rounds ≤ MOST_ROUNDS }
-    ensures few_passes { result.passes ≤ MOST_PASSES * result.rounds }
+    ensures few_turns { result.turns ≤ MOST_TURNS * result.rounds }
     ensures same { result.rounds ≡ 0 → solver.new ≡ solver.old }
     ensures same_length { length solver.new ≡ length solver.old }
 {
-    solver.arrange(net, walk);
-    let mut passes: u32 = 0;
+    solver.arrange(net);
+    let mut turns: u32 = 0;
     for round in 0..MOST_ROUNDS {
         match solver.approach(net, volts, steps) {
-            Some(more) => passes += more,
+            Some(more) => turns += more,
             None => {
                 return Improvement {
                     rounds: round,
-                    passes,
+                    turns,
                 };
             }
         }
     }
     Improvement {
         rounds: MOST_ROUNDS,
-        passes,
+        turns,
     }
 }
 

@@ -1,5 +1,5 @@
-//! A rough correction of guesses by thinned elimination and conjugate gradients, in whole numbers. It promises bounds
-//! alone: no number leaves its limits.
+//! Rough solutions of a network by thinned elimination and conjugate gradients, in whole numbers: corrections of guesses,
+//! and what bound vectors are proposed from. They promise bounds alone: no number leaves its limits.
 #![tactic(auto)]
 
 mod dividing;

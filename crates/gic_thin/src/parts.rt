@@ -17,7 +17,7 @@ pub const MOST_ARMS: usize = 512;
 pub const NO_HALF: u16 = u16::MAX;
 
 /// A standing element: its ends, and its conductance in units of 2^-36 siemens.
-#[derive(Clone, Copy)]
+#[derive(Clone, Copy, PartialEq)]
 pub struct Wire {
     pub siemens: u64,
     pub from: u16,

@@ -15,6 +15,8 @@ pub struct System {
     elimination: Elimination,
     /// Room for the nodes that are left.
     list: Vec<u16>,
+    /// Whether the factors are those of the wires.
+    is_factored: bool,
 }
 
 impl Model for System {
@@ -43,22 +45,25 @@ impl System {
             wires,
             elimination,
             list,
+            is_factored: false,
         })
     }
 
-    /// Takes the standing elements of a net, and makes its factors.
+    /// Takes the standing elements of a net. Factors are kept while these stay the same.
     pub(crate) fn take(&mut self, net: &Net)
         requires { self.old ≡ net.now.network.nodes }
         ensures { self.new ≡ self.old }
     {
         net.within_limits();
-        self.wires.take(net);
-        put_nodes(self.list.as_mut_slice());
-        eliminate_all(
-            &mut self.elimination,
-            self.wires.as_slice(),
-            self.list.as_mut_slice(),
-        );
+        if self.wires.take(net) || !self.is_factored {
+            put_nodes(self.list.as_mut_slice());
+            eliminate_all(
+                &mut self.elimination,
+                self.wires.as_slice(),
+                self.list.as_mut_slice(),
+            );
+            self.is_factored = true;
+        }
     }
 
     pub(crate) fn wires(&self) -> &[Wire]

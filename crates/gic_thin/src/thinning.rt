@@ -9,8 +9,8 @@ use gic_net::Net;
 use std::alloc::Global;
 use std::marker::Model;
 
-/// A rough correction of the guesses of a network. It is seen as the number of nodes.
-#[derive(Drop)]
+/// A rough solution of a network, for corrections of its guesses and proposals of bound vectors. It is seen as the number of
+/// nodes.
 pub struct Thinning {
     system: System,
     vectors: Vectors,
@@ -39,6 +39,18 @@ const CORRECTION_BITS: u32 = 28;
 /// A unit of residual, 2^-44 nanoampere, over a unit of conductance, 2^-36 siemens, is 2 to this many grains.
 const GRAIN_BITS: u32 = 28;
 
+impl Drop for Thinning {
+    /// Lets go of everything. Whoever drops a thinning has this one step, and not one for each part.
+    fn drop(self) {
+        let Thinning {
+            system: _system,
+            vectors: _vectors,
+            conductances: _conductances,
+            scale: _scale,
+        } = self;
+    }
+}
+
 impl Thinning {
     /// For a network of this many nodes, with room for `MOST_AT_A_NODE` elements at each node.
     pub fn new(alloc: Global, nodes: u16) -> Result<Thinning, OutOfMemory>
@@ -55,7 +67,7 @@ impl Thinning {
         })
     }
 
-    /// Makes the factors of a net of as many nodes.
+    /// Makes ready for a net of as many nodes. Its factors are made where other elements stand than in the net before.
     pub fn arrange(&mut self, net: &Net)
         requires { self.old ≡ net.now.network.nodes }
         ensures { self.new ≡ self.old }

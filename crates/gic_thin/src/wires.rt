@@ -44,12 +44,15 @@ impl Wires {
         })
     }
 
-    /// Takes the standing elements of a net.
-    pub(crate) fn take(&mut self, net: &Net)
+    /// Takes the standing elements of a net, and says whether they are others than those before.
+    pub(crate) fn take(&mut self, net: &Net) -> bool
         requires { self.old ≡ net.now.network.nodes }
         ensures { self.new ≡ self.old }
     {
-        self.count = put_wires(net, self.wires.as_mut_slice());
+        let before = self.count;
+        let listing = put_wires(net, self.wires.as_mut_slice());
+        self.count = listing.count;
+        listing.is_new || listing.count != before
     }
 
     pub(crate) fn as_slice(&self) -> &[Wire]

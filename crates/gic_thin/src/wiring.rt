@@ -28,18 +28,28 @@ fn wire_of(element: &Element) -> Wire
     }
 }
 
-/// Lists the standing elements of a net, as far as there is room, and says how many.
-pub(crate) fn put_wires(net: &Net, wires: &mut [Wire]) -> usize
+/// What a listing of wires found: how many stand, and whether one is another than was listed at its place before.
+#[derive(Clone, Copy)]
+pub struct Listing {
+    pub count: usize,
+    pub is_new: bool,
+}
+
+/// Lists the standing elements of a net, as far as there is room.
+pub(crate) fn put_wires(net: &Net, wires: &mut [Wire]) -> Listing
     requires { AreWiresInside net.now.network.nodes wires.old }
-    ensures few { result ≤ length wires.new }
+    ensures few { result.count ≤ length wires.new }
     ensures inside { AreWiresInside net.now.network.nodes wires.new }
 {
     let mut count = 0;
+    let mut is_new = false;
     for place in 0..net.count() {
         if net.stands(ElementId(place)) && count < wires.len() {
-            wires[count] = wire_of(&net.element(ElementId(place)));
+            let wire = wire_of(&net.element(ElementId(place)));
+            is_new = is_new || wires[count] != wire;
+            wires[count] = wire;
             count += 1;
         }
     }
-    count
+    Listing { count, is_new }
 }

@@ -1,6 +1,0 @@
-use Rattle.std.proofs.Common.{◌^◌}
-use Rattle.gic_relax.specs.Within.{AreWithin}
-use Rattle.gic_relax.proofs.charging.charge_all.Given as goal
-
-abbrev pub invariant-loop-k : goal.invariant-loop-k
-invariant-loop-k l = AreWithin (2 ^ 57) l.charges
