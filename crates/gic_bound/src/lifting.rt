@@ -19,7 +19,7 @@ use gic_net::Net;
 const LOOKS: u32 = 8;
 
 /// How many passes a vector that is only proposed is given.
-const MOST_PASSES: u32 = 8;
+const MOST_PASSES: u32 = 256;
 
 /// Raises entries that are too small until none below the cap is. Entries that are at the cap stay, whether they are too
 /// small or not. The neighbours of a raised node are looked at next, as far as there is room for those that wait: room

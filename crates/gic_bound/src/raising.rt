@@ -126,7 +126,7 @@ fn raise_fully(net: &Net, out: &mut BoundVector, waiting: &mut [u16])
     raise_under(net, &Cap::Full, out, waiting);
 }
 
-/// Raises a vector of any entries for a few passes, and answers whether it is a capped one then.
+/// Raises a vector of any entries for a bounded number of passes, and answers whether it is a capped one then.
 fn raise_proposed(net: &Net, out: &mut BoundVector, waiting: &mut [u16]) -> bool
     requires { length out.old ≡ net.now.network.nodes }
     ensures capped { IsTrue result → IsCappedVector (standing net.now) (slice_index out.new) }

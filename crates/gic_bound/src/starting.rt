@@ -14,8 +14,8 @@ use gic_base::NodeId;
 use gic_base::limits::FULL_WALK;
 use gic_net::Net;
 
-/// How often a vector that is only proposed is sunk before it is given up.
-const MOST_SINKINGS: u32 = 8;
+/// How often a vector that is only proposed, or is capped, is sunk before that is given up.
+const MOST_SINKINGS: u32 = 32;
 
 /// The greatest step by which a capped vector is sunk.
 const MOST_STEP: u16 = 8;
@@ -53,8 +53,8 @@ fn is_tight(net: &Net, vector: &BoundVector, other: &mut BoundVector, waiting: &
     sinks_to_itself(net, 1, vector, other, waiting)
 }
 
-/// Makes the vector one to start from, if it is one, perhaps after it has sunk by 1 a few times, and answers whether it
-/// is.
+/// Makes the vector one to start from, if it is one, perhaps after it has sunk by 1 at most
+/// [`MOST_SINKINGS`] times, and answers whether it is.
 pub fn make_start(
     net: &Net,
     out: &mut BoundVector,
@@ -76,7 +76,7 @@ pub fn make_start(
     false
 }
 
-/// Sinks a capped vector a few times, and answers whether it is the least one then.
+/// Sinks a capped vector at most [`MOST_SINKINGS`] times, and answers whether it is the least one then.
 pub fn sink_briefly(
     net: &Net,
     out: &mut BoundVector,

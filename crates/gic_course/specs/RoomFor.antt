@@ -16,10 +16,11 @@ use Rattle.gic_course.specs.declared.room.Room.{Room}
 -- there is room for each node, element and zone of the case
 pub record IsRoomFor (case : Lists) (room : Room) : Type 0 where
   pub scratch : room.scratch.nodes ≡ (elements_of case).nodes
+  pub start : room.start ≡ (elements_of case).nodes
   pub together : BelongTogether (elements_of case) room.volts room.solver room.vector room.potentials
   pub fit : FitCase case (elements_of case) room.fields room.bases
 
--- the bases were settled for the net; its bound vector, the potentials and the room for reached nodes stay
+-- the bases were settled for the net; the bound vector, the potentials and the room for reached nodes stay
 pub record IsPrepared (case : Lists) (net : NetView) (old new : Room) : Type 0 where
   pub settled : AreSettledBases (standing net) case net.network.list new.bases
   pub room : IsRoomFor case new

@@ -36,7 +36,7 @@ use std::alloc::Global;
 pub struct Course {
     epochs: Vec<Epoch>,
     switched: SwitchedNet,
-    /// The epoch for whose steps the net, its bound vector and the bases are ready.
+    /// The epoch for whose steps the net, a bound vector of it and the bases are ready.
     ready: Option<Epoch>,
     room: Room,
 }

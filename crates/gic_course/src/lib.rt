@@ -9,8 +9,6 @@ mod preparing;
 mod room;
 mod showing;
 mod switched;
-#[cfg(test)]
-mod tests;
 mod walking;
 
 pub use course::Course;

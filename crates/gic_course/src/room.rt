@@ -12,6 +12,7 @@ use gic_enclose::Potentials;
 use gic_induce::Fields;
 use gic_island::Scratch;
 use gic_model::{Elements, Volts};
+use gic_start::Start;
 use gic_sweep::Solver;
 use std::alloc::Global;
 
@@ -20,6 +21,7 @@ use std::alloc::Global;
 pub(crate) struct Room {
     pub(crate) scratch: Scratch,
     pub(crate) vector: BoundVector,
+    pub(crate) start: Start,
     pub(crate) fields: Fields,
     pub(crate) volts: Volts,
     pub(crate) solver: Solver,
@@ -43,6 +45,7 @@ pub(crate) fn make_room(
     let nodes = elements.nodes();
     let scratch = Scratch::new(alloc, nodes)?;
     let vector = BoundVector::new(alloc, nodes)?;
+    let start = Start::new(alloc, nodes)?;
     let fields = Fields::new(alloc, zones)?;
     let volts = Volts::new(alloc, elements)?;
     let solver = Solver::new(alloc, nodes)?;
@@ -51,6 +54,7 @@ pub(crate) fn make_room(
     Ok(Room {
         scratch,
         vector,
+        start,
         fields,
         volts,
         solver,

@@ -37,7 +37,7 @@ fn expect_network(case: &Case, net: &Net, step: u32, room: &mut Room) -> Result<
     ensures room { IsRoomFor case.now room.new }
 {
     expect_earthed(case, net, step, &mut room.scratch)?;
-    expect_resolved(case, net, step, &mut room.vector)?;
+    expect_resolved(case, net, step, &mut room.vector, &mut room.start)?;
     Ok(())
 }
 

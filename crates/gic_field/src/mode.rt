@@ -98,8 +98,8 @@ pub fn field<S: Sink>(alloc: Global, inputs: &Inputs, out: &mut S) -> Result<(),
     let elements = elements(alloc, case)?;
     let net = standing_net(alloc, &elements, &inputs.switchings)?;
     let volts = uniform_volts(alloc, case, &elements, question.north, question.east)?;
-    let mut room = make_room(alloc, case, &net)?;
     let mut view = view_of_case(alloc, case, &net)?;
+    let mut room = make_room(alloc, case, &net)?;
     field_net(
         case, &net, &volts, question, &mut room, &mut view, &mut line, out,
     )

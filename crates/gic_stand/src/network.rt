@@ -1,23 +1,25 @@
 //! The network of a case that stands, whether it is earthed, and whether it can be solved.
-ghost use Rattle.std.specs.Prelude.{◌≡◌, length, slice_index, IfOk, IfErr, OnOk};
+ghost use Rattle.std.specs.Prelude.{◌≡◌, slice_index, IfOk, IfErr, OnOk};
 ghost use Rattle.gic_base.specs.declared.limits.TheConstants.{MOST_WALK};
 ghost use Rattle.gic_model.specs.Bound.{IsEarthedWithin};
 ghost use Rattle.gic_model.specs.Earthing.{AreEarthed};
 ghost use Rattle.gic_model.specs.Standing.{standing_elements, stands_after};
 ghost use Rattle.gic_net.specs.Net.{standing, net_after};
 ghost use Rattle.gic_bound.specs.Entries.{IsBoundWithin};
+ghost use Rattle.gic_start.specs.ForNodes.{AreForNodes};
 ghost use Rattle.gic_winding.specs.ElementList.{elements_of};
 ghost use Rattle.gic_stand.specs.Standing.{rows_in};
 ghost use Rattle.gic_stand.specs.Needs.{Earthed, Solved, Fails};
 
 use crate::fault::NetworkRefusal;
 use gic_base::OutOfMemory;
-use gic_bound::{BoundVector, bound};
+use gic_bound::BoundVector;
 use gic_case::{Case, node_name};
 use gic_island::{Scratch, earthed};
 use gic_model::{Elements, Switching};
 use gic_net::Net;
 use gic_net::laws::net_switching_law;
+use gic_start::{Start, find_bound};
 use gic_switch::Switchings;
 use std::alloc::Global;
 
@@ -77,23 +79,25 @@ pub fn expect_earthed(
     }
 }
 
-/// Whether the network is earthed within 4096 at the step of this number, where each live node is earthed; its least
-/// capped vector is left in `vector`. Takes no memory.
+/// Whether the network is earthed within 4096 at the step of this number, where each live node is earthed. A bound vector
+/// without an entry above 4096 is left in `vector`, found from what that was; the refusal names the first node with the
+/// entry 4097 in the least capped vector. Takes no memory.
 pub fn expect_resolved(
     case: &Case,
     net: &Net,
     step: u32,
     vector: &mut BoundVector,
+    start: &mut Start,
 ) -> Result<(), NetworkRefusal>
     requires network { net.now.network ≡ elements_of case.now }
-    requires entries { length vector.old ≡ net.now.network.nodes }
+    requires room { AreForNodes net.now.network.nodes vector.old start.old }
     requires earthed { AreEarthed (standing net.now) }
     ensures within { OnOk result (IsEarthedWithin (standing net.now) MOST_WALK) }
     ensures bound { OnOk result (IsBoundWithin (standing net.now) MOST_WALK (slice_index vector.new)) }
     ensures err { IfErr result (Fails Solved case.now step (standing net.now)) }
-    ensures entries { length vector.new ≡ length vector.old }
+    ensures room { AreForNodes net.now.network.nodes vector.new start.new }
 {
-    match bound(net, vector) {
+    match find_bound(net, vector, start) {
         Ok(()) => Ok(()),
         Err(refusal) => {
             let node = node_name(case, refusal.node);

@@ -16,6 +16,7 @@ use Rattle.gic_uniform.specs.declared.room.Room.{Room}
 pub record IsRoomFor (case : Lists) (room : Room) : Type 0 where
   pub scratch : room.scratch.nodes ≡ (elements_of case).nodes
   pub vector : length room.vector ≡ (elements_of case).nodes
+  pub start : room.start ≡ (elements_of case).nodes
   pub solver : length room.solver ≡ (elements_of case).nodes
   pub potentials : length room.potentials ≡ (elements_of case).nodes
 

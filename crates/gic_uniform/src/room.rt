@@ -9,6 +9,7 @@ use gic_case::Case;
 use gic_enclose::Potentials;
 use gic_island::Scratch;
 use gic_net::Net;
+use gic_start::Start;
 use gic_sweep::Solver;
 use std::alloc::Global;
 
@@ -17,18 +18,28 @@ use std::alloc::Global;
 pub struct Room {
     pub(crate) scratch: Scratch,
     pub(crate) vector: BoundVector,
+    pub(crate) start: Start,
     pub(crate) solver: Solver,
     pub(crate) potentials: Potentials,
 }
 
 impl Room {
-    ghost use Rattle.std.specs.Prelude.{◌≡◌};
+    ghost use Rattle.std.specs.Prelude.{◌≡◌, length};
 
     /// The entries that a look at the network left, by nodes.
     pub fn vector(&self) -> &BoundVector
         ensures { result.now ≡ self.now.vector }
     {
         &self.vector
+    }
+
+    /// Proposes entries for the next look at a network, which begins there: those that a look at nearly the same network
+    /// left, say.
+    pub fn propose(&mut self, vector: &BoundVector)
+        requires { length vector.now ≡ length self.old.vector }
+        ensures { self.new ≡ record self.old { vector = vector.now } }
+    {
+        self.vector.copy_from(vector);
     }
 
     /// The guesses, by nodes.
@@ -48,11 +59,13 @@ pub fn make_room(alloc: Global, case: &Case, net: &Net) -> Result<Room, OutOfMem
     let nodes = net.nodes();
     let scratch = Scratch::new(alloc, nodes)?;
     let vector = BoundVector::new(alloc, nodes)?;
+    let start = Start::new(alloc, nodes)?;
     let solver = Solver::new(alloc, nodes)?;
     let potentials = Potentials::new(alloc, nodes)?;
     Ok(Room {
         scratch,
         vector,
+        start,
         solver,
         potentials,
     })

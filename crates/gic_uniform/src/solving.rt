@@ -27,16 +27,17 @@ use gic_view::StepView;
 use std::marker::Brand;
 use std::sync::ledger::{Blank, Ledger};
 
-/// Whether the network of a case can be solved; a refusal names the step 1. Its least capped vector is left in the room, for
-/// every solve. Takes no memory.
+/// Whether the network of a case can be solved; a refusal names the step 1. A bound vector of it is left in the room, for
+/// every solve, found from the entries there. Takes no memory.
 pub fn expect_solvable(case: &Case, net: &Net, room: &mut Room) -> Result<(), NetworkRefusal>
     requires net { net.now.network ≡ elements_of case.now }
     requires room { IsRoomFor case.now room.old }
     ensures ready { OnOk result (IsReadyFor case.now (standing net.now) room.new) }
     ensures err { IfErr result (Fails Solved case.now 1 (standing net.now)) }
+    ensures room { IsRoomFor case.now room.new }
 {
     expect_earthed(case, net, 1, &mut room.scratch)?;
-    expect_resolved(case, net, 1, &mut room.vector)
+    expect_resolved(case, net, 1, &mut room.vector, &mut room.start)
 }
 
 /// Solves the network in these voltages, as `solve` does, and counts none of its steps.

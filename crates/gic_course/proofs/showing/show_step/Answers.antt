@@ -16,6 +16,7 @@ step_uncounted-requires-clause-room c =
     let space = c.requires.ready.space in
     record {
       scratch = space.scratch;
+      start = space.start;
       together = space.together;
       fit = record {
         lines = space.fit.lines;

@@ -9,15 +9,15 @@ use Rattle.gic_stand.proofs.network.expect_resolved.Goals as goal
 
 pub node_name-node-requires : goal.node_name-node-requires
 node_name-node-requires c =
-    let nodes : length c.bound.new.out ≡ length (node_names c.args.case.now) =
-    c.bound.ensures.same_length ∙ c.requires.entries ∙ ap (λ (n : Network). n.nodes) c.requires.network ∙ nodes_named c.args.case.now in
-    subst (λ (n : ℕ). c.in-Err.refusal.node.0 < n) nodes (within_by_index c.bound.new.out c.in-Err.refusal.node.0 4096 c.in-Err.ensures.full)
+    let nodes : length c.find_bound.new.out ≡ length (node_names c.args.case.now) =
+    c.find_bound.ensures.room.entry_count ∙ ap (λ (n : Network). n.nodes) c.requires.network ∙ nodes_named c.args.case.now in
+    subst (λ (n : ℕ). c.in-Err.refusal.node.0 < n) nodes (within_by_index c.find_bound.new.out c.in-Err.refusal.node.0 4096 c.in-Err.ensures.full)
 
 pub returns-in-Err-clause-err : goal.returns-in-Err-clause-err
 returns-in-Err-clause-err c =
     let node = c.in-Err.refusal.node.0 in
     let first : IsFirstUnresolved (standing c.args.net.now) node = record {
-      entries = slice_index c.bound.new.out;
+      entries = slice_index c.find_bound.new.out;
       least = c.in-Err.ensures.least;
       full = c.in-Err.ensures.full;
       first = λ j below full. omega (arith, c.in-Err.ensures.first j below, full);
