@@ -1,34 +1,13 @@
-//! The names of items and nodes of a case.
+//! The names of the nodes of a case.
 ghost use Rattle.std.specs.Prelude.{◌≡◌, IsTrue, Contains};
 ghost use Rattle.gic_model.specs.Network.{ends_at};
-ghost use Rattle.gic_winding.specs.ElementList.{item_name, elements_of};
+ghost use Rattle.gic_winding.specs.ElementList.{elements_of};
 ghost use Rattle.gic_list.specs.ListText.{node_name};
-ghost use Rattle.gic_list.specs.Items.{HasPlace};
 
 use gic_base::{Name, NodeId};
 use gic_case::Case;
-use gic_model::{Element, Item};
-
-/// The name of the substation, line or transformer of an item.
-pub(crate) fn item_name(case: &Case, item: Item) -> Name
-    requires { HasPlace case.now item }
-    ensures { result ≡ item_name case.now item }
-{
-    match item {
-        Item::Ground(place) => {
-            let substations = case.substations();
-            substations[place as usize].name
-        }
-        Item::Line(place) => {
-            let lines = case.lines();
-            lines[place as usize].name
-        }
-        Item::Transformer(place) | Item::Neutral(place) => {
-            let transformers = case.transformers();
-            transformers[place as usize].name
-        }
-    }
-}
+use gic_model::Element;
+use gic_report::item_name;
 
 /// The name of a node at which an element of the case ends. Past the buses it is the neutral node of the element's
 /// transformer, and is named as it.

@@ -7,11 +7,11 @@ ghost use Rattle.gic_text.specs.Lines.{line_text, lines_text, with_word};
 ghost use Rattle.gic_winding.specs.ElementList.{elements_of};
 ghost use Rattle.gic_list.specs.ListText.{end_name, element_line, counts_line, list_report};
 
-use crate::names::{item_name, node_name};
+use crate::names::node_name;
 use gic_base::{Sink, WriteFailed, write_all};
 use gic_case::Case;
 use gic_model::{Element, End};
-use gic_report::{role_word, write_word};
+use gic_report::{item_name, role_word, write_word};
 use gic_text::LineBuilder;
 
 /// Adds the name of the end to which an element runs to the line.

@@ -1,36 +1,10 @@
--- Counts of verdicts.
-use Rattle.std.proofs.Common.{◌≡◌, ◌∙◌, ℕ, zero, suc, ◌+◌, ◌<◌, ◌≤◌, Bool, true, cond, List, [], ◌∷◌, length, map, count_by, refl, ap, arith}
-use Rattle.std.proofs.lemmas.List.FromFn.{map-range_with_len_more}
-use Rattle.std.proofs.lemmas.List.Sums.{fold_push, sum_by-cons}
+-- Counts of verdicts that pass a test.
+use Rattle.std.proofs.Common.{◌≡◌, ℕ, zero, suc, ◌+◌, ◌<◌, ◌≤◌, Bool, true, cond, List, [], ◌∷◌, map, count_by, refl, arith}
+use Rattle.std.proofs.lemmas.List.Sums.{sum_by-cons}
 use Rattle.std.specs.List.{fold, range_with_len}
-use Rattle.gic_case.specs.Lists.{Lists}
-use Rattle.gic_report.specs.VerdictText.{verdict_at}
 use Rattle.gic_screen.specs.declared.criterion.Verdict.{Verdict}
-use Rattle.gic_screen.specs.declared.criterion.Verdict.TheVariants.{Below, Reaches, Undecided, Outside}
-use Rattle.gic_view.specs.View.{View}
-use Rattle.gic_make_mode.specs.declared.counting.Counts.{Counts}
-use Rattle.gic_make_mode.specs.Counting.{no_counts, counted, counts_of, total_of, first_verdicts}
-
--- one transformer more
-pub counted_more : (case : Lists) (threshold : ℕ) (view : View) (n : ℕ)
-    → counts_of (first_verdicts case threshold view (n + 1)) ≡ counted (counts_of (first_verdicts case threshold view n)) (verdict_at case threshold view n)
-counted_more case threshold view n =
-    ap counts_of (map-range_with_len_more (verdict_at case threshold view) 0 n n (omega arith))
-    ∙ fold_push counted no_counts (first_verdicts case threshold view n) (verdict_at case threshold view n)
-
-one_more : (counts : Counts) (v : Verdict) → total_of (counted counts v) ≡ total_of counts + 1
-one_more counts Below = omega arith
-one_more counts Reaches = omega arith
-one_more counts Undecided = omega arith
-one_more counts Outside = omega arith
-
-total_from : (counts : Counts) (vs : List Verdict) → total_of (fold counted counts vs) ≡ total_of counts + length vs
-total_from counts [] = omega arith
-total_from counts (v ∷ vs) = omega (arith, total_from (counted counts v) vs, one_more counts v)
-
--- each verdict is counted once
-pub total_counted : (vs : List Verdict) → total_of (counts_of vs) ≡ length vs
-total_counted vs = omega (arith, total_from no_counts vs)
+use Rattle.gic_report.specs.declared.counts.Counts.{Counts}
+use Rattle.gic_report.specs.Counts.{no_counts, counted, counts_of}
 
 -- a count that goes up at the verdicts that pass a test is the number of these
 count_from : (part : Counts → ℕ) (test : Verdict → Bool) → ((counts : Counts) (v : Verdict) → part (counted counts v) ≡ part counts + cond (test v) 1 0)

@@ -5,11 +5,12 @@ use Rattle.std.specs.List.{AllByRecursion}
 use Rattle.gic_text.specs.Words.{IsWord, IsLine}
 use Rattle.gic_text.proofs.Injective.{lines_injective}
 use Rattle.gic_text.proofs.Words.{word_from_test, word_decimal}
+use Rattle.gic_report.specs.Counts.{counts_words}
 use Rattle.gic_report.specs.SharedLines.{Words}
 use Rattle.gic_report.proofs.ViewDetermined.{same_natural}
-use Rattle.gic_make_mode.specs.declared.counting.Counts.{Counts}
+use Rattle.gic_report.specs.declared.counts.Counts.{Counts}
 use Rattle.gic_make_mode.specs.declared.text.Summary.{Summary}
-use Rattle.gic_make_mode.specs.MakeText.{counts_line, make_report}
+use Rattle.gic_make_mode.specs.MakeText.{make_report}
 use Rattle.gic_make_mode.specs.Determines.{AreCountsInRange, AreShown, TextDeterminesMake}
 
 -- the line at a place of a report, and the word at a place of a line
@@ -25,10 +26,10 @@ number n fits = word_decimal n (omega (arith, fits))
 same_small : (m n : ℕ) → m < 2 ^ 16 → n < 2 ^ 16 → decimal m ≡ decimal n → m ≡ n
 same_small m n h k e = same_natural m n (omega (arith, h)) (omega (arith, k)) e
 
--- the line of the counts is one, and determines them
-counts_words : (counts : Counts) → AreCountsInRange counts → IsLine (counts_line counts)
-unfolding counts_line
-counts_words counts fit = (
+-- the words of the counts are a line, and determine them
+counts_are_words : (counts : Counts) → AreCountsInRange counts → IsLine (counts_words counts)
+unfolding counts_words
+counts_are_words counts fit = (
   word_from_test (codes "below") refl,
   (
     number counts.below (omega (arith, fit.below_fits)),
@@ -51,8 +52,8 @@ counts_words counts fit = (
 abbrev counts_with : ℕ → ℕ → ℕ → ℕ → Counts
 counts_with a b c d = record { below = a; reaches = b; undecided = c; outside = d }
 
-same_counts : (counts other : Counts) → AreCountsInRange counts → AreCountsInRange other → counts_line counts ≡ counts_line other → counts ≡ other
-unfolding counts_line
+same_counts : (counts other : Counts) → AreCountsInRange counts → AreCountsInRange other → counts_words counts ≡ counts_words other → counts ≡ other
+unfolding counts_words
 same_counts counts other fit fit' e =
     let below = same_small counts.below other.below fit.below_fits fit'.below_fits (ap (λ ws. word_at ws 1) e) in
     let reaches = same_small counts.reaches other.reaches fit.reaches_fits fit'.reaches_fits (ap (λ ws. word_at ws 3) e) in
@@ -76,7 +77,7 @@ are_lines seed size shown fit = (
       ),
       (
         (word_from_test (codes "walk") refl, (number shown.walk (omega (arith, fit.walk_fits)), tt)),
-        (counts_words shown.counts fit.counts_fit, ((word_from_test (codes "end") refl, tt), tt)),
+        (counts_are_words shown.counts fit.counts_fit, ((word_from_test (codes "end") refl, tt), tt)),
       ),
     ),
   ),

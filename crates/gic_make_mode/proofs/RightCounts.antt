@@ -4,7 +4,6 @@ use Rattle.std.specs.Prelude.{nat_lt, nat_le}
 use Rattle.std.proofs.lemmas.Bool.{and_parts, and_from}
 use Rattle.std.proofs.lemmas.Bool.Decides.{nat_tests}
 use Rattle.std.proofs.lemmas.Int.{ints, clamps}
-use Rattle.std.proofs.lemmas.List.FromFn.{length-map-range_with_len}
 use Rattle.std.proofs.lemmas.List.Elements.{All-get_or}
 use Rattle.gic_case.specs.Lists.{Lists}
 use Rattle.gic_case.specs.Sound.{IsSound, IsSoundTransformer}
@@ -16,6 +15,7 @@ use Rattle.gic_model.specs.Solution.{Solution, IsSolution}
 use Rattle.gic_model.specs.Sums.{Placed}
 use Rattle.gic_effective.specs.Weighted.{effective_numerator}
 use Rattle.gic_report.specs.VerdictText.{absolute_ends, earthed_high, verdict_at}
+use Rattle.gic_report.proofs.CountedVerdicts.{total_at}
 use Rattle.gic_screen.specs.declared.criterion.Verdict.{Verdict}
 use Rattle.gic_screen.specs.declared.criterion.Verdict.TheVariants.{Below, Reaches, Undecided, Outside}
 use Rattle.gic_screen.specs.VerdictLaws.{BelowIsUnder, ReachesIsAtLeast}
@@ -23,12 +23,13 @@ use Rattle.gic_view.specs.View.{View, effective_at}
 use Rattle.gic_winding.specs.Weights.{transformer_at, no_transformer}
 use Rattle.gic_uniform.specs.Denominator.{effective_denominator}
 use Rattle.gic_uniform.specs.Solving.{IsSolvedView}
-use Rattle.gic_make_mode.specs.declared.counting.Counts.{Counts}
+use Rattle.gic_report.specs.declared.counts.Counts.{Counts}
 use Rattle.gic_make_mode.specs.declared.solving.TheConstants.{WIDTH}
-use Rattle.gic_make_mode.specs.Counting.{counted, counts_of, verdicts_of}
+use Rattle.gic_report.specs.Counts.{counted, counts_of}
+use Rattle.gic_make_mode.specs.Counting.{verdicts_of}
 use Rattle.gic_make_mode.specs.RightMake.{benchmark_threshold, surely_below, surely_reached, is_judged, is_under, is_at_least, TellOf, AreRightCounts}
 use Rattle.gic_make_mode.proofs.Verdicts.{is_below, is_reaching, is_outside, is_below_so, is_reaching_so, low_under, high_over, says_below, says_reaches, below_judged, reaches_judged, outside_is}
-use Rattle.gic_make_mode.proofs.Counted.{total_counted, count_le, counted_at}
+use Rattle.gic_make_mode.proofs.Counted.{count_le, counted_at}
 
 -- the denominator of a transformer's effective current is above 0
 some_denominator : (case : Lists) (t : ℕ) (s : Solution) → IsSound case → t < length case.transformers → 0 < s.denominator → 0 < effective_denominator case t s
@@ -150,7 +151,7 @@ module _ (below_law : BelowIsUnder) (reaches_law : ReachesIsAtLeast) (case : Lis
       let most = count_le (λ t. is_outside (said t)) (λ t. not (is_judged case t)) 0 count (λ t within h. sym (outside_so t) ∙ h) in
       let least = count_le (λ t. not (is_judged case t)) (λ t. is_outside (said t)) 0 count (λ t within h. outside_so t ∙ h) in
       record {
-        all = total_counted (verdicts_of case benchmark_threshold view) ∙ length-map-range_with_len said 0 count;
+        all = total_at said count;
         outside = omega (arith, outside, most, least);
         of_solutions = tell;
       }

@@ -1,6 +1,6 @@
 -- That the text of the mode determines what it shows.
 use Rattle.std.specs.Prelude.{◌≡◌, ℕ, ◌<◌, ◌^◌}
-use Rattle.gic_make_mode.specs.declared.counting.Counts.{Counts}
+use Rattle.gic_report.specs.declared.counts.Counts.{Counts}
 use Rattle.gic_make_mode.specs.declared.text.Summary.{Summary}
 use Rattle.gic_make_mode.specs.MakeText.{make_text}
 

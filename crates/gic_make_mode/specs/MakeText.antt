@@ -1,8 +1,8 @@
 -- The report of a made case.
 use Rattle.std.specs.Prelude.{ℕ, List, [], ◌∷◌, ◌++◌, codes, decimal}
 use Rattle.gic_text.specs.Lines.{lines_text}
+use Rattle.gic_report.specs.Counts.{counts_words}
 use Rattle.gic_report.specs.SharedLines.{Words, word_line}
-use Rattle.gic_make_mode.specs.declared.counting.Counts.{Counts}
 use Rattle.gic_make_mode.specs.declared.text.Summary.{Summary}
 
 -- the line of what is asked
@@ -17,15 +17,9 @@ sizes_line nodes elements = codes "nodes" ∷ decimal nodes ∷ codes "elements"
 abbrev pub walk_line : (walk : ℕ) → Words
 walk_line walk = codes "walk" ∷ decimal walk ∷ []
 
--- the line of how many transformers have each verdict
-unfoldable pub counts_line : Counts → Words
-counts_line counts =
-    codes "below" ∷ decimal counts.below ∷ codes "reaches" ∷ decimal counts.reaches
-    ∷ codes "undecided" ∷ decimal counts.undecided ∷ codes "outside" ∷ decimal counts.outside ∷ []
-
 -- the lines of what is shown
 abbrev pub summary_lines : Summary → List Words
-summary_lines shown = sizes_line shown.nodes shown.elements ∷ walk_line shown.walk ∷ counts_line shown.counts ∷ []
+summary_lines shown = sizes_line shown.nodes shown.elements ∷ walk_line shown.walk ∷ counts_words shown.counts ∷ []
 
 -- the lines of the report, and their text
 abbrev pub make_report : (seed size : ℕ) → Summary → List Words

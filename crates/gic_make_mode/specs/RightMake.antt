@@ -16,10 +16,10 @@ use Rattle.gic_stand.specs.Standing.{standing_of}
 use Rattle.gic_uniform.specs.Denominator.{effective_denominator}
 use Rattle.gic_uniform.specs.Uniform.{uniform_volts}
 use Rattle.gic_make.specs.Made.{made_case}
-use Rattle.gic_make_mode.specs.declared.counting.Counts.{Counts}
+use Rattle.gic_report.specs.declared.counts.Counts.{Counts}
 use Rattle.gic_make_mode.specs.declared.solving.TheConstants.{WIDTH}
 use Rattle.gic_make_mode.specs.declared.text.Summary.{Summary}
-use Rattle.gic_make_mode.specs.Counting.{total_of}
+use Rattle.gic_report.specs.Counts.{total_of}
 use Rattle.gic_make_mode.specs.MakeText.{make_text}
 
 -- the threshold of the benchmark event in mA per phase, 75000

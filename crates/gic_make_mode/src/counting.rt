@@ -1,49 +1,16 @@
 //! The verdicts on the transformers of a case, counted.
-ghost use Rattle.std.specs.Prelude.{◌≡◌, ◌<◌, length, All};
+ghost use Rattle.std.specs.Prelude.{◌≡◌, length, All};
 ghost use Rattle.gic_fixed.specs.Ends.{ends_of};
 ghost use Rattle.gic_report.specs.Fits.{HasAbsolute};
 ghost use Rattle.gic_report.specs.VerdictText.{verdict_on};
-ghost use Rattle.gic_make_mode.specs.Counting.{counted, total_of, verdicts_of, counts_of};
+ghost use Rattle.gic_report.specs.Counts.{counts_of};
+ghost use Rattle.gic_make_mode.specs.Counting.{verdicts_of};
 
 use gic_case::{Case, Transformer};
 use gic_fixed::Interval;
-use gic_report::earthed_high;
+use gic_report::{Counts, counted, earthed_high, no_counts};
 use gic_screen::{Verdict, verdict};
 use gic_view::StepView;
-
-/// How many transformers have each verdict.
-#[derive(Clone, Copy, Debug)]
-pub(crate) struct Counts {
-    pub(crate) below: u16,
-    pub(crate) reaches: u16,
-    pub(crate) undecided: u16,
-    pub(crate) outside: u16,
-}
-
-/// The counts with one verdict more.
-fn counted(counts: Counts, said: Verdict) -> Counts
-    requires { total_of counts < 65535 }
-    ensures { result ≡ counted counts said }
-{
-    match said {
-        Verdict::Below => Counts {
-            below: counts.below + 1,
-            ..counts
-        },
-        Verdict::Reaches => Counts {
-            reaches: counts.reaches + 1,
-            ..counts
-        },
-        Verdict::Undecided => Counts {
-            undecided: counts.undecided + 1,
-            ..counts
-        },
-        Verdict::Outside => Counts {
-            outside: counts.outside + 1,
-            ..counts
-        },
-    }
-}
 
 /// The verdict on a transformer, by its signed effective current.
 fn verdict_on(transformer: &Transformer, signed: Interval, threshold: u32) -> Verdict
@@ -60,12 +27,7 @@ pub(crate) fn count_verdicts(case: &Case, view: &StepView, threshold: u32) -> Co
     requires absolutes { All HasAbsolute view.now.effective }
     ensures { result ≡ counts_of (verdicts_of case.now threshold view.now) }
 {
-    let mut counts = Counts {
-        below: 0,
-        reaches: 0,
-        undecided: 0,
-        outside: 0,
-    };
+    let mut counts = no_counts();
     for (place, transformer) in case.transformers().iter().enumerate() {
         let said = verdict_on(transformer, view.effective(place as u16), threshold);
         counts = counted(counts, said);

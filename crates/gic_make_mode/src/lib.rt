@@ -5,8 +5,6 @@ mod counting;
 pub mod laws;
 mod mode;
 mod solving;
-#[cfg(test)]
-mod tests;
 mod text;
 
 pub use mode::make;

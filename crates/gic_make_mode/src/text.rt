@@ -4,11 +4,11 @@ ghost use Rattle.std.specs.Io.KnownBytes.{Appends};
 ghost use Rattle.gic_base.specs.Causes.{HasCause};
 ghost use Rattle.gic_base.specs.Pieces.{AppendsPart};
 ghost use Rattle.gic_text.specs.Lines.{line_text, lines_text};
-ghost use Rattle.gic_make_mode.specs.MakeText.{seed_line, sizes_line, walk_line, counts_line, summary_lines, make_text};
+ghost use Rattle.gic_report.specs.Counts.{counts_words};
+ghost use Rattle.gic_make_mode.specs.MakeText.{seed_line, sizes_line, walk_line, summary_lines, make_text};
 
-use crate::counting::Counts;
 use gic_base::{Sink, WriteFailed, write_all};
-use gic_report::write_word;
+use gic_report::{Counts, add_counts, write_word};
 use gic_text::LineBuilder;
 
 /// What a made case shows in short: the numbers of its nodes and its elements, the greatest entry of its least capped
@@ -81,27 +81,20 @@ fn write_walk<S: Sink>(walk: u16, line: &mut LineBuilder, out: &mut S) -> Result
 }
 
 /// Writes the line of the counts.
-#[tactic(auto, using(gic_text::proofs::Sizes::line_room), unfolding(crate::specs::MakeText::counts_line))]
+#[tactic(auto, using(gic_text::proofs::Sizes::line_room))]
 fn write_counts<S: Sink>(
     counts: &Counts,
     line: &mut LineBuilder,
     out: &mut S,
 ) -> Result<(), WriteFailed>
     ensures all { OnOk result (Appends (S.written out.old) (S.written out.new)
-        (line_text (counts_line counts.now))) }
+        (line_text (counts_words counts.now))) }
     ensures part { AppendsPart (S.written out.old) (S.written out.new)
-        (line_text (counts_line counts.now)) }
+        (line_text (counts_words counts.now)) }
     ensures cause { HasCause (S.faults out.old) (S.faults out.new) result }
 {
     line.start();
-    line.word(b"below");
-    line.number(i128::from(counts.below));
-    line.word(b"reaches");
-    line.number(i128::from(counts.reaches));
-    line.word(b"undecided");
-    line.number(i128::from(counts.undecided));
-    line.word(b"outside");
-    line.number(i128::from(counts.outside));
+    add_counts(counts, line);
     write_all(out, line.finish())
 }
 

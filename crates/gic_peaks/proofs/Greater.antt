@@ -14,13 +14,14 @@ max_assoc a b c = omega (arith, ints, clamps)
 pub same_ends : (low low' high high' : ℤ) → low ≡ low' → high ≡ high' → let e : Ends = record { low = low; high = high } in e ≡ record { low = low'; high = high' }
 same_ends low low' high high' e f = cc
 
-greater_assoc : (a b c : Option Ends) → greater (greater a b) c ≡ greater a (greater b c)
+-- the greatest of three is the same however they are joined
+pub greater_assoc : (a b c : Option Ends) → greater (greater a b) c ≡ greater a (greater b c)
 greater_assoc None b c = refl
 greater_assoc (Some a) None c = refl
 greater_assoc (Some a) (Some b) None = refl
 greater_assoc (Some a) (Some b) (Some c) = ap Some (same_ends _ _ _ _ (max_assoc a.low b.low c.low) (max_assoc a.high b.high c.high))
 
-greater-none : (a : Option Ends) → greater a None ≡ a
+pub greater-none : (a : Option Ends) → greater a None ≡ a
 greater-none None = refl
 greater-none (Some a) = refl
 

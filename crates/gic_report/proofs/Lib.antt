@@ -10,3 +10,4 @@ pub mod RowHeads
 pub mod RowCounts
 pub mod LinePlaces
 pub mod ViewDetermined
+pub mod CountedVerdicts

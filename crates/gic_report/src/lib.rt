@@ -2,14 +2,18 @@
 #![tactic(auto)]
 
 mod cells;
+mod counts;
 mod items;
 pub mod laws;
+mod names;
 mod role;
 mod rows;
 mod verdict;
 mod write;
 
+pub use counts::{Counts, add_counts, counted, no_counts};
 pub use items::{add_ends, write_nodes, write_rows, write_signed};
+pub use names::item_name;
 pub use role::role_word;
 pub use verdict::{add_verdict, earthed_high, write_transformers};
 pub use write::{write_field_line, write_word};

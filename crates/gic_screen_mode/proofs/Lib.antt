@@ -1,2 +1,2 @@
-pub mod RightRows
+pub mod RightScreens
 pub mod ScreenDetermined

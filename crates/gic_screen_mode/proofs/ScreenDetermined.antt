@@ -14,8 +14,10 @@ use Rattle.gic_report.specs.SharedLines.{Words, word_line}
 use Rattle.gic_report.specs.VerdictText.{verdict_word}
 use Rattle.gic_report.proofs.CaseNames.{transformer_names}
 use Rattle.gic_report.proofs.ViewDetermined.{ends_words, same_ends, same_natural}
-use Rattle.gic_screen_mode.specs.Rows.{Row}
-use Rattle.gic_screen_mode.specs.ScreenText.{row_line, screen_report, setting_line, transformer_line, transformer_lines, worst_verdict}
+use Rattle.gic_screening.specs.Rows.{Row}
+use Rattle.gic_screening.specs.RightRows.{worst_verdict}
+use Rattle.gic_screening.specs.Setting.{setting_line}
+use Rattle.gic_screen_mode.specs.ScreenText.{row_line, screen_report, transformer_line, transformer_lines}
 use Rattle.gic_screen_mode.specs.Determines.{IsRowInRange, TextDeterminesScreen}
 
 -- the word at a place of a line, and the first line

@@ -1,22 +1,13 @@
 -- The report of the currents of transformers for the worst orientation of an event's field.
-use Rattle.std.specs.Prelude.{ℕ, ℤ, List, [], ◌∷◌, ◌++◌, codes, decimal}
+use Rattle.std.specs.Prelude.{ℕ, ℤ, List, [], ◌∷◌, ◌++◌, codes}
 use Rattle.std.specs.Fmt.{signed_decimal}
 use Rattle.gic_case.specs.declared.item.Transformer.{Transformer}
-use Rattle.gic_fixed.specs.Ends.{Ends}
 use Rattle.gic_screen.specs.declared.criterion.Verdict.{Verdict}
-use Rattle.gic_screen.specs.Verdict.{verdict_of}
 use Rattle.gic_report.specs.SharedLines.{Words, word_line}
-use Rattle.gic_report.specs.VerdictText.{earthed_high, verdict_word}
-use Rattle.gic_screen_mode.specs.Rows.{Row}
-
--- the line of what is asked: the width, the threshold in mA, and the strength of the field in mV/km
-abbrev pub setting_line : (width threshold : ℕ) → (field : ℤ) → Words
-setting_line width threshold field =
-    codes "width" ∷ decimal width ∷ codes "threshold" ∷ decimal threshold ∷ codes "field" ∷ signed_decimal field ∷ []
-
--- the verdict on a transformer whose current for the worst orientation is in this interval, against a threshold in mA
-abbrev pub worst_verdict : (threshold : ℕ) → Transformer → Ends → Verdict
-worst_verdict threshold t worst = verdict_of worst.low worst.high threshold t.high_volts (earthed_high t.kind)
+use Rattle.gic_report.specs.VerdictText.{verdict_word}
+use Rattle.gic_screening.specs.Rows.{Row}
+use Rattle.gic_screening.specs.RightRows.{worst_verdict}
+use Rattle.gic_screening.specs.Setting.{setting_line}
 
 -- the line of a row: the transformer's name, the three intervals, and the verdict
 unfoldable pub row_line : (name : List ℕ) → Row → Verdict → Words

@@ -12,17 +12,17 @@ ghost use Rattle.gic_stand.specs.Serves.{Serves, shown};
 ghost use Rattle.gic_stand.specs.Standing.{steps_of};
 ghost use Rattle.gic_stand.specs.declared.fault.ReportFault.TheVariants.{Memory};
 ghost use Rattle.gic_screen_mode.specs.RightScreen.{screen_text, ShowsRightRows, IsRightScreen};
-ghost use Rattle.gic_screen_mode.specs.Screening.{AreVoltsFor, IsScreenRoomFor};
+ghost use Rattle.gic_screening.specs.Screening.{AreVoltsFor, IsScreenRoomFor};
 
-use crate::fields::{FieldVolts, field_volts};
-use crate::rows::ScreenRows;
-use crate::screening::{ScreenRoom, make_screen_room, screen_net};
-use crate::text::{Setting, write_screen};
+use crate::text::write_screen;
 use gic_base::{Sink, WriteFailed};
 use gic_case::Case;
 use gic_net::Net;
 use gic_question::Question;
 use gic_screen::laws::{verdict_law, worst_verdict_law};
+use gic_screening::{
+    FieldVolts, ScreenRoom, ScreenRows, field_volts, make_screen_room, screen_net, setting_of,
+};
 use gic_stand::{Inputs, ReportFault, ended, standing_net};
 use gic_text::LineBuilder;
 use gic_winding::elements;
@@ -42,11 +42,7 @@ fn write_rows<S: Sink>(
         (screen_text case.now question.now rows.now) }
     ensures cause { HasCause (S.faults out.old) (S.faults out.new) result }
 {
-    let setting = Setting {
-        width: question.width,
-        threshold: question.event.threshold(),
-        field: question.event.field(),
-    };
+    let setting = setting_of(question);
     write_screen(case.transformers(), &setting, rows.rows(), line, out)
 }
 

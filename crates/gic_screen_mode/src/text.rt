@@ -6,47 +6,16 @@ ghost use Rattle.gic_base.specs.Pieces.{AppendsPart};
 ghost use Rattle.gic_fixed.specs.Ends.{ends_of};
 ghost use Rattle.gic_text.specs.Lines.{with_words, line_text, lines_text};
 ghost use Rattle.gic_report.specs.ItemText.{ends_words};
-ghost use Rattle.gic_screen_mode.specs.Rows.{row_of};
-ghost use Rattle.gic_screen_mode.specs.ScreenText.{setting_line, row_line, transformer_line, transformer_lines, screen_report};
+ghost use Rattle.gic_screening.specs.Rows.{row_of};
+ghost use Rattle.gic_screen_mode.specs.ScreenText.{row_line, transformer_line, transformer_lines, screen_report};
 
-use crate::rows::ScreenRow;
 use gic_base::{Name, Sink, WriteFailed, write_all};
 use gic_case::Transformer;
 use gic_fixed::Interval;
-use gic_report::{add_ends, add_verdict, earthed_high, write_word};
-use gic_screen::{Verdict, verdict};
+use gic_report::{add_ends, add_verdict, write_word};
+use gic_screen::Verdict;
+use gic_screening::{ScreenRow, Setting, worst_verdict, write_setting};
 use gic_text::LineBuilder;
-
-/// What is asked: the width of intervals in mA, the threshold in mA per phase, and the strength of the field in mV/km.
-#[derive(Clone, Copy, Debug)]
-pub(crate) struct Setting {
-    pub(crate) width: u32,
-    pub(crate) threshold: u32,
-    pub(crate) field: i32,
-}
-
-/// Writes the line of what is asked.
-#[tactic(auto, using(gic_text::proofs::Sizes::line_room))]
-fn write_setting<S: Sink>(
-    setting: &Setting,
-    line: &mut LineBuilder,
-    out: &mut S,
-) -> Result<(), WriteFailed>
-    ensures all { OnOk result (Appends (S.written out.old) (S.written out.new)
-        (line_text (setting_line setting.now.width setting.now.threshold setting.now.field))) }
-    ensures part { AppendsPart (S.written out.old) (S.written out.new)
-        (line_text (setting_line setting.now.width setting.now.threshold setting.now.field)) }
-    ensures cause { HasCause (S.faults out.old) (S.faults out.new) result }
-{
-    line.start();
-    line.word(b"width");
-    line.number(i128::from(setting.width));
-    line.word(b"threshold");
-    line.number(i128::from(setting.threshold));
-    line.word(b"field");
-    line.number(i128::from(setting.field));
-    write_all(out, line.finish())
-}
 
 /// Adds what an interval is of, in at most 5 bytes, and its two ends.
 #[tactic(auto, using(gic_text::proofs::Sizes::line_room))]
@@ -99,8 +68,7 @@ fn write_transformer<S: Sink>(
         (line_text (transformer_line threshold transformer.now (row_of row.now))) }
     ensures cause { HasCause (S.faults out.old) (S.faults out.new) result }
 {
-    let is_earthed = earthed_high(transformer.kind);
-    let said = verdict(row.worst, threshold, transformer.high_volts, is_earthed);
+    let said = worst_verdict(transformer, row.worst, threshold);
     write_row(&transformer.name, row, said, line, out)
 }
 

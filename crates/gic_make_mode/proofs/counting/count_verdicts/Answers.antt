@@ -1,24 +1,22 @@
 use Rattle.std.proofs.Common.{◌≡◌, ◌∙◌, List, length, get_or, ap, sym, arith}
-use Rattle.std.proofs.lemmas.List.FromFn.{length-map-range_with_len}
 use Rattle.std.proofs.lemmas.List.{get_or_default}
 use Rattle.gic_case.specs.declared.item.Transformer.{Transformer}
 use Rattle.gic_fixed.specs.Ends.{ends_of}
 use Rattle.gic_report.specs.VerdictText.{verdict_on, verdict_at}
 use Rattle.gic_view.specs.View.{effective_at}
 use Rattle.gic_winding.specs.Weights.{transformer_at, no_transformer}
-use Rattle.gic_make_mode.specs.declared.counting.Counts.{Counts}
-use Rattle.gic_make_mode.specs.Counting.{counted, total_of, first_verdicts}
-use Rattle.gic_make_mode.proofs.Counted.{counted_more, total_counted}
+use Rattle.gic_report.specs.declared.counts.Counts.{Counts}
+use Rattle.gic_report.specs.Counts.{counted, total_of}
+use Rattle.gic_report.proofs.CountedVerdicts.{counts_next, total_at}
 use Rattle.gic_make_mode.proofs.counting.count_verdicts.Goals as goal
 
 pub counted-counts-requires : goal.counted-counts-requires
 counted-counts-requires c =
     let l = c.loop-place in
     let case = c.args.case.now in
-    let verdicts = first_verdicts case c.args.threshold c.args.view.now l.place in
     let total = ap (λ (counts : Counts). total_of counts) l.invariant in
-    let count = length-map-range_with_len (verdict_at case c.args.threshold c.args.view.now) 0 l.place in
-    omega (arith, total, total_counted verdicts, count, c.loop-place-test.true, ap length c.transformers-transformer-items.ensures.value, c.transformers-transformer-items.ensures.sound.few_transformers)
+    let each = total_at (verdict_at case c.args.threshold c.args.view.now) l.place in
+    omega (arith, total, each, c.loop-place-test.true, ap length c.transformers-transformer-items.ensures.value, c.transformers-transformer-items.ensures.sound.few_transformers)
 
 pub loop-place-preserved : goal.loop-place-preserved
 loop-place-preserved c =
@@ -32,4 +30,4 @@ loop-place-preserved c =
     let effective : ends_of c.effective.result ≡ effective_at view l.place = c.effective.ensures in
     let said : c.verdict_on-said.result ≡ verdict_at case threshold view l.place =
     c.verdict_on-said.ensures ∙ ap (verdict_on threshold c.transformer-item.result) effective ∙ ap (λ t. verdict_on threshold t (effective_at view l.place)) row in
-    c.counted-counts.ensures ∙ ap (counted l.counts) said ∙ ap (λ (counts : Counts). counted counts (verdict_at case threshold view l.place)) l.invariant ∙ sym (counted_more case threshold view l.place)
+    c.counted-counts.ensures ∙ ap (counted l.counts) said ∙ ap (λ (counts : Counts). counted counts (verdict_at case threshold view l.place)) l.invariant ∙ sym (counts_next (verdict_at case threshold view) l.place)

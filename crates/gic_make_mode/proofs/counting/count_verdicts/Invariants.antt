@@ -1,5 +1,6 @@
 use Rattle.std.proofs.Common.{◌≡◌}
-use Rattle.gic_make_mode.specs.Counting.{first_verdicts, counts_of}
+use Rattle.gic_report.specs.Counts.{counts_of}
+use Rattle.gic_make_mode.specs.Counting.{first_verdicts}
 use Rattle.gic_make_mode.proofs.counting.count_verdicts.Given as goal
 
 -- the verdicts so far are counted

@@ -1,4 +1,4 @@
-use Rattle.std.proofs.Common.{◌≡◌, ◌∙◌, ℕ, ℤ, pos, w32, to_z, of_z, None, List, [], ◌∷◌, refl, ap, sym, subst, arith}
+use Rattle.std.proofs.Common.{◌≡◌, ◌∙◌, ℕ, ◌*◌, ◌<◌, ℤ, pos, w32, to_z, of_z, None, List, [], ◌∷◌, refl, ap, sym, subst, arith}
 use Rattle.gic_case.specs.Lists.{Lists}
 use Rattle.gic_induce.specs.LineVolts.{volts_of}
 use Rattle.gic_induce.specs.Voltage.{IsFieldWithin}
@@ -19,6 +19,14 @@ use Rattle.gic_make.specs.Made.{made_case}
 use Rattle.gic_make_mode.specs.RightMake.{north_volts, IsRightSummary, IsRightMake}
 use Rattle.gic_make_mode.proofs.Solvable.{made_solvable}
 use Rattle.gic_make_mode.proofs.mode.make.Goals as goal
+
+pub summarise-summary-requires-clause-some : goal.summarise-summary-requires-clause-some
+summarise-summary-requires-clause-some g c =
+    let sized = c.made_cases_law.ensures.size c.args.seed c.args.size (omega (arith, c.ranges.seed.fits)) c.requires.least c.requires.most in
+    let made : (elements_of c.in_ok-case.case).nodes ≡ (elements_of (made_case c.args.seed c.args.size)).nodes = ap (λ (case : Lists). (elements_of case).nodes) c.in_ok-case.ensures in
+    let nodes : c.in_ok-net.net.network.nodes ≡ 2 * c.args.size =
+    ap (λ (n : Network). n.nodes) (c.in_ok-net.ensures.network ∙ c.in_ok-elements.ensures) ∙ made ∙ sized.nodes in
+    omega (arith, nodes, c.requires.least)
 
 pub summarise-summary-requires-clause-solvable : goal.summarise-summary-requires-clause-solvable
 summarise-summary-requires-clause-solvable g c =

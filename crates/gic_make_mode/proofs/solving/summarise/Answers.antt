@@ -2,8 +2,9 @@ use Rattle.std.proofs.Common.{◌∙◌, ℕ, length, ap, sym, subst}
 use Rattle.gic_model.specs.Network.{Network}
 use Rattle.gic_model.specs.Voltages.{number_at}
 use Rattle.gic_net.specs.Net.{standing}
-use Rattle.gic_make_mode.specs.declared.counting.Counts.{Counts}
-use Rattle.gic_make_mode.specs.Counting.{counts_of, verdicts_of}
+use Rattle.gic_report.specs.declared.counts.Counts.{Counts}
+use Rattle.gic_report.specs.Counts.{counts_of}
+use Rattle.gic_make_mode.specs.Counting.{verdicts_of}
 use Rattle.gic_make_mode.specs.RightMake.{IsWalk, AreRightCounts}
 use Rattle.gic_make_mode.proofs.RightCounts.{right_counts}
 use Rattle.gic_make_mode.proofs.solving.summarise.Goals as goal

@@ -2,9 +2,10 @@ use Rattle.std.proofs.Common.{ℕ, List, [], ◌++◌, refl}
 use Rattle.std.specs.declared.option.Option.{Option}
 use Rattle.std.proofs.lemmas.Result.{on_ok_weaker}
 use Rattle.gic_text.specs.Lines.{line_text, lines_text}
+use Rattle.gic_report.specs.Counts.{counts_words}
 use Rattle.gic_report.proofs.Written.{Written, begins, goes_on, stops, ends}
 use Rattle.gic_make_mode.specs.declared.text.Summary.{Summary}
-use Rattle.gic_make_mode.specs.MakeText.{sizes_line, walk_line, counts_line, summary_lines}
+use Rattle.gic_make_mode.specs.MakeText.{sizes_line, walk_line, summary_lines}
 use Rattle.gic_make_mode.proofs.text.write_summary.Goals as goal
 
 -- the pieces in which the lines are written
@@ -15,7 +16,7 @@ abbrev walk : Summary → List ℕ
 walk shown = line_text (walk_line shown.walk)
 
 abbrev counts : Summary → List ℕ
-counts shown = line_text (counts_line shown.counts)
+counts shown = line_text (counts_words shown.counts)
 
 nothing : (old : Option (List ℕ)) (shown : Summary) → Written old old (lines_text (summary_lines shown)) (sizes shown ++ (walk shown ++ (counts shown ++ [])))
 nothing old shown = begins old _ _ refl

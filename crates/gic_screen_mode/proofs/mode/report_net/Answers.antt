@@ -5,7 +5,7 @@ use Rattle.gic_stand.specs.Needs.{Solved}
 use Rattle.gic_stand.specs.Serves.{shown}
 use Rattle.gic_stand.proofs.Served.{served, met_once, unserved_network, refused_not_memory, ended_not_memory}
 use Rattle.gic_screen_mode.specs.RightScreen.{ShowsRightRows}
-use Rattle.gic_screen_mode.proofs.RightRows.{rows_right}
+use Rattle.gic_screen_mode.proofs.RightScreens.{rows_right}
 use Rattle.gic_screen_mode.proofs.mode.report_net.Goals as goal
 
 pub returns-clause-serves : goal.returns-clause-serves

@@ -4,10 +4,11 @@ use Rattle.std.proofs.lemmas.Result.{on_ok_weaker}
 use Rattle.gic_case.specs.declared.item.Transformer.{Transformer}
 use Rattle.gic_report.specs.SharedLines.{Words, word_line}
 use Rattle.gic_report.proofs.Framed.{part_first, part_second, part_body, part_last, all_written}
-use Rattle.gic_screen_mode.specs.declared.rows.ScreenRow.{ScreenRow}
-use Rattle.gic_screen_mode.specs.declared.text.Setting.{Setting}
-use Rattle.gic_screen_mode.specs.Rows.{row_of}
-use Rattle.gic_screen_mode.specs.ScreenText.{setting_line, transformer_lines}
+use Rattle.gic_screening.specs.declared.rows.ScreenRow.{ScreenRow}
+use Rattle.gic_screening.specs.declared.setting.Setting.{Setting}
+use Rattle.gic_screening.specs.Rows.{row_of}
+use Rattle.gic_screening.specs.Setting.{setting_line}
+use Rattle.gic_screen_mode.specs.ScreenText.{transformer_lines}
 use Rattle.gic_screen_mode.proofs.text.write_screen.Goals as goal
 
 asked : Setting → Words

@@ -1,9 +1,9 @@
-//! What the mode shows of each transformer.
+//! What a screen shows of each transformer.
 ghost use Rattle.std.specs.Prelude.{◌≡◌, ℕ, ◌^◌, ◌<◌, length};
 ghost use Rattle.gic_fixed.specs.Encloses.{IsWithin};
 ghost use Rattle.gic_fixed.specs.Ends.{ends_of};
 ghost use Rattle.gic_view.specs.View.{effective_at};
-ghost use Rattle.gic_screen_mode.specs.Rows.{row_of, row_at, IsRowOf};
+ghost use Rattle.gic_screening.specs.Rows.{row_of, row_at, IsRowOf};
 
 use gic_base::OutOfMemory;
 use gic_fixed::Interval;
@@ -12,13 +12,13 @@ use gic_view::StepView;
 use std::alloc::Global;
 use std::marker::Model;
 
-/// What the mode shows of a transformer, in milliamperes per phase: its signed effective currents in the field to the
+/// What a screen shows of a transformer, in milliamperes per phase: its signed effective currents in the field to the
 /// north and in the same field to the east, and its absolute one for the worst orientation of that field.
 #[derive(Clone, Copy, Debug)]
-pub(crate) struct ScreenRow {
-    pub(crate) north: Interval,
-    pub(crate) east: Interval,
-    pub(crate) worst: Interval,
+pub struct ScreenRow {
+    pub north: Interval,
+    pub east: Interval,
+    pub worst: Interval,
 }
 
 /// The row of a transformer with these signed effective currents.
@@ -36,13 +36,13 @@ fn screen_row(north: Interval, east: Interval) -> ScreenRow
 
 /// The rows of the transformers of a case, in their order.
 #[derive(Drop)]
-pub(crate) struct ScreenRows {
+pub struct ScreenRows {
     list: Vec<ScreenRow>,
 }
 
 impl Model for ScreenRows {
     ghost use Rattle.std.specs.Prelude.{List, map};
-    ghost use Rattle.gic_screen_mode.specs.Rows.{Row, row_of};
+    ghost use Rattle.gic_screening.specs.Rows.{Row, row_of};
 
     ghost Value = { List Row };
 
@@ -51,7 +51,7 @@ impl Model for ScreenRows {
 
 impl ScreenRows {
     ghost use Rattle.std.specs.Prelude.{◌≡◌, ◌<◌, length, map, replicate, slice_set, IfOk};
-    ghost use Rattle.gic_screen_mode.specs.Rows.{row_of, no_row};
+    ghost use Rattle.gic_screening.specs.Rows.{row_of, no_row};
 
     /// So many rows, in which each interval holds 0 alone.
     pub(crate) fn new(alloc: Global, count: usize) -> Result<ScreenRows, OutOfMemory>
@@ -76,7 +76,7 @@ impl ScreenRows {
     }
 
     /// The rows.
-    pub(crate) fn rows(&self) -> &[ScreenRow]
+    pub fn rows(&self) -> &[ScreenRow]
         ensures { map row_of result.now ≡ self.now }
     {
         &self.list

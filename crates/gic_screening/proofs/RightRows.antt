@@ -1,4 +1,4 @@
--- Rows of two solved views are right, and their verdicts are true.
+-- Rows of two solved views are right, and the verdicts on right worst intervals are true.
 use Rattle.std.proofs.Common.{◌≡◌, ℕ, ◌*◌, ◌<◌, ◌≤◌, List, length, ℤ, pos, arith, sym, subst}
 use Rattle.std.proofs.lemmas.Int.{ints}
 use Rattle.gic_case.specs.Lists.{Lists}
@@ -13,16 +13,15 @@ use Rattle.gic_effective.specs.RightView.{IsRightEffective}
 use Rattle.gic_effective.specs.Weighted.{effective_numerator}
 use Rattle.gic_screen.specs.declared.event.Event.{Event}
 use Rattle.gic_screen.specs.declared.event.Event.TheVariants.{Benchmark, Supplemental}
-use Rattle.gic_screen.specs.Event.{field_of, threshold_of}
+use Rattle.gic_screen.specs.Event.{field_of}
 use Rattle.gic_screen.specs.VerdictLaws.{UndecidedIsAcross, WorstBelowIsUnder, WorstReachesIsAtLeast}
 use Rattle.gic_report.specs.VerdictText.{earthed_high}
-use Rattle.gic_question.specs.declared.asked.Question.{Question}
 use Rattle.gic_uniform.specs.Denominator.{effective_denominator}
 use Rattle.gic_uniform.specs.Solving.{IsSolvedView}
 use Rattle.gic_uniform.proofs.Denominators.{some_denominator}
-use Rattle.gic_screen_mode.specs.Rows.{Row, row_at, IsRowOf}
-use Rattle.gic_screen_mode.specs.RightScreen.{IsRightRow, AreRightRows}
-use Rattle.gic_screen_mode.specs.Screening.{AreScreened}
+use Rattle.gic_screening.specs.Rows.{Row, row_at, IsRowOf}
+use Rattle.gic_screening.specs.RightRows.{IsRightWorst, IsRightRow, IsTrueVerdict}
+use Rattle.gic_screening.specs.Screening.{AreScreened}
 
 -- the field of an event is one that can be asked for, and so is none
 pub field_within : (event : Event) → IsFieldWithin (field_of event)
@@ -43,12 +42,14 @@ row_right case standing north east width half t north_view east_view row one oth
     record {
       to_north = subst (λ (e : Ends). IsRightEffective case standing north t e) (sym is.north_is) (one.right.effective t inside);
       to_east = subst (λ (e : Ends). IsRightEffective case standing east t e) (sym is.east_is) (other.right.effective t inside);
-      at_worst = λ s r solves. is.holds (effective_numerator case s t) (effective_denominator case t s) (effective_numerator case r t) (effective_denominator case t r)
-          ((one.right.effective t inside).holds s solves.in_north) ((other.right.effective t inside).holds r solves.in_east);
-      in_order = is.in_order;
+      at_worst = record {
+        holds = λ s r solves. is.holds (effective_numerator case s t) (effective_denominator case t s) (effective_numerator case r t) (effective_denominator case t r)
+            ((one.right.effective t inside).holds s solves.in_north) ((other.right.effective t inside).holds r solves.in_east);
+        in_order = is.in_order;
+        narrow = wider row.worst (2 * half) width twice third;
+      };
       north_narrow = subst (λ (e : Ends). IsAtMostWide width e.low e.high) (sym is.north_is) (wider (effective_at north_view t) half width (omega arith) first);
       east_narrow = subst (λ (e : Ends). IsAtMostWide width e.low e.high) (sym is.east_is) (wider (effective_at east_view t) half width (omega arith) second);
-      worst_narrow = wider row.worst (2 * half) width twice third;
     }
   where
     wider : (e : Ends) (w v : ℕ) → w ≤ v → IsAtMostWide w e.low e.high → IsAtMostWide v e.low e.high
@@ -65,25 +66,19 @@ rows_screened case standing north east width half north_view east_view rows one 
   right = λ t inside. row_right case standing north east width half t north_view east_view (row_at rows t) one other inside least twice (filled t (subst (λ n. t < n) (sym count) inside));
 }
 
--- the verdicts on screened rows are true
-pub rows_right : UndecidedIsAcross → WorstBelowIsUnder → WorstReachesIsAtLeast → (case : Lists) (standing : List Placed) (north east : ℕ → ℤ) (q : Question) (rows : List Row)
-    → IsSound case → AreScreened case standing north east q.width rows → AreRightRows case standing north east q rows
-rows_right across under at_least case standing north east q rows sound screened = record {
-  count = screened.count;
-  right = screened.right;
-  verdicts = λ t inside.
-      let worst = (row_at rows t).worst in
-      let high_volts = (transformer_at case t).high_volts in
-      let earthed = earthed_high (transformer_at case t).kind in
-      let threshold = threshold_of q.event in
-      record {
-        below = λ said one other solves.
-            under worst.low worst.high (effective_numerator case one t) (effective_denominator case t one) (effective_numerator case other t) (effective_denominator case t other) threshold high_volts earthed
-            (some_denominator case t one sound inside solves.in_north.denominator_above_0) (some_denominator case t other sound inside solves.in_east.denominator_above_0)
-            (screened.right t inside).in_order said ((screened.right t inside).at_worst one other solves);
-        reaches = λ said one other solves.
-            at_least worst.low worst.high (effective_numerator case one t) (effective_denominator case t one) (effective_numerator case other t) (effective_denominator case t other) threshold high_volts earthed
-            said ((screened.right t inside).at_worst one other solves);
-        undecided = λ said. across worst.low worst.high threshold high_volts earthed said;
-      };
-}
+-- the verdict on a right worst interval is true
+pub verdict_true : UndecidedIsAcross → WorstBelowIsUnder → WorstReachesIsAtLeast → (case : Lists) (standing : List Placed) (north east : ℕ → ℤ) (threshold width t : ℕ) (worst : Ends)
+    → IsSound case → t < length case.transformers → IsRightWorst case standing north east width t worst → IsTrueVerdict case standing north east threshold t worst
+verdict_true across under at_least case standing north east threshold width t worst sound inside right =
+    let high_volts = (transformer_at case t).high_volts in
+    let earthed = earthed_high (transformer_at case t).kind in
+    record {
+      below = λ said one other solves.
+          under worst.low worst.high (effective_numerator case one t) (effective_denominator case t one) (effective_numerator case other t) (effective_denominator case t other) threshold high_volts earthed
+          (some_denominator case t one sound inside solves.in_north.denominator_above_0) (some_denominator case t other sound inside solves.in_east.denominator_above_0)
+          right.in_order said (right.holds one other solves);
+      reaches = λ said one other solves.
+          at_least worst.low worst.high (effective_numerator case one t) (effective_denominator case t one) (effective_numerator case other t) (effective_denominator case t other) threshold high_volts earthed
+          said (right.holds one other solves);
+      undecided = λ said. across worst.low worst.high threshold high_volts earthed said;
+    }

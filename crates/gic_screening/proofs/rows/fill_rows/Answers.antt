@@ -3,8 +3,8 @@ use Rattle.std.proofs.lemmas.List.{length-set}
 use Rattle.gic_effective.proofs.Filled.{filled}
 use Rattle.gic_fixed.specs.Ends.{Ends}
 use Rattle.gic_view.specs.View.{effective_at}
-use Rattle.gic_screen_mode.specs.Rows.{no_row, row_of, IsRowOf}
-use Rattle.gic_screen_mode.proofs.rows.fill_rows.Goals as goal
+use Rattle.gic_screening.specs.Rows.{no_row, row_of, IsRowOf}
+use Rattle.gic_screening.proofs.rows.fill_rows.Goals as goal
 
 pub loop-transformer-preserved : goal.loop-transformer-preserved
 loop-transformer-preserved c =

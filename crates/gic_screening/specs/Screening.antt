@@ -1,4 +1,4 @@
--- What a screen needs, and what it leaves. For the contracts of this crate.
+-- What a screen needs, and what it leaves. For contracts.
 use Rattle.std.specs.Prelude.{◌≡◌, ℕ, ◌<◌, List, length, ℤ, pos}
 use Rattle.gic_case.specs.Lists.{Lists}
 use Rattle.gic_effective.specs.ViewLengths.{HasViewLengths}
@@ -9,10 +9,10 @@ use Rattle.gic_screen.specs.Event.{field_of}
 use Rattle.gic_winding.specs.ElementList.{elements_of}
 use Rattle.gic_uniform.specs.Solving.{IsRoomFor}
 use Rattle.gic_uniform.specs.Uniform.{uniform_field}
-use Rattle.gic_screen_mode.specs.declared.fields.FieldVolts.{FieldVolts}
-use Rattle.gic_screen_mode.specs.declared.screening.ScreenRoom.{ScreenRoom}
-use Rattle.gic_screen_mode.specs.Rows.{Row, row_at}
-use Rattle.gic_screen_mode.specs.RightScreen.{IsRightRow}
+use Rattle.gic_screening.specs.declared.fields.FieldVolts.{FieldVolts}
+use Rattle.gic_screening.specs.declared.screening.ScreenRoom.{ScreenRoom}
+use Rattle.gic_screening.specs.Rows.{Row, row_at}
+use Rattle.gic_screening.specs.RightRows.{IsRightRow}
 
 -- the voltages of a case's elements in the field of an event, to the north and to the east
 pub record AreOfEvent (case : Lists) (event : Event) (volts : FieldVolts) : Type 0 where

@@ -1,8 +1,8 @@
 use Rattle.std.proofs.Common.{arith, ◌∙◌}
 use Rattle.gic_model.specs.Voltages.{number_at}
 use Rattle.gic_net.specs.Net.{standing}
-use Rattle.gic_screen_mode.proofs.RightRows.{rows_screened}
-use Rattle.gic_screen_mode.proofs.screening.screen_net.Goals as goal
+use Rattle.gic_screening.proofs.RightRows.{rows_screened}
+use Rattle.gic_screening.proofs.screening.screen_net.Goals as goal
 
 pub returns-clause-right : goal.returns-clause-right
 returns-clause-right c =

@@ -5,8 +5,8 @@ use Rattle.gic_screen.specs.Event.{field_of}
 use Rattle.gic_winding.specs.ElementList.{elements_of}
 use Rattle.gic_uniform.specs.Uniform.{uniform_field}
 use Rattle.gic_uniform.proofs.UniformFields.{same_part}
-use Rattle.gic_screen_mode.proofs.RightRows.{field_within}
-use Rattle.gic_screen_mode.proofs.fields.field_volts.Goals as goal
+use Rattle.gic_screening.proofs.RightRows.{field_within}
+use Rattle.gic_screening.proofs.fields.field_volts.Goals as goal
 
 pub returns : goal.returns
 returns c =

@@ -1,7 +1,7 @@
 use Rattle.std.proofs.Common.{List, slice_set, ap, ◌∙◌}
 use Rattle.std.proofs.lemmas.List.{map-set}
-use Rattle.gic_screen_mode.specs.Rows.{Row, row_of}
-use Rattle.gic_screen_mode.proofs.rows.ScreenRows.set.Goals as goal
+use Rattle.gic_screening.specs.Rows.{Row, row_of}
+use Rattle.gic_screening.proofs.rows.ScreenRows.set.Goals as goal
 
 pub returns : goal.returns
 returns c =

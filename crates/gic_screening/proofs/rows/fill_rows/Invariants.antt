@@ -1,7 +1,7 @@
 use Rattle.std.proofs.Common.{◌≡◌, ℕ, ◌<◌, length}
 use Rattle.gic_view.specs.View.{effective_at}
-use Rattle.gic_screen_mode.specs.Rows.{row_at, IsRowOf}
-use Rattle.gic_screen_mode.proofs.rows.fill_rows.Given as goal
+use Rattle.gic_screening.specs.Rows.{row_at, IsRowOf}
+use Rattle.gic_screening.proofs.rows.fill_rows.Given as goal
 
 -- the rows so far are those of the two views
 abbrev pub invariant-loop-transformer : goal.invariant-loop-transformer

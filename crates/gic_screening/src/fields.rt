@@ -1,7 +1,7 @@
 //! The voltages in the field of an event.
 ghost use Rattle.std.specs.Prelude.{◌≡◌, IfOk};
 ghost use Rattle.gic_winding.specs.ElementList.{elements_of};
-ghost use Rattle.gic_screen_mode.specs.Screening.{AreOfEvent};
+ghost use Rattle.gic_screening.specs.Screening.{AreOfEvent};
 
 use gic_base::OutOfMemory;
 use gic_case::Case;
@@ -12,13 +12,13 @@ use std::alloc::Global;
 
 /// The voltages in nanovolts in one field to the north, and in the same field to the east.
 #[derive(Drop)]
-pub(crate) struct FieldVolts {
-    pub(crate) north: Volts,
-    pub(crate) east: Volts,
+pub struct FieldVolts {
+    pub north: Volts,
+    pub east: Volts,
 }
 
 /// The voltages of the elements of a case in the field of an event.
-pub(crate) fn field_volts(
+pub fn field_volts(
     alloc: Global,
     case: &Case,
     elements: &Elements,

@@ -5,7 +5,7 @@ ghost use Rattle.gic_net.specs.Net.{standing};
 ghost use Rattle.gic_winding.specs.ElementList.{elements_of};
 ghost use Rattle.gic_stand.specs.Needs.{Solved, Fails};
 ghost use Rattle.gic_stand.specs.Standing.{IsSolvable};
-ghost use Rattle.gic_screen_mode.specs.Screening.{IsScreenRoomFor, AreVoltsFor, AreScreened};
+ghost use Rattle.gic_screening.specs.Screening.{IsScreenRoomFor, AreVoltsFor, AreScreened};
 
 use crate::fields::FieldVolts;
 use crate::rows::{ScreenRows, fill_rows};
@@ -20,20 +20,16 @@ use std::alloc::Global;
 
 /// What a screen writes to. It is made before the network is looked at.
 #[derive(Drop)]
-pub(crate) struct ScreenRoom {
-    pub(crate) solving: Room,
-    pub(crate) north: StepView,
-    pub(crate) east: StepView,
-    pub(crate) rows: ScreenRows,
+pub struct ScreenRoom {
+    pub solving: Room,
+    pub north: StepView,
+    pub east: StepView,
+    pub rows: ScreenRows,
 }
 
 /// Room for the network of a case.
 #[tactic(auto, using(gic_stand::proofs::Rooms::room_for))]
-pub(crate) fn make_screen_room(
-    alloc: Global,
-    case: &Case,
-    net: &Net,
-) -> Result<ScreenRoom, OutOfMemory>
+pub fn make_screen_room(alloc: Global, case: &Case, net: &Net) -> Result<ScreenRoom, OutOfMemory>
     requires { net.now.network ≡ elements_of case.now }
     ensures { IfOk result (IsScreenRoomFor case.now) }
 {
@@ -59,7 +55,7 @@ fn solved_width(width: u32) -> u32
 
 /// Fills the rows of the transformers of a case, in intervals no wider than `width` mA, where its network can be solved.
 /// Takes no memory.
-pub(crate) fn screen_net(
+pub fn screen_net(
     case: &Case,
     net: &Net,
     volts: &FieldVolts,
@@ -74,6 +70,7 @@ pub(crate) fn screen_net(
     ensures right { OnOk result (AreScreened case.now (standing net.now) (number_at volts.now.north) (number_at volts.now.east) width room.new.rows) }
     ensures solvable { OnOk result (IsSolvable (standing net.now)) }
     ensures err { IfErr result (Fails Solved case.now 1 (standing net.now)) }
+    ensures room { IsScreenRoomFor case.now room.new }
 {
     expect_solvable(case, net, &mut room.solving)?;
     let half = solved_width(width);

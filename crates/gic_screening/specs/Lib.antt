@@ -1,0 +1,4 @@
+pub mod Rows
+pub mod RightRows
+pub mod Setting
+pub mod Screening
