@@ -1,9 +1,7 @@
 -- What `certify` writes is accepted.
-use Rattle.std.proofs.Common.{◌≡◌, ◌∙◌, ℕ, List, Option, ℤ, ap, sym, subst}
-use Rattle.gic_case.specs.Lists.{Lists, node_names}
+use Rattle.std.proofs.Common.{ℕ, List, Option, ℤ, sym, subst}
+use Rattle.gic_case.specs.Lists.{Lists}
 use Rattle.gic_cert.specs.Passing.{IsPassing}
-use Rattle.gic_cert.specs.Text.{cert_text}
-use Rattle.gic_cert.specs.Written.{Certificate}
 use Rattle.gic_model.specs.declared.parts.Switching.{Switching}
 use Rattle.gic_stand.specs.Standing.{standing_of}
 use Rattle.gic_uniform.specs.Uniform.{uniform_volts}

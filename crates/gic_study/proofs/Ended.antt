@@ -6,7 +6,6 @@ use Rattle.gic_words.specs.Options.{options_of}
 use Rattle.gic_ask.specs.Held.{held_for, AnswersOfFiles}
 use Rattle.gic_ask.specs.Outcome.{Outcome, Refuses, Lacks, Accepts, outcome}
 use Rattle.gic_ask.specs.declared.fault.File.{File}
-use Rattle.gic_ask.specs.declared.fault.InputFault.{InputFault}
 use Rattle.gic_ask.specs.declared.fault.InputFault.TheVariants as input
 use Rattle.gic_ask.specs.declared.fault.InputRefusal.{InputRefusal}
 use Rattle.gic_ask.specs.declared.request.Asked.{Asked}
@@ -17,13 +16,11 @@ use Rattle.gic_stand.specs.Needs.{Nothing, IsMet, IsUnmet}
 use Rattle.gic_stand.specs.Standing.{standing_of, steps_of}
 use Rattle.gic_stand.proofs.Served.{met_nothing}
 use Rattle.gic_stand.specs.declared.fault.NetworkRefusal.{NetworkRefusal}
-use Rattle.gic_stand.specs.declared.fault.ReportFault.{ReportFault}
 use Rattle.gic_stand.specs.declared.fault.ReportFault.TheVariants as report
 use Rattle.gic_study.specs.Answers.{Moment, Explains, Answer, status_of}
 use Rattle.gic_study.specs.Faults.{status_of_fault}
 use Rattle.gic_study.specs.Modes.{Plans, need_of, case_asked, steps_asked, IsRightText, AcceptsCertificate, RefusesCertificate}
 use Rattle.gic_study.specs.Laws.{RefusalsAreAnswered, LackedFilesAreWantOfMemory, AcceptedIsReported, UnmetNeedsAreAnswered, RefusedCertificatesAreAnswered, CanRead}
-use Rattle.gic_study.specs.declared.fault.Fault.{Fault}
 use Rattle.gic_study.specs.declared.fault.Fault.TheVariants.{Input, Report, Certificate}
 use Rattle.gic_study.proofs.MetNeeds.{unmet_or_met, same_kind}
 

@@ -26,6 +26,7 @@ begins_over_network network.Check inputs text right = ap (λ (t : List ℕ). fir
 begins_over_network network.Field inputs text right = ap (λ (t : List ℕ). first_two t) right.text_is
 begins_over_network network.Screen inputs text right = ap (λ (t : List ℕ). first_two t) right.text_is
 begins_over_network network.Certify inputs text right = ap (λ (t : List ℕ). first_two t) right.text_is
+begins_over_network network.Outage inputs text right = ap (λ (t : List ℕ). first_two t) right.text_is
 
 begins : (plans : Plans) (asked : Asked) (text : List ℕ) → IsRightText plans asked text → first_two text ≡ mark_of (mode_asked asked)
 unfolding first_two
@@ -43,10 +44,11 @@ marked mark = if mark == mark_of (mode.Network network.Volts) then mode.Network 
     else (if mark == mark_of (mode.Network network.Field) then mode.Network network.Field
     else (if mark == mark_of (mode.Network network.Screen) then mode.Network network.Screen
     else (if mark == mark_of (mode.Network network.Certify) then mode.Network network.Certify
+    else (if mark == mark_of (mode.Network network.Outage) then mode.Network network.Outage
     else (if mark == mark_of mode.Study then mode.Study
     else (if mark == mark_of mode.Make then mode.Make
     else (if mark == mark_of mode.Recheck then mode.Recheck
-    else mode.Series))))))))
+    else mode.Series)))))))))
 
 -- no two modes begin alike
 marked_as : (m : Mode) → marked (mark_of m) ≡ m
@@ -56,6 +58,7 @@ marked_as (mode.Network network.Check) = refl
 marked_as (mode.Network network.Field) = refl
 marked_as (mode.Network network.Screen) = refl
 marked_as (mode.Network network.Certify) = refl
+marked_as (mode.Network network.Outage) = refl
 marked_as mode.Study = refl
 marked_as mode.Make = refl
 marked_as mode.Recheck = refl

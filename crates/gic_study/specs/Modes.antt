@@ -18,6 +18,7 @@ use Rattle.gic_check.specs.RightCheck.{IsRightCheck}
 use Rattle.gic_field.specs.RightField.{IsRightField}
 use Rattle.gic_screen_mode.specs.RightScreen.{IsRightScreen}
 use Rattle.gic_certify.specs.RightCertify.{IsRightCertify}
+use Rattle.gic_outage_mode.specs.RightOutage.{IsRightOutage}
 use Rattle.gic_cert.specs.Written.{Certificate}
 use Rattle.gic_recheck.specs.Accepted.{IsAccepted, IsRefused}
 use Rattle.gic_recheck.specs.RightRecheck.{IsRightRecheck}
@@ -45,6 +46,7 @@ need_over_network network.Check = Earthed
 need_over_network network.Field = Solved
 need_over_network network.Screen = Solved
 need_over_network network.Certify = Solved
+need_over_network network.Outage = Solved
 
 -- what is needed of the network at each step
 abbrev pub need_of : Asked → Need
@@ -78,6 +80,7 @@ IsRightOverNetwork network.Check = IsRightCheck
 IsRightOverNetwork network.Field = IsRightField
 IsRightOverNetwork network.Screen = IsRightScreen
 IsRightOverNetwork network.Certify = IsRightCertify
+IsRightOverNetwork network.Outage = IsRightOutage
 
 -- what monitors would print, in their order, after beginning with a roster and seeing views
 abbrev pub Plans : Type 0

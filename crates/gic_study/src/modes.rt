@@ -16,6 +16,7 @@ use gic_field::field;
 use gic_list::list;
 use gic_make_mode::make;
 use gic_monitor::Monitor;
+use gic_outage_mode::outage;
 use gic_recheck::recheck;
 use gic_screen_mode::screen;
 use gic_series::series;
@@ -43,6 +44,7 @@ fn serve_network<S: Sink>(
         NetworkMode::Field => field(alloc, inputs, out),
         NetworkMode::Screen => screen(alloc, inputs, out),
         NetworkMode::Certify => certify(alloc, inputs, out),
+        NetworkMode::Outage => outage(alloc, inputs, out),
     }
 }
 

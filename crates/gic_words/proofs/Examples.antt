@@ -264,3 +264,19 @@ series = refl
 pub whole_series : options_of (codes "series" ∷ codes "--transformer=" ∷ codes "--width=10" ∷ codes "--switch=w" ∷ codes "--storm=s" ∷ codes "--case=p" ∷ []) ≡ Ok (series_by (codes "p") (codes "s") [] (Some (codes "w")) 10)
 unfolding clap_on_literals command_of_words faults_of matches_of_words options_of is_among mode_of use_of read_decimal whole_of
 whole_series = refl
+
+pub missing_case_of_outage : options_of (codes "outage" ∷ codes "--event=storm" ∷ []) ≡ Err (usage.Missing Case)
+unfolding clap_on_literals command_of_words faults_of matches_of_words options_of is_among mode_of use_of
+missing_case_of_outage = refl
+
+pub field_in_outage : options_of (codes "outage" ∷ codes "--case=p" ∷ codes "--width=9" ∷ codes "--north=0" ∷ []) ≡ Err (usage.Extra North)
+unfolding clap_on_literals command_of_words faults_of matches_of_words options_of is_among mode_of use_of
+field_in_outage = refl
+
+pub storm_in_outage : options_of (codes "outage" ∷ codes "--case=p" ∷ codes "--storm=s" ∷ []) ≡ Err (usage.Extra Storm)
+unfolding clap_on_literals command_of_words faults_of matches_of_words options_of is_among mode_of use_of
+storm_in_outage = refl
+
+pub outages : options_of (codes "outage" ∷ codes "--case=p" ∷ codes "--switch=s" ∷ codes "--event=supplemental" ∷ codes "--width=10" ∷ []) ≡ Ok (asked_by mode.Outage (codes "p") (Some (codes "s")) (pos 0) (pos 0) 10 Supplemental)
+unfolding clap_on_literals command_of_words faults_of matches_of_words options_of is_among mode_of use_of read_decimal whole_of
+outages = refl

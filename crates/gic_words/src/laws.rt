@@ -71,6 +71,9 @@ pub fn refused_words_law()
     ensures missing_case_of_certify { options_of (codes "certify" ∷ codes "--width=9" ∷ []) ≡ Err (usage.Missing Case) }
     ensures width_in_certify { options_of (codes "certify" ∷ codes "--case=p" ∷ codes "--width=100" ∷ []) ≡ Err (usage.Extra Width) }
     ensures east_too_far { options_of (codes "certify" ∷ codes "--case=p" ∷ codes "--east=-20001" ∷ []) ≡ Err (usage.Number East) }
+    ensures missing_case_of_outage { options_of (codes "outage" ∷ codes "--event=storm" ∷ []) ≡ Err (usage.Missing Case) }
+    ensures field_in_outage { options_of (codes "outage" ∷ codes "--case=p" ∷ codes "--width=9" ∷ codes "--north=0" ∷ []) ≡ Err (usage.Extra North) }
+    ensures storm_in_outage { options_of (codes "outage" ∷ codes "--case=p" ∷ codes "--storm=s" ∷ []) ≡ Err (usage.Extra Storm) }
     ensures north_before_east { options_of (codes "volts" ∷ codes "--east=x" ∷ codes "--north=x" ∷ codes "--case=p" ∷ []) ≡ Err (usage.Number North) }
 {}
 
@@ -95,6 +98,8 @@ pub fn accepted_words_law()
     ensures made { options_of (codes "make" ∷ codes "--seed=0" ∷ codes "--size=1000" ∷ []) ≡ Ok (made_by 0 1000) }
     ensures certified { options_of (codes "certify" ∷ codes "--case=p" ∷ codes "--north=-500" ∷ codes "--switch=s" ∷ [])
         ≡ Ok (asked_by mode.Certify (codes "p") (Some (codes "s")) (negsuc 499) (pos 0) 100 Benchmark) }
+    ensures outages { options_of (codes "outage" ∷ codes "--case=p" ∷ codes "--switch=s" ∷ codes "--event=supplemental" ∷ codes "--width=10" ∷ [])
+        ≡ Ok (asked_by mode.Outage (codes "p") (Some (codes "s")) (pos 0) (pos 0) 10 Supplemental) }
     ensures rechecked { options_of (codes "recheck" ∷ codes "--cert=c" ∷ codes "--case=p" ∷ [])
         ≡ Ok (rechecked_by (codes "p") (codes "c") None) }
     ensures rechecked_with_switchings { options_of (codes "recheck" ∷ codes "--case=p" ∷ codes "--cert=" ∷ codes "--switch=s" ∷ [])

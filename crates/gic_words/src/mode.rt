@@ -19,6 +19,8 @@ pub enum NetworkMode {
     Screen,
     /// A certificate of the potentials in one field, which can be checked without solving.
     Certify,
+    /// The worst orientations once more without each line and without each transformer, one at a time.
+    Outage,
 }
 
 /// What words may ask for.
@@ -47,13 +49,14 @@ pub(crate) enum Use {
     Unused,
 }
 
-static ALL: [Mode; 10] = [
+static ALL: [Mode; 11] = [
     Mode::Network(NetworkMode::Volts),
     Mode::Network(NetworkMode::List),
     Mode::Network(NetworkMode::Check),
     Mode::Network(NetworkMode::Field),
     Mode::Network(NetworkMode::Screen),
     Mode::Network(NetworkMode::Certify),
+    Mode::Network(NetworkMode::Outage),
     Mode::Study,
     Mode::Make,
     Mode::Recheck,
@@ -72,6 +75,7 @@ impl NetworkMode {
             NetworkMode::Field => "field",
             NetworkMode::Screen => "screen",
             NetworkMode::Certify => "certify",
+            NetworkMode::Outage => "outage",
         }
     }
 
@@ -86,6 +90,7 @@ impl NetworkMode {
             NetworkMode::Field => &[Opt::North, Opt::East, Opt::Switch, Opt::Width, Opt::Event],
             NetworkMode::Screen => &[Opt::Switch, Opt::Width, Opt::Event],
             NetworkMode::Certify => &[Opt::North, Opt::East, Opt::Switch],
+            NetworkMode::Outage => &[Opt::Switch, Opt::Width, Opt::Event],
         }
     }
 }

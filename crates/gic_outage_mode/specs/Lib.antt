@@ -1,0 +1,6 @@
+pub mod Outages
+pub mod RightOutage
+pub mod OutageText
+pub mod Determines
+pub mod Taking
+pub mod Room

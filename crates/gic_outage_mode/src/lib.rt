@@ -1,0 +1,14 @@
+//! The mode `outage`: one item of a network out at a time, and what that does to its transformers.
+#![tactic(auto)]
+
+mod counting;
+pub mod laws;
+mod mode;
+mod outcome;
+mod raising;
+mod room;
+mod run;
+mod taking;
+mod text;
+
+pub use mode::outage;
