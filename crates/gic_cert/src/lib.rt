@@ -15,8 +15,6 @@ mod reading;
 mod refusal;
 mod rows;
 mod step;
-#[cfg(test)]
-mod tests;
 mod writing;
 
 pub use cert::Cert;

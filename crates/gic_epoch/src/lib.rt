@@ -2,7 +2,5 @@
 #![tactic(auto)]
 
 mod epoch;
-#[cfg(test)]
-mod tests;
 
 pub use epoch::{Epoch, epochs};

@@ -3,7 +3,6 @@ ghost use Rattle.std.specs.Prelude.{◌≡◌, ◌<◌, IfOk, length};
 ghost use Rattle.gic_effective.specs.Holds.{AreOfNetwork};
 ghost use Rattle.gic_induce.specs.Voltage.{IsFieldWithin};
 
-use crate::texts::CASE_P;
 use crate::vectors::least_bound;
 use gic_base::{ElementId, OutOfMemory};
 use gic_bases::{Bases, prepare, step_from_bases};
@@ -17,6 +16,7 @@ use gic_model::Volts;
 use gic_net::Net;
 use gic_sweep::{Solver, Steps};
 use gic_winding::elements;
+use gic_worked::CASE_P;
 use std::alloc::Global;
 use std::marker::Brand;
 use std::sync::ledger::{Blank, Ledger};

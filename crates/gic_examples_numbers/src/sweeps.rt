@@ -3,7 +3,7 @@ ghost use Rattle.std.specs.Prelude.{◌≡◌, ◌<◌, ◌≤◌, length, unsig
 ghost use Rattle.gic_model.specs.Guess.{most_guess};
 
 use gic_base::{ElementId, NodeId};
-use gic_model::Volts;
+use gic_model::{Item, Volts};
 use gic_net::Net;
 use gic_sweep::{Improvement, Solver, Steps, improve, residual, residuals, sweep};
 use gic_worked::worked_loop;
@@ -32,7 +32,18 @@ fn improved<L: Ledger>(net: &Net, volts: &Volts, solver: &mut Solver, blank: Bla
     ensures { length solver.new ≡ length solver.old }
 {
     let mut steps: Steps<L> = Steps::new(blank);
-    improve(net, volts, 33, solver, &mut steps)
+    improve(net, volts, solver, &mut steps)
+}
+
+/// How far rough corrections leave the guess at the bus b from so many nanovolts.
+fn missed_at_the_bus(net: &Net, volts: &Volts, solver: &mut Solver, nanovolts: i64) -> i128
+    requires volts { length volts.now ≡ length net.now.network.list }
+    requires nodes { length solver.old ≡ net.now.network.nodes }
+    requires bus { 3 < length solver.old }
+    ensures { length solver.new ≡ length solver.old }
+{
+    improved::<Brand>(net, volts, solver, Blank::new(1));
+    solver.guess(NodeId(3)) - nanovolts as i128 * (1 << 36)
 }
 
 fn filled<L: Ledger>(solver: &mut Solver, blank: Blank)
@@ -69,8 +80,7 @@ fn residuals_of_the_loop_at_no_guesses(rt: HostRuntime) -> Result<(), Fail> {
 }
 
 /// The 100 amperes over the 11 siemens at the bus b are 9 and 1/11 volts after one sweep. The loop's 31.25 amperes lift
-/// the ground at B by 31.25 volts, to which rough corrections come from guesses that are far off. The greatest entry of
-/// the loop's bound vector is 33.
+/// the ground at B by 31.25 volts, to which rough corrections come from guesses that are far off.
 #[test]
 fn guesses_of_the_loop(rt: HostRuntime) -> Result<(), Fail> {
     let elements = worked_loop(rt.alloc())?;
@@ -89,5 +99,22 @@ fn guesses_of_the_loop(rt: HostRuntime) -> Result<(), Fail> {
     assert!(rt; -(1 << 24) < far && far < (1 << 24));
     solver.clear();
     assert_eq!(rt; solver.guess(NodeId(3)), 0);
+    Ok(())
+}
+
+/// The loop's 31.25 amperes lift the bus b by 34.375 volts, over the 1.1 ohm behind it. With the transformer at B open none
+/// flows, and the 100 volts of the line lift it. Rough corrections follow such a switching.
+#[test]
+fn guesses_of_the_loop_opened(rt: HostRuntime) -> Result<(), Fail> {
+    let elements = worked_loop(rt.alloc())?;
+    let mut net = Net::build(rt.alloc(), &elements)?;
+    let mut volts = Volts::new(rt.alloc(), &elements)?;
+    volts.set(ElementId(2), 100_000_000_000);
+    let mut solver = Solver::new(rt.alloc(), 4)?;
+    let closed = missed_at_the_bus(&net, &volts, &mut solver, 34_375_000_000);
+    assert!(rt; -(1 << 24) < closed && closed < (1 << 24));
+    net.switch(Item::Transformer(1), true);
+    let open = missed_at_the_bus(&net, &volts, &mut solver, 100_000_000_000);
+    assert!(rt; -(1 << 24) < open && open < (1 << 24));
     Ok(())
 }

@@ -1,16 +1,4 @@
-//! The texts of two cases.
-
-/// Case P: two substations with a transformer each, and a line of 100 km towards the north between them.
-pub(crate) const CASE_P: &str = "format = 1
-zone = [{ name = \"Z\", latitude = 6000, beta = 100 }]
-substation = [{ name = \"A\", ground = 1000000 }, { name = \"B\", ground = 1000000 }]
-bus = [{ name = \"a\", substation = \"A\" }, { name = \"b\", substation = \"B\" }]
-line = [{ name = \"L\", from = \"a\", to = \"b\", zone = \"Z\", resistance = 3000000, north = 100000, east = 0 }]
-transformer = [
-  { name = \"TA\", kind = \"delta-wye\", high_volts = 345000, high = \"a\", high_resistance = 300000 },
-  { name = \"TB\", kind = \"delta-wye\", high_volts = 345000, high = \"b\", high_resistance = 300000 },
-]
-";
+//! The text of a case.
 
 /// A network of eight substations, whose numbers belong to no real one: a switching station without a ground, five autotransformers, a wye-wye unit, a delta-delta unit, and a
 /// line with a series capacitor.

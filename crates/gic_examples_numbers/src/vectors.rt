@@ -3,13 +3,15 @@ ghost use Rattle.std.specs.Prelude.{◌≡◌, IfOk, length, slice_index};
 ghost use Rattle.gic_bound.specs.Entries.{IsBoundWithin};
 ghost use Rattle.gic_net.specs.Net.{standing};
 
-use crate::texts::{CASE_P, REALISTIC_CASE};
+use crate::texts::REALISTIC_CASE;
 use gic_base::{NodeId, OutOfMemory};
 use gic_bound::{BoundVector, Room, bound, bound_from, rows_positive, some_bound};
 use gic_case::read_case;
 use gic_model::Item;
 use gic_net::Net;
+use gic_start::{Start, find_bound};
 use gic_winding::elements;
+use gic_worked::CASE_P;
 use std::alloc::{AllocError, Global};
 use std::test::Fail;
 
@@ -154,6 +156,34 @@ fn finds_bound_vectors_from_proposals(rt: HostRuntime) -> Result<(), Fail> {
         let (least, some) = found_from(rt.alloc(), CASE_P, from)?;
         assert!(rt; least.as_slice() == [31, 31, 33, 33].as_slice());
         assert!(rt; some.as_slice() == wanted);
+    }
+    Ok(())
+}
+
+/// Whether what is found from nothing is a bound vector of a case, and what is found from that one with an item open.
+fn are_found(alloc: Global, text: &str, item: Item) -> Result<(bool, bool), Fail> {
+    let case = read_case(alloc, text.as_bytes())?;
+    let list = elements(alloc, &case)?;
+    let mut net = Net::build(alloc, &list)?;
+    let mut vector = BoundVector::new(alloc, net.nodes())?;
+    let mut start = Start::new(alloc, net.nodes())?;
+    find_bound(&net, &mut vector, &mut start)?;
+    let whole = rows_positive(&net, &vector);
+    net.switch(item, true);
+    find_bound(&net, &mut vector, &mut start)?;
+    Ok((whole, rows_positive(&net, &vector)))
+}
+
+/// Of case P, case PS and the realistic case, with all elements standing and then with a line out.
+#[test]
+fn finds_bound_vectors_from_nothing(rt: HostRuntime) -> Result<(), Fail> {
+    let alloc = rt.alloc();
+    let ps = case_ps(alloc)?;
+    let table = [(CASE_P, 0), (ps.as_str(), 0), (REALISTIC_CASE, 2)];
+    for (text, line) in table {
+        let (whole, opened) = are_found(alloc, text, Item::Line(line))?;
+        assert!(rt; whole);
+        assert!(rt; opened);
     }
     Ok(())
 }

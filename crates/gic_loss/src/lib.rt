@@ -6,8 +6,6 @@ mod current;
 pub mod laws;
 mod limits;
 mod table_loss;
-#[cfg(test)]
-mod tests;
 mod total;
 mod totals;
 mod volt_loss;

@@ -5,7 +5,5 @@ mod generator;
 pub mod laws;
 mod make;
 mod site;
-#[cfg(test)]
-mod tests;
 
 pub use make::{LEAST_SIZE, MOST_SIZE, make_case};

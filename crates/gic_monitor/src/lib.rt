@@ -8,8 +8,6 @@ pub mod laws;
 mod monitor;
 mod reading;
 mod roster;
-#[cfg(test)]
-mod tests;
 
 pub use board::Board;
 pub use dwell::DwellMonitor;

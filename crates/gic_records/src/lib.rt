@@ -5,8 +5,6 @@ mod column;
 pub mod laws;
 mod records;
 mod rows;
-#[cfg(test)]
-mod tests;
 
 pub use column::{is_word, text_at, time_in};
 pub use records::Records;

@@ -6,8 +6,6 @@ mod mode;
 mod room;
 mod rows;
 mod steps;
-#[cfg(test)]
-mod tests;
 mod text;
 
 pub use mode::series;

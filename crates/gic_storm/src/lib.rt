@@ -15,6 +15,3 @@ pub use refusal::{StormField, StormRefusal};
 pub use row::Row;
 pub use step_fields::fill_fields;
 pub use storm::{Storm, read_storm};
-
-#[cfg(test)]
-mod tests;

@@ -6,8 +6,6 @@ mod mode;
 mod room;
 mod roster;
 mod steps;
-#[cfg(test)]
-mod tests;
 mod texts;
 mod views;
 mod writing;

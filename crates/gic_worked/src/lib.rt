@@ -8,6 +8,19 @@ use gic_base::{NodeId, OutOfMemory};
 use gic_model::{Element, Elements, End, Item, Role};
 use std::alloc::Global;
 
+/// The text of the case P, whose elements are the loop: two substations with a transformer each, and a line of 100 km
+/// towards the north between them.
+pub const CASE_P: &str = "format = 1
+zone = [{ name = \"Z\", latitude = 6000, beta = 100 }]
+substation = [{ name = \"A\", ground = 1000000 }, { name = \"B\", ground = 1000000 }]
+bus = [{ name = \"a\", substation = \"A\" }, { name = \"b\", substation = \"B\" }]
+line = [{ name = \"L\", from = \"a\", to = \"b\", zone = \"Z\", resistance = 3000000, north = 100000, east = 0 }]
+transformer = [
+  { name = \"TA\", kind = \"delta-wye\", high_volts = 345000, high = \"a\", high_resistance = 300000 },
+  { name = \"TB\", kind = \"delta-wye\", high_volts = 345000, high = \"b\", high_resistance = 300000 },
+]
+";
+
 /// The loop of two substations A and B, the nodes 0 and 1, with a ground of 1 ohm each, and two buses a and b, the
 /// nodes 2 and 3: a line of 3 ohm a phase joins them, and a winding of 0.3 ohm a phase leads from each to its substation.
 /// The elements in order are the two grounds, the line and the two windings.

@@ -1,5 +1,6 @@
-use crate::Records;
+//! Records of comma-separated text.
 use csv::ByteRecord;
+use gic_records::Records;
 use std::test::Fail;
 
 #[test]

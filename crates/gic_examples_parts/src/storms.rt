@@ -1,6 +1,7 @@
-use crate::{StormField, StormRefusal, fill_fields, read_storm};
+//! Storms over two zones: rows that are refused, the most rows, and the fields of each step.
 use gic_case::read_case;
 use gic_induce::Fields;
+use gic_storm::{StormField, StormRefusal, fill_fields, read_storm};
 use std::test::Fail;
 
 /// A case of the zones Z and Y.

@@ -1,5 +1,8 @@
-use crate::make_case;
+//! Cases made from the seed 7, with the most sites and with the fewest.
+use gic_base::MemorySink;
 use gic_case::Kind;
+use gic_make::make_case;
+use gic_make_mode::make;
 use gic_winding::elements;
 use std::test::Fail;
 
@@ -27,6 +30,20 @@ fn make_large(rt: HostRuntime) -> Result<(), Fail> {
             high: 0,
             high_resistance
         })
+    );
+    Ok(())
+}
+
+/// The case of two sites from the seed 7 has two nodes a site, and three elements a site but one.
+#[test]
+fn make_two_sites(rt: HostRuntime) -> Result<(), Fail> {
+    let alloc = rt.alloc();
+    let mut out = MemorySink::new(alloc, Vec::new(alloc));
+    let made = make(alloc, 7, 2, &mut out);
+    assert!(rt; made.is_ok());
+    assert!(rt;
+        out.bytes()
+            .starts_with(b"make\nseed 7 size 2\nnodes 4 elements 5\nwalk ")
     );
     Ok(())
 }

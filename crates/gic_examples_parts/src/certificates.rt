@@ -1,10 +1,11 @@
+//! Certificates of one substation, read, checked, made and written.
 ghost use Rattle.std.specs.Prelude.{◌≡◌, length, IfOk, IfSome};
 ghost use Rattle.gic_winding.specs.ElementList.{elements_of};
 
-use crate::{Cert, CertRefusal, check, read_cert, write_cert};
-use gic_base::{ElementId, MemorySink, NodeId};
+use gic_base::{MemorySink, NodeId};
 use gic_bound::{BoundVector, rows_positive};
 use gic_case::{Case, read_case};
+use gic_cert::{Cert, CertRefusal, check, read_cert, write_cert};
 use gic_model::Volts;
 use gic_net::Net;
 use gic_sweep::{Solver, is_settled};

@@ -1,26 +1,14 @@
-use crate::{NamedFactor, TableLoss, VoltLoss};
+//! The losses of two transformers, by their voltages and by a table.
+use crate::watched::{roster_of, text_of};
 use gic_base::{Name, OutOfMemory};
 use gic_fixed::Interval;
-use gic_monitor::{Monitor, Rated, Roster};
+use gic_loss::{NamedFactor, TableLoss, VoltLoss};
 use gic_view::StepView;
 use std::alloc::Global;
 use std::test::Fail;
 
 /// The units TA and TB, of 345 kV and of 138.9 kV.
-fn roster_of(alloc: Global) -> Result<Roster, OutOfMemory> {
-    let mut units = Vec::new(alloc);
-    if let (Some(ta), Some(tb)) = (Name::read(b"TA"), Name::read(b"TB")) {
-        units.push(Rated {
-            name: ta,
-            high_volts: 345000,
-        })?;
-        units.push(Rated {
-            name: tb,
-            high_volts: 138900,
-        })?;
-    }
-    Ok(Roster::new(75000, Vec::new(alloc), units))
-}
+const UNITS: &[(&[u8], u32)] = &[(b"TA", 345000), (b"TB", 138900)];
 
 /// A view with this number, in which TA has from -2000 to -1000 and TB from 500 to 700.
 fn view_of(alloc: Global, number: u32) -> Result<StepView, OutOfMemory> {
@@ -45,27 +33,17 @@ fn table_of(alloc: Global, entries: &[(&[u8], u32)]) -> Result<Vec<NamedFactor>,
     Ok(table)
 }
 
-/// What a monitor prints after these views.
-fn text_of<M: Monitor>(
-    alloc: Global,
-    mut monitor: M,
-    views: &[StepView],
-) -> Result<Vec<u8>, OutOfMemory> {
-    let roster = roster_of(alloc)?;
-    monitor.begin(&roster)?;
-    for view in views {
-        monitor.see(view);
-    }
-    let mut text = Vec::new(alloc);
-    monitor.print(&mut text)?;
-    Ok(text)
-}
-
 #[test]
 fn loss_by_table(rt: HostRuntime) -> Result<(), Fail> {
     let alloc = rt.alloc();
+    let roster = roster_of(alloc, UNITS)?;
     let table = table_of(alloc, &[(b"TA", 10), (b"TB", 3), (b"TA", 99)])?;
-    let text = text_of(alloc, TableLoss::new(alloc, table), &[view_of(alloc, 1)?])?;
+    let text = text_of(
+        alloc,
+        TableLoss::new(alloc, table),
+        &roster,
+        &[view_of(alloc, 1)?],
+    )?;
     assert!(rt; text.as_slice() == "table 11500 22100 step 1\n".as_bytes());
     Ok(())
 }
@@ -73,8 +51,9 @@ fn loss_by_table(rt: HostRuntime) -> Result<(), Fail> {
 #[test]
 fn loss_by_voltage(rt: HostRuntime) -> Result<(), Fail> {
     let alloc = rt.alloc();
+    let roster = roster_of(alloc, UNITS)?;
     let views = [view_of(alloc, 3)?, view_of(alloc, 4)?];
-    let text = text_of(alloc, VoltLoss::new(alloc, 2), &views)?;
+    let text = text_of(alloc, VoltLoss::new(alloc, 2), &roster, &views)?;
     // 690 and 276 var per ampere
     assert!(rt; text.as_slice() == "loss 828000 1573200 step 3\n".as_bytes());
     Ok(())
@@ -83,9 +62,10 @@ fn loss_by_voltage(rt: HostRuntime) -> Result<(), Fail> {
 #[test]
 fn loss_without_views(rt: HostRuntime) -> Result<(), Fail> {
     let alloc = rt.alloc();
-    let by_voltage = text_of(alloc, VoltLoss::new(alloc, 1), &[])?;
+    let roster = roster_of(alloc, UNITS)?;
+    let by_voltage = text_of(alloc, VoltLoss::new(alloc, 1), &roster, &[])?;
     assert!(rt; by_voltage.as_slice() == "loss none\n".as_bytes());
-    let by_table = text_of(alloc, TableLoss::new(alloc, Vec::new(alloc)), &[])?;
+    let by_table = text_of(alloc, TableLoss::new(alloc, Vec::new(alloc)), &roster, &[])?;
     assert!(rt; by_table.as_slice() == "table none\n".as_bytes());
     Ok(())
 }
@@ -93,8 +73,14 @@ fn loss_without_views(rt: HostRuntime) -> Result<(), Fail> {
 #[test]
 fn loss_without_factors(rt: HostRuntime) -> Result<(), Fail> {
     let alloc = rt.alloc();
+    let roster = roster_of(alloc, UNITS)?;
     let table = table_of(alloc, &[(b"TC", 10)])?;
-    let text = text_of(alloc, TableLoss::new(alloc, table), &[view_of(alloc, 1)?])?;
+    let text = text_of(
+        alloc,
+        TableLoss::new(alloc, table),
+        &roster,
+        &[view_of(alloc, 1)?],
+    )?;
     assert!(rt; text.as_slice() == "table 0 0 step 1\n".as_bytes());
     Ok(())
 }
