@@ -1,5 +1,5 @@
 #!/bin/sh
-# Builds the program of bench/solver over the crates of this repository, in a scratch copy, runs it on eleven cases, and
+# Builds the program of bench/solver over the crates of this repository, in a scratch copy, runs it on fourteen cases, and
 # prints a table. Beside them it runs the solvers of bench/baselines for which the tools are installed.
 #
 #     bench/solver.sh [FOLDER]
@@ -35,7 +35,7 @@ baseline() {
 	echo "$figure"
 }
 
-for name in p realistic ps made-20 made-200 made-2000 row chain limit far-small far; do
+for name in p realistic ps made-20 made-200 made-2000 row chain grid grid-far grid-units limit far-small far; do
 	measures=$("$binary" "$scratch/$name.toml")
 	"$binary" network "$scratch/$name.toml" >"$scratch/$name.net"
 	direct=$(baseline "$scratch/direct" "$scratch/$name.net")

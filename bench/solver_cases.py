@@ -60,6 +60,34 @@ def chain(stations, ground):
     return "".join(parts)
 
 
+def draws(count, least, most):
+    """So many numbers from `least` up to `most`, the same on each machine."""
+    state = 1
+    for _ in range(count):
+        state = (6364136223846793005 * state + 1442695040888963407) % 2**64
+        yield least + (state >> 33) % (most - least)
+
+
+def grid(side, each, ground, resistance, units):
+    """Buses in a square grid, three a substation, joined by lines of up to twice the resistance. At each so-manieth bus
+    stands a transformer over a ground; with `units`, one at each other bus as well, over a substation without one."""
+    count = side * side
+    ohms = draws(2 * count, resistance, 2 * resistance)
+    parts = []
+    for place in range(count):
+        station = place // 3
+        if place % 3 == 0:
+            grounded = any((place + i) % each == 0 for i in range(3))
+            parts.append(substation(f"S{station}", ground) if grounded else f'[[substation]]\nname = "S{station}"\n')
+        parts.append(bus(f"b{place}", f"S{station}"))
+        if units or place % each == 0:
+            parts.append(transformer(f"T{place}", f"b{place}", 300000))
+    for place in range(count):
+        others = ([place + 1] if (place + 1) % side else []) + ([place + side] if place + side < count else [])
+        parts += [line(f"L{place}-{other}", f"b{place}", f"b{other}", next(ohms)) for other in others]
+    return "".join(parts)
+
+
 def realistic(path):
     """The lines of the file `realistic` in a script of examples."""
     script = pathlib.Path(path).read_text().split("file realistic\n")[1].split("\nfile ")[0]
@@ -74,6 +102,9 @@ def cases(source):
         yield f"made-{2 * stations}", "\n".join(made_case.lines(stations, 7))
     yield "row", ZONE + row(8)
     yield "chain", ZONE + chain(1000, 38000000)
+    yield "grid", ZONE + grid(55, 10, 1000000, 1000000, False)
+    yield "grid-far", ZONE + grid(55, 10, 30000000, 1000000, False)
+    yield "grid-units", ZONE + grid(55, 10, 1000000, 1000000, True)
     yield "limit", "\n".join(limit_case.rows())
     yield "far-small", "\n".join(limit_case.rows(128, 4165000))
     yield "far", "\n".join(limit_case.rows(1024, 3900000))

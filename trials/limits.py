@@ -4,8 +4,9 @@
     python3 trials/limits.py PROGRAM [--minutes M] [--seed S] [--jobs N] [--only WORD] [--run-seconds N]
 
 The rows: the network at every limit (7680 nodes, 19968 elements, 256 zones) in every mode, with names as they come and
-of 32 bytes in every place; storms of 20000 steps and 4096 switchings with an epoch each; networks just within 4096 and
-just past it; files of 16777216 bytes of each kind and of one byte more; and files of that size that are hostile.
+of 32 bytes in every place (`outage` over an eighth of it, since it screens a network once for each of its items); storms
+of 20000 steps and 4096 switchings with an epoch each; networks just within 4096 and just past it; files of 16777216
+bytes of each kind and of one byte more; and files of that size that are hostile.
 
 Times are of the processor, in seconds; memory is the peak, in MiB. Beside each is the same at half the size, and what
 the one is of the other: where the work grows with the size it is 2, and more only where the row says so. A run has
@@ -216,6 +217,10 @@ def rows(command):
         if mode == "make":
             words = shared.words_of(mode, size="{size}")
             yield Row("make, sites", words, lambda folder, size: None, 1000, 500)
+        elif mode == "outage":
+            # A screen for each item: four times the time at twice the size. At every limit bench/outage.sh runs it.
+            name = "outage, an eighth of the limit (its ratio is 4)"
+            yield Row(name, words, fill_limit(command), STATIONS // 8, STATIONS // 16)
         else:
             yield Row(f"{mode}, limit", words, fill_limit(command), STATIONS, STATIONS // 2)
             yield Row(f"{mode}, limit, names of 32 bytes", words, fill_limit(command, True), STATIONS, STATIONS // 2)

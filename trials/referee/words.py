@@ -20,7 +20,7 @@ MODES = {
     "outage": (["case"], ["switch", "width", "event"]),
     "series": (["case", "storm", "transformer"], ["switch", "width"]),
 }
-BUILT = ("volts", "list", "check", "field", "study", "screen", "make", "certify", "recheck", "series")
+BUILT = ("volts", "list", "check", "field", "study", "screen", "make", "certify", "recheck", "series", "outage")
 OPTIONS = [
     "case", "storm", "switch", "north", "east", "width", "detail", "seed", "size", "event", "cert", "transformer",
 ]
