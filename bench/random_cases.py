@@ -4,7 +4,8 @@
     python3 bench/random_cases.py DIR [COUNT] [SEED] [NODES] [--mode=MODE] [--limits]
 
 Each folder of DIR has the case `p`, often a list of switchings `s`, and the file `words` with the words of one run of
-MODE (`field` where it is not given, or `screen`, or `study` or `series` with a storm `t` besides), one word a line.
+MODE (`field` where it is not given, or `screen`, or `outage`, or `study` or `series` with a storm `t` besides), one word
+a line.
 COUNT networks are written (100), the same ones for the same SEED (1), each of at most NODES nodes (200).
 Transformers are of all four kinds, with and without neutral resistors and blocking devices; some lines are blocked, some
 substations have no ground, and some networks are not earthed, or not well enough to be solved: then the answer is a
@@ -18,7 +19,7 @@ import re
 import sys
 
 AT_LIMITS = "--limits" in sys.argv
-MODES = ["field", "screen", "study", "series"]
+MODES = ["field", "screen", "outage", "study", "series"]
 OVER_STORMS = ["study", "series"]
 KINDS = ["delta-wye", "wye-wye", "auto", "delta-delta"]
 
