@@ -103,7 +103,7 @@ def cases(source):
     yield "row", ZONE + row(8)
     yield "chain", ZONE + chain(1000, 38000000)
     yield "grid", ZONE + grid(55, 10, 1000000, 1000000, False)
-    yield "grid-far", ZONE + grid(55, 10, 30000000, 1000000, False)
+    yield "grid-far", ZONE + grid(55, 10, 20000000, 1000000, False)
     yield "grid-units", ZONE + grid(55, 10, 1000000, 1000000, True)
     yield "limit", "\n".join(limit_case.rows())
     yield "far-small", "\n".join(limit_case.rows(128, 4165000))
