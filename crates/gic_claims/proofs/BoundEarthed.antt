@@ -123,8 +123,8 @@ earthed_below nodes standing v within rows zero k live less = absurd (omega (ari
 earthed_below nodes standing v within rows (suc n) k live less = elim (way_down nodes standing v k within live (rows k live)) [
   | inl leads ↦ record { live = live; over = []; chain = leads }
   | inr next ↦
-    let rest = earthed_below nodes standing v within rows n next.0 (joined_live standing k next.0 next.1.0) (omega (arith, less, next.1.1)) in
-    record { live = live; over = next.0 ∷ rest.over; chain = (next.1.0, rest.chain) }
+      let rest = earthed_below nodes standing v within rows n next.0 (joined_live standing k next.0 next.1.0) (omega (arith, less, next.1.1)) in
+      record { live = live; over = next.0 ∷ rest.over; chain = (next.1.0, rest.chain) }
 ]
 
 -- each live node is earthed where a bound vector is
