@@ -1,6 +1,6 @@
 #!/usr/bin/env bash
-# Times `recheck` of a certificate beside `field` of the same network: the least of some runs of each, in turn, and their
-# ratio.
+# Times `recheck` of a certificate beside `field` of the same network, and beside both `list`, which reads the case and
+# solves nothing: the least of some runs of each, in turn, and the ratios of the other two to `field`.
 #
 #     bench/recheck.sh PROGRAM
 #
@@ -22,12 +22,15 @@ microseconds() {
 
 for name in made-2000 chain limit far-small; do
     "$program" certify --case=$name.toml --north=8000 >cert
-    field= recheck=
+    field= recheck= list=
     for _ in {1..15}; do
         now=$(microseconds field --case=$name.toml --north=8000)
         [ -n "$field" ] && [ "$now" -ge "$field" ] || field=$now
         now=$(microseconds recheck --case=$name.toml --cert=cert)
         [ -n "$recheck" ] && [ "$now" -ge "$recheck" ] || recheck=$now
+        now=$(microseconds list --case=$name.toml)
+        [ -n "$list" ] && [ "$now" -ge "$list" ] || list=$now
     done
-    printf '%s: field %d us, recheck %d us, recheck / field %d.%02d\n' $name "$field" "$recheck" $((recheck / field)) $((recheck % field * 100 / field))
+    printf '%s: field %d us, recheck %d us, list %d us, recheck / field %d.%02d, list / field %d.%02d\n' $name "$field" "$recheck" "$list" \
+        $((recheck / field)) $((recheck % field * 100 / field)) $((list / field)) $((list % field * 100 / field))
 done
