@@ -4,7 +4,7 @@
     python3 trials/limits.py PROGRAM [--minutes M] [--seed S] [--jobs N] [--only WORD] [--run-seconds N]
 
 The rows: the network at every limit (7680 nodes, 19968 elements, 256 zones) in every mode, with names as they come and
-of 32 bytes in every place (`outage` over an eighth of it, since it screens a network once for each of its items); storms
+of 32 bytes in every place (`outage` over a quarter of it, since it screens a network once for each of its items); storms
 of 20000 steps and 4096 switchings with an epoch each; networks just within 4096 and just past it; files of 16777216
 bytes of each kind and of one byte more; and files of that size that are hostile.
 
@@ -31,6 +31,7 @@ MADE_SITES = 1000
 ALL_STEPS, ALL_SWITCHINGS = 20000, 4096
 NAME = re.compile(r'"((?:zone|station|bus|line|unit)-[0-9-]+)"')
 NAME_BYTES = 32
+LINE, UNIT = "line-1", "unit-1"
 ADDRESS_SPACE = 6 << 30
 
 
@@ -77,10 +78,14 @@ def measure(command, folder, seconds):
 # What the files are.
 
 
+def lengthened(name):
+    return name.ljust(NAME_BYTES, "x")
+
+
 def limit_text(stations, ground=None, has_long_names=False):
     text = "\n".join(limit_case.rows(stations, ground)) + "\n"
     if has_long_names:
-        text = NAME.sub(lambda name: f'"{name[1].ljust(NAME_BYTES, "x")}"', text)
+        text = NAME.sub(lambda name: f'"{lengthened(name[1])}"', text)
     return text
 
 
@@ -94,10 +99,9 @@ def fill_limit(command, has_long_names=False, steps=2):
     """Files of the network at every limit, with a certificate."""
 
     def fill(folder, stations):
-        text = limit_text(stations, None, has_long_names)
-        shared.write(folder, "p", text)
+        line = lengthened(LINE) if has_long_names else LINE
+        shared.write(folder, "p", limit_text(stations, None, has_long_names))
         shared.write(folder, "t", storm_text(steps))
-        line = NAME.search(text[text.index("[[line]]") :])[1]
         shared.write(folder, "s", f"time,item,action\n0,{line},open\n")
         shared.certify(command, folder)
 
@@ -138,9 +142,8 @@ def greatest_ground(command, stations, folder):
     return low
 
 
-def fill_walk(command, more):
-    """The network just within 4096, or with so much more resistance in its grounds."""
-    known = {}
+def fill_walk(command, known, more):
+    """The network just within 4096, or with so much more resistance in its grounds. `known` keeps what was found."""
 
     def fill(folder, stations):
         if stations not in known:
@@ -213,26 +216,29 @@ def inline(size):
 
 def rows(command):
     for mode in shared.BUILT:
-        words = shared.words_of(mode)
         if mode == "make":
             words = shared.words_of(mode, size="{size}")
             yield Row("make, sites", words, lambda folder, size: None, 1000, 500)
         elif mode == "outage":
             # A screen for each item: four times the time at twice the size. At every limit bench/outage.sh runs it.
-            name = "outage, an eighth of the limit (its ratio is 4)"
-            yield Row(name, words, fill_limit(command), STATIONS // 8, STATIONS // 16)
+            name = "outage, a quarter of the limit (its ratio is 4)"
+            yield Row(name, shared.words_of(mode), fill_limit(command), STATIONS // 4, STATIONS // 8)
         else:
-            yield Row(f"{mode}, limit", words, fill_limit(command), STATIONS, STATIONS // 2)
-            yield Row(f"{mode}, limit, names of 32 bytes", words, fill_limit(command, True), STATIONS, STATIONS // 2)
+            sizes = STATIONS, STATIONS // 2
+            words = shared.words_of(mode, transformer=UNIT)
+            yield Row(f"{mode}, limit", words, fill_limit(command), *sizes)
+            words = shared.words_of(mode, transformer=lengthened(UNIT))
+            yield Row(f"{mode}, limit, names of 32 bytes", words, fill_limit(command, True), *sizes)
     study = shared.words_of("study", False)
     switched = [*study, "--switch=s"]
     yield Row("study, 2000 nodes, 20000 steps", study, fill_steps, ALL_STEPS, ALL_STEPS // 2)
     yield Row("study, limit, 20000 steps", study, fill_limit_steps, ALL_STEPS, ALL_STEPS // 2)
     yield Row("study, 2000 nodes, 4096 epochs", switched, fill_epochs, ALL_SWITCHINGS, ALL_SWITCHINGS // 2)
+    known = {}
     for mode in ("field", "screen", "certify"):
-        words = shared.words_of(mode, False)
-        yield Row(f"{mode}, limit, just within 4096", words, fill_walk(command, 0), STATIONS // 2, STATIONS // 4)
-        yield Row(f"{mode}, limit, just past 4096", words, fill_walk(command, 1), STATIONS // 2, STATIONS // 4, (9,))
+        words, sizes = shared.words_of(mode, False), (STATIONS // 2, STATIONS // 4)
+        yield Row(f"{mode}, limit, just within 4096", words, fill_walk(command, known, 0), *sizes)
+        yield Row(f"{mode}, limit, just past 4096", words, fill_walk(command, known, 1), *sizes, (9,))
     for name, (mode, make, wanted) in LARGE.items():
         words = shared.words_of(mode, False) + (["--switch=s"] if name == "s" else [])
         yield Row(f"{mode}, {name} of 16 MiB", words, fill_file(name, make), MOST_BYTES, MOST_BYTES // 2, wanted)
@@ -288,8 +294,9 @@ def main():
             measure_row(command, row, size, min(given.run_seconds, max(10, clock.left())))
             for size in (row.full, row.half)
         )
-        if full.status is not None and full.status not in row.wanted:
-            faults.add(row.name, "ends with", shared.ending(full.status))
+        for measured in (full, half):
+            if measured is not None and measured.status not in (None, *row.wanted):
+                faults.add(row.name, "ends with", shared.ending(measured.status))
         print("| " + " | ".join(map(str, cells(row, full, half))) + " |", flush=True)
         run += 1
     shared.finish(faults, f"{run} rows", f"{left} not run")
