@@ -9,6 +9,9 @@ line. With a number that no growth has, the run has to end as it does with none 
 other status, no signal, and no part of a report. Where no growth comes behind the one that is refused alone, a run in
 which all behind it are refused would be the same run, and isn't made.
 
+A run that reaches a growth splits there, and the growth is refused in what splits off (`refuse.c`). The first of every
+STRETCH growths is refused besides in runs of their own.
+
 A growth may be asked for by a hint alone, of how much is to come. Where that is refused, Rattle's std asks for less:
 `grow_by_hint`, in `std_alloc/src/vec/copies.rt`, under `collect` and `extend`. So the run may go on and end as it does
 with none refused. Such a refusal is told as `absorbed`; but then the run has to end with status 11 where the very next
@@ -32,7 +35,7 @@ import shared
 LINE = b"gicstudy: out of memory\n"
 # All growths from a number on are refused.
 ALL = 2**63
-MOST_NUMBERS = 400000
+STRETCH = 200
 
 
 def judge(whole, answer, counts):
@@ -46,29 +49,33 @@ def judge(whole, answer, counts):
     return f"fault: {shared.ending(answer.status)}, {len(answer.output)} bytes, told {answer.told[:80]!r}"
 
 
-def attempt(library, folder, command, whole, number):
-    """The runs in which a growth is refused: alone; with the next, where that was absorbed; and with all behind it, where
-    there are any."""
-    runs = []
-
-    def refuse(length):
-        refusal = preload.Refusal("growth", number, length)
-        answer, counts = preload.run(library, command, folder, refusal)
-        runs.append((refusal, judge(whole, answer, counts)))
-        return counts
-
-    counts = refuse(1)
-    if runs[0][1] == "absorbed":
-        refuse(2)
-    if counts.growth > number:
-        refuse(ALL)
-    return runs
+def refuse(library, folder, command, whole, refusal):
+    """The refusal, and what came of it in a run of its own."""
+    answer, counts = preload.run(library, command, folder, refusal)
+    return refusal, judge(whole, answer, counts)
 
 
-def numbers(growths, draw):
-    """One number that no growth has, the last, and all or many in random order."""
-    chosen = draw.sample(range(1, growths), min(growths - 1, MOST_NUMBERS))
-    return [growths + 1, growths, *chosen]
+def kind_of(ending):
+    """What kind of end for want of memory it was, or None."""
+    if ending.status == 11 and ending.output == 0 and ending.line[: ending.told] in (LINE, b""):
+        return "out of memory" if ending.told else "out of memory, no line"
+    return None
+
+
+def attempt(library, folder, command, whole, first):
+    """What came of each growth of a stretch where it was refused: alone; with the next, where that was absorbed; and with
+    all behind it, where there are any. Every other end than that for want of memory is looked at in a run of its own."""
+    runs = [refuse(library, folder, command, whole, preload.Refusal("growth", first, length)) for length in (1, ALL)]
+    endings = preload.endings(library, command, folder, first, STRETCH)
+    for ending in endings:
+        refusal, kind = preload.Refusal("growth", ending.first, ending.length), kind_of(ending)
+        runs.append((refusal, kind) if kind else refuse(library, folder, command, whole, refusal))
+    return {ending.first for ending in endings}, runs
+
+
+def starts(growths, draw):
+    """The first numbers of all stretches in random order, behind a number that no growth has."""
+    return [growths + 1, *draw.sample(range(1, growths + 1, STRETCH), -(-growths // STRETCH))]
 
 
 def is_fault(refusal, kind, growths):
@@ -89,14 +96,16 @@ def trial(library, given, draw, folder, mode, minutes, faults):
     at_end = counts.growths_at_write - counts.growths_at_pause
     if behind:
         faults.add(name, f"{behind} growths behind the first write")
-    tried, kinds = 0, collections.Counter()
+    tried, kinds, clock = 0, collections.Counter(), shared.Clock(minutes)
     work = functools.partial(attempt, library, folder, command, whole)
-    for runs in shared.side_by_side(given.jobs, work, numbers(counts.growth, draw), shared.Clock(minutes)):
-        tried += runs[0][0].first <= counts.growth
+    for numbers, runs in shared.side_by_side(given.jobs, work, starts(counts.growth, draw), clock):
+        tried += len(numbers)
         for refusal, kind in runs:
             kinds[kind.split(":")[0]] += 1
             if is_fault(refusal, kind, counts.growth):
                 faults.add(name, refusal, kind)
+    if tried < counts.growth and not clock.is_over():
+        faults.add(name, f"{counts.growth - tried} growths were not refused")
     told = ", ".join(f"{count} {kind}" for kind, count in sorted(kinds.items()))
     pause = counts.longest_pause / preload.MILLISECOND
     print(f"{name}: {tried} of {counts.growth} growths refused, {kinds.total()} runs: {told};", end=" ")
