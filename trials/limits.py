@@ -10,14 +10,14 @@ bytes of each kind and of one byte more; and files of that size that are hostile
 
 Times are of the processor, in seconds; memory is the peak, in MiB. Beside each is the same at half the size, and what
 the one is of the other: where the work grows with the size it is 2, and more only where the row says so. A run has
-N seconds (300); one that takes longer has `over`. Rows for which no minutes are left are `not run`. One run is made at
-a time, whatever N is. With --only the rows whose name has WORD are run alone.
+N seconds of the processor (300); one that takes longer has `over`. Rows for which no minutes are left are `not run`. One
+run is made at a time, whatever N is. With --only the rows whose name has WORD are run alone.
 """
 
 import os
 import re
+import signal
 import subprocess
-import time
 from typing import Callable, NamedTuple, Optional
 
 import shared  # which finds the modules below
@@ -33,6 +33,9 @@ NAME = re.compile(r'"((?:zone|station|bus|line|unit)-[0-9-]+)"')
 NAME_BYTES = 32
 LINE, UNIT = "line-1", "unit-1"
 ADDRESS_SPACE = 6 << 30
+# How long is waited for a run, in its seconds of the processor, and what ends it where these are over.
+WAITS = 10
+OUT_OF_TIME = (signal.SIGXCPU, signal.SIGKILL)
 
 
 class Measure(NamedTuple):
@@ -55,24 +58,21 @@ class Row(NamedTuple):
     wanted: tuple = (0,)
 
 
-def measure(command, folder, seconds):
+def build(folder):
+    """The path of the built program of `measure.c`."""
+    program = os.path.join(folder, "measure")
+    subprocess.run(["cc", "-O2", "-o", program, os.path.join(shared.HERE, "measure.c")], check=True)
+    return program
+
+
+def measure(measurer, command, folder, seconds):
     """Runs a command with its output thrown away."""
-    limited = ["sh", "-c", f'ulimit -v {ADDRESS_SPACE >> 10}; exec "$@"', "sh", *command]
-    with subprocess.Popen(
-        limited, cwd=folder, stdin=subprocess.DEVNULL, stdout=subprocess.DEVNULL, stderr=subprocess.DEVNULL
-    ) as process:
-        end = time.monotonic() + seconds
-        while True:
-            done, status, usage = os.wait4(process.pid, os.WNOHANG)
-            if done or time.monotonic() > end:
-                break
-            time.sleep(0.005)
-        if not done:
-            process.kill()
-            _, _, usage = os.wait4(process.pid, 0)
-        process.returncode = os.waitstatus_to_exitcode(status) if done else -9
-        took = usage.ru_utime + usage.ru_stime
-        return Measure(process.returncode if done else None, took, usage.ru_maxrss / 1024)
+    limits = [str(max(1, int(seconds))), str(ADDRESS_SPACE >> 10)]
+    answer = shared.run([measurer, *limits, *command], folder, seconds=WAITS * seconds)
+    if answer.status != 0:
+        return Measure(None, seconds, 0)
+    status, microseconds, kibibytes = map(int, answer.output.split())
+    return Measure(None if -status in OUT_OF_TIME else status, microseconds / 10**6, kibibytes / 1024)
 
 
 # What the files are.
@@ -268,14 +268,21 @@ def cells(row, full, half):
     return [*head, time_of(half), times, *memory, ratio(full.mebibytes, half.mebibytes)]
 
 
-def measure_row(command, row, size, seconds):
+def measure_row(measurer, command, row, size, seconds):
     """The run of a row at a size, in a folder of its own; None where there is no such size."""
     if size is None:
         return None
     with shared.scratch() as folder:
         row.fill(folder, size)
         words = [word.replace("{size}", str(size)) for word in row.words]
-        return measure(command + words, folder, seconds)
+        return measure(measurer, command + words, folder, seconds)
+
+
+def print_row(row, full, half, faults):
+    for measured in (full, half):
+        if measured is not None and measured.status not in (None, *row.wanted):
+            faults.add(row.name, "ends with", shared.ending(measured.status))
+    print("| " + " | ".join(map(str, cells(row, full, half))) + " |", flush=True)
 
 
 def main():
@@ -283,23 +290,17 @@ def main():
     command, faults, clock = shared.command_of(given.program), shared.Faults(), shared.Clock(given.minutes)
     heads = ("run", "status", "size", "time", "at half", "ratio", "memory", "at half", "ratio")
     print("| " + " | ".join(heads) + " |\n|" + "---|" * len(heads), flush=True)
-    run = left = 0
-    for row in rows(command):
-        if given.only not in row.name:
-            continue
-        if clock.is_over():
-            left += 1
-            continue
-        full, half = (
-            measure_row(command, row, size, min(given.run_seconds, max(10, clock.left())))
-            for size in (row.full, row.half)
-        )
-        for measured in (full, half):
-            if measured is not None and measured.status not in (None, *row.wanted):
-                faults.add(row.name, "ends with", shared.ending(measured.status))
-        print("| " + " | ".join(map(str, cells(row, full, half))) + " |", flush=True)
-        run += 1
-    shared.finish(faults, f"{run} rows", f"{left} not run")
+    chosen = [row for row in rows(command) if given.only in row.name]
+    run = 0
+    with shared.scratch() as top:
+        measurer = build(top)
+        for row in chosen:
+            if clock.is_over():
+                break
+            seconds = min(given.run_seconds, max(10, clock.left()))
+            print_row(row, *(measure_row(measurer, command, row, size, seconds) for size in (row.full, row.half)), faults)
+            run += 1
+    shared.finish(faults, f"{run} rows", f"{len(chosen) - run} not run")
 
 
 if __name__ == "__main__":
