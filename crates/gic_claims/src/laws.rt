@@ -1,5 +1,5 @@
 //! Laws over the definitions, each the contract of a function that does nothing but to bring the laws that it joins.
-ghost use Rattle.gic_claims.specs.Claims.{AcceptedNetworksAreSolved, AcceptedSolutionsAgree};
+ghost use Rattle.gic_claims.specs.Claims.{AcceptedNetworksAreSolved, AcceptedSolutionsAgree, BoundNetworksAreEarthed, BoundNetworksAreSolved};
 
 use gic_case::laws::accepted_law;
 use gic_exists::laws::{agreement_law, existence_law};
@@ -15,4 +15,17 @@ pub fn solutions_exist_law()
     limits_law();
     existence_law();
     agreement_law();
+}
+
+/// Every live node of a network is earthed where its standing elements have a bound vector, whoever found it.
+pub fn bound_networks_are_earthed_law()
+    ensures { BoundNetworksAreEarthed }
+{}
+
+/// So a solution exists there for any voltages: a certificate that passes speaks of a network that has one.
+pub fn bound_networks_are_solved_law()
+    ensures { BoundNetworksAreSolved }
+{
+    bound_networks_are_earthed_law();
+    existence_law();
 }

@@ -9,7 +9,11 @@ use Rattle.gic_view.specs.View.{View}
 use Rattle.gic_view.specs.Kept.{blank_view}
 use Rattle.gic_effective.specs.Narrow.{IsNarrowView}
 use Rattle.gic_course.specs.declared.inputs.StormInputs.{StormInputs}
-use Rattle.gic_course.specs.Views.{IsRightStep, AreRightSoFar, AreRightViews, AreNarrowViews}
+use Rattle.gic_course.specs.Views.{IsRightStep, IsSolvedStep, AreRightSoFar, AreRightViews, AreNarrowViews, IsSmallView, AreSmallViews}
+
+-- a view that is solved for a step is right for it
+pub right_step : (inputs : StormInputs) (width step : ℕ) (view : View) → IsSolvedStep inputs width step view → IsRightStep inputs step view
+right_step inputs width step view shown = record { number = shown.number; time = shown.time; right = shown.solved.right }
 
 -- no views are
 pub none_so_far : (inputs : StormInputs) → AreRightSoFar inputs []
@@ -33,3 +37,7 @@ all_right inputs views count so_far = record { one_each = count; right = so_far 
 -- one narrow view more
 pub one_more_narrow : (case : Lists) (width : ℕ) (views : List View) (view : View) → AreNarrowViews case width views → IsNarrowView case width view → AreNarrowViews case width (views ++ view ∷ [])
 one_more_narrow case width views view narrow next = All-push (IsNarrowView case width) views view narrow next
+
+-- one small view more
+pub one_more_small : (case : Lists) (views : List View) (view : View) → AreSmallViews case views → IsSmallView case view → AreSmallViews case (views ++ view ∷ [])
+one_more_small case views view small next = All-push (IsSmallView case) views view small next

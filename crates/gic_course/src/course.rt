@@ -3,7 +3,6 @@ ghost use Rattle.std.specs.Prelude.{◌≡◌, ◌↔◌, length, IfOk, OnOk, If
 ghost use Rattle.gic_enclose.specs.Solved.{IsWidth};
 ghost use Rattle.gic_view.specs.Kept.{blank_view};
 ghost use Rattle.gic_winding.specs.ElementList.{elements_of};
-ghost use Rattle.gic_effective.specs.Narrow.{IsNarrowView};
 ghost use Rattle.gic_effective.specs.ViewLengths.{HasViewLengths};
 ghost use Rattle.gic_peaks.specs.Peaks.{HasAbsolutes};
 ghost use Rattle.gic_stand.specs.Needs.{Solved, IsUnmet};
@@ -11,7 +10,7 @@ ghost use Rattle.gic_course.specs.CourseOf.{IsCourseOf, CanShow};
 ghost use Rattle.gic_course.specs.Epochs.{HasStep};
 ghost use Rattle.gic_course.specs.Ready.{IsReadyAt};
 ghost use Rattle.gic_course.specs.Steps.{IsStormOf, IsStepOf, storm_steps};
-ghost use Rattle.gic_course.specs.Views.{IsRightStep};
+ghost use Rattle.gic_course.specs.Views.{IsSolvedStep};
 
 use crate::epochs::{epoch_with, epochs_under, has_step};
 use crate::inputs::StormInputs;
@@ -117,16 +116,15 @@ impl Course {
     }
 
     /// Fills the view of a step, counted from 1: its number, its time, and intervals that are no wider than `width`, in
-    /// millivolts and milliamperes. Where the step before was not of the same epoch, the epoch is prepared first, so each
-    /// is prepared once where steps are shown in order. None of them begins at -2^127, which has no absolute value of 128
-    /// bits. Takes no memory.
+    /// millivolts and milliamperes, with no effective current beyond 2^52. Where the step before was not of the same epoch,
+    /// the epoch is prepared first, so each is prepared once where steps are shown in order. No interval begins at -2^127,
+    /// which has no absolute value of 128 bits. Takes no memory.
     pub fn show(&mut self, inputs: &StormInputs, number: u32, width: u32, view: &mut StepView)
         requires shows { CanShow inputs.now self.old }
         requires step { IsStepOf inputs.now number }
         requires width { IsWidth width }
         requires view { HasViewLengths inputs.now.inputs.case view.old }
-        ensures right { IsRightStep inputs.now number view.new }
-        ensures narrow { IsNarrowView inputs.now.inputs.case width view.new }
+        ensures solved { IsSolvedStep inputs.now width number view.new }
         ensures absolutes { HasAbsolutes view.new }
         ensures shows { CanShow inputs.now self.new }
     {

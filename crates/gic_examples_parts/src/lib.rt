@@ -1,7 +1,10 @@
-//! Worked examples of readers, storms, courses, monitors, losses, certificates, made cases and modes: no code of its own,
-//! only tests. They stand here and not beside what they test, since a crate with tests is proved twice.
+//! Worked examples of readers, storms, courses, monitors, losses, certificates, made cases, modes and the worst
+//! orientation: no code of its own, only tests. They stand here and not beside what they test, since a crate with tests is
+//! proved twice.
 #![tactic(auto)]
 
+#[cfg(test)]
+mod attached;
 #[cfg(test)]
 mod certificates;
 #[cfg(test)]
@@ -16,6 +19,8 @@ mod made;
 mod modes;
 #[cfg(test)]
 mod monitors;
+#[cfg(test)]
+mod orientation;
 #[cfg(test)]
 mod records;
 #[cfg(test)]

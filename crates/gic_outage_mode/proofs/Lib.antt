@@ -5,4 +5,5 @@ pub mod OutageWritten
 pub mod PlanNames
 pub mod Raised
 pub mod RightOutages
+pub mod Squared
 pub mod Taken

@@ -1,20 +1,25 @@
 -- What a report of the mode has to say.
-use Rattle.std.specs.Prelude.{◌≡◌, ℕ, ◌<◌, List, [], length, map, Option, IfSome, IsTrue, IsFalse, Contains, ℤ, pos}
+use Rattle.std.specs.Prelude.{◌≡◌, ℕ, ◌<◌, List, [], length, map, Option, IfSome, IsTrue, IsFalse, Contains, ℤ, pos, ◌*◌, ◌≤◌, ◌*ℤ◌, ◌≤ℤ◌}
 use Rattle.std.specs.List.{range_with_len}
 use Rattle.gic_case.specs.Lists.{Lists}
 use Rattle.gic_fixed.specs.Ends.{Ends}
 use Rattle.gic_model.specs.declared.parts.Item.{Item}
+use Rattle.gic_model.specs.Solution.{Solution}
+use Rattle.gic_model.specs.Sums.{Placed}
+use Rattle.gic_effective.specs.Narrow.{IsNoWider}
 use Rattle.gic_screen.specs.declared.criterion.Verdict.{Verdict}
 use Rattle.gic_screen.specs.declared.criterion.Verdict.TheVariants.{Below, Reaches, Undecided}
 use Rattle.gic_screen.specs.Event.{threshold_of, field_of}
+use Rattle.gic_screen.specs.Worst.{square_of}
 use Rattle.gic_outage.specs.Plan.{plan_of}
 use Rattle.gic_outage.specs.Removing.{is_idle}
 use Rattle.gic_report.specs.declared.counts.Counts.{Counts}
 use Rattle.gic_report.specs.Counts.{counts_of}
 use Rattle.gic_stand.specs.declared.inputs.Inputs.{Inputs}
 use Rattle.gic_stand.specs.Standing.{standing_of, IsSolvable, IsNameOfUnearthed, IsNameOfUnresolved}
+use Rattle.gic_uniform.specs.Denominator.{effective_denominator}
 use Rattle.gic_uniform.specs.Uniform.{uniform_volts}
-use Rattle.gic_screening.specs.RightRows.{IsRightWorst, IsTrueVerdict, IsWorstUnder, IsWorstAtLeast, IsAcross, worst_verdict_at}
+use Rattle.gic_screening.specs.RightRows.{AreSolutionsOf, IsRightWorst, IsTrueVerdict, IsWorstUnder, IsWorstAtLeast, IsAcross, squared_worst, worst_verdict_at}
 use Rattle.gic_outage_mode.specs.declared.outcome.Outcome.{Outcome}
 use Rattle.gic_outage_mode.specs.declared.outcome.Outcome.TheVariants.{Idle, Unearthed, Unresolved, Solved}
 use Rattle.gic_outage_mode.specs.Outages.{Outage, standing_without, item_at, outage_at, worst_at, worsts_of, greatest_of}
@@ -75,10 +80,34 @@ pub record IsTrueOverOutages (inputs : Inputs) (threshold t : ℕ) (greatest : E
   pub reaches : worst_verdict_at inputs.case threshold t greatest ≡ Reaches → IsWorstAtLeastOnce inputs threshold t
   pub undecided : worst_verdict_at inputs.case threshold t greatest ≡ Undecided → IsAcross threshold greatest
 
--- an outage for each item of the plan, which ends as its network decides, and for each transformer its greatest worst interval over them, with a true verdict
+-- the square of an end of a transformer's interval, times the squares of the two denominators, as `squared_worst` is
+abbrev pub squared_end : Lists → (end : ℤ) → (t : ℕ) → (one other : Solution) → ℕ
+squared_end case end t one other = square_of (end *ℤ pos (effective_denominator case t one * effective_denominator case t other))
+
+-- the transformer's current for the worst orientation is at most a high end, which is not below 0, in every two solutions
+abbrev pub IsWorstUpTo : Lists → List Placed → (north east : ℕ → ℤ) → (high : ℤ) → (t : ℕ) → Type 0
+IsWorstUpTo case standing north east high t =
+    (one other : Solution) → AreSolutionsOf standing north east one other → (pos 0 ≤ℤ high) × (squared_worst case t one other ≤ squared_end case high t one other)
+
+-- it is at least a low end, which is not below 0, in every two solutions
+abbrev pub IsWorstFrom : Lists → List Placed → (north east : ℕ → ℤ) → (low : ℤ) → (t : ℕ) → Type 0
+IsWorstFrom case standing north east low t =
+    (one other : Solution) → AreSolutionsOf standing north east one other → (pos 0 ≤ℤ low) × (squared_end case low t one other ≤ squared_worst case t one other)
+
+-- the interval encloses the greatest of the transformer's currents for the worst orientation over the solved outages: in each of them the current is at most the high end, and in one of them it is at least the low end
+pub record EnclosesGreatestWorst (inputs : Inputs) (t : ℕ) (greatest : Ends) : Type 0 where
+  pub most : (item : Item) → IsSolvedOutage inputs item →
+      IsWorstUpTo inputs.case (standing_without inputs item) (north_volts inputs) (east_volts inputs) greatest.high t
+  pub item : Item
+  pub solved : IsSolvedOutage inputs item
+  pub least : IsWorstFrom inputs.case (standing_without inputs item) (north_volts inputs) (east_volts inputs) greatest.low t
+
+-- an outage for each item of the plan, which ends as its network decides, and for each transformer its greatest worst interval over them: it encloses the greatest worst current, is no wider than asked, and its verdict is true
 pub record AreRightOutages (inputs : Inputs) (outages : List Outage) : Type 0 where
   pub count : length outages ≡ length (plan_of inputs.case)
   pub ends : (place : ℕ) → place < length (plan_of inputs.case) → EndsAs inputs (item_at inputs.case place) (outage_at outages place).worsts (outage_at outages place).outcome
+  pub enclosed : (t : ℕ) → t < length inputs.case.transformers → IfSome (greatest_of (worsts_of outages t)) (EnclosesGreatestWorst inputs t)
+  pub narrow : (t : ℕ) → t < length inputs.case.transformers → IsNoWider inputs.question.width (greatest_of (worsts_of outages t))
   pub verdicts : (t : ℕ) → t < length inputs.case.transformers → IfSome (greatest_of (worsts_of outages t)) (IsTrueOverOutages inputs (threshold_asked inputs) t)
 
 -- the greatest worst intervals of the transformers of a case over outages

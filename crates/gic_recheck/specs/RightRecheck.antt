@@ -9,6 +9,7 @@ use Rattle.gic_model.specs.Sharp.{millivolt}
 use Rattle.gic_model.specs.Sums.{Placed}
 use Rattle.gic_cert.specs.Written.{Certificate, interval_of}
 use Rattle.gic_effective.specs.RightView.{IsRightNode}
+use Rattle.gic_exists.specs.Exists.{HasSolution}
 use Rattle.gic_stand.specs.Needs.{Nothing}
 use Rattle.gic_stand.specs.Serves.{Shown, Serves}
 use Rattle.gic_stand.specs.Standing.{standing_of}
@@ -36,10 +37,11 @@ potentials_of c = map (potential_of c) (range_with_len 0 (length c.nodes))
 abbrev pub recheck_text : Lists → Certificate → List ℕ
 recheck_text case c = lines_text (recheck_report case c.north c.east (potentials_of c))
 
--- the text is that of a certificate that is accepted, and whoever made it, each interval holds its node's potential in every solution
+-- the text is that of a certificate that is accepted, and whoever made it, each interval holds its node's potential in every solution, of which there is one at least
 pub record ShowsAccepted (case : Lists) (standing : List Placed) (bytes : List ℕ) (text : List ℕ) : Type 0 where
   pub certificate : Certificate
   pub accepted : IsAccepted case standing bytes certificate
+  pub solved : HasSolution standing (uniform_volts case certificate.north certificate.east)
   pub holds : (k : ℕ) → k < length (node_names case) →
       IsRightNode standing (uniform_volts case certificate.north certificate.east) k (potential_of certificate k)
   pub text_is : text ≡ recheck_text case certificate

@@ -21,6 +21,7 @@ use gic_base::{Sink, WriteFailed};
 use gic_case::Case;
 use gic_cert::Cert;
 use gic_cert::laws::passing_law;
+use gic_claims::laws::bound_networks_are_solved_law;
 use gic_fixed::Interval;
 use gic_model::Volts;
 use gic_net::Net;
@@ -60,6 +61,7 @@ fn show<S: Sink>(
     ensures memory { result ≢ Err (Report Memory) }
 {
     passing_law();
+    bound_networks_are_solved_law();
     net.within_limits();
     match expect_passing(case, net, volts, cert) {
         Err(fault) => Err(fault),

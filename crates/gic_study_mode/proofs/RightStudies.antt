@@ -110,6 +110,7 @@ right_study exist encloses is_peak no_wider below reaches undecided inputs detai
       views = has.views;
       right = right;
       narrow = has.narrow;
+      small = has.small;
       peaks = seen.peaks;
       peaks_are = has.peaks_are;
       lengths = lengths;
@@ -128,6 +129,7 @@ by_plans inputs detail outlooks plans same text right = record {
   views = right.views;
   right = right.right;
   narrow = right.narrow;
+  small = right.small;
   peaks = right.peaks;
   peaks_are = right.peaks_are;
   lengths = right.lengths;

@@ -10,8 +10,8 @@ use Rattle.gic_view.specs.Kept.{blank_view}
 use Rattle.gic_effective.specs.Narrow.{IsNarrowView}
 use Rattle.gic_peaks.specs.Peaks.{HasAbsolutes, IsPeaksOf}
 use Rattle.gic_course.specs.declared.inputs.StormInputs.{StormInputs}
-use Rattle.gic_course.specs.Views.{IsRightStep, view_at}
-use Rattle.gic_course.proofs.RightSoFar.{none_so_far, one_more_right, one_more_narrow}
+use Rattle.gic_course.specs.Views.{IsRightStep, IsSmallView, view_at}
+use Rattle.gic_course.proofs.RightSoFar.{right_step, none_so_far, one_more_right, one_more_narrow, one_more_small}
 use Rattle.gic_study_mode.specs.declared.views.Views.{Views}
 use Rattle.gic_study_mode.specs.Seen.{IsRoomFor, is_asked, HasShown, HasSeen}
 
@@ -22,6 +22,7 @@ none_seen inputs asked texts views none room = record {
   one_each = refl;
   right = none_so_far inputs;
   narrow = All-nil (IsNarrowView inputs.inputs.case inputs.inputs.question.width);
+  small = All-nil (IsSmallView inputs.inputs.case);
   absolutes = All-nil HasAbsolutes;
   peaks_are = none;
   asked_is = λ number is least most. absurd (omega (arith, least, most));
@@ -50,11 +51,13 @@ pub next_seen : (inputs : StormInputs) (asked : Option ℕ) (count : ℕ) (befor
 next_seen inputs asked count before mid now old new seen shown =
     let views = seen.views in
     let view = shown.view in
+    let own = right_step inputs inputs.inputs.question.width (count + 1) view shown.own.solved in
     record {
       views = views ++ view ∷ [];
       one_each = omega (arith, length-append views (view ∷ []), seen.one_each);
-      right = one_more_right inputs views view seen.right (subst (λ n. IsRightStep inputs n view) (omega (arith, seen.one_each)) shown.own.right);
-      narrow = one_more_narrow inputs.inputs.case inputs.inputs.question.width views view seen.narrow shown.own.narrow;
+      right = one_more_right inputs views view seen.right (subst (λ n. IsRightStep inputs n view) (omega (arith, seen.one_each)) own);
+      narrow = one_more_narrow inputs.inputs.case inputs.inputs.question.width views view seen.narrow shown.own.solved.solved.narrow;
+      small = one_more_small inputs.inputs.case views view seen.small shown.own.solved.solved.small;
       absolutes = All-push HasAbsolutes views view seen.absolutes shown.own.absolutes;
       peaks_are = shown.raised views seen.peaks_are;
       asked_is = λ number is least most.

@@ -9,7 +9,7 @@ use Rattle.gic_model.specs.Solution.{Solution}
 use Rattle.gic_monitor.specs.RosterView.{RosterView}
 use Rattle.gic_course.specs.declared.inputs.StormInputs.{StormInputs}
 use Rattle.gic_course.specs.Steps.{storm_fields}
-use Rattle.gic_course.specs.Views.{AreRightViews, AreNarrowViews, view_at}
+use Rattle.gic_course.specs.Views.{AreRightViews, AreNarrowViews, AreSmallViews, view_at}
 use Rattle.gic_study_text.specs.StudyText.{DetailView, study_text}
 use Rattle.gic_study_mode.specs.Asked.{asked_step}
 use Rattle.gic_study_mode.specs.Roster.{roster_of}
@@ -30,11 +30,12 @@ report_text inputs detail plans views peaks =
     study_text inputs.inputs.case inputs.inputs.question.width (threshold_of inputs.inputs.question.event) (length (steps_in inputs.storm.rows))
     (detail_of inputs detail views) peaks (plans (roster_of inputs.inputs.case inputs.inputs.question.event) views)
 
--- one list of views is behind the whole text, right for the steps in order; no interval is wider than asked, and peaks and verdicts are true of every solution of each step
+-- one list of views is behind the whole text, right for the steps in order; no interval is wider than asked, no effective current is beyond 2^52 mA per phase, and peaks and verdicts are true of every solution of each step
 pub record IsRightStudy (inputs : StormInputs) (detail : Option ℕ) (plans : RosterView → List View → List (List ℕ)) (text : List ℕ) : Type 0 where
   pub views : List View
   pub right : AreRightViews inputs views
   pub narrow : AreNarrowViews inputs.inputs.case inputs.inputs.question.width views
+  pub small : AreSmallViews inputs.inputs.case views
   pub peaks : View
   pub peaks_are : IsPeaksOf views peaks
   pub lengths : HasViewLengths inputs.inputs.case peaks

@@ -2,11 +2,10 @@
 use Rattle.std.specs.Prelude.{◌≡◌, ℕ, ◌-◌, ◌≤◌, ◌==◌, ℤ, List, [], ◌∷◌, ◌++◌, length, Bool, false, All, Option, None, Some, if◌then◌else◌}
 use Rattle.gic_case.specs.Lists.{Lists}
 use Rattle.gic_view.specs.View.{View}
-use Rattle.gic_effective.specs.Narrow.{IsNarrowView}
 use Rattle.gic_effective.specs.ViewLengths.{HasViewLengths}
 use Rattle.gic_peaks.specs.Peaks.{HasAbsolutes, IsPeaksOf}
 use Rattle.gic_course.specs.declared.inputs.StormInputs.{StormInputs}
-use Rattle.gic_course.specs.Views.{IsRightStep, AreRightSoFar, AreNarrowViews, view_at}
+use Rattle.gic_course.specs.Views.{IsSolvedStep, AreRightSoFar, AreNarrowViews, AreSmallViews, view_at}
 use Rattle.gic_study_text.specs.StudyText.{DetailView}
 use Rattle.gic_study_mode.specs.declared.views.Views.{Views}
 
@@ -20,10 +19,9 @@ pub record IsRoomFor (case : Lists) (views : Views) : Type 0 where
   pub asked : HasViewLengths case views.asked
   pub other : HasViewLengths case views.other
 
--- the view is right for the step, and none of its intervals is wider than asked; each has an absolute value of 128 bits
+-- the view is solved for the step, and none of its intervals is wider than asked; each has an absolute value of 128 bits
 pub record IsViewOf (inputs : StormInputs) (number : ℕ) (view : View) : Type 0 where
-  pub right : IsRightStep inputs number view
-  pub narrow : IsNarrowView inputs.inputs.case inputs.inputs.question.width view
+  pub solved : IsSolvedStep inputs inputs.inputs.question.width number view
   pub absolutes : HasAbsolutes view
 
 -- one view more is behind the peaks
@@ -48,12 +46,13 @@ pub record HasShown (inputs : StormInputs) (asked : Option ℕ) (number : ℕ) (
   pub texts : AreShown view before now
   pub room : IsRoomFor inputs.inputs.case new
 
--- one list of views is behind the peaks, the asked view and the texts: right for the first steps, this many, and narrow
+-- one list of views is behind the peaks, the asked view and the texts: right for the first steps, this many, narrow and small
 pub record HasSeen (inputs : StormInputs) (asked : Option ℕ) (count : ℕ) (before now : List View → List (List ℕ)) (seen : Views) : Type 0 where
   pub views : List View
   pub one_each : length views ≡ count
   pub right : AreRightSoFar inputs views
   pub narrow : AreNarrowViews inputs.inputs.case inputs.inputs.question.width views
+  pub small : AreSmallViews inputs.inputs.case views
   pub absolutes : All HasAbsolutes views
   pub peaks_are : IsPeaksOf views seen.peaks
   pub asked_is : (number : ℕ) → asked ≡ Some number → 1 ≤ number → number ≤ count → seen.asked ≡ view_at views (number - 1)

@@ -4,6 +4,7 @@ use Rattle.std.proofs.lemmas.Result.{on_ok_weaker}
 use Rattle.gic_base.specs.Pieces.{AppendsPart}
 use Rattle.gic_case.specs.Lists.{node_names}
 use Rattle.gic_cert.specs.Passing.{IsPassing}
+use Rattle.gic_cert.specs.Written.{entry_of}
 use Rattle.gic_induce.specs.Voltage.{IsFieldWithin}
 use Rattle.gic_model.specs.Network.{Network}
 use Rattle.gic_net.specs.Net.{standing, stands}
@@ -39,6 +40,7 @@ returns-in-Ok-clause-serves g c = λ bytes read.
     (record {
       certificate = cert;
       accepted = record { read = read; passes = own };
+      solved = c.bound_networks_are_solved_law.ensures net.network (stands net) (entry_of cert) (uniform_volts case cert.north cert.east) c.within_limits.ensures own.vector;
       holds = λ k within. shows_right c.passing_law.ensures net.network (stands net) (uniform_volts case cert.north cert.east) cert c.within_limits.ensures passes k (omega (arith, within, named));
       text_is = refl;
     })

@@ -3,6 +3,7 @@ use Rattle.gic_storm.specs.Steps.{time_of_step}
 use Rattle.gic_stand.specs.Standing.{rows_in}
 use Rattle.gic_winding.specs.ElementList.{elements_of}
 use Rattle.gic_course.specs.Steps.{storm_volts}
+use Rattle.gic_uniform.proofs.SmallEnds.{view_small}
 use Rattle.gic_course.proofs.Absolutes.{view_absolutes}
 use Rattle.gic_course.proofs.StepsStand.{solvable_at}
 use Rattle.gic_course.proofs.KeptReady.{still_ready}
@@ -21,6 +22,24 @@ returns-clause-shows c =
         ready = still_ready c.args.inputs.now now.ready now.switched.net now.room c.show_step.new.room c.show_step.ensures.stays was.own.ready;
       };
       solvable = was.solvable;
+    }
+
+pub returns-clause-solved : goal.returns-clause-solved
+returns-clause-solved c =
+    let inputs = c.args.inputs.now in
+    let case = inputs.inputs.case in
+    let rows = rows_in_force (time_of_step inputs.storm.rows c.args.number) (rows_in inputs.inputs.switchings) in
+    let right = c.show_step.ensures.right in
+    record {
+      number = right.number;
+      time = right.time;
+      solved = record {
+        right = right.right;
+        narrow = c.show_step.ensures.narrow;
+        small = view_small c.existence_law.ensures c.potential_law.ensures case (elements_of case) (stands_after rows) (storm_volts inputs c.args.number) c.args.width c.show_step.new.view
+            c.keeps_rules.ensures (c.limits_law.ensures case c.keeps_rules.ensures) (solvable_at inputs c.args.number c.requires.shows.solvable c.requires.step) c.show_step.ensures.volts
+            c.requires.width.most right.right c.show_step.ensures.narrow;
+      };
     }
 
 pub returns-clause-absolutes : goal.returns-clause-absolutes

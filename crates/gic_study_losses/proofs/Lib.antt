@@ -1,0 +1,2 @@
+pub mod CommonDenominator
+pub mod ShownUnits
