@@ -12,7 +12,8 @@ over files that are refused, whose line goes to the error stream. What has to co
 - short (one byte at that call, or at each call from it on), stalled, or interrupted once or 9999 times in a row:
   the same bytes and the same status as of a run that nothing happens to;
 - read or written with an interruption at each call from it on: as with an error. Opening is left out of that: Rattle's
-  std opens a file again as long as it is interrupted (`open_path`, in `std/src/fs/options.rt`), and such a run has no end.
+  std opens a file again as long as it is interrupted (`open_path`, in `std/src/fs/options.rt`), so such a run has no
+  end.
 
 Then come streams of the system: a full one, a closed one, a pipe without a reader, a slow reader and a slow writer.
 """

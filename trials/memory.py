@@ -63,8 +63,8 @@ def kind_of(ending):
 
 
 def attempt(library, folder, command, whole, first):
-    """What came of each growth of a stretch where it was refused: alone; with the next, where that was absorbed; and with
-    all behind it, where there are any. Every other end than that for want of memory is looked at in a run of its own."""
+    """What came of each growth of a stretch where it was refused: alone; with the next, where that was absorbed; and
+    with all behind it, where there are any. Any other end than for want of memory is looked at in a run of its own."""
     runs = [refuse(library, folder, command, whole, preload.Refusal("growth", first, length)) for length in (1, ALL)]
     endings = preload.endings(library, command, folder, first, STRETCH)
     for ending in endings:

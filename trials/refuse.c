@@ -10,9 +10,9 @@
  * TRIAL_HOW      short (one byte is read or written), stall (the call is made after a while), or the number of an
  *                error, which is what a call that is not of memory is refused with (5 where it is not given)
  * TRIAL_ENDINGS  a file to which a struct ending is added for each run that is split off: none of the growths from
- *                TRIAL_FIRST on, TRIAL_LENGTH of them, is refused then, but at each of them a run splits off in which it
- *                is; alone, with the next one where that run ends with status 0, and with all behind it where there are
- *                any. The run itself ends behind the last of them, with status 0.
+ *                TRIAL_FIRST on, TRIAL_LENGTH of them, is refused then, but at each of them a run splits off in which
+ *                it is; alone, with the next one where that run ends with status 0, and with all behind it where there
+ *                are any. The run itself ends behind the last of them, with status 0.
  *
  * A growth is a call that asks for memory that isn't there yet; it is refused with no memory. */
 #define _GNU_SOURCE
@@ -157,7 +157,7 @@ static void become_split(uint64_t first, uint64_t length) {
     refused_length = length;
 }
 
-/* Splits off a run in which so many growths from this one on are refused. True in that run; where it has ended, false. */
+/* Splits off a run in which so many growths from this one on are refused. True in that run; where it ended, false. */
 static bool splits(uint64_t first, uint64_t length, struct ending *ending) {
     empty(split_output);
     empty(split_told);
@@ -169,8 +169,10 @@ static bool splits(uint64_t first, uint64_t length, struct ending *ending) {
     int status = 0;
     if (process < 0 || waitpid(process, &status, 0) != process)
         abort();
-    *ending = (struct ending){first, length, split_counts->made[GROWTH], 0, size_of(split_output), size_of(split_told), ""};
+    *ending = (struct ending){first, length, .growths = split_counts->made[GROWTH]};
     ending->status = WIFEXITED(status) ? WEXITSTATUS(status) : -WTERMSIG(status);
+    ending->output = size_of(split_output);
+    ending->told = size_of(split_told);
     syscall(SYS_pread64, split_told, ending->line, sizeof ending->line, 0);
     if (syscall(SYS_write, endings, ending, sizeof *ending) != sizeof *ending)
         abort();

@@ -111,12 +111,13 @@ def judged(command, folder, words):
 
 
 def study(command, item):
-    """All modes over one network; the kind, how its runs ended by mode, and the faults."""
+    """All modes over one network, the first drawn that can be made so; the kind, how its runs ended by mode, and the
+    faults."""
     seed, kind = item
     draw, ends, faults = random.Random(seed), collections.Counter(), []
     with shared.scratch() as folder:
-        if not fill(draw, folder, kind):
-            return kind, False, ends, faults
+        while not fill(draw, folder, kind):
+            pass
         shared.write(folder, "c", "certificate\n")
         for mode in sorted(shared.BUILT, key=lambda mode: mode == "recheck"):
             words = shared.words_of(mode, **values(draw))
@@ -126,7 +127,7 @@ def study(command, item):
                 shared.write(folder, "c", answer.output)
             if fault:
                 faults.append(f"seed {seed} {kind}: {' '.join(words)}: {fault}")
-    return kind, True, ends, faults
+    return kind, ends, faults
 
 
 def main():
@@ -135,8 +136,8 @@ def main():
     work = functools.partial(study, shared.command_of(given.program))
     items = ((given.seed * given.networks + place, KINDS[place % len(KINDS)]) for place in range(given.networks))
     made, ends = collections.Counter(), collections.Counter()
-    for kind, is_made, more, found in shared.side_by_side(given.jobs, work, items, clock):
-        made[kind] += is_made
+    for kind, more, found in shared.side_by_side(given.jobs, work, items, clock):
+        made[kind] += 1
         ends += more
         for fault in found:
             faults.add(fault)
