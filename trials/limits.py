@@ -4,20 +4,21 @@
     python3 trials/limits.py PROGRAM [--minutes M] [--seed S] [--jobs N] [--only WORD] [--run-seconds N]
 
 The rows: the network at every limit (7680 nodes, 19968 elements, 256 zones) in every mode, with names as they come and
-of 32 bytes in every place (`outage` over an eighth of it, since it screens a network once for each of its items); storms
-of 20000 steps and 4096 switchings with an epoch each; networks just within 4096 and just past it; files of 16777216
-bytes of each kind and of one byte more; and files of that size that are hostile.
+of 32 bytes in every place (`outage` over a quarter of it, since it screens a network once for each of its items);
+storms of 20000 steps (1000 over the network at every limit) and 4096 switchings with an epoch each; networks just
+within 4096 and just past it; files of 16777216 bytes of each kind and of one byte more; and files of that size that
+are hostile.
 
 Times are of the processor, in seconds; memory is the peak, in MiB. Beside each is the same at half the size, and what
 the one is of the other: where the work grows with the size it is 2, and more only where the row says so. A run has
-N seconds (300); one that takes longer has `over`. Rows for which no minutes are left are `not run`. One run is made at
-a time, whatever N is. With --only the rows whose name has WORD are run alone.
+N seconds of the processor (300); one that takes longer has `over`. Rows for which no minutes are left are `not run`.
+One run is made at a time, whatever N is. With --only the rows whose name has WORD are run alone.
 """
 
 import os
 import re
+import signal
 import subprocess
-import time
 from typing import Callable, NamedTuple, Optional
 
 import shared  # which finds the modules below
@@ -29,9 +30,15 @@ MOST_BYTES = 16777216
 STATIONS = 1024
 MADE_SITES = 1000
 ALL_STEPS, ALL_SWITCHINGS = 20000, 4096
+# Over the network at every limit each step takes so long that all steps would take a quarter of an hour.
+SOME_STEPS = 1000
 NAME = re.compile(r'"((?:zone|station|bus|line|unit)-[0-9-]+)"')
 NAME_BYTES = 32
+LINE, UNIT = "line-1", "unit-1"
 ADDRESS_SPACE = 6 << 30
+# How long is waited for a run, in its seconds of the processor, and what ends it where these are over.
+WAITS = 10
+OUT_OF_TIME = (signal.SIGXCPU, signal.SIGKILL)
 
 
 class Measure(NamedTuple):
@@ -54,33 +61,34 @@ class Row(NamedTuple):
     wanted: tuple = (0,)
 
 
-def measure(command, folder, seconds):
+def build(folder):
+    """The path of the built program of `measure.c`."""
+    program = os.path.join(folder, "measure")
+    subprocess.run(["cc", "-O2", "-o", program, os.path.join(shared.HERE, "measure.c")], check=True)
+    return program
+
+
+def measure(measurer, command, folder, seconds):
     """Runs a command with its output thrown away."""
-    limited = ["sh", "-c", f'ulimit -v {ADDRESS_SPACE >> 10}; exec "$@"', "sh", *command]
-    with subprocess.Popen(
-        limited, cwd=folder, stdin=subprocess.DEVNULL, stdout=subprocess.DEVNULL, stderr=subprocess.DEVNULL
-    ) as process:
-        end = time.monotonic() + seconds
-        while True:
-            done, status, usage = os.wait4(process.pid, os.WNOHANG)
-            if done or time.monotonic() > end:
-                break
-            time.sleep(0.005)
-        if not done:
-            process.kill()
-            _, _, usage = os.wait4(process.pid, 0)
-        process.returncode = os.waitstatus_to_exitcode(status) if done else -9
-        took = usage.ru_utime + usage.ru_stime
-        return Measure(process.returncode if done else None, took, usage.ru_maxrss / 1024)
+    limits = [str(max(1, int(seconds))), str(ADDRESS_SPACE >> 10)]
+    answer = shared.run([measurer, *limits, *command], folder, seconds=WAITS * seconds)
+    if answer.status != 0:
+        return Measure(None, seconds, 0)
+    status, microseconds, kibibytes = map(int, answer.output.split())
+    return Measure(None if -status in OUT_OF_TIME else status, microseconds / 10**6, kibibytes / 1024)
 
 
 # What the files are.
 
 
+def lengthened(name):
+    return name.ljust(NAME_BYTES, "x")
+
+
 def limit_text(stations, ground=None, has_long_names=False):
     text = "\n".join(limit_case.rows(stations, ground)) + "\n"
     if has_long_names:
-        text = NAME.sub(lambda name: f'"{name[1].ljust(NAME_BYTES, "x")}"', text)
+        text = NAME.sub(lambda name: f'"{lengthened(name[1])}"', text)
     return text
 
 
@@ -94,10 +102,9 @@ def fill_limit(command, has_long_names=False, steps=2):
     """Files of the network at every limit, with a certificate."""
 
     def fill(folder, stations):
-        text = limit_text(stations, None, has_long_names)
-        shared.write(folder, "p", text)
+        line = lengthened(LINE) if has_long_names else LINE
+        shared.write(folder, "p", limit_text(stations, None, has_long_names))
         shared.write(folder, "t", storm_text(steps))
-        line = NAME.search(text[text.index("[[line]]") :])[1]
         shared.write(folder, "s", f"time,item,action\n0,{line},open\n")
         shared.certify(command, folder)
 
@@ -138,9 +145,8 @@ def greatest_ground(command, stations, folder):
     return low
 
 
-def fill_walk(command, more):
-    """The network just within 4096, or with so much more resistance in its grounds."""
-    known = {}
+def fill_walk(command, known, more):
+    """The network just within 4096, or with so much more resistance in its grounds. `known` keeps what was found."""
 
     def fill(folder, stations):
         if stations not in known:
@@ -213,26 +219,29 @@ def inline(size):
 
 def rows(command):
     for mode in shared.BUILT:
-        words = shared.words_of(mode)
         if mode == "make":
             words = shared.words_of(mode, size="{size}")
             yield Row("make, sites", words, lambda folder, size: None, 1000, 500)
         elif mode == "outage":
             # A screen for each item: four times the time at twice the size. At every limit bench/outage.sh runs it.
-            name = "outage, an eighth of the limit (its ratio is 4)"
-            yield Row(name, words, fill_limit(command), STATIONS // 8, STATIONS // 16)
+            name = "outage, a quarter of the limit (its ratio is 4)"
+            yield Row(name, shared.words_of(mode), fill_limit(command), STATIONS // 4, STATIONS // 8)
         else:
-            yield Row(f"{mode}, limit", words, fill_limit(command), STATIONS, STATIONS // 2)
-            yield Row(f"{mode}, limit, names of 32 bytes", words, fill_limit(command, True), STATIONS, STATIONS // 2)
+            sizes = STATIONS, STATIONS // 2
+            words = shared.words_of(mode, transformer=UNIT)
+            yield Row(f"{mode}, limit", words, fill_limit(command), *sizes)
+            words = shared.words_of(mode, transformer=lengthened(UNIT))
+            yield Row(f"{mode}, limit, names of 32 bytes", words, fill_limit(command, True), *sizes)
     study = shared.words_of("study", False)
     switched = [*study, "--switch=s"]
     yield Row("study, 2000 nodes, 20000 steps", study, fill_steps, ALL_STEPS, ALL_STEPS // 2)
-    yield Row("study, limit, 20000 steps", study, fill_limit_steps, ALL_STEPS, ALL_STEPS // 2)
+    yield Row("study, limit, 1000 steps", study, fill_limit_steps, SOME_STEPS, SOME_STEPS // 2)
     yield Row("study, 2000 nodes, 4096 epochs", switched, fill_epochs, ALL_SWITCHINGS, ALL_SWITCHINGS // 2)
+    known = {}
     for mode in ("field", "screen", "certify"):
-        words = shared.words_of(mode, False)
-        yield Row(f"{mode}, limit, just within 4096", words, fill_walk(command, 0), STATIONS // 2, STATIONS // 4)
-        yield Row(f"{mode}, limit, just past 4096", words, fill_walk(command, 1), STATIONS // 2, STATIONS // 4, (9,))
+        words, sizes = shared.words_of(mode, False), (STATIONS // 2, STATIONS // 4)
+        yield Row(f"{mode}, limit, just within 4096", words, fill_walk(command, known, 0), *sizes)
+        yield Row(f"{mode}, limit, just past 4096", words, fill_walk(command, known, 1), *sizes, (9,))
     for name, (mode, make, wanted) in LARGE.items():
         words = shared.words_of(mode, False) + (["--switch=s"] if name == "s" else [])
         yield Row(f"{mode}, {name} of 16 MiB", words, fill_file(name, make), MOST_BYTES, MOST_BYTES // 2, wanted)
@@ -262,14 +271,21 @@ def cells(row, full, half):
     return [*head, time_of(half), times, *memory, ratio(full.mebibytes, half.mebibytes)]
 
 
-def measure_row(command, row, size, seconds):
+def measure_row(measurer, command, row, size, seconds):
     """The run of a row at a size, in a folder of its own; None where there is no such size."""
     if size is None:
         return None
     with shared.scratch() as folder:
         row.fill(folder, size)
         words = [word.replace("{size}", str(size)) for word in row.words]
-        return measure(command + words, folder, seconds)
+        return measure(measurer, command + words, folder, seconds)
+
+
+def print_row(row, full, half, faults):
+    for measured in (full, half):
+        if measured is not None and measured.status not in (None, *row.wanted):
+            faults.add(row.name, "ends with", shared.ending(measured.status))
+    print("| " + " | ".join(map(str, cells(row, full, half))) + " |", flush=True)
 
 
 def main():
@@ -277,22 +293,18 @@ def main():
     command, faults, clock = shared.command_of(given.program), shared.Faults(), shared.Clock(given.minutes)
     heads = ("run", "status", "size", "time", "at half", "ratio", "memory", "at half", "ratio")
     print("| " + " | ".join(heads) + " |\n|" + "---|" * len(heads), flush=True)
-    run = left = 0
-    for row in rows(command):
-        if given.only not in row.name:
-            continue
-        if clock.is_over():
-            left += 1
-            continue
-        full, half = (
-            measure_row(command, row, size, min(given.run_seconds, max(10, clock.left())))
-            for size in (row.full, row.half)
-        )
-        if full.status is not None and full.status not in row.wanted:
-            faults.add(row.name, "ends with", shared.ending(full.status))
-        print("| " + " | ".join(map(str, cells(row, full, half))) + " |", flush=True)
-        run += 1
-    shared.finish(faults, f"{run} rows", f"{left} not run")
+    chosen = [row for row in rows(command) if given.only in row.name]
+    run = 0
+    with shared.scratch() as top:
+        measurer = build(top)
+        for row in chosen:
+            if clock.is_over():
+                break
+            seconds = min(given.run_seconds, max(10, clock.left()))
+            full, half = (measure_row(measurer, command, row, size, seconds) for size in (row.full, row.half))
+            print_row(row, full, half, faults)
+            run += 1
+    shared.finish(faults, f"{run} rows", f"{len(chosen) - run} not run")
 
 
 if __name__ == "__main__":

@@ -6,7 +6,16 @@
 The runs are over the sample network with its outage, and over a made network of SITES sites (1000), which has two nodes
 a site. A refused growth has to end the run with status 11, nothing on the output, and `gicstudy: out of memory` or no
 line. With a number that no growth has, the run has to end as it does with none refused. There is no other end: no
-other status, no signal, and no part of a report.
+other status, no signal, and no part of a report. Where no growth comes behind the one that is refused alone, a run in
+which all behind it are refused would be the same run, and isn't made.
+
+A run that reaches a growth splits there, and the growth is refused in what splits off (`refuse.c`). The first of every
+STRETCH growths is refused besides in runs of their own.
+
+A growth may be asked for by a hint alone, of how much is to come. Where that is refused, Rattle's std asks for less:
+`grow_by_hint`, in `std_alloc/src/vec/copies.rt`, under `collect` and `extend`. So the run may go on and end as it does
+with none refused. Such a refusal is told as `absorbed`; but then the run has to end with status 11 where the very next
+growth is refused too.
 
 Every number is tried where the minutes are enough for it; else as many as there is time for, drawn from all of them,
 and the line of the mode says how many. It tells besides how many growths come behind the first write to the output,
@@ -15,6 +24,7 @@ solving, the second has to be 0 too, but in `study`, whose monitors take memory 
 to see.
 """
 
+import collections
 import functools
 import os
 import random
@@ -25,7 +35,7 @@ import shared
 LINE = b"gicstudy: out of memory\n"
 # All growths from a number on are refused.
 ALL = 2**63
-MOST_NUMBERS = 400000
+STRETCH = 200
 
 
 def judge(whole, answer, counts):
@@ -39,54 +49,75 @@ def judge(whole, answer, counts):
     return f"fault: {shared.ending(answer.status)}, {len(answer.output)} bytes, told {answer.told[:80]!r}"
 
 
-def attempt(library, folder, command, whole, number_and_length):
-    number, length = number_and_length
-    refusal = preload.Refusal("growth", number, length)
+def refuse(library, folder, command, whole, refusal):
+    """The refusal, and what came of it in a run of its own."""
     answer, counts = preload.run(library, command, folder, refusal)
     return refusal, judge(whole, answer, counts)
 
 
-def numbers(growths, draw):
-    """The runs of a mode: each number alone and from it on, in random order, and one that no growth has."""
-    if growths <= MOST_NUMBERS:
-        chosen = list(range(1, growths + 1))
-    else:
-        chosen = draw.sample(range(1, growths + 1), MOST_NUMBERS)
-    runs = [(number, length) for number in chosen for length in (1, ALL)]
-    draw.shuffle(runs)
-    return [(growths + 1, 1), (1, 1), (1, ALL), (growths, 1), (growths, ALL), *runs]
+def kind_of(ending):
+    """What kind of end for want of memory it was, or None."""
+    if ending.status == 11 and ending.output == 0 and ending.line[: ending.told] in (LINE, b""):
+        return "out of memory" if ending.told else "out of memory, no line"
+    return None
+
+
+def attempt(library, folder, command, whole, first):
+    """What came of each growth of a stretch where it was refused: alone; with the next, where that was absorbed; and
+    with all behind it, where there are any. Any other end than for want of memory is looked at in a run of its own."""
+    runs = [refuse(library, folder, command, whole, preload.Refusal("growth", first, length)) for length in (1, ALL)]
+    endings = preload.endings(library, command, folder, first, STRETCH)
+    for ending in endings:
+        refusal, kind = preload.Refusal("growth", ending.first, ending.length), kind_of(ending)
+        runs.append((refusal, kind) if kind else refuse(library, folder, command, whole, refusal))
+    return {ending.first for ending in endings}, runs
+
+
+def starts(growths, draw):
+    """The first numbers of all stretches in random order, behind a number that no growth has."""
+    return [growths + 1, *draw.sample(range(1, growths + 1, STRETCH), -(-growths // STRETCH))]
+
+
+def is_fault(refusal, kind, growths):
+    is_reached = refusal.first <= growths
+    is_wrong = kind == "absorbed" and refusal.length > 1
+    return kind.startswith("fault") or is_wrong or (kind == "not reached") == is_reached
 
 
 def trial(library, given, draw, folder, mode, minutes, faults):
-    """Tries one mode in one folder; how many runs there were and how many numbers there are."""
+    """Tries one mode in one folder; how many growths there are, how many were refused, and how the runs ended."""
     command = shared.command_of(given.program) + shared.words_of(mode)
     whole, counts = preload.run(library, command, folder)
     name = f"{mode} in {os.path.basename(folder)}"
     if whole.status != 0:
         faults.add(name, "ends with", shared.ending(whole.status), whole.told)
-        return 0, 0
+        return 0, 0, collections.Counter()
     behind = counts.growth - counts.growths_at_write
     at_end = counts.growths_at_write - counts.growths_at_pause
     if behind:
         faults.add(name, f"{behind} growths behind the first write")
-    runs, kinds = numbers(counts.growth, draw), {}
+    tried, kinds, clock = 0, collections.Counter(), shared.Clock(minutes)
     work = functools.partial(attempt, library, folder, command, whole)
-    for refusal, kind in shared.side_by_side(given.jobs, work, runs, shared.Clock(minutes)):
-        kinds[kind.split(":")[0]] = kinds.get(kind.split(":")[0], 0) + 1
-        if kind.startswith("fault") or kind == "absorbed" or (kind == "not reached") != (refusal.first > counts.growth):
-            faults.add(name, refusal, kind)
-    done = sum(kinds.values())
+    for numbers, runs in shared.side_by_side(given.jobs, work, starts(counts.growth, draw), clock):
+        tried += len(numbers)
+        for refusal, kind in runs:
+            kinds[kind.split(":")[0]] += 1
+            if is_fault(refusal, kind, counts.growth):
+                faults.add(name, refusal, kind)
+    if tried < counts.growth and not clock.is_over():
+        faults.add(name, f"{counts.growth - tried} growths were not refused")
     told = ", ".join(f"{count} {kind}" for kind, count in sorted(kinds.items()))
     pause = counts.longest_pause / preload.MILLISECOND
-    print(f"{name}: {counts.growth} growths, {done} of {len(runs)} runs: {told};", end=" ")
+    print(f"{name}: {tried} of {counts.growth} growths refused, {kinds.total()} runs: {told};", end=" ")
     print(f"{behind} behind the first write, {at_end} behind the longest stretch of {pause:.1f} ms", flush=True)
-    return done, counts.growth
+    return counts.growth, tried, kinds
 
 
 def main():
     given = shared.arguments(__doc__, 30, [("sites", 1000)])
     draw, faults = random.Random(given.seed), shared.Faults()
-    done = growths = 0
+    growths = tried = 0
+    kinds = collections.Counter()
     with shared.scratch() as top:
         library = preload.build(top)
         folders = shared.two_folders(shared.command_of(given.program), top, given.sites)
@@ -94,9 +125,15 @@ def main():
         clock = shared.Clock(given.minutes)
         for place, (folder, mode) in enumerate(runs):
             minutes = clock.left() / 60 / (len(runs) - place)
-            more, all_growths = trial(library, given, draw, folder, mode, minutes, faults)
-            done, growths = done + more, growths + all_growths
-    shared.finish(faults, f"{len(shared.BUILT)} modes over 2 networks", f"{growths} growths", f"{done} runs")
+            all_growths, more, ends = trial(library, given, draw, folder, mode, minutes, faults)
+            growths, tried, kinds = growths + all_growths, tried + more, kinds + ends
+    shared.finish(
+        faults,
+        f"{len(shared.BUILT)} modes over 2 networks",
+        f"{tried} of {growths} growths refused",
+        f"{kinds.total()} runs",
+        f"{kinds['absorbed']} absorbed",
+    )
 
 
 if __name__ == "__main__":

@@ -10,6 +10,8 @@ import shared
 
 CALLS = ("growth", "open", "read", "write", "tell")
 FORM = struct.Struct("=5QQQqqQ")
+ENDING = struct.Struct("=QQQqQQ32s")
+STRETCH_SECONDS = 1000
 MILLISECOND = 10**6
 
 
@@ -37,6 +39,19 @@ class Refusal(NamedTuple):
     how: str = "5"
 
 
+class Ending(NamedTuple):
+    """How a run ended that was split off: which growths were refused, how many it asked for, its status or signal, how
+    much it wrote and told, and the first of what it told."""
+
+    first: int
+    length: int
+    growths: int
+    status: int
+    output: int
+    told: int
+    line: bytes
+
+
 def build(folder):
     """The path of the built library."""
     library = os.path.join(folder, "refuse.so")
@@ -57,3 +72,12 @@ def run(library, command, folder, refusal=None, seconds=shared.RUN_SECONDS):
         answer = shared.run(command, folder, environment, seconds)
         counts.seek(0)
         return answer, Counts(*FORM.unpack(counts.read(FORM.size)))
+
+
+def endings(library, command, folder, first, length):
+    """How the runs ended that split off at so many growths, in which they are refused."""
+    with tempfile.NamedTemporaryFile(prefix="endings_") as kept:
+        given = ("ENDINGS", kept.name), ("CALL", "growth"), ("FIRST", first), ("LENGTH", length)
+        environment = os.environ | {"LD_PRELOAD": library} | {"TRIAL_" + name: str(value) for name, value in given}
+        shared.run(command, folder, environment, STRETCH_SECONDS)
+        return [Ending(*fields) for fields in ENDING.iter_unpack(kept.read())]

@@ -9,20 +9,28 @@
  * TRIAL_LENGTH   how many calls in a row are, 1 where it is not given
  * TRIAL_HOW      short (one byte is read or written), stall (the call is made after a while), or the number of an
  *                error, which is what a call that is not of memory is refused with (5 where it is not given)
+ * TRIAL_ENDINGS  a file to which a struct ending is added for each run that is split off: none of the growths from
+ *                TRIAL_FIRST on, TRIAL_LENGTH of them, is refused then, but at each of them a run splits off in which
+ *                it is; alone, with the next one where that run ends with status 0, and with all behind it where there
+ *                are any. The run itself ends behind the last of them, with status 0.
  *
  * A growth is a call that asks for memory that isn't there yet; it is refused with no memory. */
 #define _GNU_SOURCE
 #include <errno.h>
 #include <fcntl.h>
 #include <malloc.h>
+#include <signal.h>
 #include <stdarg.h>
 #include <stdbool.h>
 #include <stdint.h>
 #include <stdlib.h>
 #include <string.h>
 #include <sys/mman.h>
+#include <sys/prctl.h>
+#include <sys/stat.h>
 #include <sys/syscall.h>
 #include <sys/uio.h>
+#include <sys/wait.h>
 #include <time.h>
 #include <unistd.h>
 
@@ -30,6 +38,8 @@ enum call { GROWTH, OPEN, READ, WRITE, TELL, CALLS };
 
 static const char *const NAMES[CALLS] = {"growth", "open", "read", "write", "tell"};
 static const int SHORT = -1, STALL = -2;
+static const uint64_t ALL = UINT64_C(1) << 63;
+static const unsigned SPLIT_SECONDS = 100;
 static const int64_t STALL_NANOSECONDS = 50 * 1000 * 1000;
 
 /* Times are of the processor, in nanoseconds. */
@@ -42,8 +52,20 @@ struct counts {
     uint64_t growths_at_pause;   /* the growths when it began */
 };
 
+/* How a run ended that was split off. */
+struct ending {
+    uint64_t first, length; /* the growths that were refused */
+    uint64_t growths;       /* those that it asked for */
+    int64_t status;         /* the status, or below 0 the signal that ended it */
+    uint64_t output, told;  /* how much stands on the output and on the error stream */
+    char line[32];          /* the first of what was told */
+};
+
 static struct counts unshared;
 static struct counts *counts = &unshared;
+/* For runs that are split off: their counts, their output and error stream, and the file of their endings. */
+static struct counts *split_counts;
+static int split_output, split_told, endings = -1;
 static bool is_ready;
 static enum call refused_call = CALLS;
 static uint64_t first_refused, refused_length = 1;
@@ -60,9 +82,16 @@ static int64_t processor_time(void) {
     return now.tv_sec * INT64_C(1000000000) + now.tv_nsec;
 }
 
+static void prepare_splits(const char *path) {
+    split_counts = mmap(NULL, sizeof *split_counts, PROT_READ | PROT_WRITE, MAP_SHARED | MAP_ANONYMOUS, -1, 0);
+    split_output = memfd_create("output", MFD_CLOEXEC);
+    split_told = memfd_create("told", MFD_CLOEXEC);
+    endings = (int)syscall(SYS_openat, AT_FDCWD, path, O_WRONLY | O_APPEND | O_CLOEXEC, 0);
+}
+
 __attribute__((constructor)) static void prepare(void) {
     const char *path = getenv("TRIAL_COUNTS"), *call = getenv("TRIAL_CALL"), *first = getenv("TRIAL_FIRST");
-    const char *length = getenv("TRIAL_LENGTH"), *given = getenv("TRIAL_HOW");
+    const char *length = getenv("TRIAL_LENGTH"), *given = getenv("TRIAL_HOW"), *split = getenv("TRIAL_ENDINGS");
     if (path) {
         long file = syscall(SYS_openat, AT_FDCWD, path, O_RDWR | O_CLOEXEC, 0);
         void *shared = mmap(NULL, sizeof *counts, PROT_READ | PROT_WRITE, MAP_SHARED, (int)file, 0);
@@ -79,6 +108,8 @@ __attribute__((constructor)) static void prepare(void) {
         refused_length = strtoull(length, NULL, 10);
     if (given)
         how = !strcmp(given, "short") ? SHORT : !strcmp(given, "stall") ? STALL : atoi(given);
+    if (split)
+        prepare_splits(split);
     counts->latest_growth = processor_time();
     is_ready = true;
 }
@@ -104,13 +135,73 @@ static void note_pause(uint64_t growths) {
     counts->latest_growth = now;
 }
 
+static uint64_t size_of(int stream) {
+    struct stat found;
+    return fstat(stream, &found) ? 0 : (uint64_t)found.st_size;
+}
+
+static void empty(int stream) {
+    if (ftruncate(stream, 0) || lseek(stream, 0, SEEK_SET))
+        abort();
+}
+
+static void become_split(uint64_t first, uint64_t length) {
+    prctl(PR_SET_PDEATHSIG, SIGKILL);
+    alarm(SPLIT_SECONDS);
+    dup2(split_output, STDOUT_FILENO);
+    dup2(split_told, STDERR_FILENO);
+    *split_counts = *counts;
+    counts = split_counts;
+    endings = -1;
+    first_refused = first;
+    refused_length = length;
+}
+
+/* Splits off a run in which so many growths from this one on are refused. True in that run; where it ended, false. */
+static bool splits(uint64_t first, uint64_t length, struct ending *ending) {
+    empty(split_output);
+    empty(split_told);
+    pid_t process = fork();
+    if (process == 0) {
+        become_split(first, length);
+        return true;
+    }
+    int status = 0;
+    if (process < 0 || waitpid(process, &status, 0) != process)
+        abort();
+    *ending = (struct ending){first, length, .growths = split_counts->made[GROWTH]};
+    ending->status = WIFEXITED(status) ? WEXITSTATUS(status) : -WTERMSIG(status);
+    ending->output = size_of(split_output);
+    ending->told = size_of(split_told);
+    syscall(SYS_pread64, split_told, ending->line, sizeof ending->line, 0);
+    if (syscall(SYS_write, endings, ending, sizeof *ending) != sizeof *ending)
+        abort();
+    return false;
+}
+
+/* Splits off the runs in which this growth is refused; true in these. */
+static bool splits_at(uint64_t growth) {
+    struct ending alone, more;
+    if (splits(growth, 1, &alone))
+        return true;
+    if (alone.status == 0 && splits(growth, 2, &more))
+        return true;
+    if (alone.growths > growth && splits(growth, ALL, &more))
+        return true;
+    if (growth - first_refused + 1 == refused_length)
+        _exit(0);
+    return false;
+}
+
 static bool refuses_growth(void) {
     if (is_ready && !counts->made[WRITE])
         note_pause(counts->made[GROWTH]);
-    if (!is_refused(GROWTH))
-        return false;
-    errno = ENOMEM;
-    return true;
+    bool refused = is_refused(GROWTH);
+    if (refused && endings >= 0)
+        refused = splits_at(counts->made[GROWTH]);
+    if (refused)
+        errno = ENOMEM;
+    return refused;
 }
 
 void *malloc(size_t size) { return refuses_growth() ? NULL : __libc_malloc(size); }

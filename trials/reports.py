@@ -125,8 +125,10 @@ CHANGES = [
 def roles(words):
     """For each word of a line whether it may be lower (-1), higher (1), either (0), or is fixed (None)."""
     allowed = [None] * len(words)
-    if words[0] not in WIDE or words[0] == "step" and len(words) != 6:
+    if words[0] not in WIDE:
         return allowed
+    if words[0] == "step":
+        return [None] * 4 + [-1, 1] if len(words) == 6 else allowed
     numbers = [place for place, word in enumerate(words) if place > 1 and NUMBER.match(word)]
     if words[0] == "loss":
         return [None, -1, 1, None, 0] if len(words) == 5 else allowed

@@ -2,11 +2,11 @@
 
 import argparse
 import concurrent.futures
+import multiprocessing
 import os
 import random
-import resource
+import select
 import signal
-import subprocess
 import sys
 import tempfile
 import time
@@ -18,6 +18,7 @@ sys.dont_write_bytecode = True
 sys.path[:0] = [HERE, os.path.join(HERE, "referee"), os.path.join(TOP, "bench")]
 from words import BUILT, MODES  # noqa: E402
 
+MEMORY = "/dev/shm"
 # How long a run may take where a trial says nothing else, in seconds.
 RUN_SECONDS = 120
 MOST_SHOWN = 20
@@ -94,21 +95,45 @@ def command_of(program):
     return [sys.executable, path] if path.endswith(".py") else [path]
 
 
-def run(command, folder, environment=None, seconds=RUN_SECONDS):
-    """Runs a command in a folder. One that doesn't end in time has the status None."""
+def start(command, folder, environment, streams):
+    """Starts a command in a folder, with these files as its streams; the number of its process."""
+    here = os.open(".", os.O_PATH)
+    os.chdir(folder)
     try:
-        ran = subprocess.run(
-            command,
-            cwd=folder,
-            env=environment,
-            stdin=subprocess.DEVNULL,
-            capture_output=True,
-            timeout=seconds,
-            check=False,
-        )
-    except subprocess.TimeoutExpired as late:
-        return Answer(None, late.stdout or b"", late.stderr or b"")
-    return Answer(ran.returncode, ran.stdout, ran.stderr)
+        actions = [(os.POSIX_SPAWN_DUP2, stream, number) for number, stream in enumerate(streams)]
+        variables = os.environ if environment is None else environment
+        defaults = signal.SIGPIPE, signal.SIGXFSZ
+        return os.posix_spawnp(command[0], command, variables, file_actions=actions, setsigdef=defaults)
+    finally:
+        os.fchdir(here)
+        os.close(here)
+
+
+def wait(process, seconds):
+    """The status of a process; None where it doesn't end in time."""
+    handle, poll = os.pidfd_open(process), select.poll()
+    poll.register(handle, select.POLLIN)
+    has_ended = bool(poll.poll(1000 * seconds))
+    os.close(handle)
+    if not has_ended:
+        os.kill(process, signal.SIGKILL)
+    _, status = os.waitpid(process, 0)
+    return os.waitstatus_to_exitcode(status) if has_ended else None
+
+
+def run(command, folder, environment=None, seconds=RUN_SECONDS):
+    """Runs a command in a folder. One that doesn't end in time has the status None.
+
+    Its output goes to files in memory. Pipes would have to be looked after while it runs, and beside other work of the
+    machine each turn of that costs more than the run.
+    """
+    streams = os.open(os.devnull, os.O_RDONLY), os.memfd_create("output"), os.memfd_create("told")
+    try:
+        status = wait(start(command, folder, environment, streams), seconds)
+        return Answer(status, *(os.pread(stream, os.fstat(stream).st_size, 0) for stream in streams[1:]))
+    finally:
+        for stream in streams:
+            os.close(stream)
 
 
 def ending(status):
@@ -173,10 +198,19 @@ def two_folders(command, top, sites):
     return folders
 
 
+def stay(workers):
+    """Keeps a worker, and so the runs that it waits for, on one processor: beside other work of the machine they hand
+    over to one another the quicker. `workers` counts the workers."""
+    processors = sorted(os.sched_getaffinity(0))
+    with workers.get_lock():
+        place, workers.value = workers.value, workers.value + 1
+    os.sched_setaffinity(0, {processors[place % len(processors)]})
+
+
 def side_by_side(jobs, work, items, clock):
     """Hands out the results of `work` of each item, in any order, until there are no more or the time is over."""
-    items, running = iter(items), set()
-    with concurrent.futures.ProcessPoolExecutor(jobs) as pool:
+    items, running, workers = iter(items), set(), multiprocessing.Value("i", 0)
+    with concurrent.futures.ProcessPoolExecutor(jobs, initializer=stay, initargs=(workers,)) as pool:
         try:
             for item in items:
                 running.add(pool.submit(work, item))
@@ -192,13 +226,9 @@ def side_by_side(jobs, work, items, clock):
             pool.shutdown(cancel_futures=True)
 
 
-def peak_kilobytes():
-    """The greatest memory of any run so far."""
-    return resource.getrusage(resource.RUSAGE_CHILDREN).ru_maxrss
-
-
 def scratch():
-    return tempfile.TemporaryDirectory(prefix="trial_")
+    """A folder for files that are written again and again: in memory, where the system has a place for such."""
+    return tempfile.TemporaryDirectory(prefix="trial_", dir=MEMORY if os.path.isdir(MEMORY) else None)
 
 
 def finish(faults, *figures):

@@ -20,7 +20,7 @@ import shared  # which finds the modules below
 
 import random_cases
 from case import read_case
-from earthing import CAP, least_capped, unearthed
+from earthing import CAP, least_vector, unearthed
 from judge import run_faults
 from outcome import predict
 
@@ -34,26 +34,33 @@ def with_grounds(text, resistance):
     return GROUND.sub(f"ground = {resistance}", text)
 
 
-def is_within(text):
-    """Whether the network is earthed within 4096 while all elements stand; None where it is not earthed at all."""
-    case = read_case(text.encode())
-    stand = [True] * len(case.elements)
-    if unearthed(len(case.nodes), case.elements, stand)[0] is not None:
-        return None
-    return CAP not in least_capped(len(case.nodes), case.elements, stand)
+def vector_with(case, resistance, known=()):
+    """The least capped vector with this resistance of all grounds, while all elements stand."""
+    elements = [
+        element._replace(resistance=resistance) if element.kind == "ground" else element for element in case.elements
+    ]
+    return least_vector(len(case.nodes), elements, [True] * len(elements), known)
 
 
 def at_the_cap(text, is_past):
-    """The network with the greatest resistance of its grounds within 4096, or one micro-ohm more; or None."""
-    low, high = LEAST_OHM, MOST_OHM
-    if not is_within(with_grounds(text, low)) or is_within(with_grounds(text, high)):
+    """The network with the greatest resistance of its grounds within 4096, or one micro-ohm more; or None.
+
+    The row of an earthed node is the lower the greater the resistance of its ground is, so no entry of a least capped
+    vector gets less by that: the vector of a resistance is one to begin with for all greater ones.
+    """
+    case, low, high = read_case(text.encode()), LEAST_OHM, MOST_OHM
+    if unearthed(case, (True,) * len(case.elements))[0] is not None:
+        return None
+    known = vector_with(case, low)
+    if CAP in known or CAP not in vector_with(case, high):
         return None
     while high - low > 1:
         middle = (low + high) // 2
-        if is_within(with_grounds(text, middle)):
-            low = middle
-        else:
+        vector = vector_with(case, middle, known)
+        if CAP in vector:
             high = middle
+        else:
+            low, known = middle, vector
     return with_grounds(text, high if is_past else low)
 
 
@@ -104,12 +111,13 @@ def judged(command, folder, words):
 
 
 def study(command, item):
-    """All modes over one network; the kind, how its runs ended by mode, and the faults."""
+    """All modes over one network, the first drawn that can be made so; the kind, how its runs ended by mode, and the
+    faults."""
     seed, kind = item
     draw, ends, faults = random.Random(seed), collections.Counter(), []
     with shared.scratch() as folder:
-        if not fill(draw, folder, kind):
-            return kind, False, ends, faults
+        while not fill(draw, folder, kind):
+            pass
         shared.write(folder, "c", "certificate\n")
         for mode in sorted(shared.BUILT, key=lambda mode: mode == "recheck"):
             words = shared.words_of(mode, **values(draw))
@@ -119,7 +127,7 @@ def study(command, item):
                 shared.write(folder, "c", answer.output)
             if fault:
                 faults.append(f"seed {seed} {kind}: {' '.join(words)}: {fault}")
-    return kind, True, ends, faults
+    return kind, ends, faults
 
 
 def main():
@@ -128,8 +136,8 @@ def main():
     work = functools.partial(study, shared.command_of(given.program))
     items = ((given.seed * given.networks + place, KINDS[place % len(KINDS)]) for place in range(given.networks))
     made, ends = collections.Counter(), collections.Counter()
-    for kind, is_made, more, found in shared.side_by_side(given.jobs, work, items, clock):
-        made[kind] += is_made
+    for kind, more, found in shared.side_by_side(given.jobs, work, items, clock):
+        made[kind] += 1
         ends += more
         for fault in found:
             faults.add(fault)

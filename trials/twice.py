@@ -5,7 +5,7 @@
 
 The surroundings: another folder with other names of files, an empty and a large environment, other locales and time
 zones, no random address layout, memory that is filled with other bytes and is handed out in another order, a small
-stack, an output that is a file, no input, a low priority, and the same run again. The runs are those of every mode over
+stack, an output that is a pipe, no input, a low priority, and the same run again. The runs are those of every mode over
 the sample, over a made network and over N random networks (100), refused ones among them, and faults in the words.
 """
 
@@ -63,13 +63,9 @@ def in_another_folder(command, folder, words):
         return shared.run(command + moved, "/")
 
 
-def into_a_file(command, folder, words):
-    with tempfile.TemporaryFile() as output:
-        ran = subprocess.run(
-            command + words, cwd=folder, stdin=subprocess.DEVNULL, stdout=output, stderr=subprocess.PIPE, check=False
-        )
-        output.seek(0)
-        return shared.Answer(ran.returncode, output.read(), ran.stderr)
+def into_a_pipe(command, folder, words):
+    ran = subprocess.run(command + words, cwd=folder, stdin=subprocess.DEVNULL, capture_output=True, check=False)
+    return shared.Answer(ran.returncode, ran.stdout, ran.stderr)
 
 
 def answers(command, folder, words):
@@ -79,7 +75,7 @@ def answers(command, folder, words):
     for name, wrapper in wrappers():
         yield name, shared.run(wrapper + command + words, folder)
     yield "another folder", in_another_folder(command, folder, words)
-    yield "a file", into_a_file(command, folder, words)
+    yield "a pipe", into_a_pipe(command, folder, words)
 
 
 def words_of_runs(draw):

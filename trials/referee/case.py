@@ -1,6 +1,7 @@
 """The case: its reader, its nodes and elements, the voltages of its lines, and made cases (docs/FORMATS.md, *The case*
 and *The made case*)."""
 
+import functools
 import re
 from typing import NamedTuple, Optional
 
@@ -12,6 +13,8 @@ MOST_ENDS = 256
 OHM = ("integer", 1000, 1000000000)
 VOLT = ("integer", 1000, 2000000)
 SPAN = ("integer", -1000000, 1000000)
+# How many cases are remembered by their bytes: the runs of a trial come back to the same ones.
+MOST_REMEMBERED = 4
 # The lists, in their order, with how many rows each may have.
 LISTS = [("zone", 256), ("substation", 1024), ("bus", 3072), ("line", 8192), ("transformer", 3584)]
 # The fields of each list in their order: the key, what its value is, and whether it is required.
@@ -280,6 +283,7 @@ def refuse_great_degrees(case):
             raise refusal("degree at node " + case.nodes[node])
 
 
+@functools.lru_cache(MOST_REMEMBERED)
 def read_case(content):
     """The case that the bytes are, or a Refusal by the first rule that they break."""
     try:

@@ -1,86 +1,131 @@
 """Which live nodes are earthed, and the least capped vector of a network (docs/DEFINITIONS.md, *earthed within*)."""
 
+import functools
+
 from linear import eliminate
 from solution import neighbours_of
 
 CAP = 4097
+# Of how many networks it is remembered what was found: the runs of a trial come back to the same ones.
+MOST_REMEMBERED = 64
 # How far a start of the least capped vector is below what floats say of it.
 SLACK = 1e-7
-LEAST_STARTED = 6
 MOST_ROUNDS = 60
+# Over how many turns of rises it is looked whether they can be made again.
+MOST_TURNS = 3
 
 
-def unearthed(size, elements, stand):
+@functools.lru_cache(MOST_REMEMBERED)
+def unearthed(case, stand):
     """The first live node without a chain of standing elements to earth, or None; and which nodes are live."""
-    neighbours, live = neighbours_of(size, elements, stand)
-    earthings = [element.start for element, stands in zip(elements, stand) if stands and element.end is None]
+    size = len(case.nodes)
+    neighbours, live = neighbours_of(size, case.elements, stand)
+    earthings = [element.start for element, stands in zip(case.elements, stand) if stands and element.end is None]
     reached, waiting = set(earthings), list(earthings)
     while waiting:
         for other in neighbours[waiting.pop()]:
             if other not in reached:
                 reached.add(other)
                 waiting.append(other)
-    return next((node for node in range(size) if live[node] and node not in reached), None), live
+    return next((node for node in range(size) if live[node] and node not in reached), None), tuple(live)
 
 
 class Capped:
-    """The rows of a network, and a vector that is raised to the least capped one."""
+    """The rows of a network, and a vector that is raised to the least capped one.
+
+    An entry is raised only where its row asks for it, the others being what they are. So a vector that is not above the
+    least capped one stays so.
+    """
 
     def __init__(self, size, elements, stand):
-        # For each node the other ends of its elements, their weights and their resistances.
+        # For each node the other ends of its elements, their weights and their resistances. Earth has the place behind
+        # all nodes, and an entry of 0.
+        self.earth = size
         self.rows = [[] for _ in range(size)]
         for element, stands in zip(elements, stand):
             if stands:
-                weight = element.paths * 10**6 * 2**20
-                self.rows[element.start].append((element.end, weight, element.resistance))
-                if element.end is not None:
-                    self.rows[element.end].append((element.start, weight, element.resistance))
+                self.add(element.start, self.earth if element.end is None else element.end, element)
         self.live = [node for node in range(size) if self.rows[node]]
-        self.conductances = [sum(weight / resistance for _, weight, resistance in row) for row in self.rows]
-        self.vector = [1 if row else 0 for row in self.rows]
+        # By how much an entry that is 1 more raises its row at most.
+        self.gains = [sum(-(-weight // resistance) for _, weight, resistance in row) for row in self.rows]
+        self.vector = [1 if row else 0 for row in self.rows] + [0]
+        self.rises, self.bounds = {}, {}
 
-    def entry(self, node):
-        return 0 if node is None else self.vector[node]
+    def add(self, start, end, element):
+        weight = element.paths * 10**6 * 2**20
+        self.rows[start].append((end, weight, element.resistance))
+        if end != self.earth:
+            self.rows[end].append((start, weight, element.resistance))
 
-    def row(self, node, entry):
-        """The row of a node with this entry there, each part rounded down."""
-        return sum(
-            weight * (entry - self.entry(other) - 1) // resistance for other, weight, resistance in self.rows[node]
-        )
+    def row(self, node):
+        """The row of a node, each part rounded down."""
+        vector, above = self.vector, self.vector[node] - 1
+        return sum([weight * (above - vector[other]) // resistance for other, weight, resistance in self.rows[node]])
 
-    def least_entry(self, node):
-        """The least entry from the present one on with which the node's row is not below 0, or the cap."""
-        entry = self.vector[node]
-        if entry >= CAP or self.row(node, entry) >= 0:
-            return entry
-        inflow = sum(weight / resistance * self.entry(other) for other, weight, resistance in self.rows[node])
-        # The rounding only lowers the row, so nothing that is surely below its zero has to be tried.
-        entry = max(entry + 1, min(int(1 + inflow / self.conductances[node]) - 1, CAP))
-        while entry < CAP and self.row(node, entry) < 0:
-            entry += 1
-        return entry
+    def raise_node(self, node):
+        """Raises the entry of a node as far as its row surely asks for; whether it does ask."""
+        row, gain = self.row(node), self.gains[node]
+        if row >= 0 or self.vector[node] == CAP:
+            return False
+        rise = -(row // gain)
+        self.vector[node] = min(CAP, self.vector[node] + rise)
+        self.rises[node] = self.rises.get(node, 0) + rise
+        # What the row is below, without its rounding, at the last of the entries that are passed.
+        bound = row + len(self.rows[node]) + (rise - 1) * gain
+        self.bounds[node] = max(bound, self.bounds.get(node, bound))
+        return True
+
+    def turn(self, is_waiting):
+        """Raises each waiting node once; whether any rises."""
+        has_risen = False
+        for node in self.live:
+            if is_waiting[node]:
+                is_waiting[node] = self.raise_node(node)
+                if is_waiting[node]:
+                    has_risen = True
+                    for other, _, _ in self.rows[node]:
+                        is_waiting[other] = True
+        return has_risen
 
     def raise_all(self):
-        waiting, is_waiting = list(self.live), [bool(row) for row in self.rows]
-        while waiting:
-            later = []
-            for node in waiting:
-                is_waiting[node] = False
-                entry = self.least_entry(node)
-                if entry == self.vector[node]:
-                    continue
-                self.vector[node] = entry
-                for other, _, _ in self.rows[node]:
-                    if other is not None and self.vector[other] < CAP and not is_waiting[other]:
-                        is_waiting[other] = True
-                        later.append(other)
-            waiting = later
+        """Raises entries until no row asks for more."""
+        is_waiting, turns = [True] * (self.earth + 1), 0
+        while self.turn(is_waiting):
+            turns += 1
+            times = min(self.times(node) for node in self.rises)
+            if times > 0:
+                self.repeat(times)
+                is_waiting = [True] * (self.earth + 1)
+            if times > 0 or turns == MOST_TURNS:
+                turns, self.rises, self.bounds = 0, {}, {}
+
+    def raise_to(self, known):
+        for node, entry in enumerate(known):
+            self.vector[node] = max(self.vector[node], entry)
+
+    def repeat(self, times):
+        for node, rise in self.rises.items():
+            self.vector[node] += times * rise
+
+    def times(self, node):
+        """How often the node surely rises again as it did in the turns that are looked at, where the others do.
+
+        With each entry moved by its rise, a row without its rounding moves by the row of the rises, and the rounding
+        only lowers it. So as long as `bounds` and that movement together are not above 0, each rise is asked for again.
+        """
+        rise, bound = self.rises[node], self.bounds[node]
+        moves = [
+            -(-weight * (rise - self.rises.get(other, 0)) // resistance)
+            for other, weight, resistance in self.rows[node]
+        ]
+        if bound > 0:
+            return 0
+        most = (CAP - self.vector[node]) // rise
+        return min(most, -bound // sum(moves)) if sum(moves) > 0 else most
 
     def start(self):
         """Raises the vector to one that is surely not above the least capped one: what the rows ask for without their
         rounding, in floats and a little less."""
-        if len(self.live) < LEAST_STARTED:
-            return
         capped = set()
         for turn in range(MOST_ROUNDS):
             try:
@@ -103,10 +148,10 @@ class Capped:
 
     def asked(self, node, capped, walks):
         inflow = sum(
-            weight / resistance * (0 if other is None else CAP if other in capped else walks[other])
+            weight / resistance * (0 if other == self.earth else CAP if other in capped else walks[other])
             for other, weight, resistance in self.rows[node]
         )
-        return 1 + inflow / self.conductances[node]
+        return 1 + inflow / sum(weight / resistance for _, weight, resistance in self.rows[node])
 
     def walks(self, capped):
         """What the rows of the nodes that are not capped ask for, by node."""
@@ -117,7 +162,7 @@ class Capped:
             for other, weight, resistance in self.rows[node]:
                 conductance = weight / resistance
                 side[place] += conductance
-                if other is None:
+                if other == self.earth:
                     earths[place] += conductance
                 elif other in places:
                     there = places[other]
@@ -129,9 +174,16 @@ class Capped:
         return {node: solution[place] for node, place in places.items()}
 
 
-def least_capped(size, elements, stand):
-    """The least capped vector, by whole-number arithmetic: an entry for each node, 0 for a dead one."""
+def least_vector(size, elements, stand, known=()):
+    """The least capped vector, by whole-number arithmetic: an entry for each node, 0 for a dead one. `known` is one that
+    it is surely not below, or nothing."""
     capped = Capped(size, elements, stand)
     capped.start()
+    capped.raise_to(known)
     capped.raise_all()
-    return capped.vector
+    return tuple(capped.vector[:size])
+
+
+@functools.lru_cache(MOST_REMEMBERED)
+def least_capped(case, stand):
+    return least_vector(len(case.nodes), case.elements, stand)

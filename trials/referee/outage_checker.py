@@ -21,10 +21,10 @@ class OutageChecker(Checker):
         if not any(own):
             return ("idle",), None
         stand = standing(case, outcome.switchings, (kind, place))
-        node, live = unearthed(len(case.nodes), case.elements, stand)
+        node, live = unearthed(case, stand)
         if node is not None:
             return ("unearthed", case.nodes[node]), None
-        vector = least_capped(len(case.nodes), case.elements, stand)
+        vector = least_capped(case, stand)
         if CAP in vector:
             return ("unresolved", case.nodes[vector.index(CAP)]), None
         study = self.two_fields(stand, live)

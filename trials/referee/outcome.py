@@ -19,8 +19,8 @@ class Epoch(NamedTuple):
 
     first: int
     last: int
-    stand: list
-    live: list
+    stand: tuple
+    live: tuple
 
 
 class Outcome:
@@ -84,10 +84,10 @@ class Prediction:
     def make(self):
         outcome = self.outcome
         outcome.case = make_case(outcome.asked["seed"], outcome.asked["size"])
-        outcome.stand = [True] * len(outcome.case.elements)
-        outcome.live = [True] * len(outcome.case.nodes)
+        outcome.stand = (True,) * len(outcome.case.elements)
+        outcome.live = (True,) * len(outcome.case.nodes)
         outcome.epochs = [Epoch(1, 1, outcome.stand, outcome.live)]
-        outcome.vector = least_capped(len(outcome.case.nodes), outcome.case.elements, outcome.stand)
+        outcome.vector = least_capped(outcome.case, outcome.stand)
         assert max(outcome.vector) <= MOST_MADE_WALK
 
     def find_transformer(self):
@@ -116,19 +116,18 @@ class Prediction:
         outcome, known = self.outcome, {}
         for first, last, in_force in self.periods():
             stand = standing(outcome.case, outcome.switchings[:in_force])
-            key = tuple(stand)
-            if key not in known:
-                known[key] = self.live_nodes(stand, first)
-            outcome.epochs.append(Epoch(first, last, stand, known[key]))
+            if stand not in known:
+                known[stand] = self.live_nodes(stand, first)
+            outcome.epochs.append(Epoch(first, last, stand, known[stand]))
         outcome.stand, outcome.live = outcome.epochs[0].stand, outcome.epochs[0].live
 
     def live_nodes(self, stand, step):
         case, mode = self.outcome.case, self.outcome.mode
-        node, live = unearthed(len(case.nodes), case.elements, stand)
+        node, live = unearthed(case, stand)
         if node is not None and mode != "recheck":
             raise Refusal(8, f"gicstudy: unearthed: step {step} node {case.nodes[node]}")
         if mode not in ("check", "recheck"):
-            vector = least_capped(len(case.nodes), case.elements, stand)
+            vector = least_capped(case, stand)
             if CAP in vector:
                 raise Refusal(9, f"gicstudy: unresolved: step {step} node {case.nodes[vector.index(CAP)]}")
         return live

@@ -205,7 +205,7 @@ class Report:
         case, outcome = self.case, self.outcome
         field = self.asked["north"], self.asked["east"]
         study, volts = self.study_of(*field), case.element_volts(None, *field)
-        vector, nodes = least_capped(len(case.nodes), case.elements, outcome.stand), []
+        vector, nodes = least_capped(case, outcome.stand), []
         for place in range(len(case.nodes)):
             exact = study.at(1, study.node, place)
             nodes.append(
@@ -315,11 +315,11 @@ class Report:
         if stand == outcome.stand:
             self.say("outage", name, "idle")
             return
-        node, live = unearthed(len(case.nodes), case.elements, stand)
+        node, live = unearthed(case, stand)
         if node is not None:
             self.say("outage", name, "unearthed", case.nodes[node])
             return
-        vector = least_capped(len(case.nodes), case.elements, stand)
+        vector = least_capped(case, stand)
         if CAP in vector:
             self.say("outage", name, "unresolved", case.nodes[vector.index(CAP)])
             return

@@ -185,4 +185,4 @@ def standing(case, switchings, taken_out=None):
     is_open = {switching.item: switching.opens for switching in switchings}
     if taken_out is not None:
         is_open[taken_out] = True
-    return [not is_open.get((element.kind, element.place), False) for element in case.elements]
+    return tuple(not is_open.get((element.kind, element.place), False) for element in case.elements)

@@ -14,8 +14,8 @@ class Standing(NamedTuple):
     """One network of a run: its solution for the base fields, and what stands and is live in it."""
 
     solution: Solution
-    stand: list
-    live: list
+    stand: tuple
+    live: tuple
 
 
 class Entry(NamedTuple):
@@ -62,12 +62,11 @@ class Study:
         volts = [self.case.element_volts(zone, 1 - to_east, to_east) for zone, to_east in self.base_fields]
         known = {}
         for first, last, stand, live in epochs:
-            key = tuple(stand)
-            if key not in known:
-                known[key] = len(self.networks)
+            if stand not in known:
+                known[stand] = len(self.networks)
                 solution = Solution(len(self.case.nodes), self.case.elements, stand, volts, exactly)
                 self.networks.append(Standing(solution, stand, live))
-            self.network_at += [known[key]] * (last + 1 - first)
+            self.network_at += [known[stand]] * (last + 1 - first)
 
     def zone_fields(self, step):
         """The field of each zone at a step, and under None that of the last row for all zones."""
