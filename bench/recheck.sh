@@ -1,6 +1,7 @@
 #!/usr/bin/env bash
-# Times `recheck` of a certificate beside `field` of the same network, and beside both `list`, which reads the case and
-# solves nothing: the least of some runs of each, in turn, and the ratios of the other two to `field`.
+# Times `recheck` of a certificate beside `field` of the same network: the least of some runs of each, in turn, and their
+# ratio. Both read the case, so the same is timed alone, as `recheck` of an empty certificate, which is refused right behind
+# the case; and the ratio is told once more of what both take beyond it.
 #
 #     bench/recheck.sh PROGRAM
 #
@@ -12,25 +13,34 @@ scratch=$(mktemp -d)
 trap 'rm -rf "$scratch"' EXIT
 python3 "$here/solver_cases.py" "$here/../crates/gic_examples/data/realistic.txt" "$scratch"
 cd "$scratch"
+: >empty
 
-# Microseconds of one run.
+# Microseconds of one run, which has to end with the status that stands first.
 microseconds() {
-    local begin=${EPOCHREALTIME/./}
-    "$program" "$@" >out
+    local wanted=$1 begin=${EPOCHREALTIME/./} status=0
+    shift
+    "$program" "$@" >out 2>/dev/null || status=$?
     echo $((${EPOCHREALTIME/./} - begin))
+    [ "$status" = "$wanted" ]
+}
+
+# A ratio with two places.
+ratio() {
+    printf '%d.%02d' $(($1 / $2)) $(($1 % $2 * 100 / $2))
 }
 
 for name in made-2000 chain limit far-small; do
     "$program" certify --case=$name.toml --north=8000 >cert
-    field= recheck= list=
+    field= recheck= reading=
     for _ in {1..15}; do
-        now=$(microseconds field --case=$name.toml --north=8000)
+        now=$(microseconds 0 field --case=$name.toml --north=8000)
         [ -n "$field" ] && [ "$now" -ge "$field" ] || field=$now
-        now=$(microseconds recheck --case=$name.toml --cert=cert)
+        now=$(microseconds 0 recheck --case=$name.toml --cert=cert)
         [ -n "$recheck" ] && [ "$now" -ge "$recheck" ] || recheck=$now
-        now=$(microseconds list --case=$name.toml)
-        [ -n "$list" ] && [ "$now" -ge "$list" ] || list=$now
+        now=$(microseconds 13 recheck --case=$name.toml --cert=empty)
+        [ -n "$reading" ] && [ "$now" -ge "$reading" ] || reading=$now
     done
-    printf '%s: field %d us, recheck %d us, list %d us, recheck / field %d.%02d, list / field %d.%02d\n' $name "$field" "$recheck" "$list" \
-        $((recheck / field)) $((recheck % field * 100 / field)) $((list / field)) $((list % field * 100 / field))
+    printf '%s: field %d us, recheck %d us, reading the case %d us, recheck / field %s, beyond reading the case %s\n' \
+        $name "$field" "$recheck" "$reading" "$(ratio "$recheck" "$field")" \
+        "$(ratio $((recheck - reading)) $((field - reading)))"
 done

@@ -46,3 +46,16 @@ for name in p realistic ps made-20 made-200 made-2000 row chain grid grid-far gr
 	fi
 	echo "case $name $measures direct $direct ball $ball interval $interval"
 done | tee "$scratch/figures.txt" | python3 "$bench/table.py"
+
+# The peak of memory of a run, in KiB.
+peak() {
+	python3 - "$@" <<'END'
+import resource, subprocess, sys
+subprocess.run(sys.argv[1:], stdout=subprocess.DEVNULL, check=True)
+print(resource.getrusage(resource.RUSAGE_CHILDREN).ru_maxrss)
+END
+}
+few=$(peak "$binary" proposers=20 "$scratch/limit.toml")
+many=$(peak "$binary" proposers=60 "$scratch/limit.toml")
+echo
+echo "memory of the two proposers at the limits, with the guesses of a solver: $(((many - few) / 40)) KiB"

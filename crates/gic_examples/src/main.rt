@@ -2,6 +2,7 @@
 //! `data/README.txt` says how an example is written.
 #![tactic(auto)]
 
+mod attached;
 mod comparison;
 mod files;
 mod outcome;

@@ -1,29 +1,31 @@
 //! Runs of the top call over files in memory.
 ghost use Rattle.std.specs.Prelude.{None};
 
+use crate::attached::{OF_THE_PROGRAM, monitors_named};
 use crate::files::{TextFile, bytes_of};
 use gic_base::{MemoryLibrary, MemorySink, Sink, WriteFailed};
-use gic_loss::VoltLoss;
-use gic_monitor::{DwellMonitor, EarthMonitor, Monitor};
 use gic_study::gicstudy;
 use std::alloc::{AllocError, Global};
 
-/// Which calls of a run fail, by their numbers from 0: fetches, writes to the output, and writes to the error sink.
+/// What a run meets: which of its calls fail, by their numbers from 0 (fetches, writes to the output, and writes to the
+/// error sink), and the names of the monitors that are attached.
 #[derive(Drop)]
-pub struct Failing {
+pub struct Surroundings {
     pub fetches: Vec<u64>,
     pub writes: Vec<u64>,
     pub tellings: Vec<u64>,
+    pub monitors: String,
 }
 
-impl Failing {
-    /// No call fails.
-    pub(crate) fn none(alloc: Global) -> Failing {
-        Failing {
+impl Surroundings {
+    /// No call fails, and the monitors are the program's.
+    pub(crate) fn plain(alloc: Global) -> Result<Surroundings, AllocError> {
+        Ok(Surroundings {
             fetches: Vec::new(alloc),
             writes: Vec::new(alloc),
             tellings: Vec::new(alloc),
-        }
+            monitors: String::from_str(alloc, OF_THE_PROGRAM)?,
+        })
     }
 }
 
@@ -87,35 +89,21 @@ fn library_of(
     Ok(MemoryLibrary::new(alloc, shelf, Vec::from_slice(alloc, failing)?))
 }
 
-/// Makes the top call with the monitors that the program attaches: of dwells, of earthings, and of losses.
-fn call<S: Sink>(
-    alloc: Global,
-    words: &[String],
-    library: &mut MemoryLibrary,
-    out: &mut S,
-    err: &mut MemorySink,
-) -> Result<u8, AllocError> {
-    let mut monitors: Vec<Box<dyn Monitor>> = Vec::new(alloc);
-    monitors.push(Box::new(alloc, DwellMonitor::new(alloc))?)?;
-    monitors.push(Box::new(alloc, EarthMonitor::new(alloc))?)?;
-    monitors.push(Box::new(alloc, VoltLoss::new(alloc, 1))?)?;
-    Ok(gicstudy(alloc, words, library, out, err, monitors))
-}
-
 /// Runs the words of a line over these files.
 pub(crate) fn run(
     alloc: Global,
     line: &str,
     files: &[TextFile],
-    failing: &Failing,
+    surroundings: &Surroundings,
 ) -> Result<Ended, AllocError> {
     let words = words_of(alloc, line)?;
-    let mut library = library_of(alloc, files, failing.fetches.as_slice())?;
-    let writes = Vec::from_slice(alloc, failing.writes.as_slice())?;
-    let tellings = Vec::from_slice(alloc, failing.tellings.as_slice())?;
+    let mut library = library_of(alloc, files, surroundings.fetches.as_slice())?;
+    let writes = Vec::from_slice(alloc, surroundings.writes.as_slice())?;
+    let tellings = Vec::from_slice(alloc, surroundings.tellings.as_slice())?;
     let mut out = MemorySink::new(alloc, writes);
     let mut err = MemorySink::new(alloc, tellings);
-    let status = call(alloc, &words, &mut library, &mut out, &mut err)?;
+    let monitors = monitors_named(alloc, surroundings.monitors.as_str())?;
+    let status = gicstudy(alloc, &words, &mut library, &mut out, &mut err, monitors);
     Ok(Ended {
         status,
         out: Vec::from_slice(alloc, out.bytes())?,
@@ -136,7 +124,8 @@ pub(crate) fn run_byte_by_byte(
         faults: 0,
     };
     let mut err = MemorySink::new(alloc, Vec::new(alloc));
-    let status = call(alloc, &words, &mut library, &mut out, &mut err)?;
+    let monitors = monitors_named(alloc, OF_THE_PROGRAM)?;
+    let status = gicstudy(alloc, &words, &mut library, &mut out, &mut err, monitors);
     Ok(Ended {
         status,
         out: out.bytes,
@@ -162,11 +151,12 @@ pub(crate) fn run_prefixes(
     files: &[TextFile],
 ) -> Result<Ended, AllocError> {
     let whole = bytes_of(files, "p");
+    let plain = Surroundings::plain(alloc)?;
     let mut text = String::new(alloc);
     let (mut first, mut status) = (0usize, 255u8);
     for length in 0..=whole.len() {
         let prefix = prefix_of(alloc, whole, length)?;
-        let ended = run(alloc, line, prefix.as_slice(), &Failing::none(alloc))?;
+        let ended = run(alloc, line, prefix.as_slice(), &plain)?;
         if ended.status != status {
             if length > 0 {
                 let last = length - 1;

@@ -1,7 +1,7 @@
 //! Scripts of examples, line by line.
 use crate::comparison::is_enclosure;
 use crate::files::{TextFile, bytes_of};
-use crate::outcome::{Ended, Failing, run, run_byte_by_byte, run_prefixes};
+use crate::outcome::{Ended, Surroundings, run, run_byte_by_byte, run_prefixes};
 use std::alloc::{AllocError, Global};
 use std::io;
 
@@ -12,7 +12,7 @@ pub struct Script {
     files: Vec<TextFile>,
     /// The name of the example that is open, empty where none is.
     name: String,
-    failing: Failing,
+    surroundings: Surroundings,
     width: i64,
     ended: Ended,
     /// How many lines of the output have been compared.
@@ -31,7 +31,7 @@ impl Script {
             alloc,
             files: Vec::new(alloc),
             name: String::new(alloc),
-            failing: Failing::none(alloc),
+            surroundings: Surroundings::plain(alloc)?,
             width: 100,
             ended: nothing(alloc),
             compared: 0,
@@ -48,9 +48,10 @@ impl Script {
             "" | "#" => {}
             "example" => self.open(rt, rest)?,
             "failing" => self.fail(rest)?,
+            "monitors" => self.surroundings.monitors = String::from_str(self.alloc, rest)?,
             "width" => self.width = rest.parse::<i64>().unwrap_or(0),
             "run" => {
-                self.ended = run(self.alloc, rest, self.files.as_slice(), &self.failing)?;
+                self.ended = run(self.alloc, rest, self.files.as_slice(), &self.surroundings)?;
             }
             "run-byte-by-byte" => {
                 self.ended = run_byte_by_byte(self.alloc, rest, self.files.as_slice())?;
@@ -93,7 +94,7 @@ impl Script {
     fn open(&mut self, rt: &HostRuntime, name: &str) -> io::Result<()> {
         self.close(rt)?;
         self.name = String::from_str(self.alloc, name)?;
-        self.failing = Failing::none(self.alloc);
+        self.surroundings = Surroundings::plain(self.alloc)?;
         self.width = 100;
         self.ended = nothing(self.alloc);
         self.compared = 0;
@@ -114,9 +115,9 @@ impl Script {
         let (kind, number) = call.split_once(' ').unwrap_or((call, ""));
         let number = number.parse::<u64>().unwrap_or(0);
         match kind {
-            "fetch" => self.failing.fetches.push(number)?,
-            "write" => self.failing.writes.push(number)?,
-            _ => self.failing.tellings.push(number)?,
+            "fetch" => self.surroundings.fetches.push(number)?,
+            "write" => self.surroundings.writes.push(number)?,
+            _ => self.surroundings.tellings.push(number)?,
         }
         Ok(())
     }

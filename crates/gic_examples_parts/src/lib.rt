@@ -4,8 +4,6 @@
 #![tactic(auto)]
 
 #[cfg(test)]
-mod attached;
-#[cfg(test)]
 mod certificates;
 #[cfg(test)]
 mod courses;
