@@ -1,7 +1,7 @@
 #!/usr/bin/env bash
 # Times `recheck` of a certificate beside `field` of the same network: the least of some runs of each, in turn, and their
-# ratio. Both read the case, so the same is timed alone, as `recheck` of an empty certificate, which is refused right behind
-# the case; and the ratio is told once more of what both take beyond it.
+# ratio. Both read the case and make its network, so these are timed alone, as `recheck` of an empty certificate, which is
+# refused right behind them; and the ratio is told once more of what both take beyond the network.
 #
 #     bench/recheck.sh PROGRAM
 #
@@ -21,26 +21,33 @@ microseconds() {
     shift
     "$program" "$@" >out 2>/dev/null || status=$?
     echo $((${EPOCHREALTIME/./} - begin))
-    [ "$status" = "$wanted" ]
+    [ "$status" = "$wanted" ] || {
+        echo "status $status: $*" >&2
+        return 1
+    }
 }
 
-# A ratio with two places.
+# A ratio with two places, `-` where a part is nothing but noise.
 ratio() {
-    printf '%d.%02d' $(($1 / $2)) $(($1 % $2 * 100 / $2))
+    if [ "$1" -gt 0 ] && [ "$2" -gt 0 ]; then
+        printf '%d.%02d' $(($1 / $2)) $(($1 % $2 * 100 / $2))
+    else
+        printf -- -
+    fi
 }
 
 for name in made-2000 chain limit far-small; do
     "$program" certify --case=$name.toml --north=8000 >cert
-    field= recheck= reading=
+    field= recheck= network=
     for _ in {1..15}; do
         now=$(microseconds 0 field --case=$name.toml --north=8000)
         [ -n "$field" ] && [ "$now" -ge "$field" ] || field=$now
         now=$(microseconds 0 recheck --case=$name.toml --cert=cert)
         [ -n "$recheck" ] && [ "$now" -ge "$recheck" ] || recheck=$now
         now=$(microseconds 13 recheck --case=$name.toml --cert=empty)
-        [ -n "$reading" ] && [ "$now" -ge "$reading" ] || reading=$now
+        [ -n "$network" ] && [ "$now" -ge "$network" ] || network=$now
     done
-    printf '%s: field %d us, recheck %d us, reading the case %d us, recheck / field %s, beyond reading the case %s\n' \
-        $name "$field" "$recheck" "$reading" "$(ratio "$recheck" "$field")" \
-        "$(ratio $((recheck - reading)) $((field - reading)))"
+    printf '%s: field %d us, recheck %d us, up to the network %d us, recheck / field %s, beyond the network %s\n' \
+        $name "$field" "$recheck" "$network" "$(ratio "$recheck" "$field")" \
+        "$(ratio $((recheck - network)) $((field - network)))"
 done

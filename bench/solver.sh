@@ -1,6 +1,7 @@
 #!/bin/sh
 # Builds the program of bench/solver over the crates of this repository, in a scratch copy, runs it on fourteen cases, and
-# prints a table. Beside them it runs the solvers of bench/baselines for which the tools are installed.
+# prints a table, and below it how much memory the two proposers take. Beside them it runs the solvers of bench/baselines
+# for which the tools are installed.
 #
 #     bench/solver.sh [FOLDER]
 #

@@ -40,6 +40,7 @@ def ratio(part, whole):
 def row(words):
     figures = dict(zip(words[::2], words[1::2]))
     ended = figures["ended"] == "1"
+    outage = "-" if figures["outages"] == "0" else figures["outage_bound"]
     plain = ratio(figures["solve"], figures["plain"])
     return (
         figures["case"],
@@ -55,8 +56,8 @@ def row(words):
         ratio(figures["bound"], figures["slow_bound"]),
         ratio(figures["bound"], figures["some_bound"]),
         ratio(figures["bound"], figures["least_bound"]),
-        ratio(figures["bound"], figures["outage_bound"]) if figures["outages"] != "0" else "-",
-        ratio(figures["outage_bound"], figures["test"]) if figures["outages"] != "0" else "-",
+        ratio(figures["bound"], outage),
+        "-" if outage == "-" else ratio(outage, figures["test"]),
         str(int(figures["field"]) // 1000),
         ratio(figures["field"], figures["direct"]),
         ratio(figures["field"], figures["interval"]),

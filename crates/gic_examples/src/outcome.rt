@@ -111,20 +111,22 @@ pub(crate) fn run(
     })
 }
 
-/// Runs the words of a line over these files, with an output that takes one byte a call.
+/// Runs the words of a line over these files, with an output that takes one byte a call and doesn't fail.
 pub(crate) fn run_byte_by_byte(
     alloc: Global,
     line: &str,
     files: &[TextFile],
+    surroundings: &Surroundings,
 ) -> Result<Ended, AllocError> {
     let words = words_of(alloc, line)?;
-    let mut library = library_of(alloc, files, &[])?;
+    let mut library = library_of(alloc, files, surroundings.fetches.as_slice())?;
+    let tellings = Vec::from_slice(alloc, surroundings.tellings.as_slice())?;
     let mut out = OneByteSink {
         bytes: Vec::new(alloc),
         faults: 0,
     };
-    let mut err = MemorySink::new(alloc, Vec::new(alloc));
-    let monitors = monitors_named(alloc, OF_THE_PROGRAM)?;
+    let mut err = MemorySink::new(alloc, tellings);
+    let monitors = monitors_named(alloc, surroundings.monitors.as_str())?;
     let status = gicstudy(alloc, &words, &mut library, &mut out, &mut err, monitors);
     Ok(Ended {
         status,
@@ -149,14 +151,14 @@ pub(crate) fn run_prefixes(
     alloc: Global,
     line: &str,
     files: &[TextFile],
+    surroundings: &Surroundings,
 ) -> Result<Ended, AllocError> {
     let whole = bytes_of(files, "p");
-    let plain = Surroundings::plain(alloc)?;
     let mut text = String::new(alloc);
     let (mut first, mut status) = (0usize, 255u8);
     for length in 0..=whole.len() {
         let prefix = prefix_of(alloc, whole, length)?;
-        let ended = run(alloc, line, prefix.as_slice(), &plain)?;
+        let ended = run(alloc, line, prefix.as_slice(), surroundings)?;
         if ended.status != status {
             if length > 0 {
                 let last = length - 1;

@@ -54,10 +54,20 @@ impl Script {
                 self.ended = run(self.alloc, rest, self.files.as_slice(), &self.surroundings)?;
             }
             "run-byte-by-byte" => {
-                self.ended = run_byte_by_byte(self.alloc, rest, self.files.as_slice())?;
+                self.ended = run_byte_by_byte(
+                    self.alloc,
+                    rest,
+                    self.files.as_slice(),
+                    &self.surroundings,
+                )?;
             }
             "run-prefixes" => {
-                self.ended = run_prefixes(self.alloc, rest, self.files.as_slice())?;
+                self.ended = run_prefixes(
+                    self.alloc,
+                    rest,
+                    self.files.as_slice(),
+                    &self.surroundings,
+                )?;
             }
             "file" | "output" | "|" | "from" | "line" | "times" | "fill" | "cut" | "byte" => {
                 self.write(word, rest)?;
