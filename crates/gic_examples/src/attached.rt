@@ -1,22 +1,25 @@
-//! The monitors that examples attach: those of the program, and two of a caller's own.
+//! Two monitors of a caller's own, which examples attach.
 ghost use Rattle.std.specs.Prelude.{[], ◌+◌, length};
 ghost use Rattle.gic_examples.specs.CountText.{count_text};
 
 use gic_base::OutOfMemory;
-use gic_loss::VoltLoss;
-use gic_monitor::{DwellMonitor, EarthMonitor, Monitor, Roster};
+use gic_monitor::{Monitor, Roster};
 use gic_text::LineBuilder;
 use gic_view::StepView;
-use std::alloc::{AllocError, Global};
-
-/// The names of the monitors that the program attaches, in its order.
-pub(crate) const OF_THE_PROGRAM: &str = "dwell earth loss";
+use std::alloc::Global;
 
 /// Prints how many views it saw. The count stops at the greatest number.
 #[derive(Drop)]
-struct ViewCounter {
+pub(crate) struct ViewCounter {
     alloc: Global,
     seen: u64,
+}
+
+impl ViewCounter {
+    /// A monitor that has not begun: it saw no view.
+    pub(crate) fn new(alloc: Global) -> ViewCounter {
+        ViewCounter { alloc, seen: 0 }
+    }
 }
 
 impl Monitor for ViewCounter {
@@ -44,7 +47,7 @@ impl Monitor for ViewCounter {
 
 /// Finds no memory when it begins.
 #[derive(Drop)]
-struct NeverBegun;
+pub(crate) struct NeverBegun;
 
 impl Monitor for NeverBegun {
     ghost plan = { λ _ _ _. [] };
@@ -60,31 +63,4 @@ impl Monitor for NeverBegun {
     fn print(&self, _into: &mut Vec<u8>) -> Result<(), OutOfMemory> {
         Ok(())
     }
-}
-
-/// The monitor of this name, `None` where no monitor has it.
-fn monitor_named(alloc: Global, name: &str) -> Result<Option<Box<dyn Monitor>>, AllocError> {
-    let monitor: Box<dyn Monitor> = match name {
-        "dwell" => Box::new(alloc, DwellMonitor::new(alloc))?,
-        "earth" => Box::new(alloc, EarthMonitor::new(alloc))?,
-        "loss" => Box::new(alloc, VoltLoss::new(alloc, 1))?,
-        "counting" => Box::new(alloc, ViewCounter { alloc, seen: 0 })?,
-        "refusing" => Box::new(alloc, NeverBegun)?,
-        _ => return Ok(None),
-    };
-    Ok(Some(monitor))
-}
-
-/// The monitors of these names, which have spaces between them. A name that no monitor has attaches nothing.
-pub(crate) fn monitors_named(
-    alloc: Global,
-    names: &str,
-) -> Result<Vec<Box<dyn Monitor>>, AllocError> {
-    let mut monitors = Vec::new(alloc);
-    for name in names.split(' ') {
-        if let Some(monitor) = monitor_named(alloc, name)? {
-            monitors.push(monitor)?;
-        }
-    }
-    Ok(monitors)
 }

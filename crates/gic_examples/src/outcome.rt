@@ -1,11 +1,16 @@
 //! Runs of the top call over files in memory.
 ghost use Rattle.std.specs.Prelude.{None};
 
-use crate::attached::{OF_THE_PROGRAM, monitors_named};
+use crate::attached::{NeverBegun, ViewCounter};
 use crate::files::{TextFile, bytes_of};
 use gic_base::{MemoryLibrary, MemorySink, Sink, WriteFailed};
+use gic_loss::VoltLoss;
+use gic_monitor::{DwellMonitor, EarthMonitor, Monitor};
 use gic_study::gicstudy;
 use std::alloc::{AllocError, Global};
+
+/// The names of the monitors that the program attaches, in its order.
+const OF_THE_PROGRAM: &str = "dwell earth loss";
 
 /// What a run meets: which of its calls fail, by their numbers from 0 (fetches, writes to the output, and writes to the
 /// error sink), and the names of the monitors that are attached.
@@ -89,6 +94,30 @@ fn library_of(
     Ok(MemoryLibrary::new(alloc, shelf, Vec::from_slice(alloc, failing)?))
 }
 
+/// Makes the top call with the monitors of these names, which have spaces between them. A name that no monitor has attaches
+/// nothing.
+fn call<S: Sink>(
+    alloc: Global,
+    words: &[String],
+    library: &mut MemoryLibrary,
+    out: &mut S,
+    err: &mut MemorySink,
+    names: &str,
+) -> Result<u8, AllocError> {
+    let mut monitors: Vec<Box<dyn Monitor>> = Vec::new(alloc);
+    for name in names.split(' ') {
+        match name {
+            "dwell" => monitors.push(Box::new(alloc, DwellMonitor::new(alloc))?)?,
+            "earth" => monitors.push(Box::new(alloc, EarthMonitor::new(alloc))?)?,
+            "loss" => monitors.push(Box::new(alloc, VoltLoss::new(alloc, 1))?)?,
+            "counting" => monitors.push(Box::new(alloc, ViewCounter::new(alloc))?)?,
+            "refusing" => monitors.push(Box::new(alloc, NeverBegun)?)?,
+            _ => {}
+        }
+    }
+    Ok(gicstudy(alloc, words, library, out, err, monitors))
+}
+
 /// Runs the words of a line over these files.
 pub(crate) fn run(
     alloc: Global,
@@ -102,8 +131,8 @@ pub(crate) fn run(
     let tellings = Vec::from_slice(alloc, surroundings.tellings.as_slice())?;
     let mut out = MemorySink::new(alloc, writes);
     let mut err = MemorySink::new(alloc, tellings);
-    let monitors = monitors_named(alloc, surroundings.monitors.as_str())?;
-    let status = gicstudy(alloc, &words, &mut library, &mut out, &mut err, monitors);
+    let names = surroundings.monitors.as_str();
+    let status = call(alloc, &words, &mut library, &mut out, &mut err, names)?;
     Ok(Ended {
         status,
         out: Vec::from_slice(alloc, out.bytes())?,
@@ -126,8 +155,8 @@ pub(crate) fn run_byte_by_byte(
         faults: 0,
     };
     let mut err = MemorySink::new(alloc, tellings);
-    let monitors = monitors_named(alloc, surroundings.monitors.as_str())?;
-    let status = gicstudy(alloc, &words, &mut library, &mut out, &mut err, monitors);
+    let names = surroundings.monitors.as_str();
+    let status = call(alloc, &words, &mut library, &mut out, &mut err, names)?;
     Ok(Ended {
         status,
         out: out.bytes,
