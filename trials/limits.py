@@ -2,12 +2,13 @@
 """Runs each mode at the limits of its inputs and at half of them, and prints a table of time and memory.
 
     python3 trials/limits.py PROGRAM [--minutes M] [--seed S] [--jobs N] [--only WORD] [--run-seconds N]
+        [--limit-steps N]
 
 The rows: the network at every limit (7680 nodes, 19968 elements, 256 zones) in every mode, with names as they come and
 of 32 bytes in every place (`outage` over a quarter of it, since it screens a network once for each of its items);
-storms of 20000 steps (1000 over the network at every limit) and 4096 switchings with an epoch each; networks just
-within 4096 and just past it; files of 16777216 bytes of each kind and of one byte more; and files of that size that
-are hostile.
+storms of 20000 steps and 4096 switchings with an epoch each, and over the network at every limit storms of so many
+steps as --limit-steps says (1000); networks just within 4096 and just past it; files of 16777216 bytes of each kind
+and of one byte more; and files of that size that are hostile.
 
 Times are of the processor, in seconds; memory is the peak, in MiB. Beside each is the same at half the size, and what
 the one is of the other: where the work grows with the size it is 2, and more only where the row says so. A run has
@@ -217,7 +218,7 @@ def inline(size):
     return ("a = {" + keys)[: size - 1].rsplit(",", 1)[0].encode() + b"}"
 
 
-def rows(command):
+def rows(command, limit_steps):
     for mode in shared.BUILT:
         if mode == "make":
             words = shared.words_of(mode, size="{size}")
@@ -235,7 +236,7 @@ def rows(command):
     study = shared.words_of("study", False)
     switched = [*study, "--switch=s"]
     yield Row("study, 2000 nodes, 20000 steps", study, fill_steps, ALL_STEPS, ALL_STEPS // 2)
-    yield Row("study, limit, 1000 steps", study, fill_limit_steps, SOME_STEPS, SOME_STEPS // 2)
+    yield Row(f"study, limit, {limit_steps} steps", study, fill_limit_steps, limit_steps, limit_steps // 2)
     yield Row("study, 2000 nodes, 4096 epochs", switched, fill_epochs, ALL_SWITCHINGS, ALL_SWITCHINGS // 2)
     known = {}
     for mode in ("field", "screen", "certify"):
@@ -289,11 +290,11 @@ def print_row(row, full, half, faults):
 
 
 def main():
-    given = shared.arguments(__doc__, 60, [("only", ""), ("run-seconds", 300)])
+    given = shared.arguments(__doc__, 60, [("only", ""), ("run-seconds", 300), ("limit-steps", SOME_STEPS)])
     command, faults, clock = shared.command_of(given.program), shared.Faults(), shared.Clock(given.minutes)
     heads = ("run", "status", "size", "time", "at half", "ratio", "memory", "at half", "ratio")
     print("| " + " | ".join(heads) + " |\n|" + "---|" * len(heads), flush=True)
-    chosen = [row for row in rows(command) if given.only in row.name]
+    chosen = [row for row in rows(command, given.limit_steps) if given.only in row.name]
     run = 0
     with shared.scratch() as top:
         measurer = build(top)
