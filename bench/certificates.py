@@ -359,7 +359,7 @@ def runs(path: str, program: str) -> Iterator[tuple[str, list[str], Files]]:
     """The runs of a file of examples: each with its name, its words and the files that are there."""
     files: Files = {}
     open_file = example = ""
-    failing = False
+    is_plain = True
     last: list[str] = []  # the words of the last run
     with open(path, encoding="utf-8") as lines:
         for row in lines:
@@ -385,12 +385,12 @@ def runs(path: str, program: str) -> Iterator[tuple[str, list[str], Files]]:
             elif head == "cut":
                 files[open_file] = files[open_file][: -int(rest)]
             elif head == "example":
-                example, failing = rest, False
-            elif head == "failing":
-                failing = True
+                example, is_plain = rest, True
+            elif head in ("failing", "monitors"):
+                is_plain = False
             elif head in ("run", "run-byte-by-byte", "run-prefixes"):
                 last = rest.split()
-                if head != "run-prefixes" and not failing:
+                if head != "run-prefixes" and is_plain:
                     yield example, last, dict(files)
             elif head not in ("", "#", "status", ">", "~", "!", "skip", "width"):
                 raise ValueError(f"{path}: {head}: no word of an example")
