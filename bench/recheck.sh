@@ -30,7 +30,8 @@ microseconds() {
 # A ratio with two places, `-` where a part is nothing but noise.
 ratio() {
     if [ "$1" -gt 0 ] && [ "$2" -gt 0 ]; then
-        printf '%d.%02d' $(($1 / $2)) $(($1 % $2 * 100 / $2))
+        local hundredths=$(((200 * $1 + $2) / (2 * $2)))
+        printf '%d.%02d' $((hundredths / 100)) $((hundredths % 100))
     else
         printf -- -
     fi
