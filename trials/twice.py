@@ -1,12 +1,15 @@
 #!/usr/bin/env python3
 """Runs the same words over the same bytes in many surroundings: the answers have to be the same, byte for byte.
 
-    python3 trials/twice.py PROGRAM [--minutes M] [--seed S] [--jobs N] [--networks N]
+    python3 trials/twice.py PROGRAM [--minutes M] [--seed S] [--jobs N] [--networks N] [--other PROGRAM]
 
 The surroundings: another folder with other names of files, an empty and a large environment, other locales and time
 zones, no random address layout, memory that is filled with other bytes and is handed out in another order, a small
 stack, an output that is a pipe, no input, a low priority, and the same run again. The runs are those of every mode over
 the sample, over a made network and over N random networks (100), refused ones among them, and faults in the words.
+
+With --other there is one more surrounding: another program that has to be the same, as the one that the toolchain's
+other compiler builds. `rt ci` leaves it beside the first, as `gicstudy.by-rattle`.
 """
 
 import functools
@@ -68,7 +71,7 @@ def into_a_pipe(command, folder, words):
     return shared.Answer(ran.returncode, ran.stdout, ran.stderr)
 
 
-def answers(command, folder, words):
+def answers(command, other, folder, words):
     """The answer of the run in each of the surroundings."""
     for name, environment in environments():
         yield name, shared.run(command + words, folder, environment)
@@ -76,6 +79,8 @@ def answers(command, folder, words):
         yield name, shared.run(wrapper + command + words, folder)
     yield "another folder", in_another_folder(command, folder, words)
     yield "a pipe", into_a_pipe(command, folder, words)
+    if other:
+        yield "the other program", shared.run(other + words, folder)
 
 
 def words_of_runs(draw):
@@ -96,7 +101,7 @@ def fill_with(draw, folder, item):
             pass
 
 
-def compare(command, seed, clock, item):
+def compare(command, other, seed, clock, item):
     """How many runs there were, how many words, and the faults."""
     draw, runs, words_run, faults = random.Random(f"{seed} {item}"), 0, 0, []
     with shared.scratch() as folder:
@@ -107,7 +112,7 @@ def compare(command, seed, clock, item):
             words_run += 1
             if first.status is None or first.status < 0:
                 faults.append(f"{words}: {shared.ending(first.status)}")
-            for name, answer in answers(command, folder, words):
+            for name, answer in answers(command, other, folder, words):
                 if clock.is_over():
                     break
                 runs += 1
@@ -117,9 +122,10 @@ def compare(command, seed, clock, item):
 
 
 def main():
-    given = shared.arguments(__doc__, 15, [("networks", 100)])
+    given = shared.arguments(__doc__, 15, [("networks", 100), ("other", "")])
+    other = given.other and shared.command_of(given.other)
     faults, clock = shared.Faults(), shared.Clock(given.minutes)
-    work = functools.partial(compare, shared.command_of(given.program), given.seed, clock)
+    work = functools.partial(compare, shared.command_of(given.program), other, given.seed, clock)
     runs = words_run = networks = 0
     for more, more_words, found in shared.side_by_side(given.jobs, work, range(given.networks + 2), clock):
         runs, words_run, networks = runs + more, words_run + more_words, networks + 1
