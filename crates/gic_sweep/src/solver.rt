@@ -49,7 +49,7 @@ ghost use Rattle.gic_net.specs.Net.{standing, row_at};
 ghost use Rattle.gic_sweep.specs.Guesses.{AreCut};
 ghost use Rattle.gic_sweep.specs.Residuals.{HoldResiduals, most_reach};
 ghost use Rattle.gic_sweep.specs.Sweep.{IsSweep};
-ghost use Rattle.gic_thin.specs.declared.gradients.TheConstants.{MOST_TURNS};
+ghost use Rattle.gic_thin.specs.declared.gradients.TheConstants.{MOST_PASSES};
 
 impl Solver {
     /// For a network of this many nodes; all guesses are 0.
@@ -138,14 +138,14 @@ impl Solver {
         self.thinning.arrange(net);
     }
 
-    /// Puts guesses in that are likely to be closer, which ticks once, and says how many turns of conjugate gradients that
-    /// took. Where the residuals are small already, it changes no guess and doesn't tick.
+    /// Puts guesses in that are likely to be closer, which ticks once, and says how many passes of conjugate gradients
+    /// that took. Where the residuals are small already, it changes no guess and doesn't tick.
     fn approach<L: Ledger>(&mut self, net: &Net, volts: &Volts, steps: &mut Steps<L>) -> Option<u32>
         requires volts { length volts.now ≡ length net.now.network.list }
         requires nodes { length self.old ≡ net.now.network.nodes }
         ensures same_length { length self.new ≡ length self.old }
-        ensures turns { IfSome result (λ turns. turns ≤ MOST_TURNS) }
-        ensures tick { IfSome result (λ turns. steps.new ≡ steps.old + 1) }
+        ensures passes { IfSome result (λ passes. passes ≤ MOST_PASSES) }
+        ensures tick { IfSome result (λ passes. steps.new ≡ steps.old + 1) }
         ensures no_tick { IfNone result (steps.new ≡ steps.old) }
         ensures same { IfNone result (self.new ≡ self.old) }
     {
@@ -156,9 +156,9 @@ impl Solver {
             &mut self.low,
             &mut self.high,
         );
-        let turns = self.thinning.correct(self.low.as_slice())?;
+        let passes = self.thinning.correct(self.low.as_slice())?;
         propose_all(&self.thinning, &mut self.guesses, &mut self.before, steps);
-        Some(turns)
+        Some(passes)
     }
 
     /// Whether the residuals show that the guesses are settled.
@@ -209,8 +209,8 @@ pub const MOST_ROUNDS: u8 = 4;
 pub struct Improvement {
     /// How many corrections were made, each with one tick.
     pub rounds: u8,
-    /// How many turns of conjugate gradients all of them took.
-    pub turns: u32,
+    /// How many passes of conjugate gradients all of them took.
+    pub passes: u32,
 }
 
 /// Brings the guesses closer to Kirchhoff's law by at most four rough corrections, each of which ticks once. Nothing is
@@ -226,26 +226,26 @@ pub fn improve<L: Ledger>(
     requires nodes { length solver.old ≡ net.now.network.nodes }
     ensures tick { steps.new ≡ steps.old + result.rounds }
     ensures few_rounds { result.rounds ≤ MOST_ROUNDS }
-    ensures few_turns { result.turns ≤ MOST_TURNS * result.rounds }
+    ensures few_passes { result.passes ≤ MOST_PASSES * result.rounds }
     ensures same { result.rounds ≡ 0 → solver.new ≡ solver.old }
     ensures same_length { length solver.new ≡ length solver.old }
 {
     solver.arrange(net);
-    let mut turns: u32 = 0;
+    let mut passes: u32 = 0;
     for round in 0..MOST_ROUNDS {
         match solver.approach(net, volts, steps) {
-            Some(more) => turns += more,
+            Some(more) => passes += more,
             None => {
                 return Improvement {
                     rounds: round,
-                    turns,
+                    passes,
                 };
             }
         }
     }
     Improvement {
         rounds: MOST_ROUNDS,
-        turns,
+        passes,
     }
 }
 

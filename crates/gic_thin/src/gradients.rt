@@ -4,10 +4,10 @@ ghost use Rattle.std.specs.Prelude.{◌≡◌, ◌<◌, ◌≤◌};
 use crate::system::System;
 use crate::vectors::Vectors;
 
-/// The turns of one solution, at most.
-pub const MOST_TURNS: u32 = 64;
+/// The passes of one solution, at most.
+pub const MOST_PASSES: u32 = 64;
 
-/// The turns in which the currents may come no closer to 0, one after the other.
+/// The passes in which the currents may come no closer to 0, one after the other.
 const MOST_VAIN: u32 = 4;
 
 /// How far the currents of a solution are from 0.
@@ -16,11 +16,11 @@ struct Distances {
     first: i128,
     least: i128,
     last: i128,
-    /// The turns since the least.
+    /// The passes since the least.
     vain: u32,
 }
 
-/// Notes how far the currents are after a turn.
+/// Notes how far the currents are after a pass.
 fn note(distances: Distances, far: i128) -> Distances {
     if far < distances.least {
         Distances {
@@ -48,14 +48,14 @@ fn is_over(distances: Distances, bits: u32) -> bool
         || distances.vain > MOST_VAIN
 }
 
-/// Finds potentials that balance the currents to about so many bits, `2 ^ lift` times too great, and says how many turns
-/// it took. The currents are changed.
+/// Finds potentials that balance the currents to about so many bits, `2 ^ lift` times too great, and says how many
+/// passes it took. The currents are changed.
 pub(crate) fn solve(system: &System, lift: u32, bits: u32, vectors: &mut Vectors) -> u32
     requires nodes { vectors.old ≡ system.now }
     requires lift { lift < 128 }
     requires bits { bits < 64 }
     ensures same { vectors.new ≡ vectors.old }
-    ensures few { result ≤ MOST_TURNS }
+    ensures few { result ≤ MOST_PASSES }
 {
     let far = vectors.begin(system, lift);
     let mut distances = Distances {
@@ -67,14 +67,14 @@ pub(crate) fn solve(system: &System, lift: u32, bits: u32, vectors: &mut Vectors
     if far <= 0 {
         return 0;
     }
-    for turn in 0..MOST_TURNS {
+    for pass in 0..MOST_PASSES {
         let before = distances.last;
         let far = vectors.advance(system, lift, before);
         distances = note(distances, far);
         if is_over(distances, bits) {
-            return turn + 1;
+            return pass + 1;
         }
         vectors.turn(before, far);
     }
-    MOST_TURNS
+    MOST_PASSES
 }

@@ -24,5 +24,5 @@ mod web;
 mod wires;
 mod wiring;
 
-pub use gradients::MOST_TURNS;
+pub use gradients::MOST_PASSES;
 pub use thinning::Thinning;

@@ -1,5 +1,5 @@
 //! Rough corrections by thinned elimination and conjugate gradients.
-use crate::gradients::{MOST_TURNS, solve};
+use crate::gradients::{MOST_PASSES, solve};
 use crate::scaling::{Scale, are_small, put_conductances, scale_for, shifted};
 use crate::system::System;
 use crate::vectors::Vectors;
@@ -76,13 +76,13 @@ impl Thinning {
         put_conductances(self.system.wires(), self.conductances.as_mut_slice());
     }
 
-    /// Finds potentials that make these currents leave the nodes, to about so many bits, and says how many turns it took,
-    /// at most [`MOST_TURNS`]. Currents of any size are allowed.
+    /// Finds potentials that make these currents leave the nodes, to about so many bits, and says how many passes it
+    /// took, at most [`MOST_PASSES`]. Currents of any size are allowed.
     pub fn balance(&mut self, currents: &[i128], bits: u32) -> u32
         requires currents { length currents.now ≡ self.old }
         requires bits { bits < 64 }
         ensures same_nodes { self.new ≡ self.old }
-        ensures few { result ≤ MOST_TURNS }
+        ensures few { result ≤ MOST_PASSES }
     {
         self.scale = scale_for(currents, self.conductances.as_slice());
         self.vectors.take(currents, self.scale.down);
@@ -100,13 +100,13 @@ impl Thinning {
         shifted(potential, self.scale.down + fraction, self.scale.lift)
     }
 
-    /// Finds corrections for these residuals, in units of 2^-44 nanoampere, one for each node, and says how many turns
-    /// it took, at most [`MOST_TURNS`]. Residuals of any size are allowed. Where no residual is more than its node's
+    /// Finds corrections for these residuals, in units of 2^-44 nanoampere, one for each node, and says how many passes
+    /// it took, at most [`MOST_PASSES`]. Residuals of any size are allowed. Where no residual is more than its node's
     /// conductance carries at three quarters of 2^18 grains, it finds none.
     pub fn correct(&mut self, residuals: &[i128]) -> Option<u32>
         requires { length residuals.now ≡ self.old }
         ensures same_nodes { self.new ≡ self.old }
-        ensures limit { IfSome result (λ turns. turns ≤ MOST_TURNS) }
+        ensures limit { IfSome result (λ passes. passes ≤ MOST_PASSES) }
     {
         if are_small(self.conductances.as_slice(), residuals) {
             return None;
