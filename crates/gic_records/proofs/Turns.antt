@@ -10,21 +10,21 @@ use Rattle.gic_records.specs.Reading.{records_left}
 use Rattle.gic_records.proofs.EndsOfRecords.{step_clean}
 
 -- how many more records there can be
-abbrev weight : State → List ℕ → ℕ
+abbrev pub weight : State → List ℕ → ℕ
 weight s xs = length xs + cond (ends_at_end s) 1 0
 
-one_or_none : (b : Bool) → cond b 1 0 ≤ 1
+pub one_or_none : (b : Bool) → cond b 1 0 ≤ 1
 one_or_none true = omega arith
 one_or_none false = omega arith
 
-some_same : {A : Type 0} {x y : A} → Some x ≡ Some y → x ≡ y
+pub some_same : {A : Type 0} {x y : A} → Some x ≡ Some y → x ≡ y
 some_same k = cc
 
-none_some : {A : Type 0} {x : A} → None ≡ Some x → ⊥
+pub none_some : {A : Type 0} {x : A} → None ≡ Some x → ⊥
 none_some k = cc
 
 -- each read leaves fewer
-shrinks : (cfg : Config) (s : State) (fields : List (List ℕ)) (field xs : List ℕ) (p : Read) → next_record cfg s fields field xs ≡ Some p → weight p.1 p.2 < weight s xs
+pub shrinks : (cfg : Config) (s : State) (fields : List (List ℕ)) (field xs : List ℕ) (p : Read) → next_record cfg s fields field xs ≡ Some p → weight p.1 p.2 < weight s xs
 unfolding next_record
 shrinks cfg s fields field [] p h = ended (ends_at_end s) h
   where
@@ -43,7 +43,7 @@ shrinks cfg s fields field (c ∷ rest) p h = elim (cases_Bool (is_end (step cfg
     ended ends e = subst (λ (q : Read). weight q.1 q.2 < suc (length rest) + cond (ends_at_end s) 1 0) (some_same e) (rw ((step_clean cfg s c).clean ends) (omega arith))
 
 -- and none where there can be none
-none_left : (cfg : Config) (s : State) (xs : List ℕ) → weight s xs ≤ 0 → next_record cfg s [] [] xs ≡ None
+pub none_left : (cfg : Config) (s : State) (xs : List ℕ) → weight s xs ≤ 0 → next_record cfg s [] [] xs ≡ None
 none_left cfg s xs few = go (next_record cfg s [] [] xs) refl
   where
     go : (o : Option Read) → next_record cfg s [] [] xs ≡ o → o ≡ None

@@ -1,6 +1,7 @@
 //! What is a record, by examples, each the contract of a function that does nothing.
 ghost use Rattle.std.specs.Prelude.{◌≡◌, ◌∷◌, [], codes};
 ghost use Rattle.gic_records.specs.Records.{records_of};
+ghost use Rattle.gic_records.specs.Wide.{up_to_wide};
 
 /// Which bytes of a text are records, and which are no part of one.
 pub fn odd_texts_law()
@@ -13,4 +14,13 @@ pub fn odd_texts_law()
     ensures empty_fields { records_of (codes ",") ≡ ([] ∷ [] ∷ []) ∷ [] }
     // The three bytes are a byte order mark.
     ensures mark_at_the_start { records_of (239 ∷ 187 ∷ 191 ∷ codes "a") ≡ (codes "a" ∷ []) ∷ [] }
+{}
+
+/// Up to where the records of a text are read.
+pub fn wide_records_law()
+    ensures none { up_to_wide [] ≡ [] }
+    ensures four_fields { up_to_wide (records_of (codes "a,b,c,d\ne\n")) ≡ (codes "a" ∷ codes "b" ∷ codes "c" ∷ codes "d" ∷ []) ∷ (codes "e" ∷ []) ∷ [] }
+    ensures five_fields { up_to_wide (records_of (codes "a\nb,c,d,e,f\ng\n")) ≡ (codes "a" ∷ []) ∷ (codes "b" ∷ codes "c" ∷ codes "d" ∷ codes "e" ∷ codes "f" ∷ []) ∷ [] }
+    ensures more_fields { up_to_wide (records_of (codes ",,,,,,,\na\n")) ≡ ([] ∷ [] ∷ [] ∷ [] ∷ [] ∷ []) ∷ [] }
+    ensures commas_in_quotes { up_to_wide (records_of (codes "\",,,,,\",a\nb\n")) ≡ (codes ",,,,," ∷ codes "a" ∷ []) ∷ (codes "b" ∷ []) ∷ [] }
 {}

@@ -2,14 +2,16 @@
 ghost use Rattle.std.specs.Prelude.{◌≡◌, IfOk, Ok, MatchResult, IsErr};
 ghost use Rattle.csv.specs.Records.{fields_of};
 ghost use Rattle.gic_records.specs.Records.{records_of};
+ghost use Rattle.gic_records.specs.Wide.{up_to_wide};
 ghost use Rattle.gic_records.specs.Reading.{with_found};
 
+use crate::front::front;
 use csv::{ByteRecord, Error, Reader, ReaderBuilder};
 use std::alloc::{AllocError, Global};
 use std::marker::Model;
 
-/// The records of a text that are left to read. Fields stand between commas, quoted or not, and a record has any number
-/// of them. Blank lines are no records, and a byte order mark at the start of the text is dropped.
+/// The records of a text that are left to read. Fields stand between commas, quoted or not. Blank lines are no records,
+/// and a byte order mark at the start of the text is dropped.
 #[derive(Drop)]
 pub struct Records<'a> {
     reader: Reader<&'a [u8]>,
@@ -38,15 +40,19 @@ fn found_of(read: Result<bool, Error>) -> Result<bool, AllocError>
 }
 
 impl<'a> Records<'a> {
-    /// All the records of a text.
+    /// The records of a text, of any number of fields, up to the first with more than [`MOST_COLUMNS`] of them; of that
+    /// one so many and one more. No row has as many, so what reads rows refuses it, and a record doesn't take memory for
+    /// each of millions of commas.
+    ///
+    /// [`MOST_COLUMNS`]: crate::MOST_COLUMNS
     pub fn new(alloc: Global, bytes: &'a [u8]) -> Records<'a>
-        ensures { result ≡ records_of bytes.now }
+        ensures { result ≡ up_to_wide (records_of bytes.now) }
     {
         Records {
             reader: ReaderBuilder::new()
                 .has_headers(false)
                 .flexible(true)
-                .from_reader(alloc, bytes),
+                .from_reader(alloc, front(bytes)),
         }
     }
 

@@ -1,18 +1,23 @@
 -- One pass over the records answers the first refusal of all rules.
-use Rattle.std.proofs.Common.{◌≡◌, ℕ, ◌==◌, pos, List, [], ◌∷◌, ◌++◌, length, map, Option, Some, None, is_some, Ok, refl}
+use Rattle.std.proofs.Common.{◌≡◌, ℕ, ◌==◌, ◌<◌, nat_le, pos, List, [], ◌∷◌, ◌++◌, length, take, map, false, Option, Some, None, is_some, Ok, Err, refl, ap, ◌∙◌, arith, inl, inr}
+use Rattle.std.proofs.lemmas.Bool.{cases_Bool}
+use Rattle.std.proofs.lemmas.Bool.Decides.{nat_tests}
 use Rattle.gic_base.specs.Refusals.{unless, settle}
 use Rattle.gic_base.specs.Passes.{◌>>=◌, or_refuse}
 use Rattle.gic_base.proofs.RefusalLaws.{then_law, last_law, value_law, test_law}
 use Rattle.gic_records.specs.Columns.{time_in, time_of}
 use Rattle.gic_records.specs.Records.{records_of}
 use Rattle.gic_records.specs.Rows.{breaks_records}
+use Rattle.gic_records.specs.Wide.{up_to_wide}
 use Rattle.gic_records.proofs.RowLaws.{rows_law as all_rows_law}
+use Rattle.gic_records.proofs.WideRows.{then_same, narrow_first, wide_first, is_wide, cut_is_wide, wide_rows_law}
 use Rattle.gic_base.specs.declared.limits.TheConstants.{MOST_ROWS}
 use Rattle.gic_storm.specs.declared.row.Row.{Row}
 use Rattle.gic_storm.specs.Columns.{form_of, width_of, north_place, east_place, field_in, zone_in, follows}
 use Rattle.gic_storm.specs.Pass.{row_in, storm_rows, some_rows, storm_from}
 use Rattle.gic_storm.specs.Rules.{breaks_record, breaks_empty, broken_after, broken, row_of, rows_after, storm_with, storm_in, storm_of}
 use Rattle.gic_storm.specs.declared.form.Form.{Form}
+use Rattle.gic_storm.specs.declared.form.Form.TheVariants.{Uniform, Zoned}
 use Rattle.gic_storm.specs.declared.refusal.StormField.TheVariants as fields
 use Rattle.gic_storm.specs.declared.refusal.StormRefusal.{StormRefusal}
 use Rattle.gic_storm.specs.declared.refusal.StormRefusal.TheVariants as refusals
@@ -68,7 +73,36 @@ unfolding storm_from
 storm_law zones [] = refl
 storm_law zones (first ∷ records) = form_law (form_of first) zones records
 
+-- a record that is too wide for a row is refused by its shape
+row_wide : (form : Form) (zones : List (List ℕ)) (row : ℕ) (before : Option ℕ) (columns : List (List ℕ)) → 4 < length columns → row_in form zones row before columns ≡ Err (refusals.Shape row)
+unfolding row_in
+row_wide Uniform zones row before columns wide = let other : (length columns == 3) ≡ false = grind (arith, nat_tests, wide) in rw other refl
+row_wide Zoned zones row before columns wide = let other : (length columns == 4) ≡ false = grind (arith, nat_tests, wide) in rw other refl
+
+-- and tells no form as the first
+form_wide : (columns : List (List ℕ)) → 4 < length columns → form_of columns ≡ None
+unfolding form_of
+form_wide columns wide =
+    let three : (length columns == 3) ≡ false = grind (arith, nat_tests, wide) in
+    let four : (length columns == 4) ≡ false = grind (arith, nat_tests, wide) in
+    rw (three, four) refl
+
+-- the records up to the first that is too wide are the same storm as all, or break the same rule first
+storm_wide : (zones : List (List ℕ)) (records : List (List (List ℕ))) → storm_from zones (up_to_wide records) ≡ storm_from zones records
+unfolding storm_from
+storm_wide zones [] = refl
+storm_wide zones (first ∷ records) = elim (cases_Bool (nat_le (length first) 4)) [
+  | inl narrow ↦
+      rw (narrow_first first records narrow)
+      (then_same (or_refuse (form_of first) (refusals.Shape 0)) _ _ (λ form.
+      ap (λ rows. rows >>= (λ xs. some_rows xs >>= (λ ys. Ok (storm_with zones ys))))
+      (wide_rows_law (row_in form zones) (λ (r : Row). r.time) MOST_ROWS refusals.TooMany refusals.Shape (row_wide form zones) 1 None records)))
+  | inr wide ↦
+      let many = is_wide first wide in
+      rw (wide_first first records wide, form_wide first many, form_wide (take 5 first) (cut_is_wide first many)) refl
+]
+
 -- the storm of bytes
-pub storm_of_law : (zones : List (List ℕ)) (bytes : List ℕ) → storm_from zones (records_of bytes) ≡ storm_of zones bytes
+pub storm_of_law : (zones : List (List ℕ)) (bytes : List ℕ) → storm_from zones (up_to_wide (records_of bytes)) ≡ storm_of zones bytes
 unfolding storm_of
-storm_of_law zones bytes = storm_law zones (records_of bytes)
+storm_of_law zones bytes = storm_wide zones (records_of bytes) ∙ storm_law zones (records_of bytes)

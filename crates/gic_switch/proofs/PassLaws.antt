@@ -1,11 +1,16 @@
 -- One pass over the records answers the first refusal of all rules.
-use Rattle.std.proofs.Common.{◌≡◌, ℕ, ◌==◌, List, [], ◌∷◌, ◌++◌, length, map, Option, None, is_some, refl}
+use Rattle.std.proofs.Common.{◌≡◌, ℕ, ◌==◌, ◌<◌, nat_le, List, [], ◌∷◌, ◌++◌, length, take, map, false, Option, None, is_some, Err, refl, ◌∙◌, arith, inl, inr}
+use Rattle.std.proofs.lemmas.Bool.{cases_Bool}
+use Rattle.std.proofs.lemmas.Bool.Decides.{nat_tests}
+use Rattle.gic_base.specs.Passes.{test}
 use Rattle.gic_base.specs.Refusals.{unless, settle}
 use Rattle.gic_base.proofs.RefusalLaws.{then_law, last_law, value_law, test_law}
 use Rattle.gic_records.specs.Columns.{text_at, time_in, time_of}
 use Rattle.gic_records.specs.Records.{records_of}
 use Rattle.gic_records.specs.Rows.{breaks_records}
+use Rattle.gic_records.specs.Wide.{up_to_wide}
 use Rattle.gic_records.proofs.RowLaws.{rows_law as all_rows_law}
+use Rattle.gic_records.proofs.WideRows.{then_same, narrow_first, wide_first, is_wide, cut_is_wide, wide_rows_law}
 use Rattle.gic_base.specs.declared.limits.TheConstants.{MOST_SWITCHINGS}
 use Rattle.gic_model.specs.declared.parts.Switching.{Switching}
 use Rattle.gic_case.specs.Lists.{Lists}
@@ -55,7 +60,30 @@ unfolding switchings_from
 switchings_law case [] = refl
 switchings_law case (first ∷ records) = then_law _ _ _ _ _ _ (test_law (is_head first) (refusals.Shape 0)) (rows_law case records)
 
+-- a record that is too wide for a row is refused by its shape
+row_wide : (case : Lists) (row : ℕ) (before : Option ℕ) (columns : List (List ℕ)) → 4 < length columns → row_in case row before columns ≡ Err (refusals.Shape row)
+unfolding row_in
+row_wide case row before columns wide = let other : (length columns == 3) ≡ false = grind (arith, nat_tests, wide) in rw other refl
+
+-- and isn't the one that comes first
+head_wide : (columns : List (List ℕ)) → 4 < length columns → is_head columns ≡ false
+head_wide columns wide = let other : (length columns == 3) ≡ false = grind (arith, nat_tests, wide) in rw other refl
+
+-- the records up to the first that is too wide are the same switchings as all, or break the same rule first
+switchings_wide : (case : Lists) (records : List (List (List ℕ))) → switchings_from case (up_to_wide records) ≡ switchings_from case records
+unfolding switchings_from
+switchings_wide case [] = refl
+switchings_wide case (first ∷ records) = elim (cases_Bool (nat_le (length first) 4)) [
+  | inl narrow ↦
+      rw (narrow_first first records narrow)
+      (then_same (test (is_head first) (refusals.Shape 0)) _ _ (λ head.
+      wide_rows_law (row_in case) (λ (s : Switching). s.time) MOST_SWITCHINGS refusals.TooMany refusals.Shape (row_wide case) 1 None records))
+  | inr wide ↦
+      let many = is_wide first wide in
+      rw (wide_first first records wide, head_wide first many, head_wide (take 5 first) (cut_is_wide first many)) refl
+]
+
 -- the switchings of bytes
-pub switchings_of_law : (case : Lists) (bytes : List ℕ) → switchings_from case (records_of bytes) ≡ switchings_of case bytes
+pub switchings_of_law : (case : Lists) (bytes : List ℕ) → switchings_from case (up_to_wide (records_of bytes)) ≡ switchings_of case bytes
 unfolding switchings_of
-switchings_of_law case bytes = switchings_law case (records_of bytes)
+switchings_of_law case bytes = switchings_wide case (records_of bytes) ∙ switchings_law case (records_of bytes)

@@ -1,0 +1,9 @@
+-- How far the records of a text are read. No reader of rows takes a record with more than `MOST_COLUMNS` fields, so none looks behind the first that has more.
+use Rattle.std.specs.Prelude.{ℕ, nat_le, ◌+◌, List, [], ◌∷◌, length, take, if◌then◌else◌}
+use Rattle.gic_records.specs.declared.front.TheConstants.{MOST_COLUMNS}
+
+-- the records up to the first with more than `MOST_COLUMNS` fields; of that one, one field more than these
+abbrev pub up_to_wide : List (List (List ℕ)) → List (List (List ℕ))
+up_to_wide [] = []
+up_to_wide (fields ∷ records) =
+    if nat_le (length fields) MOST_COLUMNS then fields ∷ up_to_wide records else take (MOST_COLUMNS + 1) fields ∷ []
