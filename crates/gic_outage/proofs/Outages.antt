@@ -1,7 +1,6 @@
 -- Taking an item out of a network, and bringing it back.
 use Rattle.std.proofs.Common.{◌≡◌, ℕ, ◌+◌, ◌<◌, ◌==◌, Bool, true, false, cond, not, ◌&&◌, ◌||◌, nat_eq, List, [], ◌∷◌, ◌++◌, length, refl, sym, ap, ◌∙◌, eqb-true, eq-eqb, arith, IsTrue, IsFalse}
 use Rattle.std.specs.List.{filter, list_any, enumerate_from, AllByRecursion}
-use Rattle.std.specs.Ordering.{nat_cmp}
 use Rattle.std.proofs.lemmas.List.Folds.{list_any_at}
 use Rattle.std.specs.FinSet.{contains, insert, remove, contains-insert, contains-remove, same_set, nat_cmp-IsAntisymmetric}
 use Rattle.std.specs.Cmp.{nat_cmp_total, unsigned_tied, nat_eq_equiv}
@@ -13,7 +12,7 @@ use Rattle.gic_model.specs.Standing.{item_number, is_item, standing_elements, st
 use Rattle.gic_model.specs.Sums.{Placed}
 use Rattle.gic_model.proofs.LastRow.{last_row}
 use Rattle.gic_model.proofs.Members.{placed, any_of_each, weaker, for_each}
-use Rattle.gic_net.specs.Switched.{Items, has_element, stands_without, switched}
+use Rattle.gic_net.specs.Switched.{Items, has_element}
 use Rattle.gic_net.specs.Net.{NetView, stands, standing, element_of, no_element, switched_net}
 use Rattle.gic_net.proofs.Switched.{one_row}
 use Rattle.gic_outage.specs.Removing.{is_idle, others, net_without, opening}

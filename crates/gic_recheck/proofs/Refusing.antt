@@ -3,14 +3,10 @@ use Rattle.std.proofs.Common.{◌≡◌, ◌∙◌, ℕ, List, Result, Ok, Err, 
 use Rattle.gic_base.specs.declared.id.NodeId.{NodeId}
 use Rattle.gic_case.specs.Lists.{Lists}
 use Rattle.gic_model.specs.Sums.{Placed}
-use Rattle.gic_winding.specs.ElementList.{elements_of}
-use Rattle.gic_cert.specs.Passing.{IsPassing}
 use Rattle.gic_cert.specs.Reading.{certificate_nodes, cert_of}
-use Rattle.gic_cert.specs.Refusals.{IsFirstRefusal}
 use Rattle.gic_cert.specs.Written.{Certificate}
 use Rattle.gic_cert.specs.declared.refusal.CertRefusal.{CertRefusal}
 use Rattle.gic_cert.specs.declared.refusal.CertRefusal.TheVariants as cert
-use Rattle.gic_uniform.specs.Uniform.{uniform_volts}
 use Rattle.gic_recheck.specs.Accepted.{IsAccepted, IsUnpassed, PassesOwn, BreaksOwn}
 use Rattle.gic_recheck.specs.Determines.{AcceptedIsNotRefused}
 use Rattle.gic_recheck.specs.declared.fault.CertificateRefusal.TheVariants.{Shape, Number, Node, Row, Residual, Radius}

@@ -1,4 +1,4 @@
-use Rattle.std.proofs.Common.{ℕ, ℤ, refl, ap, ◌∙◌}
+use Rattle.std.proofs.Common.{ℕ, ℤ, ap, ◌∙◌}
 use Rattle.gic_model.specs.Network.{Network}
 use Rattle.gic_model.specs.Voltages.{number_at}
 use Rattle.gic_net.specs.Net.{standing}

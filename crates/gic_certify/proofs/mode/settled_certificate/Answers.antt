@@ -1,4 +1,4 @@
-use Rattle.std.proofs.Common.{ℕ, ◌<◌, ◌^◌, ℤ, List, unsigned_abs, subst, sym, arith}
+use Rattle.std.proofs.Common.{◌<◌, ◌^◌, ℤ, List, unsigned_abs, subst, sym, arith}
 use Rattle.gic_model.specs.Voltages.{number_at}
 use Rattle.gic_net.specs.Net.{stands}
 use Rattle.gic_certify.proofs.mode.settled_certificate.Goals as goal

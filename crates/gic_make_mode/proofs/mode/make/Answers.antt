@@ -1,4 +1,4 @@
-use Rattle.std.proofs.Common.{◌≡◌, ◌∙◌, ℕ, ◌*◌, ◌<◌, ℤ, pos, w32, to_z, of_z, None, List, [], ◌∷◌, refl, ap, sym, subst, arith}
+use Rattle.std.proofs.Common.{◌≡◌, ◌∙◌, ℕ, ◌*◌, ℤ, pos, w32, to_z, of_z, None, List, [], ◌∷◌, refl, ap, sym, subst, arith}
 use Rattle.gic_case.specs.Lists.{Lists}
 use Rattle.gic_induce.specs.LineVolts.{volts_of}
 use Rattle.gic_induce.specs.Voltage.{IsFieldWithin}
