@@ -1,4 +1,4 @@
--- How a byte is taken while the front of a text is looked for, by the words in which `csv` tells how a text reads. For the private functions of this crate.
+-- How a byte is taken while the front of a text is looked for, in the words of `csv`. For the private functions of this crate.
 use Rattle.std.specs.Prelude.{ℕ, ◌+◌, ◌==◌, ◌&&◌, List, [], ◌∷◌, Bool, true, false, if◌then◌else◌}
 use Rattle.csv.specs.Machine.{step}
 use Rattle.csv.specs.Reading.{default_config, is_bom}
@@ -23,7 +23,7 @@ state_of places.AfterQuote = st.AfterQuote
 
 -- what a byte does by the word of `csv`
 abbrev pub action_of : Part → Action
-action_of parts.Mark = act.Skip
+action_of parts.Skipped = act.Skip
 action_of parts.Text = act.Copy
 action_of parts.FieldEnd = act.EndField
 action_of parts.RecordEnd = act.EndRecord
@@ -35,7 +35,7 @@ ends_field act.EndRecord = true
 ends_field act.Skip = false
 ends_field act.Copy = false
 
--- how many fields of a record have ended after the byte, where so many had before
+-- how many fields of a record have ended after the byte, where so many had before: none where it ends the record
 abbrev pub ended_after : Action → ℕ → ℕ
 ended_after act.EndField ended = ended + 1
 ended_after act.EndRecord ended = 0
@@ -46,7 +46,7 @@ ended_after act.Copy ended = ended
 abbrev pub ends_wide : Action → ℕ → Bool
 ends_wide action ended = ends_field action && (ended == MOST_COLUMNS)
 
--- how many bytes come before the one that ends one field more than `MOST_COLUMNS` of a record, from a state with so many fields ended
+-- how many bytes come before the one that ends one field more than `MOST_COLUMNS` of a record, where so many have ended
 unfoldable pub front_len : State → ℕ → List ℕ → ℕ
 front_len s ended [] = 0
 front_len s ended (byte ∷ rest) =

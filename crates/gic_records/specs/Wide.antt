@@ -1,4 +1,4 @@
--- How far the records of a text are read. No reader of rows takes a record with more than `MOST_COLUMNS` fields, so none looks behind the first that has more.
+-- How far the records of a text are read. Storms and switchings refuse a record with more than `MOST_COLUMNS` fields, so what follows it changes nothing: their crates prove that.
 use Rattle.std.specs.Prelude.{ℕ, nat_le, ◌+◌, List, [], ◌∷◌, length, take, if◌then◌else◌}
 use Rattle.gic_records.specs.declared.front.TheConstants.{MOST_COLUMNS}
 

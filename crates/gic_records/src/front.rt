@@ -15,7 +15,7 @@ pub const MOST_COLUMNS: usize = 4;
 pub(crate) enum Place {
     /// Before a record.
     Between,
-    /// Before a record, behind a carriage return.
+    /// Before a record, behind a carriage return. What follows reads as from `Between`, but `csv` has a state for each.
     AfterReturn,
     /// Before a field.
     FieldStart,
@@ -30,8 +30,8 @@ pub(crate) enum Place {
 /// What a byte is.
 #[derive(Clone, Copy)]
 pub(crate) enum Part {
-    /// A quote, or the end of a line between records.
-    Mark,
+    /// Of no field: a quote around a field, the first of two quotes, or the end of a line between records.
+    Skipped,
     /// Of the text of a field.
     Text,
     /// The comma behind a field.
@@ -57,7 +57,7 @@ fn step_at_start(byte: u8) -> (Place, Part)
     ensures { start_field default_config byte ≡ (state_of result.0, action_of result.1) }
 {
     if byte == b'"' {
-        (Place::Quoted, Part::Mark)
+        (Place::Quoted, Part::Skipped)
     } else {
         step_in_field(byte)
     }
@@ -68,7 +68,7 @@ fn step_between(byte: u8) -> (Place, Part)
     ensures { start_record default_config byte ≡ (state_of result.0, action_of result.1) }
 {
     if byte == b'\r' || byte == b'\n' {
-        (Place::Between, Part::Mark)
+        (Place::Between, Part::Skipped)
     } else {
         step_at_start(byte)
     }
@@ -84,7 +84,7 @@ fn step(place: Place, byte: u8) -> (Place, Part)
         Place::Plain => step_in_field(byte),
         Place::Quoted => {
             if byte == b'"' {
-                (Place::AfterQuote, Part::Mark)
+                (Place::AfterQuote, Part::Skipped)
             } else {
                 (Place::Quoted, Part::Text)
             }
@@ -105,11 +105,11 @@ fn ends_wide(part: Part, ended: usize) -> bool
 {
     match part {
         Part::FieldEnd | Part::RecordEnd => ended == MOST_COLUMNS,
-        Part::Mark | Part::Text => false,
+        Part::Skipped | Part::Text => false,
     }
 }
 
-/// How many fields of the record have ended after a byte, where so many had before it.
+/// How many fields of the record have ended after a byte, where so many had before it: none where it ends the record.
 fn ended_after(part: Part, ended: usize) -> usize
     requires { ended ≤ MOST_COLUMNS }
     ensures { result ≡ ended_after (action_of part) ended }
@@ -117,7 +117,7 @@ fn ended_after(part: Part, ended: usize) -> usize
     match part {
         Part::FieldEnd => ended + 1,
         Part::RecordEnd => 0,
-        Part::Mark | Part::Text => ended,
+        Part::Skipped | Part::Text => ended,
     }
 }
 
@@ -150,8 +150,8 @@ fn mark_len(text: &[u8]) -> usize
     }
 }
 
-/// The front of a text in which its records stand up to the first that has more than [`MOST_COLUMNS`] fields, and of that
-/// one so many fields and one more.
+/// The front of a text: its records up to the first with more than [`MOST_COLUMNS`] fields, and of that one only one
+/// field more than these.
 pub(crate) fn front(text: &[u8]) -> &[u8]
     ensures { records_of result.now ≡ up_to_wide (records_of text.now) }
 {

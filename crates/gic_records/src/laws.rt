@@ -1,4 +1,4 @@
-//! What is a record, by examples, each the contract of a function that does nothing.
+//! What is a record, and how far records are read, by examples, each the contract of a function that does nothing.
 ghost use Rattle.std.specs.Prelude.{◌≡◌, ◌∷◌, [], codes};
 ghost use Rattle.gic_records.specs.Records.{records_of};
 ghost use Rattle.gic_records.specs.Wide.{up_to_wide};
@@ -16,7 +16,7 @@ pub fn odd_texts_law()
     ensures mark_at_the_start { records_of (239 ∷ 187 ∷ 191 ∷ codes "a") ≡ (codes "a" ∷ []) ∷ [] }
 {}
 
-/// Up to where the records of a text are read.
+/// How far the records of a text are read.
 pub fn wide_records_law()
     ensures none { up_to_wide [] ≡ [] }
     ensures four_fields { up_to_wide (records_of (codes "a,b,c,d\ne\n")) ≡ (codes "a" ∷ codes "b" ∷ codes "c" ∷ codes "d" ∷ []) ∷ (codes "e" ∷ []) ∷ [] }

@@ -40,9 +40,9 @@ fn found_of(read: Result<bool, Error>) -> Result<bool, AllocError>
 }
 
 impl<'a> Records<'a> {
-    /// The records of a text, of any number of fields, up to the first with more than [`MOST_COLUMNS`] of them; of that
-    /// one so many and one more. No row has as many, so what reads rows refuses it, and a record doesn't take memory for
-    /// each of millions of commas.
+    /// The records of a text up to the first with more than [`MOST_COLUMNS`] fields; of that one only one field more than
+    /// these, and none behind it, so that no record takes room for millions of fields. Whoever reads rows has to refuse a
+    /// record with more than [`MOST_COLUMNS`] fields: how many it has, and what follows it, isn't known.
     ///
     /// [`MOST_COLUMNS`]: crate::MOST_COLUMNS
     pub fn new(alloc: Global, bytes: &'a [u8]) -> Records<'a>
