@@ -32,16 +32,6 @@ front_end : (s : State) (n : ℕ) → front_len s n [] ≡ 0
 unfolding front_len
 front_end s n = refl
 
--- the front has no more bytes than the text
-pub front_within : (s : State) (n : ℕ) (xs : List ℕ) → front_len s n xs ≤ length xs
-front_within s n [] = rw (front_end s n) (omega arith)
-front_within s n (c ∷ rest) = elim (cases_Bool (ends_wide (step default_config s c).1 n)) [
-  | inl stops ↦ rw (front_stops s n c rest (step default_config s c) refl stops) (omega arith)
-  | inr goes ↦
-      let more = front_within (step default_config s c).0 (ended_after (step default_config s c).1 n) rest in
-      rw (front_more s n c rest (step default_config s c) refl goes) (omega arith)
-]
-
 -- the same at a place of a text
 pub front_at : (s : State) (n i : ℕ) (xs : List ℕ) (p : State × Action) → i < length xs → step default_config s (get_or xs i 0) ≡ p → ends_wide p.1 n ≡ false
     → front_len s n (drop i xs) ≡ front_len p.0 (ended_after p.1 n) (drop (i + 1) xs) + 1
