@@ -9,7 +9,8 @@ use Rattle.gic_view.specs.View.{View}
 use Rattle.gic_view.specs.Kept.{blank_view}
 use Rattle.gic_effective.specs.Narrow.{IsNarrowView}
 use Rattle.gic_course.specs.declared.inputs.StormInputs.{StormInputs}
-use Rattle.gic_course.specs.Views.{IsRightStep, IsSolvedStep, AreRightSoFar, AreRightViews, AreNarrowViews, IsSmallView, AreSmallViews}
+use Rattle.gic_course.specs.Views.{IsRightStep, IsSolvedStep, AreRightSoFar, AreRightViews, AreNarrowViews, AreSmallViews}
+use Rattle.gic_uniform.specs.Solving.{IsSmallView}
 
 -- a view that is solved for a step is right for it
 pub right_step : (inputs : StormInputs) (width step : ℕ) (view : View) → IsSolvedStep inputs width step view → IsRightStep inputs step view

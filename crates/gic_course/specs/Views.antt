@@ -1,13 +1,12 @@
 -- When the views of the steps of a storm are right.
-use Rattle.std.specs.Prelude.{ℕ, suc, ◌≡◌, ◌<◌, ◌^◌, List, All, length, slice_index_or}
+use Rattle.std.specs.Prelude.{ℕ, suc, ◌≡◌, ◌<◌, List, All, length, slice_index_or}
 use Rattle.gic_case.specs.Lists.{Lists}
 use Rattle.gic_storm.specs.Steps.{steps_in, time_of_step}
-use Rattle.gic_fixed.specs.Encloses.{IsWithin}
-use Rattle.gic_view.specs.View.{View, effective_at}
+use Rattle.gic_view.specs.View.{View}
 use Rattle.gic_view.specs.Kept.{blank_view}
 use Rattle.gic_effective.specs.RightView.{IsRightView}
 use Rattle.gic_effective.specs.Narrow.{IsNarrowView}
-use Rattle.gic_uniform.specs.Solving.{IsSolvedView}
+use Rattle.gic_uniform.specs.Solving.{IsSmallView, IsSolvedView}
 use Rattle.gic_course.specs.declared.inputs.StormInputs.{StormInputs}
 use Rattle.gic_course.specs.Steps.{standing_at_step, storm_volts}
 
@@ -40,10 +39,6 @@ pub record AreRightViews (inputs : StormInputs) (views : List View) : Type 0 whe
 abbrev pub AreNarrowViews : Lists → (width : ℕ) → List View → Type 0
 AreNarrowViews case width views = All (IsNarrowView case width) views
 
--- no effective current of the view is beyond 2^52 mA per phase
-abbrev pub IsSmallView : Lists → View → Type 0
-IsSmallView case view = (t : ℕ) → t < length case.transformers → IsWithin (2 ^ 52) (effective_at view t).low (effective_at view t).high
-
--- nor is any in any of these
+-- no effective current of any of them is beyond 2^52 mA per phase
 abbrev pub AreSmallViews : Lists → List View → Type 0
 AreSmallViews case views = All (IsSmallView case) views

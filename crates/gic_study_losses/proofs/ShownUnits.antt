@@ -17,7 +17,8 @@ use Rattle.gic_loss.specs.LossText.{most_current}
 use Rattle.gic_loss.specs.Bounds.{Currents, numerator_at, ShowsUnits}
 use Rattle.gic_course.specs.declared.inputs.StormInputs.{StormInputs}
 use Rattle.gic_course.specs.Steps.{standing_at_step, storm_volts}
-use Rattle.gic_course.specs.Views.{IsSmallView, view_at}
+use Rattle.gic_course.specs.Views.{view_at}
+use Rattle.gic_uniform.specs.Solving.{IsSmallView}
 use Rattle.gic_study_mode.specs.RightStudy.{IsRightStudy}
 use Rattle.gic_study_losses.specs.Losses.{AreEffectiveCurrents}
 

@@ -26,8 +26,12 @@ pub record IsReadyFor (case : Lists) (standing : List Placed) (room : Room) : Ty
   pub solvable : IsSolvable standing
   pub bound : IsBoundWithin standing MOST_WALK (slice_index room.vector)
 
--- each interval of the view holds what it stands for in every solution and is no wider than this, and no effective current is beyond 2^52 mA per phase
+-- no effective current of the view is beyond 2^52 mA per phase
+abbrev pub IsSmallView : Lists → View → Type 0
+IsSmallView case view = (t : ℕ) → t < length case.transformers → IsWithin (2 ^ 52) (effective_at view t).low (effective_at view t).high
+
+-- each interval of the view holds what it stands for in every solution and is no wider than this, and no effective current is beyond that
 pub record IsSolvedView (case : Lists) (standing : List Placed) (volts : ℕ → ℤ) (width : ℕ) (view : View) : Type 0 where
   pub right : IsRightView case standing volts view
   pub narrow : IsNarrowView case width view
-  pub small : (t : ℕ) → t < length case.transformers → IsWithin (2 ^ 52) (effective_at view t).low (effective_at view t).high
+  pub small : IsSmallView case view
