@@ -31,7 +31,8 @@ pub fn is_start(net: &Net, vector: &BoundVector, room: &mut Room) -> bool
     // the least capped one.
     ensures tight { IsTrue result ↔ IsTight (standing net.now) (slice_index vector.now) }
     ensures under { IsTrue result → IsUnderCapped (standing net.now) (slice_index vector.now) }
-    ensures least { IsCappedVector (standing net.now) (slice_index vector.now) → (IsTrue result ↔ IsLeastCappedVector (standing net.now) (slice_index vector.now)) }
+    ensures least { IsCappedVector (standing net.now) (slice_index vector.now) →
+        (IsTrue result ↔ IsLeastCappedVector (standing net.now) (slice_index vector.now)) }
 
     ensures same_room { room.new ≡ room.old }
 {
@@ -44,7 +45,8 @@ fn is_tight(net: &Net, vector: &BoundVector, other: &mut BoundVector, waiting: &
     requires range { IsInRange (standing net.now) (slice_index vector.now) }
     ensures tight { IsTrue result ↔ IsTight (standing net.now) (slice_index vector.now) }
     ensures under { IsTrue result → IsUnderCapped (standing net.now) (slice_index vector.now) }
-    ensures least { IsCappedVector (standing net.now) (slice_index vector.now) → (IsTrue result ↔ IsLeastCappedVector (standing net.now) (slice_index vector.now)) }
+    ensures least { IsCappedVector (standing net.now) (slice_index vector.now) →
+        (IsTrue result ↔ IsLeastCappedVector (standing net.now) (slice_index vector.now)) }
     ensures sunk { IsSunk (standing net.now) 1 (slice_index vector.now) (slice_index other.new) }
     ensures same_length { length other.new ≡ length other.old }
 {
