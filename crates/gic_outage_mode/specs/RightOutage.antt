@@ -54,7 +54,7 @@ pub record AreRightWorsts (inputs : Inputs) (item : Item) (worsts : List Ends) (
       IsTrueVerdict inputs.case (standing_without inputs item) (north_volts inputs) (east_volts inputs) (threshold_asked inputs) t (worst_at worsts t)
   pub counted : counts ≡ counts_of (worst_verdicts inputs.case (threshold_asked inputs) worsts)
 
--- the outage of an item ends as its network decides: it was idle; or the network without it has this first live node that is not earthed; or all are earthed, and this is the first that isn't earthed within 4096; or it is solved
+-- the outage of an item ends as its network decides: it was idle; or the network without it has this first live node that is not earthed; or all are earthed, and this is the first with the entry 4097 in the least capped vector; or it is solved
 abbrev pub EndsAs : Inputs → Item → List Ends → Outcome → Type 0
 EndsAs inputs item worsts Idle = IsTrue (is_idle (standing_of inputs.case inputs.switchings) item) × (worsts ≡ [])
 EndsAs inputs item worsts (Unearthed node) = IsTakenOut inputs item × IsNameOfUnearthed inputs.case (standing_without inputs item) node × (worsts ≡ [])

@@ -9,7 +9,7 @@ pub(crate) enum Outcome {
     Idle,
     /// Without the item this live node is the first that no chain of standing elements joins to earth.
     Unearthed(Name),
-    /// Without it each live node is earthed, and this node is the first that isn't earthed within 4096.
+    /// Without it each live node is earthed, and this node is the first with the entry 4097 in the least capped vector.
     Unresolved(Name),
     /// Without it the network is solved, and so many transformers have each verdict.
     Solved(Counts),
