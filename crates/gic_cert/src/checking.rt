@@ -136,7 +136,7 @@ pub fn check(net: &Net, volts: &Volts, cert: &Cert) -> Result<(), CertRefusal>
     ensures passes { IsOk result ↔ IsPassing net.now.network.nodes (standing net.now) (number_at volts.now) cert.now }
     ensures first { IfErr result (IsFirstRefusal net.now.network.nodes (standing net.now) (number_at volts.now) cert.now) }
 {
-    let _written = cert.north();
+    cert.within_ranges();
     net.within_limits();
     if let Some(node) = first_wrong_row(net, cert) {
         return Err(CertRefusal::Row { node });

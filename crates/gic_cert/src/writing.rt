@@ -112,6 +112,7 @@ fn write_nodes<S: Sink>(
         (lines_text (node_lines (node_names case.now) cert.now.nodes)) }
     ensures cause { HasCause (S.faults out.old) (S.faults out.new) result }
 {
+    // A case has few nodes, so the count of them below is one of 16 bits.
     let _count = node_count(case);
     let mut node: u16 = 0;
     for name in NodeNames::of(case) {

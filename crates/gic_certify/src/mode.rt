@@ -13,7 +13,7 @@ ghost use Rattle.gic_stand.specs.Needs.{Solved};
 ghost use Rattle.gic_stand.specs.Serves.{Serves, shown};
 ghost use Rattle.gic_stand.specs.Standing.{IsSolvable, steps_of};
 ghost use Rattle.gic_stand.specs.declared.fault.ReportFault.TheVariants.{Memory};
-ghost use Rattle.gic_uniform.specs.Solving.{IsReadyFor, IsRoomFor};
+ghost use Rattle.gic_uniform.specs.Ready.{IsReadyFor, IsRoomFor};
 ghost use Rattle.gic_winding.specs.ElementList.{elements_of};
 
 use gic_base::{OutOfMemory, Sink};

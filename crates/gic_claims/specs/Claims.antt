@@ -7,17 +7,13 @@ use Rattle.gic_model.specs.declared.parts.Item.{Item}
 use Rattle.gic_model.specs.declared.parts.Switching.{Switching}
 use Rattle.gic_model.specs.Network.{Network}
 use Rattle.gic_model.specs.Limits.{IsWithinLimits}
-use Rattle.gic_model.specs.Sums.{Placed}
 use Rattle.gic_model.specs.Voltages.{number_at}
-use Rattle.gic_model.specs.Standing.{standing_elements, stands_after}
+use Rattle.gic_model.specs.Standing.{standing_elements}
 use Rattle.gic_model.specs.Earthing.{AreEarthed}
 use Rattle.gic_model.specs.Bound.{IsBoundVector}
 use Rattle.gic_exists.specs.Exists.{HasSolution, AnyTwoAgree}
 use Rattle.gic_winding.specs.ElementList.{elements_of}
-
--- the elements of a case that stand with these switchings in force
-abbrev pub standing_in : Lists → List Switching → List Placed
-standing_in case rows = standing_elements (elements_of case) (stands_after rows)
+use Rattle.gic_winding.specs.InForce.{standing_in}
 
 -- the voltages of a case's elements in these fields of its zones
 abbrev pub volts_in : Lists → List (ℤ × ℤ) → ℕ → ℤ

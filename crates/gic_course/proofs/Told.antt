@@ -12,7 +12,7 @@ use Rattle.gic_fixed.specs.Ends.{Ends, no_ends}
 use Rattle.gic_case.specs.Lists.{Lists}
 use Rattle.gic_view.specs.View.{View, effective_at}
 use Rattle.gic_effective.specs.Narrow.{IsNarrowView}
-use Rattle.gic_report.specs.Fits.{HasAbsolute}
+use Rattle.gic_view.specs.Absolute.{HasAbsolute}
 use Rattle.gic_storm.specs.declared.row.Row.{Row}
 use Rattle.gic_storm.specs.StepFields.{field_at_step, fields_at_step}
 

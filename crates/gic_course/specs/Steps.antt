@@ -1,12 +1,13 @@
 -- The network of a case and its voltages at each step of a storm.
 use Rattle.std.specs.Prelude.{ℕ, ◌≡◌, ◌≤◌, ℤ, List, length, map}
-use Rattle.gic_model.specs.Standing.{standing_elements, stands_after, rows_in_force}
+use Rattle.gic_model.specs.Standing.{rows_in_force}
 use Rattle.gic_model.specs.Sums.{Placed}
 use Rattle.gic_model.specs.Voltages.{number_at}
 use Rattle.gic_induce.specs.LineVolts.{volts_of}
 use Rattle.gic_storm.specs.Steps.{steps_in, step_at, first_time, time_of_step}
 use Rattle.gic_storm.specs.StepFields.{fields_at_step}
 use Rattle.gic_winding.specs.ElementList.{elements_of}
+use Rattle.gic_winding.specs.InForce.{standing_in}
 use Rattle.gic_stand.specs.Standing.{rows_in}
 use Rattle.gic_course.specs.declared.inputs.StormInputs.{StormInputs}
 
@@ -21,7 +22,7 @@ pub record IsStepOf (inputs : StormInputs) (number : ℕ) : Type 0 where
 
 -- the elements that stand at a time, in seconds: the switchings in force are those that are not of a later time
 abbrev pub standing_at_time : StormInputs → (time : ℕ) → List Placed
-standing_at_time inputs time = standing_elements (elements_of inputs.inputs.case) (stands_after (rows_in_force time (rows_in inputs.inputs.switchings)))
+standing_at_time inputs time = standing_in inputs.inputs.case (rows_in_force time (rows_in inputs.inputs.switchings))
 
 -- the elements that stand at a step
 abbrev pub standing_at_step : StormInputs → (number : ℕ) → List Placed

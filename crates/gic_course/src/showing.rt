@@ -1,12 +1,11 @@
 //! The view of a step.
-ghost use Rattle.std.specs.Prelude.{ℕ, ◌≡◌, ◌<◌, ◌≤◌, length, All};
+ghost use Rattle.std.specs.Prelude.{ℕ, ◌≡◌, ◌<◌, All};
 ghost use Rattle.gic_model.specs.Limits.{AreVolts};
 ghost use Rattle.gic_enclose.specs.Solved.{IsWidth};
 ghost use Rattle.gic_winding.specs.ElementList.{elements_of};
 ghost use Rattle.gic_effective.specs.Narrow.{IsNarrowView};
 ghost use Rattle.gic_effective.specs.ViewLengths.{HasViewLengths};
-ghost use Rattle.gic_report.specs.Fits.{HasAbsolute};
-ghost use Rattle.gic_storm.specs.Steps.{steps_in, time_of_step};
+ghost use Rattle.gic_view.specs.Absolute.{HasAbsolute};
 ghost use Rattle.gic_course.specs.Ready.{IsReadyAt};
 ghost use Rattle.gic_course.specs.RoomFor.{IsRoomFor, IsSettledIn, IsStepped};
 ghost use Rattle.gic_course.specs.Steps.{storm_volts};
@@ -17,24 +16,13 @@ use crate::room::Room;
 use gic_bases::step_from_bases;
 use gic_case::Case;
 use gic_effective::fill_view;
+use gic_epoch::time_of_step;
 use gic_net::Net;
-use gic_storm::{Storm, fill_fields};
+use gic_storm::fill_fields;
 use gic_sweep::Steps;
 use gic_view::StepView;
 use std::marker::Brand;
 use std::sync::ledger::{Blank, Ledger};
-
-/// The time of a step.
-fn time_of_step(storm: &Storm, number: u32) -> u32
-    requires least { 1 ≤ number }
-    requires most { number ≤ length (steps_in storm.now.rows) }
-    ensures { result ≡ time_of_step storm.now.rows number }
-{
-    match storm.step(number) {
-        [first, ..] => first.time,
-        [] => 0,
-    }
-}
 
 /// Solves the network in the fields from the bases, as `step_from_bases` does, and doesn't count the step of that.
 fn step_uncounted<L: Ledger>(case: &Case, net: &Net, width: u32, room: &mut Room, blank: Blank)

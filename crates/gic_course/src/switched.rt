@@ -1,12 +1,12 @@
 //! The net of a case, with the first rows of its switchings in force.
 ghost use Rattle.std.specs.Prelude.{◌≡◌, ◌≤◌, List, length, IfOk};
 ghost use Rattle.gic_model.specs.declared.parts.Switching as parts;
-ghost use Rattle.gic_net.specs.Net.{net_after};
 ghost use Rattle.gic_course.specs.Switched.{closed_after, StandsThrough, IsSwitchedTo};
 
 use gic_base::OutOfMemory;
 use gic_model::{Elements, Switching};
 use gic_net::Net;
+use gic_stand::switch_all;
 use std::alloc::Global;
 
 /// A net, and how many rows of a list of switchings are in force in it: the first so many.
@@ -14,15 +14,6 @@ use std::alloc::Global;
 pub(crate) struct SwitchedNet {
     pub(crate) net: Net,
     through: u32,
-}
-
-/// Opens and closes items, row by row.
-fn switch_all(net: &mut Net, rows: &[Switching])
-    ensures { net.new ≡ net_after net.old rows.entry.now }
-{
-    for row in rows {
-        net.switch(row.item, row.opens);
-    }
 }
 
 /// Closes each item that the rows name.

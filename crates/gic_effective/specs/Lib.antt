@@ -1,6 +1,7 @@
 pub mod ViewLengths
 pub mod Ohm
 pub mod Weighted
+pub mod Threshold
 pub mod WeightedPair
 pub mod Narrow
 pub mod Holds

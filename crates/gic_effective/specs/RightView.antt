@@ -8,9 +8,9 @@ use Rattle.gic_model.specs.Solution.{Solution, IsSolution}
 use Rattle.gic_model.specs.Sums.{Placed}
 use Rattle.gic_view.specs.View.{View, node_at, element_at, effective_at}
 use Rattle.gic_winding.specs.ElementList.{elements_of}
-use Rattle.gic_winding.specs.Weights.{transformer_at, windings_at}
+use Rattle.gic_winding.specs.Weights.{windings_at}
 use Rattle.gic_effective.specs.ViewLengths.{HasViewLengths}
-use Rattle.gic_effective.specs.Weighted.{effective_numerator}
+use Rattle.gic_effective.specs.Weighted.{effective_numerator, effective_denominator}
 
 -- none exactly where the node is dead, and else one that holds its potential in mV in every solution
 abbrev pub IsRightNode : List Placed → (ℕ → ℤ) → ℕ → Option Ends → Type 0
@@ -31,7 +31,7 @@ HasNoStandingWinding case standing t = All (λ winding. IsFalse (is_standing sta
 -- one that holds the transformer's signed effective current in mA per phase in every solution, and 0 alone where none of its windings stands
 pub record IsRightEffective (case : Lists) (standing : List Placed) (volts : ℕ → ℤ) (t : ℕ) (ends : Ends) : Type 0 where
   pub holds : (s : Solution) → IsSolution standing volts s →
-      Encloses ends.low ends.high (effective_numerator case s t) (3000000 * (transformer_at case t).high_volts * s.denominator)
+      Encloses ends.low ends.high (effective_numerator case s t) (effective_denominator case t s)
   pub nought : HasNoStandingWinding case standing t → ends ≡ no_ends
 
 -- the view has a place for each node, element and transformer of the case, and what stands there is right for these standing elements and voltages

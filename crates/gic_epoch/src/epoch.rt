@@ -37,8 +37,8 @@ fn through_at(rows: &[Switching], least: u32, time: u32) -> u32
     count
 }
 
-/// The time of a step.
-fn time_of_step(storm: &Storm, number: u32) -> u32
+/// The time of a step of a storm, in seconds. The number is one of the storm's steps, which begin at 1.
+pub fn time_of_step(storm: &Storm, number: u32) -> u32
     requires least { 1 ≤ number }
     requires most { number ≤ length (steps_in storm.now.rows) }
     ensures { result ≡ time_of_step storm.now.rows number }

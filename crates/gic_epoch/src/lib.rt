@@ -3,4 +3,4 @@
 
 mod epoch;
 
-pub use epoch::{Epoch, epochs};
+pub use epoch::{Epoch, epochs, time_of_step};

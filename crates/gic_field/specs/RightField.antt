@@ -1,23 +1,23 @@
 -- What a report of one field has to say.
-use Rattle.std.specs.Prelude.{◌≡◌, ℕ, ◌*◌, ◌<◌, ◌≤◌, List, length, ℤ, pos, ◌<ℤ◌, ◌≤ℤ◌, unsigned_abs}
+use Rattle.std.specs.Prelude.{◌≡◌, ℕ, ◌<◌, List, length, ℤ}
 use Rattle.gic_case.specs.Lists.{Lists}
 use Rattle.gic_fixed.specs.Encloses.{EnclosesAbsolute}
 use Rattle.gic_model.specs.Solution.{Solution, IsSolution}
 use Rattle.gic_model.specs.Sums.{Placed}
 use Rattle.gic_view.specs.View.{View, effective_at}
-use Rattle.gic_fixed.specs.Ends.{Ends}
-use Rattle.gic_effective.specs.Weighted.{effective_numerator}
+use Rattle.gic_effective.specs.Weighted.{effective_numerator, effective_denominator}
 use Rattle.gic_effective.specs.RightView.{IsRightView}
 use Rattle.gic_effective.specs.Narrow.{IsAtMostWide, IsNarrowView}
+use Rattle.gic_effective.specs.Threshold.{IsAtLeast, IsUnder}
 use Rattle.gic_screen.specs.Event.{threshold_of}
 use Rattle.gic_screen.specs.declared.criterion.Verdict.TheVariants.{Below, Reaches, Undecided}
 use Rattle.gic_text.specs.Lines.{lines_text}
-use Rattle.gic_report.specs.VerdictText.{absolute_ends, verdict_at}
+use Rattle.gic_report.specs.VerdictText.{IsAcross, verdict_at}
+use Rattle.gic_view.specs.Absolute.{absolute_ends}
 use Rattle.gic_field.specs.FieldText.{field_report}
 use Rattle.gic_question.specs.declared.asked.Question.{Question}
 use Rattle.gic_stand.specs.declared.inputs.Inputs.{Inputs}
 use Rattle.gic_stand.specs.Standing.{standing_of}
-use Rattle.gic_uniform.specs.Denominator.{effective_denominator}
 use Rattle.gic_uniform.specs.Uniform.{uniform_volts}
 
 -- the voltages in nanovolts of the field that is asked for, in the elements of the case, by their places
@@ -33,22 +33,6 @@ pub record AreRightAbsolutes (case : Lists) (standing : List Placed) (volts : �
   pub hold : (t : ℕ) → t < length case.transformers → (s : Solution) → IsSolution standing volts s →
       EnclosesAbsolute (absolute_ends (effective_at view t)).low (absolute_ends (effective_at view t)).high (effective_numerator case s t) (effective_denominator case t s)
   pub narrow : (t : ℕ) → t < length case.transformers → IsAtMostWide width (absolute_ends (effective_at view t)).low (absolute_ends (effective_at view t)).high
-
--- a threshold in mA per phase over the same denominator
-abbrev pub threshold_numerator : Lists → (threshold t : ℕ) → Solution → ℕ
-threshold_numerator case threshold t s = threshold * effective_denominator case t s
-
--- the transformer's absolute effective current in this solution is under the threshold
-abbrev pub IsUnder : Lists → (threshold t : ℕ) → Solution → Type 0
-IsUnder case threshold t s = unsigned_abs (effective_numerator case s t) < threshold_numerator case threshold t s
-
--- it is the threshold or more
-abbrev pub IsAtLeast : Lists → (threshold t : ℕ) → Solution → Type 0
-IsAtLeast case threshold t s = threshold_numerator case threshold t s ≤ unsigned_abs (effective_numerator case s t)
-
--- the interval begins under the threshold, and doesn't end under it
-abbrev pub IsAcross : (threshold : ℕ) → Ends → Type 0
-IsAcross threshold ends = (ends.low <ℤ pos threshold) × (pos threshold ≤ℤ ends.high)
 
 -- what the verdicts of a view say of the transformers is true of every solution
 pub record AreTrueVerdicts (case : Lists) (standing : List Placed) (volts : ℕ → ℤ) (threshold : ℕ) (view : View) : Type 0 where

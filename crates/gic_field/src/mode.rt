@@ -7,13 +7,13 @@ ghost use Rattle.gic_model.specs.Voltages.{number_at};
 ghost use Rattle.gic_net.specs.Net.{standing};
 ghost use Rattle.gic_winding.specs.ElementList.{elements_of};
 ghost use Rattle.gic_effective.specs.ViewLengths.{HasViewLengths};
-ghost use Rattle.gic_report.specs.Fits.{HasAbsolute};
+ghost use Rattle.gic_view.specs.Absolute.{HasAbsolute};
 ghost use Rattle.gic_question.specs.Ranges.{IsWithinRanges};
 ghost use Rattle.gic_stand.specs.Needs.{Solved};
 ghost use Rattle.gic_stand.specs.Serves.{Serves, shown};
 ghost use Rattle.gic_stand.specs.Standing.{steps_of};
 ghost use Rattle.gic_stand.specs.declared.fault.ReportFault.TheVariants.{Memory};
-ghost use Rattle.gic_uniform.specs.Solving.{IsRoomFor};
+ghost use Rattle.gic_uniform.specs.Ready.{IsRoomFor};
 ghost use Rattle.gic_field.specs.RightField.{field_text, ShowsRightView, IsRightField};
 
 use crate::text::{Setting, write_field};

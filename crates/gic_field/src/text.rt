@@ -4,7 +4,7 @@ ghost use Rattle.std.specs.Io.KnownBytes.{Appends};
 ghost use Rattle.gic_base.specs.Causes.{HasCause};
 ghost use Rattle.gic_base.specs.Pieces.{AppendsPart};
 ghost use Rattle.gic_text.specs.Lines.{line_text, lines_text};
-ghost use Rattle.gic_report.specs.Fits.{HasAbsolute};
+ghost use Rattle.gic_view.specs.Absolute.{HasAbsolute};
 ghost use Rattle.gic_report.specs.ItemText.{signed_lines};
 ghost use Rattle.gic_report.specs.VerdictText.{transformer_lines};
 ghost use Rattle.gic_field.specs.FieldText.{setting_line, field_report};

@@ -32,12 +32,8 @@ impl Scratch {
     pub fn new(alloc: Global, nodes: u16) -> Result<Scratch, OutOfMemory>
         ensures { IfOk result (λ scratch. scratch ≡ record { nodes = nodes; reached = [] }) }
     {
-        let Ok(marks) = vec![in alloc; false; nodes as usize] else {
-            return Err(OutOfMemory);
-        };
-        let Ok(queue) = vec![in alloc; 0; nodes as usize] else {
-            return Err(OutOfMemory);
-        };
+        let marks = vec![in alloc; false; nodes as usize]?;
+        let queue = vec![in alloc; 0; nodes as usize]?;
         Ok(Scratch {
             marks,
             queue,

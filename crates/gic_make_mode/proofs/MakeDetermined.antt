@@ -5,13 +5,13 @@ use Rattle.std.specs.List.{AllByRecursion}
 use Rattle.gic_text.specs.Words.{IsWord, IsLine}
 use Rattle.gic_text.proofs.Injective.{lines_injective}
 use Rattle.gic_text.proofs.Words.{word_from_test, word_decimal}
-use Rattle.gic_report.specs.Counts.{counts_words}
+use Rattle.gic_report.specs.Counts.{counts_words, AreCounts}
 use Rattle.gic_report.specs.SharedLines.{Words}
 use Rattle.gic_report.proofs.ViewDetermined.{same_natural}
 use Rattle.gic_report.specs.declared.counts.Counts.{Counts}
 use Rattle.gic_make_mode.specs.declared.text.Summary.{Summary}
 use Rattle.gic_make_mode.specs.MakeText.{make_report}
-use Rattle.gic_make_mode.specs.Determines.{AreCountsInRange, AreShown, TextDeterminesMake}
+use Rattle.gic_make_mode.specs.Determines.{AreShown, TextDeterminesMake}
 
 -- the line at a place of a report, and the word at a place of a line
 abbrev line_at : List Words → ℕ → Words
@@ -27,7 +27,7 @@ same_small : (m n : ℕ) → m < 2 ^ 16 → n < 2 ^ 16 → decimal m ≡ decimal
 same_small m n h k e = same_natural m n (omega (arith, h)) (omega (arith, k)) e
 
 -- the words of the counts are a line, and determine them
-counts_are_words : (counts : Counts) → AreCountsInRange counts → IsLine (counts_words counts)
+counts_are_words : (counts : Counts) → AreCounts counts → IsLine (counts_words counts)
 unfolding counts_words
 counts_are_words counts fit = (
   word_from_test (codes "below") refl,
@@ -52,7 +52,7 @@ counts_are_words counts fit = (
 abbrev counts_with : ℕ → ℕ → ℕ → ℕ → Counts
 counts_with a b c d = record { below = a; reaches = b; undecided = c; outside = d }
 
-same_counts : (counts other : Counts) → AreCountsInRange counts → AreCountsInRange other → counts_words counts ≡ counts_words other → counts ≡ other
+same_counts : (counts other : Counts) → AreCounts counts → AreCounts other → counts_words counts ≡ counts_words other → counts ≡ other
 unfolding counts_words
 same_counts counts other fit fit' e =
     let below = same_small counts.below other.below fit.below_fits fit'.below_fits (ap (λ ws. word_at ws 1) e) in

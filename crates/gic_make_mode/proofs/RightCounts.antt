@@ -1,28 +1,27 @@
 -- The counts of the verdicts of a solved view are right.
-use Rattle.std.proofs.Common.{◌≡◌, ◌∙◌, ℕ, ◌+◌, ◌*◌, ◌<◌, ◌≤◌, Bool, true, not, cond, List, length, ℤ, pos, ◌-ℤ◌, ◌<ℤ◌, ◌≤ℤ◌, unsigned_abs, refl, sym, subst, arith}
+use Rattle.std.proofs.Common.{◌≡◌, ◌∙◌, ℕ, ◌+◌, ◌<◌, ◌≤◌, Bool, true, not, cond, List, length, ℤ, pos, ◌-ℤ◌, ◌<ℤ◌, ◌≤ℤ◌, unsigned_abs, refl, sym, subst, arith}
 use Rattle.std.specs.Prelude.{nat_lt, nat_le}
 use Rattle.std.proofs.lemmas.Bool.{and_parts, and_from}
 use Rattle.std.proofs.lemmas.Bool.Decides.{nat_tests}
 use Rattle.std.proofs.lemmas.Int.{ints, clamps}
-use Rattle.std.proofs.lemmas.List.Elements.{All-get_or}
 use Rattle.gic_case.specs.Lists.{Lists}
-use Rattle.gic_case.specs.Sound.{IsSound, IsSoundTransformer}
+use Rattle.gic_case.specs.Sound.{IsSound}
 use Rattle.gic_fixed.specs.Encloses.{EnclosesAbsolute}
 use Rattle.gic_fixed.specs.Rounding.{least_abs, greatest_abs}
-use Rattle.gic_fixed.proofs.Divisions.{positive_product}
 use Rattle.gic_fixed.proofs.Enclosures.{Encloses-abs}
 use Rattle.gic_model.specs.Solution.{Solution, IsSolution}
 use Rattle.gic_model.specs.Sums.{Placed}
-use Rattle.gic_effective.specs.Weighted.{effective_numerator}
-use Rattle.gic_report.specs.VerdictText.{absolute_ends, earthed_high, verdict_at}
+use Rattle.gic_effective.specs.Weighted.{effective_numerator, effective_denominator}
+use Rattle.gic_report.specs.VerdictText.{earthed_high, verdict_at}
+use Rattle.gic_view.specs.Absolute.{absolute_ends}
 use Rattle.gic_report.proofs.CountedVerdicts.{total_at}
 use Rattle.gic_screen.specs.declared.criterion.Verdict.{Verdict}
 use Rattle.gic_screen.specs.declared.criterion.Verdict.TheVariants.{Below, Reaches, Undecided, Outside}
 use Rattle.gic_screen.specs.VerdictLaws.{BelowIsUnder, ReachesIsAtLeast}
 use Rattle.gic_view.specs.View.{View, effective_at}
-use Rattle.gic_winding.specs.Weights.{transformer_at, no_transformer}
-use Rattle.gic_uniform.specs.Denominator.{effective_denominator}
+use Rattle.gic_winding.specs.Weights.{transformer_at}
 use Rattle.gic_uniform.specs.Solving.{IsSolvedView}
+use Rattle.gic_uniform.proofs.Denominators.{some_denominator}
 use Rattle.gic_report.specs.declared.counts.Counts.{Counts}
 use Rattle.gic_make_mode.specs.declared.solving.TheConstants.{WIDTH}
 use Rattle.gic_report.specs.Counts.{counted, counts_of}
@@ -30,12 +29,6 @@ use Rattle.gic_make_mode.specs.Counting.{verdicts_of}
 use Rattle.gic_make_mode.specs.RightMake.{benchmark_threshold, surely_below, surely_reached, is_judged, is_under, is_at_least, TellOf, AreRightCounts}
 use Rattle.gic_make_mode.proofs.Verdicts.{is_below, is_reaching, is_outside, is_below_so, is_reaching_so, low_under, high_over, says_below, says_reaches, below_judged, reaches_judged, outside_is}
 use Rattle.gic_make_mode.proofs.Counted.{count_le, counted_at}
-
--- the denominator of a transformer's effective current is above 0
-some_denominator : (case : Lists) (t : ℕ) (s : Solution) → IsSound case → t < length case.transformers → 0 < s.denominator → 0 < effective_denominator case t s
-some_denominator case t s sound within some =
-    let rated : IsSoundTransformer case (transformer_at case t) = All-get_or (IsSoundTransformer case) case.transformers t no_transformer within sound.transformers_sound in
-    positive_product (3000000 * (transformer_at case t).high_volts) s.denominator (omega (arith, rated.rated.0)) some
 
 -- the absolute values of the numbers between two ends are no further apart than the ends
 absolute_narrow : (lo hi : ℤ) (width : ℕ) → (hi -ℤ lo) ≤ℤ pos width → (greatest_abs lo hi -ℤ least_abs lo hi) ≤ℤ pos width

@@ -1,24 +1,17 @@
 -- That the text of the mode determines what it shows.
 use Rattle.std.specs.Prelude.{◌≡◌, ℕ, ◌<◌, ◌^◌}
-use Rattle.gic_report.specs.declared.counts.Counts.{Counts}
+use Rattle.gic_report.specs.Counts.{AreCounts}
 use Rattle.gic_make_mode.specs.declared.text.Summary.{Summary}
 use Rattle.gic_make_mode.specs.MakeText.{make_text}
 
--- each count is a number of its type
-pub record AreCountsInRange (counts : Counts) : Type 0 where
-  pub below_fits : counts.below < 2 ^ 16
-  pub reaches_fits : counts.reaches < 2 ^ 16
-  pub undecided_fits : counts.undecided < 2 ^ 16
-  pub outside_fits : counts.outside < 2 ^ 16
-
--- so is each number of a report
+-- each number of a report is one of its type
 pub record AreShown (seed size : ℕ) (shown : Summary) : Type 0 where
   pub seed_fits : seed < 2 ^ 32
   pub size_fits : size < 2 ^ 16
   pub nodes_fit : shown.nodes < 2 ^ 16
   pub elements_fit : shown.elements < 2 ^ 16
   pub walk_fits : shown.walk < 2 ^ 16
-  pub counts_fit : AreCountsInRange shown.counts
+  pub counts_fit : AreCounts shown.counts
 
 -- all that is printed is equal
 pub record ShowsSame (seed size : ℕ) (shown : Summary) (seed' size' : ℕ) (shown' : Summary) : Type 0 where

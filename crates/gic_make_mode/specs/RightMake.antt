@@ -7,13 +7,12 @@ use Rattle.gic_model.specs.Solution.{Solution, IsSolution}
 use Rattle.gic_model.specs.Sums.{Placed}
 use Rattle.gic_winding.specs.ElementList.{elements_of}
 use Rattle.gic_winding.specs.Weights.{transformer_at}
-use Rattle.gic_effective.specs.Weighted.{effective_numerator}
+use Rattle.gic_effective.specs.Weighted.{effective_numerator, effective_denominator}
 use Rattle.gic_screen.specs.declared.event.Event.TheVariants.{Benchmark}
 use Rattle.gic_screen.specs.Event.{threshold_of, field_of}
 use Rattle.gic_screen.specs.Verdict.{is_assessed}
 use Rattle.gic_report.specs.VerdictText.{earthed_high}
 use Rattle.gic_stand.specs.Standing.{standing_of}
-use Rattle.gic_uniform.specs.Denominator.{effective_denominator}
 use Rattle.gic_uniform.specs.Uniform.{uniform_volts}
 use Rattle.gic_make.specs.Made.{made_case}
 use Rattle.gic_report.specs.declared.counts.Counts.{Counts}

@@ -3,7 +3,7 @@ use Rattle.std.specs.Prelude.{◌≡◌, length}
 use Rattle.gic_case.specs.Lists.{Lists}
 use Rattle.gic_effective.specs.ViewLengths.{HasViewLengths}
 use Rattle.gic_winding.specs.ElementList.{elements_of}
-use Rattle.gic_uniform.specs.Solving.{IsRoomFor}
+use Rattle.gic_uniform.specs.Ready.{IsRoomFor}
 use Rattle.gic_make_mode.specs.declared.solving.SummaryRoom.{SummaryRoom}
 
 -- there is room for each node, element and transformer of the case

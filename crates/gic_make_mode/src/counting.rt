@@ -1,7 +1,7 @@
 //! The verdicts on the transformers of a case, counted.
 ghost use Rattle.std.specs.Prelude.{◌≡◌, length, All};
 ghost use Rattle.gic_fixed.specs.Ends.{ends_of};
-ghost use Rattle.gic_report.specs.Fits.{HasAbsolute};
+ghost use Rattle.gic_view.specs.Absolute.{HasAbsolute};
 ghost use Rattle.gic_report.specs.VerdictText.{verdict_on};
 ghost use Rattle.gic_report.specs.Counts.{counts_of};
 ghost use Rattle.gic_make_mode.specs.Counting.{verdicts_of};

@@ -4,7 +4,7 @@ ghost use Rattle.gic_model.specs.Voltages.{number_at};
 ghost use Rattle.gic_net.specs.Net.{standing};
 ghost use Rattle.gic_winding.specs.ElementList.{elements_of};
 ghost use Rattle.gic_stand.specs.Standing.{IsSolvable};
-ghost use Rattle.gic_uniform.specs.Solving.{IsRoomFor, IsReadyFor};
+ghost use Rattle.gic_uniform.specs.Ready.{IsRoomFor, IsReadyFor};
 ghost use Rattle.gic_make_mode.specs.RightMake.{IsWalk, IsRightSummary};
 ghost use Rattle.gic_make_mode.specs.Solving.{IsSummaryRoomFor};
 

@@ -14,9 +14,8 @@ use Rattle.gic_model.specs.Sums.{Placed}
 use Rattle.gic_exists.specs.Exists.{AnyTwoAgree, Agree}
 use Rattle.gic_winding.specs.ElementList.{elements_of}
 use Rattle.gic_winding.specs.Weights.{transformer_at, weighted_windings}
-use Rattle.gic_effective.specs.Weighted.{effective_numerator}
+use Rattle.gic_effective.specs.Weighted.{effective_numerator, effective_denominator}
 use Rattle.gic_screen.specs.Worst.{square_of}
-use Rattle.gic_uniform.specs.Denominator.{effective_denominator}
 use Rattle.gic_uniform.specs.Uniform.{uniform_volts}
 use Rattle.gic_orientation.specs.Orientation.{AreSolutions, north_current, east_current, current_squared, worst_squared}
 use Rattle.gic_orientation.proofs.Fields.{volts_combined}

@@ -8,10 +8,9 @@ use Rattle.gic_model.specs.Solution.{Solution, IsSolution}
 use Rattle.gic_model.specs.Standing.{standing_elements}
 use Rattle.gic_model.specs.Sums.{Placed}
 use Rattle.gic_winding.specs.ElementList.{elements_of}
-use Rattle.gic_effective.specs.Weighted.{effective_numerator}
+use Rattle.gic_effective.specs.Weighted.{effective_numerator, effective_denominator}
 use Rattle.gic_screen.specs.Worst.{square_of}
 use Rattle.gic_screen.specs.VerdictLaws.{worst_square}
-use Rattle.gic_uniform.specs.Denominator.{effective_denominator}
 use Rattle.gic_uniform.specs.Uniform.{uniform_volts}
 
 -- solutions of one network of a case: in a field of this strength to the north, in the same field to the east, and in the field (north, east)

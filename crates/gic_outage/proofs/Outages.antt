@@ -15,7 +15,8 @@ use Rattle.gic_model.proofs.Members.{placed, any_of_each, weaker, for_each}
 use Rattle.gic_net.specs.Switched.{Items, has_element}
 use Rattle.gic_net.specs.Net.{NetView, stands, standing, element_of, no_element, switched_net}
 use Rattle.gic_net.proofs.Switched.{one_row}
-use Rattle.gic_outage.specs.Removing.{is_idle, others, net_without, opening}
+use Rattle.gic_outage.specs.Removing.{is_idle, others, opening}
+use Rattle.gic_outage.specs.NetWithout.{net_without}
 
 no_way : {C : Type 0} → true ≡ false → C
 no_way e = absurd (grind (arith, e))

@@ -6,7 +6,8 @@ use Rattle.gic_model.specs.Network.{Network}
 use Rattle.gic_model.specs.Standing.{standing_elements, stands_after}
 use Rattle.gic_net.specs.Switched.{has_element}
 use Rattle.gic_net.specs.Net.{NetView, stands, standing, switched_net}
-use Rattle.gic_outage.specs.Removing.{is_idle, others, net_without, opening}
+use Rattle.gic_outage.specs.Removing.{is_idle, others, opening}
+use Rattle.gic_outage.specs.NetWithout.{net_without}
 
 -- an item is idle exactly where it has no element or is open
 abbrev pub IdleWhereNotStanding : Type 0

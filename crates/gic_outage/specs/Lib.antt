@@ -1,4 +1,5 @@
 pub mod Plan
 pub mod Removing
+pub mod NetWithout
 pub mod State
 pub mod Laws

@@ -1,11 +1,10 @@
--- A network, and the one without an item.
+-- Items of a network, and the row that opens one.
 use Rattle.std.specs.Prelude.{Bool, true, not, List}
 use Rattle.std.specs.List.{filter, list_any}
 use Rattle.gic_model.specs.declared.parts.Item.{Item}
 use Rattle.gic_model.specs.declared.parts.Switching.{Switching}
 use Rattle.gic_model.specs.Standing.{is_item}
 use Rattle.gic_model.specs.Sums.{Placed}
-use Rattle.gic_net.specs.Net.{NetView, switched_net}
 
 -- no element of the item stands
 abbrev pub is_idle : List Placed → Item → Bool
@@ -14,10 +13,6 @@ is_idle standing item = not (list_any (λ p. is_item p.1.item item) standing)
 -- the elements of other items
 abbrev pub others : Item → List Placed → List Placed
 others item elements = filter (λ p. not (is_item p.1.item item)) elements
-
--- the net with this item open as well
-abbrev pub net_without : NetView → Item → NetView
-net_without net item = switched_net net item true
 
 -- the row of a switching list that opens an item
 abbrev pub opening : Item → Switching

@@ -3,7 +3,8 @@ ghost use Rattle.std.specs.Prelude.{◌≡◌, ◌<◌, not, length, true, false
 ghost use Rattle.gic_model.specs.Standing.{is_item};
 ghost use Rattle.gic_net.specs.Switched.{has_element};
 ghost use Rattle.gic_net.specs.Net.{NetView, stands, standing, element_of, switched_net};
-ghost use Rattle.gic_outage.specs.Removing.{is_idle, others, net_without};
+ghost use Rattle.gic_outage.specs.Removing.{is_idle, others};
+ghost use Rattle.gic_outage.specs.NetWithout.{net_without};
 
 use gic_base::ElementId;
 use gic_model::Item;

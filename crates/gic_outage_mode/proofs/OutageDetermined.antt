@@ -17,7 +17,7 @@ use Rattle.gic_report.specs.SharedLines.{Words, word_line}
 use Rattle.gic_report.specs.VerdictText.{verdict_word}
 use Rattle.gic_report.specs.Fits.{AreInRange, HasNames}
 use Rattle.gic_report.specs.declared.counts.Counts.{Counts}
-use Rattle.gic_report.specs.Counts.{counts_words}
+use Rattle.gic_report.specs.Counts.{counts_words, AreCounts}
 use Rattle.gic_report.proofs.CaseNames.{line_names, transformer_names}
 use Rattle.gic_report.proofs.ListParts.{all_append}
 use Rattle.gic_report.proofs.ViewDetermined.{CellInRange, ends_words, same_ends, same_natural}
@@ -27,7 +27,7 @@ use Rattle.gic_winding.specs.ElementList.{item_name}
 use Rattle.gic_outage_mode.specs.declared.outcome.Outcome.{Outcome}
 use Rattle.gic_outage_mode.specs.declared.outcome.Outcome.TheVariants.{Idle, Unearthed, Unresolved, Solved}
 use Rattle.gic_outage_mode.specs.OutageText.{greatest_line, outage_report, outcome_line, outcome_lines, outcome_words, plan_names, transformer_line, transformer_lines}
-use Rattle.gic_outage_mode.specs.Determines.{AreCounts, IsShownOutcome, TextDeterminesOutage}
+use Rattle.gic_outage_mode.specs.Determines.{IsShownOutcome, TextDeterminesOutage}
 use Rattle.gic_outage_mode.proofs.PlanNames as plan
 
 -- the word at a place of a line, and the first line

@@ -11,7 +11,7 @@ use Rattle.std.proofs.lemmas.List.FromFn.{length-map-range_with_len, get_or-map-
 use Rattle.std.proofs.lemmas.Option.{slice_get-get_or, get_or_from_slice_get}
 use Rattle.gic_case.specs.Lists.{Lists}
 use Rattle.gic_effective.specs.Narrow.{IsNoWider}
-use Rattle.gic_effective.specs.Weighted.{effective_numerator}
+use Rattle.gic_effective.specs.Weighted.{effective_numerator, effective_denominator}
 use Rattle.gic_fixed.specs.Ends.{Ends, no_ends}
 use Rattle.gic_model.specs.declared.parts.Item.{Item}
 use Rattle.gic_model.specs.declared.parts.Item.TheVariants.{Line}
@@ -27,7 +27,6 @@ use Rattle.gic_screen.specs.VerdictLaws.{UndecidedIsAcross}
 use Rattle.gic_screening.specs.RightRows.{IsRightWorst, IsTrueVerdict, IsWorstUnder, worst_verdict_at}
 use Rattle.gic_stand.specs.declared.inputs.Inputs.{Inputs}
 use Rattle.gic_stand.specs.Standing.{IsSolvable, IsNameOfUnearthed, IsNameOfUnresolved}
-use Rattle.gic_uniform.specs.Denominator.{effective_denominator}
 use Rattle.gic_winding.specs.Weights.{transformer_at}
 use Rattle.gic_outage_mode.specs.declared.outcome.Outcome.{Outcome}
 use Rattle.gic_outage_mode.specs.declared.outcome.Outcome.TheVariants.{Idle, Unearthed, Unresolved, Solved}

@@ -7,17 +7,10 @@ use Rattle.gic_outage.specs.Plan.{plan_of}
 use Rattle.gic_text.specs.Lines.{lines_text}
 use Rattle.gic_text.specs.Words.{IsWord}
 use Rattle.gic_report.specs.Fits.{AreInRange, HasNames}
-use Rattle.gic_report.specs.declared.counts.Counts.{Counts}
+use Rattle.gic_report.specs.Counts.{AreCounts}
 use Rattle.gic_outage_mode.specs.declared.outcome.Outcome.{Outcome}
 use Rattle.gic_outage_mode.specs.declared.outcome.Outcome.TheVariants.{Idle, Unearthed, Unresolved, Solved}
 use Rattle.gic_outage_mode.specs.OutageText.{outage_report}
-
--- each count is a number of 16 bits
-pub record AreCounts (counts : Counts) : Type 0 where
-  pub below_fits : counts.below < 2 ^ 16
-  pub reaches_fits : counts.reaches < 2 ^ 16
-  pub undecided_fits : counts.undecided < 2 ^ 16
-  pub outside_fits : counts.outside < 2 ^ 16
 
 -- a node that is named has a name, and each count is a number
 abbrev pub IsShownOutcome : Outcome → Type 0

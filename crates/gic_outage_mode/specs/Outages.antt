@@ -4,10 +4,9 @@ use Rattle.gic_case.specs.Lists.{Lists}
 use Rattle.gic_fixed.specs.Ends.{Ends, no_ends}
 use Rattle.gic_model.specs.declared.parts.Item.{Item}
 use Rattle.gic_model.specs.declared.parts.Item.TheVariants.{Line}
-use Rattle.gic_model.specs.Standing.{standing_elements, stands_after}
 use Rattle.gic_model.specs.Sums.{Placed}
 use Rattle.gic_peaks.specs.Peaks.{greater}
-use Rattle.gic_winding.specs.ElementList.{elements_of}
+use Rattle.gic_winding.specs.InForce.{standing_in}
 use Rattle.gic_outage.specs.Plan.{plan_of}
 use Rattle.gic_outage.specs.Removing.{opening}
 use Rattle.gic_stand.specs.declared.inputs.Inputs.{Inputs}
@@ -17,7 +16,7 @@ use Rattle.gic_outage_mode.specs.declared.outcome.Outcome.TheVariants.{Idle}
 
 -- the elements that stand without an item: with all switchings in force, and then the item opened
 abbrev pub standing_without : Inputs → Item → List Placed
-standing_without inputs item = standing_elements (elements_of inputs.case) (stands_after (rows_in inputs.switchings ++ opening item ∷ []))
+standing_without inputs item = standing_in inputs.case (rows_in inputs.switchings ++ opening item ∷ [])
 
 -- how the outage of an item ends, and the worst intervals of the transformers meanwhile, which there are only where the network is solved
 pub record Outage : Type 0 where

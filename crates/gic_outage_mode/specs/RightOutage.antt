@@ -17,9 +17,10 @@ use Rattle.gic_report.specs.declared.counts.Counts.{Counts}
 use Rattle.gic_report.specs.Counts.{counts_of}
 use Rattle.gic_stand.specs.declared.inputs.Inputs.{Inputs}
 use Rattle.gic_stand.specs.Standing.{standing_of, IsSolvable, IsNameOfUnearthed, IsNameOfUnresolved}
-use Rattle.gic_uniform.specs.Denominator.{effective_denominator}
+use Rattle.gic_effective.specs.Weighted.{effective_denominator}
 use Rattle.gic_uniform.specs.Uniform.{uniform_volts}
-use Rattle.gic_screening.specs.RightRows.{AreSolutionsOf, IsRightWorst, IsTrueVerdict, IsWorstUnder, IsWorstAtLeast, IsAcross, squared_worst, worst_verdict_at}
+use Rattle.gic_screening.specs.RightRows.{AreSolutionsOf, IsRightWorst, IsTrueVerdict, IsWorstUnder, IsWorstAtLeast, squared_worst, worst_verdict_at}
+use Rattle.gic_report.specs.VerdictText.{IsAcross}
 use Rattle.gic_outage_mode.specs.declared.outcome.Outcome.{Outcome}
 use Rattle.gic_outage_mode.specs.declared.outcome.Outcome.TheVariants.{Idle, Unearthed, Unresolved, Solved}
 use Rattle.gic_outage_mode.specs.Outages.{Outage, standing_without, item_at, outage_at, worst_at, worsts_of, greatest_of}

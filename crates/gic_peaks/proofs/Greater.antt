@@ -6,7 +6,8 @@ use Rattle.std.specs.Int.{int_max}
 use Rattle.gic_fixed.specs.Ends.{Ends, no_ends}
 use Rattle.gic_fixed.specs.Rounding.{least_abs, greatest_abs}
 use Rattle.gic_view.specs.View.{View}
-use Rattle.gic_peaks.specs.Peaks.{absolute_ends, greater_ends, greater, peak_of}
+use Rattle.gic_peaks.specs.Peaks.{greater_ends, greater, peak_of}
+use Rattle.gic_view.specs.Absolute.{absolute_ends}
 
 max_assoc : (a b c : ℤ) → int_max (int_max a b) c ≡ int_max a (int_max b c)
 max_assoc a b c = omega (arith, ints, clamps)

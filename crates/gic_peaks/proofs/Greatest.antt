@@ -9,7 +9,8 @@ use Rattle.gic_fixed.specs.Rounding.{least_abs, greatest_abs}
 use Rattle.gic_fixed.proofs.Enclosures.{Encloses-abs, ≤ℤ-times}
 use Rattle.gic_fixed.proofs.Integers.{linear}
 use Rattle.gic_view.specs.View.{View, effective_at}
-use Rattle.gic_peaks.specs.Peaks.{absolute_ends, greater_ends, greater, peak_of, shown_of_transformer, IsPeaksOf}
+use Rattle.gic_peaks.specs.Peaks.{greater_ends, greater, peak_of, shown_of_transformer, IsPeaksOf}
+use Rattle.gic_view.specs.Absolute.{absolute_ends}
 use Rattle.gic_peaks.specs.PeakLaws.{cell_at, AreEnclosed, EnclosesGreatest, IsNoWiderThan}
 use Rattle.gic_peaks.proofs.Greater.{least_not_negative, same_ends}
 

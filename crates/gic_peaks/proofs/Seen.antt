@@ -3,7 +3,8 @@ use Rattle.std.proofs.Common.{◌≡◌, ℕ, ◌<◌, List, [], ◌∷◌, ◌+
 use Rattle.std.proofs.lemmas.List.Elements.{All-push, All-weaker}
 use Rattle.gic_fixed.specs.Ends.{Ends, no_ends}
 use Rattle.gic_view.specs.View.{View, node_at, element_at, effective_at}
-use Rattle.gic_peaks.specs.Peaks.{absolute_ends, greater, greater_ends, peak_of, shown_of_transformer, HasLengthsOf, IsPeaksOf}
+use Rattle.gic_peaks.specs.Peaks.{greater, greater_ends, peak_of, shown_of_transformer, HasLengthsOf, IsPeaksOf}
+use Rattle.gic_view.specs.Absolute.{absolute_ends}
 use Rattle.gic_peaks.proofs.Greater.{peak-push_shown, unwrapped}
 
 -- what a view adds to each list of peaks

@@ -3,7 +3,8 @@ use Rattle.std.specs.Prelude.{◌≡◌, ℕ, ◌*◌, ◌<◌, ◌≤◌, List,
 use Rattle.gic_fixed.specs.Encloses.{Encloses}
 use Rattle.gic_fixed.specs.Ends.{Ends}
 use Rattle.gic_view.specs.View.{View, effective_at}
-use Rattle.gic_peaks.specs.Peaks.{absolute_ends, peak_of, shown_of_transformer, IsPeaksOf}
+use Rattle.gic_peaks.specs.Peaks.{peak_of, shown_of_transformer, IsPeaksOf}
+use Rattle.gic_view.specs.Absolute.{absolute_ends}
 
 -- the interval that the view at this place shows
 abbrev pub cell_at : List (Option Ends) → ℕ → Option Ends

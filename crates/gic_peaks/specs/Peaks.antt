@@ -1,13 +1,9 @@
 -- The peak of intervals, and the peaks of views.
-use Rattle.std.specs.Prelude.{◌≡◌, ℕ, ◌<◌, List, [], ◌∷◌, map, length, All, Option, Some, None, IfSome, option_map, unwrap_or, neg_ℤ, FitsSigned}
-use Rattle.std.specs.Int.{w128, int_max}
+use Rattle.std.specs.Prelude.{◌≡◌, ℕ, ◌<◌, List, [], ◌∷◌, map, length, All, Option, Some, None, IfSome, option_map, unwrap_or}
+use Rattle.std.specs.Int.{int_max}
 use Rattle.gic_fixed.specs.Ends.{Ends, no_ends}
-use Rattle.gic_fixed.specs.Rounding.{least_abs, greatest_abs}
 use Rattle.gic_view.specs.View.{View, node_at, element_at, effective_at}
-
--- the absolute interval: that of the absolute values of the numbers from the low to the high end
-abbrev pub absolute_ends : Ends → Ends
-absolute_ends e = record { low = least_abs e.low e.high; high = greatest_abs e.low e.high }
+use Rattle.gic_view.specs.Absolute.{absolute_ends, HasAbsolute}
 
 -- the greater low end and the greater high end
 abbrev pub greater_ends : Ends → Ends → Ends
@@ -48,11 +44,7 @@ pub record IsPeaksOf (views : List View) (peaks : View) : Type 0 where
   pub elements : (place : ℕ) → place < length peaks.elements → element_at peaks place ≡ peak_of (shown_at_element views place)
   pub transformers : (t : ℕ) → t < length peaks.effective → effective_at peaks t ≡ unwrap_or (peak_of (shown_of_transformer views t)) no_ends
 
--- the interval has an absolute value of 128 bits: it doesn't begin at -2^127
-abbrev pub HasAbsolute : Ends → Type 0
-HasAbsolute e = FitsSigned w128 (neg_ℤ e.low)
-
--- so for each interval of a view
+-- each interval of a view has an absolute one of 128 bits
 pub record HasAbsolutes (view : View) : Type 0 where
   pub nodes : All (λ cell. IfSome cell HasAbsolute) view.nodes
   pub elements : All (λ cell. IfSome cell HasAbsolute) view.elements

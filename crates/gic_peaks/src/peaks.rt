@@ -3,7 +3,8 @@ ghost use Rattle.std.specs.Prelude.{◌≡◌, ℕ, ◌<◌, length, option_map,
 ghost use Rattle.gic_fixed.specs.Ends.{ends_of};
 ghost use Rattle.gic_view.specs.View.{node_at, element_at, effective_at};
 ghost use Rattle.gic_view.specs.Kept.{optional_ends};
-ghost use Rattle.gic_peaks.specs.Peaks.{absolute_ends, greater, greater_ends, HasAbsolute};
+ghost use Rattle.gic_peaks.specs.Peaks.{greater, greater_ends};
+ghost use Rattle.gic_view.specs.Absolute.{absolute_ends, HasAbsolute};
 
 use gic_base::{ElementId, NodeId, OutOfMemory};
 use gic_fixed::Interval;

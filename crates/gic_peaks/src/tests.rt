@@ -2,7 +2,8 @@
 ghost use Rattle.std.specs.Prelude.{◌≡◌, [], ◌∷◌, IfOk, IfSome};
 ghost use Rattle.gic_fixed.specs.Ends.{ends_of};
 ghost use Rattle.gic_view.specs.Kept.{blank_view, optional_ends};
-ghost use Rattle.gic_peaks.specs.Peaks.{HasAbsolute, HasLengthsOf};
+ghost use Rattle.gic_peaks.specs.Peaks.{HasLengthsOf};
+ghost use Rattle.gic_view.specs.Absolute.{HasAbsolute};
 
 use crate::Peaks;
 use gic_base::{ElementId, NodeId, OutOfMemory};

@@ -5,7 +5,7 @@ use Rattle.gic_text.specs.Lines.{line_text, lines_text}
 use Rattle.gic_case.specs.declared.item.Transformer.{Transformer}
 use Rattle.gic_report.specs.SharedLines.{Words}
 use Rattle.gic_report.specs.Cells.{first_ends}
-use Rattle.gic_report.specs.Fits.{HasAbsolute}
+use Rattle.gic_view.specs.Absolute.{HasAbsolute}
 use Rattle.gic_report.specs.ItemText.{per_transformer}
 
 -- what is left begins with the line of the next

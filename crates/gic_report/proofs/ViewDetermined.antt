@@ -16,7 +16,8 @@ use Rattle.gic_report.specs.SharedLines.{Words}
 use Rattle.gic_report.specs.declared.rows.ItemRow.{ItemRow}
 use Rattle.gic_report.specs.Fits.{AreInRange}
 use Rattle.gic_report.specs.ItemText.{cell_words, effective_line, effective_lines, left_behind, node_line, node_lines, row_lines, row_words, shown_words}
-use Rattle.gic_report.specs.VerdictText.{absolute_ends, judged_line, transformer_lines, verdict_on, verdict_word}
+use Rattle.gic_report.specs.VerdictText.{judged_line, transformer_lines, verdict_on, verdict_word}
+use Rattle.gic_view.specs.Absolute.{absolute_ends}
 use Rattle.gic_report.proofs.ListParts.{all_append}
 use Rattle.gic_report.proofs.RowCounts.{HasLine, shown, shows}
 

@@ -1,5 +1,5 @@
 -- Verdicts, counted, and their words.
-use Rattle.std.specs.Prelude.{ℕ, ◌+◌, List, [], ◌∷◌, codes, decimal}
+use Rattle.std.specs.Prelude.{ℕ, ◌+◌, ◌^◌, ◌<◌, List, [], ◌∷◌, codes, decimal}
 use Rattle.std.specs.List.{fold}
 use Rattle.gic_screen.specs.declared.criterion.Verdict.{Verdict}
 use Rattle.gic_screen.specs.declared.criterion.Verdict.TheVariants.{Below, Reaches, Undecided, Outside}
@@ -24,6 +24,13 @@ counts_of verdicts = fold counted no_counts verdicts
 -- how many have been counted
 abbrev pub total_of : Counts → ℕ
 total_of counts = counts.below + counts.reaches + counts.undecided + counts.outside
+
+-- each count is a number of 16 bits
+pub record AreCounts (counts : Counts) : Type 0 where
+  pub below_fits : counts.below < 2 ^ 16
+  pub reaches_fits : counts.reaches < 2 ^ 16
+  pub undecided_fits : counts.undecided < 2 ^ 16
+  pub outside_fits : counts.outside < 2 ^ 16
 
 -- how many there are of each, in words
 unfoldable pub counts_words : Counts → Words

@@ -1,15 +1,11 @@
 -- What a case and a view that a report shows keep.
-use Rattle.std.specs.Prelude.{IfSome, IsTrue, All, FitsSigned, neg_ℤ}
+use Rattle.std.specs.Prelude.{IfSome, IsTrue, All, FitsSigned}
 use Rattle.std.specs.Int.{w128}
 use Rattle.gic_base.specs.Name.{is_name}
 use Rattle.gic_view.specs.View.{View}
 use Rattle.gic_fixed.specs.Ends.{Ends}
 use Rattle.gic_case.specs.Lists.{Lists}
 use Rattle.gic_case.specs.Sound.{names_of}
-
--- the interval has an absolute value of 128 bits: it doesn't begin at -2^127
-abbrev pub HasAbsolute : Ends → Type 0
-HasAbsolute e = FitsSigned w128 (neg_ℤ e.low)
 
 -- the ends are numbers of 128 bits
 pub record AreInRange (e : Ends) : Type 0 where

@@ -1,8 +1,8 @@
 -- The verdicts on the transformers of a view, and their lines.
-use Rattle.std.specs.Prelude.{◌≡◌, ◌<◌, length, slice_index_or, ℕ, Bool, List, [], ◌∷◌, codes}
+use Rattle.std.specs.Prelude.{◌≡◌, ◌<◌, length, slice_index_or, ℕ, Bool, List, [], ◌∷◌, codes, pos, ◌<ℤ◌, ◌≤ℤ◌}
 use Rattle.std.specs.Fmt.{signed_decimal}
-use Rattle.gic_fixed.specs.Rounding.{least_abs, greatest_abs}
 use Rattle.gic_view.specs.View.{View, effective_at}
+use Rattle.gic_view.specs.Absolute.{absolute_ends}
 use Rattle.gic_fixed.specs.Ends.{Ends}
 use Rattle.gic_case.specs.declared.item.Kind.{Kind}
 use Rattle.gic_case.specs.declared.item.Transformer.{Transformer}
@@ -18,9 +18,9 @@ use Rattle.gic_report.specs.ItemText.{per_transformer}
 abbrev pub earthed_high : Kind → Bool
 earthed_high kind = has_windings kind
 
--- the absolute values of the numbers from the low to the high end
-abbrev pub absolute_ends : Ends → Ends
-absolute_ends e = record { low = least_abs e.low e.high; high = greatest_abs e.low e.high }
+-- the interval lies across a threshold in mA: it begins under it, and doesn't end under it
+abbrev pub IsAcross : (threshold : ℕ) → Ends → Type 0
+IsAcross threshold ends = (ends.low <ℤ pos threshold) × (pos threshold ≤ℤ ends.high)
 
 -- the verdict on a transformer whose signed effective current is in this interval, against a threshold in mA
 abbrev pub verdict_on : (threshold : ℕ) → Transformer → Ends → Verdict

@@ -5,7 +5,7 @@ ghost use Rattle.gic_base.specs.Causes.{HasCause};
 ghost use Rattle.gic_base.specs.Pieces.{AppendsPart};
 ghost use Rattle.gic_fixed.specs.Ends.{ends_of};
 ghost use Rattle.gic_text.specs.Lines.{with_word, line_text, lines_text};
-ghost use Rattle.gic_report.specs.Fits.{HasAbsolute};
+ghost use Rattle.gic_view.specs.Absolute.{HasAbsolute};
 ghost use Rattle.gic_report.specs.VerdictText.{earthed_high, verdict_word, judged_line, transformer_line, transformer_lines};
 
 use crate::cells::EffectiveCells;

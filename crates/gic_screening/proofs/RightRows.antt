@@ -10,13 +10,12 @@ use Rattle.gic_view.specs.View.{View, effective_at}
 use Rattle.gic_winding.specs.Weights.{transformer_at}
 use Rattle.gic_effective.specs.Narrow.{IsAtMostWide}
 use Rattle.gic_effective.specs.RightView.{IsRightEffective}
-use Rattle.gic_effective.specs.Weighted.{effective_numerator}
+use Rattle.gic_effective.specs.Weighted.{effective_numerator, effective_denominator}
 use Rattle.gic_screen.specs.declared.event.Event.{Event}
 use Rattle.gic_screen.specs.declared.event.Event.TheVariants.{Benchmark, Supplemental}
 use Rattle.gic_screen.specs.Event.{field_of}
 use Rattle.gic_screen.specs.VerdictLaws.{UndecidedIsAcross, WorstBelowIsUnder, WorstReachesIsAtLeast}
 use Rattle.gic_report.specs.VerdictText.{earthed_high}
-use Rattle.gic_uniform.specs.Denominator.{effective_denominator}
 use Rattle.gic_uniform.specs.Solving.{IsSolvedView}
 use Rattle.gic_uniform.proofs.Denominators.{some_denominator}
 use Rattle.gic_screening.specs.Rows.{Row, row_at, IsRowOf}

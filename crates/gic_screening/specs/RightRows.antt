@@ -1,5 +1,5 @@
 -- What is right of a transformer in two fields of one network, and when a verdict on its worst interval is true.
-use Rattle.std.specs.Prelude.{◌≡◌, ℕ, ◌<◌, ◌≤◌, List, ℤ, pos, ◌<ℤ◌, ◌≤ℤ◌}
+use Rattle.std.specs.Prelude.{◌≡◌, ℕ, ◌<◌, ◌≤◌, List, ℤ, ◌≤ℤ◌}
 use Rattle.gic_case.specs.declared.item.Transformer.{Transformer}
 use Rattle.gic_case.specs.Lists.{Lists}
 use Rattle.gic_fixed.specs.Ends.{Ends}
@@ -8,14 +8,13 @@ use Rattle.gic_model.specs.Sums.{Placed}
 use Rattle.gic_winding.specs.Weights.{transformer_at}
 use Rattle.gic_effective.specs.Narrow.{IsAtMostWide}
 use Rattle.gic_effective.specs.RightView.{IsRightEffective}
-use Rattle.gic_effective.specs.Weighted.{effective_numerator}
+use Rattle.gic_effective.specs.Weighted.{effective_numerator, effective_denominator}
 use Rattle.gic_screen.specs.declared.criterion.Verdict.{Verdict}
 use Rattle.gic_screen.specs.declared.criterion.Verdict.TheVariants.{Below, Reaches, Undecided}
 use Rattle.gic_screen.specs.Verdict.{verdict_of}
 use Rattle.gic_screen.specs.VerdictLaws.{threshold_square, worst_square}
 use Rattle.gic_screen.specs.Worst.{EnclosesWorst}
-use Rattle.gic_report.specs.VerdictText.{earthed_high}
-use Rattle.gic_uniform.specs.Denominator.{effective_denominator}
+use Rattle.gic_report.specs.VerdictText.{IsAcross, earthed_high}
 use Rattle.gic_screening.specs.Rows.{Row}
 
 -- solutions of one network for the voltages of the field to the north and of the field to the east
@@ -62,10 +61,6 @@ worst_verdict threshold t worst = verdict_of worst.low worst.high threshold t.hi
 -- the verdict on the transformer at a place of the case
 abbrev pub worst_verdict_at : Lists → (threshold t : ℕ) → Ends → Verdict
 worst_verdict_at case threshold t worst = worst_verdict threshold (transformer_at case t) worst
-
--- the interval lies across the threshold
-abbrev pub IsAcross : (threshold : ℕ) → Ends → Type 0
-IsAcross threshold worst = (worst.low <ℤ pos threshold) × (pos threshold ≤ℤ worst.high)
 
 -- the verdict on the worst interval is true of every two solutions, and undecided only where it lies across the threshold
 pub record IsTrueVerdict (case : Lists) (standing : List Placed) (north east : ℕ → ℤ) (threshold t : ℕ) (worst : Ends) : Type 0 where

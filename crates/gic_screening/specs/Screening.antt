@@ -7,7 +7,7 @@ use Rattle.gic_model.specs.Sums.{Placed}
 use Rattle.gic_screen.specs.declared.event.Event.{Event}
 use Rattle.gic_screen.specs.Event.{field_of}
 use Rattle.gic_winding.specs.ElementList.{elements_of}
-use Rattle.gic_uniform.specs.Solving.{IsRoomFor}
+use Rattle.gic_uniform.specs.Ready.{IsRoomFor}
 use Rattle.gic_uniform.specs.Uniform.{uniform_field}
 use Rattle.gic_screening.specs.declared.fields.FieldVolts.{FieldVolts}
 use Rattle.gic_screening.specs.declared.screening.ScreenRoom.{ScreenRoom}

@@ -4,10 +4,9 @@ use Rattle.gic_base.specs.declared.limits.TheConstants.{MOST_WALK, FULL_WALK}
 use Rattle.gic_case.specs.Lists.{Lists, node_names}
 use Rattle.gic_model.specs.declared.parts.Switching.{Switching}
 use Rattle.gic_model.specs.Sums.{Placed}
-use Rattle.gic_model.specs.Standing.{standing_elements, stands_after}
 use Rattle.gic_model.specs.Earthing.{AreEarthed, IsFirstUnearthed}
 use Rattle.gic_model.specs.Bound.{IsEarthedWithin, IsLeastCappedVector}
-use Rattle.gic_winding.specs.ElementList.{elements_of}
+use Rattle.gic_winding.specs.InForce.{standing_in}
 use Rattle.gic_stand.specs.declared.inputs.Inputs.{Inputs}
 
 -- the rows of the switchings, none where there are no switchings
@@ -16,7 +15,7 @@ rows_in switchings = unwrap_or switchings []
 
 -- the elements of a case that stand with all its switchings in force
 abbrev pub standing_of : Lists → Option (List Switching) → List Placed
-standing_of case switchings = standing_elements (elements_of case) (stands_after (rows_in switchings))
+standing_of case switchings = standing_in case (rows_in switchings)
 
 -- the elements that stand at each step of a run, in order: a run without a storm has one step, with all switchings in force
 abbrev pub steps_of : Inputs → List (List Placed)

@@ -23,7 +23,7 @@ use gic_switch::Switchings;
 use std::alloc::Global;
 
 /// Opens and closes items, row by row.
-fn switch_all(net: &mut Net, rows: &[Switching])
+pub fn switch_all(net: &mut Net, rows: &[Switching])
     ensures { net.new ≡ net_after net.old rows.entry.now }
 {
     for row in rows {

@@ -7,6 +7,7 @@ use gic_base::NodeId;
 use gic_base::limits::{FULL_WALK, MOST_WALK};
 use gic_bound::BoundVector;
 use gic_net::Net;
+use gic_sweep::conductance;
 use gic_thin::Thinning;
 
 /// To how many bits the real vector is found.
@@ -42,19 +43,8 @@ fn put_conductances(net: &Net, conductances: &mut [i128])
     requires { length conductances.old ≡ net.now.network.nodes }
 {
     for node in 0..net.nodes() {
-        conductances[node as usize] = conductance_at(net, NodeId(node)) as i128;
+        conductances[node as usize] = conductance(net, NodeId(node)) as i128;
     }
-}
-
-/// The conductance of a node: what its standing elements have.
-fn conductance_at(net: &Net, node: NodeId) -> u64
-    requires { node.0 < net.now.network.nodes }
-{
-    let mut sum: u64 = 0;
-    for place in 0..net.degree(node) {
-        sum = sum.saturating_add(net.conductance(net.element_at(node, place)));
-    }
-    sum
 }
 
 /// Puts the multiple of the real entries whose greatest one is aimed at, each rounded up.

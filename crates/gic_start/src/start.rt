@@ -1,6 +1,7 @@
 //! What a search for a bound vector writes to.
 use gic_base::OutOfMemory;
 use gic_bound::Room;
+use gic_sweep::zeros;
 use gic_thin::Thinning;
 use std::alloc::Global;
 use std::marker::Model;
@@ -24,7 +25,7 @@ impl Model for Start {
     ghost invariant = { λ s. (s.thinning ≡ s.room) × (length s.conductances.items ≡ s.room) };
 }
 
-ghost use Rattle.std.specs.Prelude.{◌≡◌, IfOk, replicate, pos};
+ghost use Rattle.std.specs.Prelude.{◌≡◌, IfOk};
 
 impl Drop for Start {
     /// Lets go of everything. Whoever drops a start has this one step, and not one for each part.
@@ -43,7 +44,7 @@ impl Start {
         ensures { IfOk result (λ start. start ≡ nodes) }
     {
         let thinning = Thinning::new(alloc, nodes)?;
-        let conductances = no_conductances(alloc, nodes)?;
+        let conductances = zeros(alloc, nodes)?;
         let room = Room::new(alloc, nodes)?;
         Ok(Start {
             thinning,
@@ -51,12 +52,4 @@ impl Start {
             room,
         })
     }
-}
-
-/// A zero for each of so many nodes.
-fn no_conductances(alloc: Global, nodes: u16) -> Result<Vec<i128>, OutOfMemory>
-    ensures { IfOk result (λ conductances. conductances.items ≡ replicate nodes (pos 0)) }
-{
-    let conductances = vec![in alloc; 0; nodes as usize]?;
-    Ok(conductances)
 }

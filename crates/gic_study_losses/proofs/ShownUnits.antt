@@ -9,8 +9,7 @@ use Rattle.gic_case.specs.Sound.{IsSound}
 use Rattle.gic_model.specs.Solution.{Solution, IsSolution}
 use Rattle.gic_view.specs.View.{View, effective_at}
 use Rattle.gic_view.specs.Kept.{blank_view}
-use Rattle.gic_effective.specs.Weighted.{effective_numerator}
-use Rattle.gic_uniform.specs.Denominator.{effective_denominator}
+use Rattle.gic_effective.specs.Weighted.{effective_numerator, effective_denominator}
 use Rattle.gic_uniform.proofs.Denominators.{some_denominator}
 use Rattle.gic_monitor.specs.RosterView.{RosterView}
 use Rattle.gic_loss.specs.LossText.{most_current}

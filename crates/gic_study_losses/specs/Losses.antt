@@ -4,8 +4,7 @@ use Rattle.gic_case.specs.Lists.{Lists}
 use Rattle.gic_case.specs.Sound.{IsSound}
 use Rattle.gic_model.specs.Solution.{Solution, IsSolution}
 use Rattle.gic_view.specs.View.{View}
-use Rattle.gic_effective.specs.Weighted.{effective_numerator}
-use Rattle.gic_uniform.specs.Denominator.{effective_denominator}
+use Rattle.gic_effective.specs.Weighted.{effective_numerator, effective_denominator}
 use Rattle.gic_monitor.specs.RosterView.{RosterView}
 use Rattle.gic_loss.specs.Bounds.{Currents, numerator_at, ShowsUnits}
 use Rattle.gic_course.specs.declared.inputs.StormInputs.{StormInputs}

@@ -19,11 +19,10 @@ use Rattle.gic_view.specs.Kept.{blank_view}
 use Rattle.gic_winding.specs.ElementList.{elements_of}
 use Rattle.gic_effective.specs.RightView.{IsRightNode, IsRightElement}
 use Rattle.gic_effective.specs.ViewLengths.{HasViewLengths}
-use Rattle.gic_effective.specs.Weighted.{effective_numerator}
+use Rattle.gic_effective.specs.Weighted.{effective_numerator, effective_denominator}
 use Rattle.gic_peaks.specs.Peaks.{peak_of, shown_at_node, shown_at_element, shown_of_transformer, IsPeaksOf}
 use Rattle.gic_peaks.specs.PeakLaws.{cell_at, AreEnclosed, EnclosesGreatest, PeakEnclosesGreatest, TransformerPeakIsPeak}
-use Rattle.gic_report.specs.VerdictText.{absolute_ends}
-use Rattle.gic_uniform.specs.Denominator.{effective_denominator}
+use Rattle.gic_view.specs.Absolute.{absolute_ends}
 use Rattle.gic_course.specs.declared.inputs.StormInputs.{StormInputs}
 use Rattle.gic_course.specs.Steps.{IsStepOf, standing_at_step, storm_volts}
 use Rattle.gic_course.specs.Views.{AreRightViews, view_at}

@@ -11,7 +11,8 @@ use Rattle.gic_view.specs.View.{View, node_at, element_at, effective_at}
 use Rattle.gic_view.specs.Kept.{blank_view}
 use Rattle.gic_effective.specs.Narrow.{IsAtMostWide, IsNoWider, IsNarrowView}
 use Rattle.gic_effective.specs.ViewLengths.{HasViewLengths}
-use Rattle.gic_peaks.specs.Peaks.{absolute_ends, greater, peak_of, HasAbsolute, HasAbsolutes, HasLengthsOf, IsPeaksOf}
+use Rattle.gic_peaks.specs.Peaks.{greater, peak_of, HasAbsolutes, HasLengthsOf, IsPeaksOf}
+use Rattle.gic_view.specs.Absolute.{absolute_ends, HasAbsolute}
 use Rattle.gic_peaks.specs.PeakLaws.{IsNoWiderThan, PeakIsNoWider, PeakIsNotNegative, TransformerPeakIsPeak}
 use Rattle.gic_course.specs.Views.{AreNarrowViews, view_at}
 use Rattle.gic_study_mode.specs.PeakVerdicts.{AreNarrowPeaks}

@@ -13,9 +13,9 @@ use Rattle.gic_model.specs.Standing.{rows_in_force, stands_after}
 use Rattle.gic_storm.specs.Steps.{steps_in, step_at, time_of_step}
 use Rattle.gic_view.specs.View.{View, effective_at}
 use Rattle.gic_winding.specs.ElementList.{elements_of}
-use Rattle.gic_effective.specs.Weighted.{effective_numerator}
+use Rattle.gic_effective.specs.Weighted.{effective_numerator, effective_denominator}
 use Rattle.gic_peaks.specs.PeakLaws.{PeakEnclosesGreatest, TransformerPeakIsPeak, PeakIsNoWider, PeakIsNotNegative}
-use Rattle.gic_peaks.specs.Peaks.{HasAbsolute}
+use Rattle.gic_view.specs.Absolute.{HasAbsolute}
 use Rattle.gic_screen.specs.Event.{threshold_of}
 use Rattle.gic_screen.specs.VerdictLaws.{BelowIsUnder, ReachesIsAtLeast, UndecidedIsAcross}
 use Rattle.gic_stand.specs.Needs.{Need, Solved, IsMet, IsUnmet}
@@ -25,7 +25,6 @@ use Rattle.gic_stand.specs.declared.fault.ReportFault.{ReportFault}
 use Rattle.gic_stand.specs.declared.fault.ReportFault.TheVariants.{Refused, CannotWrite, Memory}
 use Rattle.gic_stand.specs.declared.fault.NetworkRefusal.{NetworkRefusal}
 use Rattle.gic_stand.proofs.Served.{kept_same, answered}
-use Rattle.gic_uniform.specs.Denominator.{effective_denominator}
 use Rattle.gic_monitor.specs.RosterView.{RosterView}
 use Rattle.gic_course.specs.declared.inputs.StormInputs.{StormInputs}
 use Rattle.gic_course.specs.Steps.{IsStormOf, IsStepOf, standing_at_step, storm_volts, storm_fields, storm_steps}
@@ -40,7 +39,8 @@ use Rattle.gic_study_mode.specs.Roster.{roster_of}
 use Rattle.gic_study_mode.specs.Seen.{HasSeen, with_view}
 use Rattle.gic_study_mode.specs.RightStudy.{detail_at, IsRightStudy}
 use Rattle.gic_study_mode.proofs.EnclosedPeaks.{enclosing}
-use Rattle.gic_study_mode.proofs.TrueVerdicts.{some_denominator, true_verdicts}
+use Rattle.gic_study_mode.proofs.TrueVerdicts.{true_verdicts}
+use Rattle.gic_uniform.proofs.Denominators.{some_denominator}
 use Rattle.gic_study_mode.proofs.PeakCells.{narrow_peaks, absolute_peaks}
 
 -- an interval that encloses something begins no higher than it ends

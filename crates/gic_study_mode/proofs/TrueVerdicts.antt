@@ -1,26 +1,18 @@
 -- The verdicts on peaks are true of every choice of solutions, and peaks are narrow.
-use Rattle.std.proofs.Common.{ℕ, ◌*◌, ◌<◌, length, arith}
-use Rattle.std.proofs.lemmas.List.Elements.{All-get_or}
-use Rattle.gic_fixed.proofs.Divisions.{positive_product}
+use Rattle.std.proofs.Common.{ℕ}
 use Rattle.gic_fixed.specs.Ends.{Ends}
-use Rattle.gic_case.specs.Lists.{Lists}
-use Rattle.gic_case.specs.Sound.{IsSound, IsSoundTransformer}
+use Rattle.gic_case.specs.Sound.{IsSound}
 use Rattle.gic_model.specs.Solution.{Solution}
 use Rattle.gic_view.specs.View.{View, effective_at}
-use Rattle.gic_winding.specs.Weights.{transformer_at, no_transformer}
-use Rattle.gic_effective.specs.Weighted.{effective_numerator}
+use Rattle.gic_winding.specs.Weights.{transformer_at}
+use Rattle.gic_effective.specs.Weighted.{effective_numerator, effective_denominator}
 use Rattle.gic_screen.specs.VerdictLaws.{BelowIsUnder, ReachesIsAtLeast, UndecidedIsAcross}
-use Rattle.gic_report.specs.VerdictText.{absolute_ends, earthed_high}
-use Rattle.gic_uniform.specs.Denominator.{effective_denominator}
+use Rattle.gic_report.specs.VerdictText.{earthed_high}
+use Rattle.gic_view.specs.Absolute.{absolute_ends}
+use Rattle.gic_uniform.proofs.Denominators.{some_denominator}
 use Rattle.gic_course.specs.declared.inputs.StormInputs.{StormInputs}
 use Rattle.gic_study_mode.specs.PeakEnclosure.{AreSolutions, AreEnclosing}
 use Rattle.gic_study_mode.specs.PeakVerdicts.{AreTrueVerdicts}
-
--- the denominator of a transformer's effective current is above 0
-pub some_denominator : (case : Lists) (t : ℕ) (s : Solution) → IsSound case → t < length case.transformers → 0 < s.denominator → 0 < effective_denominator case t s
-some_denominator case t s sound within some =
-    let rated : IsSoundTransformer case (transformer_at case t) = All-get_or (IsSoundTransformer case) case.transformers t no_transformer within sound.transformers_sound in
-    positive_product (3000000 * (transformer_at case t).high_volts) s.denominator (omega (arith, rated.rated.0)) some
 
 pub true_verdicts : BelowIsUnder → ReachesIsAtLeast → UndecidedIsAcross → (inputs : StormInputs) (threshold : ℕ) (peaks : View) → IsSound inputs.inputs.case
     → ((solutions : ℕ → Solution) → AreSolutions inputs solutions → AreEnclosing inputs peaks solutions)

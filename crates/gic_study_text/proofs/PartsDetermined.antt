@@ -16,7 +16,8 @@ use Rattle.gic_report.specs.SharedLines.{Words}
 use Rattle.gic_report.specs.declared.rows.ItemRow.{ItemRow}
 use Rattle.gic_report.specs.Fits.{AreInRange, HasNames}
 use Rattle.gic_report.specs.ItemText.{left_behind, node_lines, per_transformer, row_lines}
-use Rattle.gic_report.specs.VerdictText.{absolute_ends, judged_line, transformer_line, transformer_lines}
+use Rattle.gic_report.specs.VerdictText.{judged_line, transformer_line, transformer_lines}
+use Rattle.gic_view.specs.Absolute.{absolute_ends}
 use Rattle.gic_report.proofs.ViewDetermined.{same_ends}
 use Rattle.gic_study_text.specs.StudyText.{zone_line, zone_lines}
 use Rattle.gic_study_text.specs.Determines.{IsAbsolute, IsFieldInRange}

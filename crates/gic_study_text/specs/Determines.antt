@@ -6,7 +6,7 @@ use Rattle.gic_fixed.specs.Ends.{Ends}
 use Rattle.gic_view.specs.View.{View}
 use Rattle.gic_effective.specs.ViewLengths.{HasViewLengths}
 use Rattle.gic_report.specs.Fits.{HasNames, IsViewInRange}
-use Rattle.gic_report.specs.VerdictText.{absolute_ends}
+use Rattle.gic_view.specs.Absolute.{absolute_ends}
 use Rattle.gic_study_text.specs.StudyText.{DetailView, study_text}
 use Rattle.gic_study_text.specs.Given.{HasZonesOf}
 

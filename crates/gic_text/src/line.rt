@@ -31,13 +31,11 @@ impl LineBuilder {
     pub fn new(alloc: Global) -> Result<LineBuilder, OutOfMemory>
         ensures { IfOk result (λ b. b ≡ no_line) }
     {
-        match Vec::with_capacity(alloc, 512) {
-            Ok(bytes) => Ok(LineBuilder {
-                bytes,
-                begun: false,
-            }),
-            Err(_) => Err(OutOfMemory),
-        }
+        let bytes = Vec::with_capacity(alloc, 512)?;
+        Ok(LineBuilder {
+            bytes,
+            begun: false,
+        })
     }
 
     /// Begins a new line, and forgets the old one.

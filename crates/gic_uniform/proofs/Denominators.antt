@@ -6,7 +6,7 @@ use Rattle.gic_case.specs.Sound.{IsSound, IsSoundTransformer}
 use Rattle.gic_fixed.proofs.Divisions.{positive_product}
 use Rattle.gic_model.specs.Solution.{Solution}
 use Rattle.gic_winding.specs.Weights.{transformer_at, no_transformer}
-use Rattle.gic_uniform.specs.Denominator.{effective_denominator}
+use Rattle.gic_effective.specs.Weighted.{effective_denominator}
 
 -- in a sound case, and where the solution's denominator is
 pub some_denominator : (case : Lists) (t : ℕ) (s : Solution) → IsSound case → t < length case.transformers → 0 < s.denominator → 0 < effective_denominator case t s

@@ -19,9 +19,8 @@ use Rattle.gic_view.specs.View.{View, effective_at}
 use Rattle.gic_winding.specs.Weights.{transformer_at, no_transformer}
 use Rattle.gic_effective.specs.Narrow.{IsNarrowView}
 use Rattle.gic_effective.specs.RightView.{IsRightView}
-use Rattle.gic_effective.specs.Weighted.{effective_numerator}
+use Rattle.gic_effective.specs.Weighted.{effective_numerator, effective_denominator}
 use Rattle.gic_effective.proofs.Weighings.{low_at_most}
-use Rattle.gic_uniform.specs.Denominator.{effective_denominator}
 use Rattle.gic_uniform.proofs.Denominators.{some_denominator}
 use Rattle.gic_uniform.proofs.FewCurrents.{current_few, most_current, numerator_few}
 

@@ -1,3 +1,3 @@
 pub mod Uniform
-pub mod Denominator
+pub mod Ready
 pub mod Solving

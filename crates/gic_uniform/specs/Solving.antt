@@ -1,30 +1,11 @@
--- What a solve needs, and what it leaves.
-use Rattle.std.specs.Prelude.{◌≡◌, ℕ, ◌<◌, ◌^◌, List, length, slice_index, ℤ}
-use Rattle.gic_base.specs.declared.limits.TheConstants.{MOST_WALK}
-use Rattle.gic_bound.specs.Entries.{IsBoundWithin}
+-- What a solve leaves.
+use Rattle.std.specs.Prelude.{ℕ, ◌<◌, ◌^◌, List, length, ℤ}
 use Rattle.gic_case.specs.Lists.{Lists}
 use Rattle.gic_effective.specs.Narrow.{IsNarrowView}
 use Rattle.gic_effective.specs.RightView.{IsRightView}
 use Rattle.gic_fixed.specs.Encloses.{IsWithin}
 use Rattle.gic_model.specs.Sums.{Placed}
-use Rattle.gic_stand.specs.Standing.{IsSolvable}
 use Rattle.gic_view.specs.View.{View, effective_at}
-use Rattle.gic_winding.specs.ElementList.{elements_of}
-use Rattle.gic_uniform.specs.declared.room.Room.{Room}
-
--- there is room for each node of the case
-pub record IsRoomFor (case : Lists) (room : Room) : Type 0 where
-  pub scratch : room.scratch.nodes ≡ (elements_of case).nodes
-  pub vector : length room.vector ≡ (elements_of case).nodes
-  pub start : room.start ≡ (elements_of case).nodes
-  pub solver : length room.solver ≡ (elements_of case).nodes
-  pub potentials : length room.potentials ≡ (elements_of case).nodes
-
--- these standing elements can be solved, and the room has a bound vector of theirs
-pub record IsReadyFor (case : Lists) (standing : List Placed) (room : Room) : Type 0 where
-  pub has_room : IsRoomFor case room
-  pub solvable : IsSolvable standing
-  pub bound : IsBoundWithin standing MOST_WALK (slice_index room.vector)
 
 -- no effective current of the view is beyond 2^52 mA per phase
 abbrev pub IsSmallView : Lists → View → Type 0

@@ -1,7 +1,7 @@
 //! What a solve writes to.
 ghost use Rattle.std.specs.Prelude.{◌≡◌, IfOk};
 ghost use Rattle.gic_winding.specs.ElementList.{elements_of};
-ghost use Rattle.gic_uniform.specs.Solving.{IsRoomFor};
+ghost use Rattle.gic_uniform.specs.Ready.{IsRoomFor};
 
 use gic_base::OutOfMemory;
 use gic_bound::BoundVector;

@@ -10,7 +10,8 @@ ghost use Rattle.gic_enclose.specs.Together.{BelongTogether};
 ghost use Rattle.gic_winding.specs.ElementList.{elements_of};
 ghost use Rattle.gic_effective.specs.ViewLengths.{HasViewLengths};
 ghost use Rattle.gic_stand.specs.Needs.{Solved, Fails};
-ghost use Rattle.gic_uniform.specs.Solving.{IsRoomFor, IsReadyFor, IsSolvedView};
+ghost use Rattle.gic_uniform.specs.Solving.{IsSolvedView};
+ghost use Rattle.gic_uniform.specs.Ready.{IsRoomFor, IsReadyFor};
 
 use crate::room::Room;
 use gic_bound::BoundVector;

@@ -1,4 +1,5 @@
 pub mod ElementList
+pub mod InForce
 pub mod Weights
 pub mod WeightPair
 pub mod Order

@@ -10,7 +10,7 @@ returns-clause-passes c =
     let rows = c.in_default.ensures.none in (
       λ _. record {
         placed = c.requires.nodes;
-        vector = bound_vector net.network.nodes (standing net) (standing_within net.network (stands net) c.within_limits.ensures) c.args.cert.now c.north-written.ensures.written c.requires.nodes rows;
+        vector = bound_vector net.network.nodes (standing net) (standing_within net.network (stands net) c.within_limits.ensures) c.args.cert.now c.within_ranges.ensures c.requires.nodes rows;
         residuals = c.in_default-first_great_residual.ensures.none;
         radii = c.in_default-first_wrong_radius.ensures.none;
       },

@@ -6,7 +6,7 @@ use Rattle.gic_bound.specs.Entries.{IsBoundWithin}
 use Rattle.gic_bases.specs.Bases.{ZoneBases, AreSettledBases}
 use Rattle.gic_view.specs.View.{View}
 use Rattle.gic_effective.specs.Narrow.{IsNarrowView}
-use Rattle.gic_report.specs.Fits.{HasAbsolute}
+use Rattle.gic_view.specs.Absolute.{HasAbsolute}
 use Rattle.gic_course.specs.declared.room.Room.{Room}
 use Rattle.gic_course.proofs.Told.{narrow_told, have_absolutes, fields-count}
 use Rattle.gic_course.proofs.showing.show_step.Goals as goal

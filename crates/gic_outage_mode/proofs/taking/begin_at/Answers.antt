@@ -1,6 +1,6 @@
 use Rattle.std.proofs.Common.{◌∙◌, ap, sym, subst}
 use Rattle.gic_uniform.specs.declared.room.Room.{Room}
-use Rattle.gic_uniform.specs.Solving.{IsRoomFor}
+use Rattle.gic_uniform.specs.Ready.{IsRoomFor}
 use Rattle.gic_outage_mode.proofs.taking.begin_at.Goals as goal
 
 pub returns-clause-proposed : goal.returns-clause-proposed

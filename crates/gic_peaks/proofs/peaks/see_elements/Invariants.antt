@@ -1,6 +1,7 @@
 use Rattle.std.proofs.Common.{◌≡◌, None, length, option_map}
 use Rattle.gic_view.specs.View.{element_at}
-use Rattle.gic_peaks.specs.Peaks.{absolute_ends, greater}
+use Rattle.gic_peaks.specs.Peaks.{greater}
+use Rattle.gic_view.specs.Absolute.{absolute_ends}
 use Rattle.gic_peaks.proofs.Written.{IsWritten}
 use Rattle.gic_peaks.proofs.peaks.see_elements.Given as goal
 

@@ -4,7 +4,8 @@ use Rattle.std.specs.declared.option.Option.{Option}
 use Rattle.gic_fixed.specs.Ends.{Ends}
 use Rattle.gic_view.specs.View.{View, node_at}
 use Rattle.gic_view.specs.Kept.{optional_ends}
-use Rattle.gic_peaks.specs.Peaks.{absolute_ends, greater}
+use Rattle.gic_peaks.specs.Peaks.{greater}
+use Rattle.gic_view.specs.Absolute.{absolute_ends}
 use Rattle.gic_peaks.proofs.Written.{IsWritten, written, nodes_alone}
 use Rattle.gic_peaks.proofs.peaks.see_nodes.Goals as goal
 

@@ -3,7 +3,8 @@ use Rattle.std.proofs.lemmas.Bool.{cases_lt}
 use Rattle.std.proofs.lemmas.List.{length-set}
 use Rattle.gic_fixed.specs.Ends.{Ends, ends_of, no_ends}
 use Rattle.gic_view.specs.View.{View, effective_at}
-use Rattle.gic_peaks.specs.Peaks.{absolute_ends, greater_ends}
+use Rattle.gic_peaks.specs.Peaks.{greater_ends}
+use Rattle.gic_view.specs.Absolute.{absolute_ends}
 use Rattle.gic_peaks.proofs.Written.{IsWritten, written, effective_alone}
 use Rattle.gic_peaks.proofs.peaks.see_transformers.Goals as goal
 

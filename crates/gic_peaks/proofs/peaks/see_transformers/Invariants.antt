@@ -1,7 +1,8 @@
 use Rattle.std.proofs.Common.{◌≡◌, ℕ, ◌<◌, ◌≤ℤ◌, length}
 use Rattle.gic_fixed.specs.Ends.{no_ends}
 use Rattle.gic_view.specs.View.{effective_at}
-use Rattle.gic_peaks.specs.Peaks.{absolute_ends, greater_ends}
+use Rattle.gic_peaks.specs.Peaks.{greater_ends}
+use Rattle.gic_view.specs.Absolute.{absolute_ends}
 use Rattle.gic_peaks.proofs.Written.{IsWritten}
 use Rattle.gic_peaks.proofs.peaks.see_transformers.Given as goal
 

@@ -1,6 +1,6 @@
 use Rattle.std.proofs.Common.{rules, arith, All, get_or, subst, sym, ◌≡◌}
 use Rattle.gic_fixed.specs.Ends.{ends_of}
-use Rattle.gic_report.specs.Fits.{HasAbsolute}
+use Rattle.gic_view.specs.Absolute.{HasAbsolute}
 use Rattle.gic_report.specs.VerdictText.{transformer_line}
 use Rattle.gic_report.proofs.Transformers.{first_absolute, later_absolute, next_transformer}
 use Rattle.gic_report.proofs.Written.{goes_on, same_left, stops}

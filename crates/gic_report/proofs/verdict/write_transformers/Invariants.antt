@@ -1,6 +1,6 @@
 use Rattle.std.proofs.Common.{◌≤◌, All, drop}
 use Rattle.gic_text.specs.Lines.{lines_text}
-use Rattle.gic_report.specs.Fits.{HasAbsolute}
+use Rattle.gic_view.specs.Absolute.{HasAbsolute}
 use Rattle.gic_report.specs.VerdictText.{transformer_lines}
 use Rattle.gic_report.proofs.Written.{Written}
 use Rattle.gic_report.proofs.verdict.write_transformers.Given as goal
