@@ -1,9 +1,7 @@
 //! Peaks worked by hand.
-ghost use Rattle.std.specs.Prelude.{◌≡◌, [], ◌∷◌, IfOk, IfSome};
+ghost use Rattle.std.specs.Prelude.{◌≡◌, [], ◌∷◌, IfOk};
 ghost use Rattle.gic_fixed.specs.Ends.{ends_of};
-ghost use Rattle.gic_view.specs.Kept.{blank_view, optional_ends};
-ghost use Rattle.gic_peaks.specs.Peaks.{HasLengthsOf};
-ghost use Rattle.gic_view.specs.Absolute.{HasAbsolute};
+ghost use Rattle.gic_view.specs.Kept.{optional_ends};
 
 use crate::Peaks;
 use gic_base::{ElementId, NodeId, OutOfMemory};

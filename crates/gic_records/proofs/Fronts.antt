@@ -32,7 +32,7 @@ front_end : (s : State) (n : ℕ) → front_len s n [] ≡ 0
 unfolding front_len
 front_end s n = refl
 
--- the same at a place of a text
+-- at a place of a text: one byte more, where the record goes on
 pub front_at : (s : State) (n i : ℕ) (xs : List ℕ) (p : State × Action) → i < length xs → step default_config s (get_or xs i 0) ≡ p → ends_wide p.1 n ≡ false
     → front_len s n (drop i xs) ≡ front_len p.0 (ended_after p.1 n) (drop (i + 1) xs) + 1
 front_at s n i xs p within e goes = rw (drop-cons xs i 0 within, add-one i) (front_more s n (get_or xs i 0) (drop (suc i) xs) p e goes)

@@ -25,7 +25,7 @@ steps_of inputs = standing_of inputs.case inputs.switchings ∷ []
 abbrev pub IsNameOfUnearthed : Lists → List Placed → (name : List ℕ) → Type 0
 IsNameOfUnearthed case standing name = (k : ℕ) × (IsFirstUnearthed standing k × (name ≡ slice_index_or (node_names case) k []))
 
--- each live node is earthed, and the network is earthed within 4096, `MOST_WALK`: a solve to every width from 5 to 10000 mA is promised
+-- each live node is earthed, and the network is earthed within 4096, `MOST_WALK`: a solve to every width from 5 to 10000 mV or mA is promised
 pub record IsSolvable (standing : List Placed) : Type 0 where
   pub earthed : AreEarthed standing
   pub within : IsEarthedWithin standing MOST_WALK

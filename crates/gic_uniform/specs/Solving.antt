@@ -11,7 +11,7 @@ use Rattle.gic_view.specs.View.{View, effective_at}
 abbrev pub IsSmallView : Lists → View → Type 0
 IsSmallView case view = (t : ℕ) → t < length case.transformers → IsWithin (2 ^ 52) (effective_at view t).low (effective_at view t).high
 
--- each interval of the view holds what it stands for in every solution and is no wider than this, and no effective current is beyond that
+-- each interval of the view holds what it stands for in every solution and is no wider than this, and no effective current is beyond 2^52 mA per phase
 pub record IsSolvedView (case : Lists) (standing : List Placed) (volts : ℕ → ℤ) (width : ℕ) (view : View) : Type 0 where
   pub right : IsRightView case standing volts view
   pub narrow : IsNarrowView case width view

@@ -4,10 +4,10 @@ use Rattle.std.specs.Int.{w128}
 use Rattle.gic_fixed.specs.Ends.{Ends}
 use Rattle.gic_fixed.specs.Rounding.{least_abs, greatest_abs}
 
--- that of the absolute values of the numbers from the low to the high end
+-- the absolute interval: that of the absolute values of the numbers from the low to the high end
 abbrev pub absolute_ends : Ends → Ends
 absolute_ends e = record { low = least_abs e.low e.high; high = greatest_abs e.low e.high }
 
--- it can be told in 128 bits: the interval doesn't begin at -2^127
+-- the interval has an absolute one of 128 bits: it doesn't begin at -2^127
 abbrev pub HasAbsolute : Ends → Type 0
 HasAbsolute e = FitsSigned w128 (neg_ℤ e.low)

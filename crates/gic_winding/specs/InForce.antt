@@ -1,4 +1,4 @@
--- The elements of a case that stand.
+-- What stands of a case.
 use Rattle.std.specs.Prelude.{List}
 use Rattle.gic_case.specs.Lists.{Lists}
 use Rattle.gic_model.specs.declared.parts.Switching.{Switching}
@@ -6,6 +6,6 @@ use Rattle.gic_model.specs.Standing.{standing_elements, stands_after}
 use Rattle.gic_model.specs.Sums.{Placed}
 use Rattle.gic_winding.specs.ElementList.{elements_of}
 
--- with these switchings in force
+-- the elements of a case that stand with these switchings in force
 abbrev pub standing_in : Lists → List Switching → List Placed
 standing_in case rows = standing_elements (elements_of case) (stands_after rows)
