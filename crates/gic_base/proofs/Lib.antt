@@ -1,3 +1,4 @@
 pub mod Padding
 pub mod Parts
 pub mod RefusalLaws
+pub mod Each

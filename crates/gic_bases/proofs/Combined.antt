@@ -8,7 +8,8 @@ use Rattle.gic_model.specs.Standing.{IsLive}
 use Rattle.gic_model.specs.Sums.{Placed}
 use Rattle.gic_model.specs.Guess.{residual, conductance, IsSettled, IsSettledWithin}
 use Rattle.gic_bases.specs.Bases.{sum_below}
-use Rattle.gic_enclose.proofs.LinearResidual.{no_volts, residual_sum, residual_times, residual_same, residual_small}
+use Rattle.gic_model.proofs.LiveGuesses.{residual_same}
+use Rattle.gic_enclose.proofs.LinearResidual.{no_volts, residual_sum, residual_times, residual_small}
 use Rattle.gic_bases.proofs.SumsBelow.{sum_below-within, residual_sum_below}
 
 -- over plain numbers: two products

@@ -12,10 +12,8 @@ mod span;
 mod starting;
 mod vector;
 
-pub use cap::Cap;
 pub use checking::rows_positive;
-pub use lifting::raise_under;
-pub use raising::{Unresolved, bound, bound_from, sink, some_bound};
+pub use raising::{Unresolved, bound, bound_from, some_bound};
 pub use room::Room;
 pub use row::is_row_positive;
 pub use starting::is_start;

@@ -34,7 +34,7 @@ impl BoundVector {
     }
 
     /// No entry is above [`FULL_WALK`].
-    pub fn is_capped(&self)
+    pub(crate) fn is_capped(&self)
         ensures { AreCapped (slice_index self.now) }
     {
         let _ = &self.entries;
@@ -67,7 +67,7 @@ impl BoundVector {
     }
 
     /// Whether the entries are those of another vector.
-    pub fn is_same(&self, other: &BoundVector) -> bool
+    pub(crate) fn is_same(&self, other: &BoundVector) -> bool
         ensures { IsTrue result ↔ (self.now ≡ other.now) }
     {
         self.entries == other.entries

@@ -6,7 +6,7 @@ use Rattle.std.proofs.lemmas.List.Folds.{list_any_more}
 use Rattle.std.specs.List.{list_any}
 use Rattle.std.proofs.lemmas.Cmp.{nat_list_eq_equiv}
 use Rattle.gic_case.specs.Keys.{same}
-use Rattle.gic_case.specs.Names.{is_repeat, place_from, place_in}
+use Rattle.gic_case.specs.Names.{is_repeat, place_from, place_in, or_else}
 use Rattle.gic_case.specs.OneByOne.{first_from, first_repeat}
 
 -- no place below n repeats a name
@@ -40,12 +40,8 @@ seen_more before after names i x h at old new q =
 pub is_repeat-at : (names : List (List ℕ)) (i : ℕ) (x : List ℕ) → i < length names → x ≡ get_or names i x → is_repeat names i ≡ list_any (same x) (take i names)
 is_repeat-at names i x h at = ap (λ y. list_any (same y) (take i names)) (get_or_default names i [] x h ∙ sym at)
 
--- the first of two, where it is there
-abbrev first_of_two : Option ℕ → Option ℕ → Option ℕ
-first_of_two None b = b
-first_of_two (Some n) b = Some n
-
-place_last : (n : ℕ) (xs : List (List ℕ)) (x q : List ℕ) → place_from n (xs ++ x ∷ []) q ≡ first_of_two (place_from n xs q) (cond (same q x) (Some (n + length xs)) None)
+-- one more name behind the others
+pub place_last : (n : ℕ) (xs : List (List ℕ)) (x q : List ℕ) → place_from n (xs ++ x ∷ []) q ≡ or_else (place_from n xs q) (cond (same q x) (Some (n + length xs)) None)
 place_last n [] x q = let zeros : n ≡ n + 0 = omega arith in ap (λ m. cond (same q x) (Some m) None) zeros
 place_last n (y ∷ ys) x q =
     let sums : n + 1 + length ys ≡ n + suc (length ys) = omega arith in
@@ -59,16 +55,16 @@ place_congr n [] x q h = refl
 place_congr n (y ∷ ys) x q h = rw (nat_list_eq_equiv.congr q x y h, place_congr (n + 1) ys x q h)
 
 place_more : (names : List (List ℕ)) (i : ℕ) (x q : List ℕ) → i < length names → x ≡ get_or names i x
-    → place_in (take (i + 1) names) q ≡ first_of_two (place_in (take i names) q) (cond (same q x) (Some i) None)
+    → place_in (take (i + 1) names) q ≡ or_else (place_in (take i names) q) (cond (same q x) (Some i) None)
 place_more names i x q h at =
     let count : length (take i names) ≡ i = length-take-le i names (omega arith) in
     rw (take_more names i x h, ← at, place_last 0 (take i names) x q, count, zero-add)
 
-unchanged : (o : Option ℕ) → o ≡ first_of_two o None
-unchanged None = refl
-unchanged (Some n) = refl
+pub or_none : {A : Type 0} (o : Option A) → o ≡ or_else o None
+or_none None = refl
+or_none (Some x) = refl
 
-stays : (o p : Option ℕ) → is_some o ≡ true → o ≡ first_of_two o p
+stays : (o p : Option ℕ) → is_some o ≡ true → o ≡ or_else o p
 stays None p h = absurd (false≢true h)
 stays (Some n) p h = refl
 
@@ -86,7 +82,7 @@ place_new before after names i x h at old new absent q =
           rw (new q, hit, place_more names i x q h at, none, same_name)
       | inr other ↦
           let miss : same x q ≡ false = nat_list_eq_equiv.symm x q ∙ other in
-          rw (new q, miss, old q, place_more names i x q h at, other) (unchanged (place_in (take i names) q))
+          rw (new q, miss, old q, place_more names i x q h at, other) (or_none (place_in (take i names) q))
     ]
 
 -- a name that is in the map stays where it is
@@ -99,7 +95,7 @@ place_old before names i x h at old there q =
       | inl same_name ↦
           let found : is_some (place_in (take i names) q) ≡ true = ap is_some (place_congr 0 (take i names) x q same_name ∙ sym (old x)) ∙ there in
           rw (old q, place_more names i x q h at) (stays (place_in (take i names) q) _ found)
-      | inr other ↦ rw (old q, place_more names i x q h at, other) (unchanged (place_in (take i names) q))
+      | inr other ↦ rw (old q, place_more names i x q h at, other) (or_none (place_in (take i names) q))
     ]
 
 none_from : (test : ℕ → Bool) (n i : ℕ) → ((k : ℕ) → k < i + n → test k ≡ false) → first_from test n i ≡ None

@@ -62,7 +62,8 @@ rows_kept : (list : Part) (limit : ℕ) (breaks : ℕ → Data → List CaseRefu
     → flat_map (λ p. breaks p.0 p.1) (enumerate_from 1 (entries_of list ms)) ≡ []
 rows_kept list limit breaks ms h = (none_of_both _ _ (none_of_both _ _ h).1).1
 
-place_below : (n : ℕ) (names : List (List ℕ)) (q : List ℕ) → IfSome (place_from n names q) (λ p. p < n + length names)
+-- the place of a name is one of its list
+pub place_below : (n : ℕ) (names : List (List ℕ)) (q : List ℕ) → IfSome (place_from n names q) (λ p. p < n + length names)
 place_below n [] q = tt
 place_below n (x ∷ xs) q =
     elim (cases_Bool (same q x)) [

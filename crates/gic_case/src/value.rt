@@ -3,6 +3,7 @@ ghost use Rattle.std.specs.Prelude.{◌≡◌, ◌≤◌, IfSome, IfOk, OnOk};
 ghost use Rattle.toml.specs.Data.{as_bool};
 ghost use Rattle.toml.specs.View.{view, table_view};
 ghost use Rattle.gic_base.specs.Refusals.{Answers};
+ghost use Rattle.gic_case.specs.declared.refusal.CaseRefusal.TheVariants as refusals;
 ghost use Rattle.gic_case.specs.declared.refusal.CaseRefusal.TheVariants.{Memory};
 ghost use Rattle.gic_case.specs.Values.{natural_within, span_within, read_name};
 ghost use Rattle.gic_case.specs.Rows.{ohm_within, volts_within, metres_within, read_neutral};
@@ -62,6 +63,17 @@ fn read_neutral(value: &Value) -> Option<Neutral>
     }
 }
 
+/// The refusal of a row for the value of a field.
+fn refused(list: Part, row: u32, at: Field) -> CaseRefusal
+    ensures { result ≡ refusals.Value list row at }
+{
+    CaseRefusal::Value {
+        list,
+        row,
+        field: at,
+    }
+}
+
 /// A whole number, within bounds.
 #[tactic(auto, unfolding(crate::specs::Pass::required))]
 pub(crate) fn natural_at(
@@ -75,14 +87,9 @@ pub(crate) fn natural_at(
     ensures value { Answers Memory (λ n. n) result (required (natural_within low high) list row at (table_view table.now)) }
     ensures within { IfOk result (λ n. (low ≤ n) × (n ≤ high)) }
 {
-    let refusal = CaseRefusal::Value {
-        list,
-        row,
-        field: at,
-    };
     match at_key(table, at.key()) {
-        Some(value) => natural_within(low, high, value).ok_or(refusal),
-        None => Err(refusal),
+        Some(value) => natural_within(low, high, value).ok_or(refused(list, row, at)),
+        None => Err(refused(list, row, at)),
     }
 }
 
@@ -111,14 +118,7 @@ pub(crate) fn optional_ohm_at(
     ensures { Answers Memory (λ n. n) result (optional ohm_within list row at (table_view table.now)) }
 {
     match at_key(table, at.key()) {
-        Some(value) => match natural_within(1000, 1000000000, value) {
-            Some(number) => Ok(Some(number)),
-            None => Err(CaseRefusal::Value {
-                list,
-                row,
-                field: at,
-            }),
-        },
+        Some(value) => Ok(Some(natural_within(1000, 1000000000, value).ok_or(refused(list, row, at))?)),
         None => Ok(None),
     }
 }
@@ -128,15 +128,9 @@ pub(crate) fn optional_ohm_at(
 pub(crate) fn metres_at(list: Part, row: u32, at: Field, table: &Table) -> Result<i32, CaseRefusal>
     ensures { Answers Memory (λ n. n) result (required metres_within list row at (table_view table.now)) }
 {
-    let refusal = CaseRefusal::Value {
-        list,
-        row,
-        field: at,
-    };
-    match at_key(table, at.key()) {
-        Some(value) => metres_within(value).ok_or(refusal),
-        None => Err(refusal),
-    }
+    at_key(table, at.key())
+        .and_then(metres_within)
+        .ok_or(refused(list, row, at))
 }
 
 /// A name.
@@ -144,15 +138,9 @@ pub(crate) fn metres_at(list: Part, row: u32, at: Field, table: &Table) -> Resul
 pub(crate) fn name_at(list: Part, row: u32, at: Field, table: &Table) -> Result<Name, CaseRefusal>
     ensures { Answers Memory (λ n. n) result (required read_name list row at (table_view table.now)) }
 {
-    let refusal = CaseRefusal::Value {
-        list,
-        row,
-        field: at,
-    };
-    match at_key(table, at.key()) {
-        Some(value) => read_name(value).ok_or(refusal),
-        None => Err(refusal),
-    }
+    at_key(table, at.key())
+        .and_then(read_name)
+        .ok_or(refused(list, row, at))
 }
 
 /// A flag that may be absent.
@@ -166,14 +154,7 @@ pub(crate) fn optional_flag_at(
     ensures { Answers Memory (λ b. b) result (optional as_bool list row at (table_view table.now)) }
 {
     match at_key(table, at.key()) {
-        Some(value) => match value.as_bool() {
-            Some(flag) => Ok(Some(flag)),
-            None => Err(CaseRefusal::Value {
-                list,
-                row,
-                field: at,
-            }),
-        },
+        Some(value) => Ok(Some(value.as_bool().ok_or(refused(list, row, at))?)),
         None => Ok(None),
     }
 }
@@ -189,14 +170,7 @@ pub(crate) fn optional_neutral_at(
     ensures { Answers Memory (λ n. n) result (optional read_neutral list row at (table_view table.now)) }
 {
     match at_key(table, at.key()) {
-        Some(value) => match read_neutral(value) {
-            Some(neutral) => Ok(Some(neutral)),
-            None => Err(CaseRefusal::Value {
-                list,
-                row,
-                field: at,
-            }),
-        },
+        Some(value) => Ok(Some(read_neutral(value).ok_or(refused(list, row, at))?)),
         None => Ok(None),
     }
 }

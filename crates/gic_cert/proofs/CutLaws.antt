@@ -6,7 +6,7 @@ use Rattle.std.proofs.lemmas.Bool.Decides.{nat_tests}
 use Rattle.std.proofs.lemmas.List.{take_at}
 use Rattle.gic_text.specs.Lines.{lines_text}
 use Rattle.gic_text.specs.Words.{spaced, IsWord, IsLine}
-use Rattle.gic_text.proofs.Injective.{line_text-cons}
+use Rattle.gic_text.proofs.Injective.{NoEnd, no_end_word, no_end_spaced, lines-cons}
 use Rattle.gic_report.specs.SharedLines.{Words}
 use Rattle.gic_cert.specs.declared.limits.TheConstants.{MOST_WORDS}
 use Rattle.gic_cert.specs.declared.refusal.CertRefusal.TheVariants as refusals
@@ -28,26 +28,11 @@ words_more begun (b ∷ w) ws h k =
     ap (λ t. cond t (begun ∷ words_from [] (w ++ spaced ws)) (words_from (begun ++ b ∷ []) (w ++ spaced ws))) (differs b 32 h.0.no_space) ∙
     words_more (begun ++ b ∷ []) w ws h.1 k ∙ ap (λ z. z ∷ ws) (append_assoc begun (b ∷ []) w)
 
--- a text without a line feed
-abbrev NoEnd : List ℕ → Type 0
-NoEnd bs = AllByRecursion (λ b. b ≢ 10) bs
-
-no_end_word : (w rest : List ℕ) → IsWord w → NoEnd rest → NoEnd (w ++ rest)
-no_end_word [] rest h k = k
-no_end_word (b ∷ w) rest h k = (h.0.no_end, no_end_word w rest h.1 k)
-
-no_end_spaced : (ws : List (List ℕ)) → AllByRecursion IsWord ws → NoEnd (spaced ws)
-no_end_spaced [] h = tt
-no_end_spaced (w ∷ ws) h = ((λ e. absurd (let f : 32 ≡ 10 = e in cc)), no_end_word w (spaced ws) h.0 (no_end_spaced ws h.1))
-
 line_more : (begun bs rest : List ℕ) → NoEnd bs → lines_from begun (bs ++ 10 ∷ rest) ≡ words_of (begun ++ bs) ∷ lines_from [] rest
 line_more begun [] rest h = ap (λ z. words_of z ∷ lines_from [] rest) (sym (append-nil begun))
 line_more begun (b ∷ bs) rest h =
     ap (λ t. cond t (words_of begun ∷ lines_from [] (bs ++ 10 ∷ rest)) (lines_from (begun ++ b ∷ []) (bs ++ 10 ∷ rest))) (differs b 10 h.0) ∙
     line_more (begun ++ b ∷ []) bs rest h.1 ∙ ap (λ z. words_of z ∷ lines_from [] rest) (append_assoc begun (b ∷ []) bs)
-
-lines-cons : (w : List ℕ) (ws : List (List ℕ)) (xs : List (List (List ℕ))) → lines_text ((w ∷ ws) ∷ xs) ≡ (w ++ spaced ws) ++ 10 ∷ lines_text xs
-lines-cons w ws xs = ap (λ l. l ++ lines_text xs) (line_text-cons w ws) ∙ append_assoc (w ++ spaced ws) (10 ∷ []) (lines_text xs)
 
 -- a line whose words are all looked at
 abbrev pub IsShort : Words → Type 0

@@ -3,7 +3,6 @@ mod Columns
 mod Conductances
 mod CutLaws
 mod Determined
-mod LiveGuesses
 mod NodesWritten
 mod Numbers
 mod Passing

@@ -2,7 +2,7 @@
 use Rattle.std.proofs.Common.{◌≡◌, ℕ, zero, suc, ◌+◌, ◌<◌, false, List, [], ◌∷◌, ◌++◌, length, map, slice_index_or, None, arith, refl, ap, sym, subst, ◌∙◌}
 use Rattle.std.specs.List.{enumerate_from}
 use Rattle.std.specs.Option.{is_some}
-use Rattle.std.proofs.lemmas.List.{get_or-map}
+use Rattle.std.proofs.lemmas.List.{get_or-map, length-map}
 use Rattle.gic_case.specs.Lists.{Lists, node_names}
 use Rattle.gic_model.specs.Standing.{is_live}
 use Rattle.gic_model.specs.Sums.{Placed}
@@ -13,15 +13,11 @@ use Rattle.gic_cert.specs.Reading.{NamedNode, certificate_nodes}
 use Rattle.gic_cert.specs.Rows.{named}
 use Rattle.gic_cert.proofs.ReadLaws.{lives_named}
 
-count_map : {X Y : Type 0} (f : X → Y) (xs : List X) → length (map f xs) ≡ length xs
-count_map f [] = refl
-count_map f (x ∷ xs) = ap suc (count_map f xs)
-
 pub has_nodes : (nodes : List NamedNode) (standing : List Placed) (c : Certificate) →
     ((k : ℕ) → k < length nodes → slice_index_or (map (λ node. node.1) nodes) k false ≡ is_live standing k) →
     map is_some c.nodes ≡ map (λ node. node.1) nodes → HasNodes (length nodes) standing c
 has_nodes nodes standing c live same =
-    let count : length c.nodes ≡ length nodes = sym (count_map is_some c.nodes) ∙ ap length same ∙ count_map (λ (node : NamedNode). node.1) nodes in
+    let count : length c.nodes ≡ length nodes = sym (length-map c.nodes is_some) ∙ ap length same ∙ length-map nodes (λ (node : NamedNode). node.1) in
     record {
       count = count;
       live = λ k inside. sym (get_or-map is_some c.nodes k None false (omega (arith, inside, count))) ∙ ap (λ list. slice_index_or list k false) same ∙ live k inside;

@@ -1,8 +1,8 @@
 -- A bound vector leads each live node to earth, by nodes with ever smaller entries.
 use Rattle.std.proofs.Common.{◌≡◌, ◌⊎◌, ℕ, zero, suc, ◌*◌, ◌^◌, ◌<◌, Bool, true, false, cond, ◌&&◌, ◌||◌, ◌==◌, List, [], ◌∷◌, length, ℤ, pos, ◌-ℤ◌, ◌*ℤ◌, ◌≤ℤ◌, arith, refl, ap, sym, ◌∙◌, inl, inr, eq-eqb}
 use lib.IntN.{*ℤ-zero}
-use Rattle.std.specs.List.{AllByRecursion, filter, list_any}
-use Rattle.std.proofs.lemmas.Bool.{or_cases, or_left, or_right}
+use Rattle.std.specs.List.{AllByRecursion}
+use Rattle.std.proofs.lemmas.Bool.{or_left, or_right, and_from}
 use Rattle.std.proofs.lemmas.Int.{by_lt_z}
 use Rattle.gic_fixed.proofs.Divisions.{floor_below}
 use Rattle.gic_fixed.proofs.Integers.{linear, *ℤ-≤ℤ, ≤ℤ-from_*ℤ}
@@ -16,14 +16,12 @@ use Rattle.gic_model.specs.Network.{is_node, ends_at}
 use Rattle.gic_model.specs.Standing.{is_live, IsLive, elements_at, other_end, value_at}
 use Rattle.gic_model.specs.Sums.{Placed, sum_of}
 use Rattle.gic_model.proofs.Ends.{some_times}
-use Rattle.gic_model.proofs.Members.{by_any, any_of_each, both, for_each, kept, and_first, and_second}
+use Rattle.gic_model.proofs.Members.{by_any, any_of_each, both, for_each, kept, some_kept}
 use Rattle.gic_model.proofs.Row.{signed}
+use Rattle.gic_model.proofs.Agreement.{joins_end}
 
 no_way : false ≡ true → ⊥
 no_way e = cc
-
-and_true : (a b : Bool) → a ≡ true → b ≡ true → (a && b) ≡ true
-and_true a b h k = ap (λ c. c && b) h ∙ k
 
 -- a sum above 0 has a term that isn't below 0
 some_of_positive : {X : Type 0} (f : X → ℤ) (P : X → Type 0) {C : Type 0} → ((x : X) → P x → pos 0 ≤ℤ f x → C) → (xs : List X) → AllByRecursion P xs → pos 1 ≤ℤ sum_of f xs → C
@@ -36,15 +34,6 @@ some_of : {X : Type 0} (f : X → ℤ) (P : X → Type 0) {C : Type 0} → ((x :
 some_of f P leads [] h many sum = absurd (omega (arith, many))
 some_of f P leads (x ∷ xs) h many sum =
     by_lt_z (f x) (pos 0) (λ below. some_of_positive f P leads xs h.1 (omega (arith, linear))) (λ here. leads x h.0 here)
-
--- a test that some item passes keeps an item
-some_kept : {X : Type 0} (test : X → Bool) (xs : List X) → list_any test xs ≡ true → 0 < length (filter test xs)
-some_kept test [] any = absurd (no_way any)
-some_kept test (x ∷ xs) any = by (some_kept test xs) (test x) any
-  where
-    by : (list_any test xs ≡ true → 0 < length (filter test xs)) → (b : Bool) → (b || list_any test xs) ≡ true → 0 < length (cond b (x ∷ filter test xs) (filter test xs))
-    by later true passes = omega arith
-    by later false passes = later passes
 
 -- the node k leads to earth, or is joined to a node with a smaller entry
 abbrev HasWayDown : List Placed → (ℕ → ℕ) → ℕ → Type 0
@@ -72,16 +61,16 @@ way_over : (standing : List Placed) (v : ℕ → ℕ) (k : ℕ) (e : Element) �
 way_over standing v k e ends leads joined fall = by (e.from.0 == k) refl fall
   where
     at_to : (e.from.0 == k) ≡ true → (t : End) → e.to ≡ t → pos 1 ≤ℤ (pos (v k) -ℤ value_at (signed v) t) → HasWayDown standing v k
-    at_to at_from Earth is less = inl (leads (and_true (e.from.0 == k) (is_earth e.to) at_from (ap is_earth is)))
+    at_to at_from Earth is less = inl (leads (and_from (e.from.0 == k) (is_earth e.to) at_from (ap is_earth is)))
     at_to at_from (Node m) is less =
         let here : is_node e.to m.0 ≡ true = ap (λ t. is_node t m.0) is ∙ eq-eqb m.0 m.0 refl in
-        inr (m.0, (joined m.0 (or_left ((e.from.0 == k) && is_node e.to m.0) ((e.from.0 == m.0) && is_node e.to k) (and_true (e.from.0 == k) (is_node e.to m.0) at_from here)), omega (arith, linear)))
+        inr (m.0, (joined m.0 (or_left ((e.from.0 == k) && is_node e.to m.0) ((e.from.0 == m.0) && is_node e.to k) (and_from (e.from.0 == k) (is_node e.to m.0) at_from here)), omega (arith, linear)))
 
     by : (b : Bool) → (e.from.0 == k) ≡ b → pos 1 ≤ℤ (pos (v k) -ℤ value_at (signed v) (cond b e.to (Node e.from))) → HasWayDown standing v k
     by true is less = at_to is e.to refl less
     by false is less =
         let here : is_node e.to k ≡ true = sym (ap (λ b. b || is_node e.to k) is) ∙ ends in
-        inr (e.from.0, (joined e.from.0 (or_right ((e.from.0 == k) && is_node e.to e.from.0) ((e.from.0 == e.from.0) && is_node e.to k) (and_true (e.from.0 == e.from.0) (is_node e.to k) (eq-eqb e.from.0 e.from.0 refl) here)), omega (arith, linear)))
+        inr (e.from.0, (joined e.from.0 (or_right ((e.from.0 == k) && is_node e.to e.from.0) ((e.from.0 == e.from.0) && is_node e.to k) (and_from (e.from.0 == e.from.0) (is_node e.to k) (eq-eqb e.from.0 e.from.0 refl) here)), omega (arith, linear)))
 
 -- what is known of a standing element at k
 abbrev ShowsWay : ℕ → List Placed → ℕ → Placed → Type 0
@@ -102,13 +91,6 @@ way_down nodes standing v k within live row =
     (elements_at standing k)
     (kept (λ p. ends_at p.1 k) (ShowsWay nodes standing k) (λ p. (ends_at p.1 k ≡ true) × ShowsWay nodes standing k p) (λ p is h. (is, h)) standing (each_shows nodes standing k within))
     (some_kept (λ p. ends_at p.1 k) standing live) row
-
--- an element that joins k and m ends at m
-joins_end : (k m : ℕ) (e : Element) → joins k m e ≡ true → ends_at e m ≡ true
-joins_end k m e h = elim (or_cases ((e.from.0 == k) && is_node e.to m) ((e.from.0 == m) && is_node e.to k) h) [
-  | inl one ↦ or_right (e.from.0 == m) (is_node e.to m) (and_second (e.from.0 == k) (is_node e.to m) one)
-  | inr other ↦ or_left (e.from.0 == m) (is_node e.to m) (and_first (e.from.0 == m) (is_node e.to k) other)
-]
 
 -- so the node that k is joined to is live
 joined_live : (standing : List Placed) (k m : ℕ) → IsJoined standing k m → IsLive standing m

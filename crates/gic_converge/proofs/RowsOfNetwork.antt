@@ -1,5 +1,5 @@
 -- A standing network as rows of conductances.
-use Rattle.std.proofs.Common.{◌≡◌, ℕ, ◌*◌, ◌^◌, ◌<◌, ◌≤◌, Bool, true, false, cond, ◌||◌, ◌==◌, List, [], ◌∷◌, length, map, All, ℤ, pos, ◌*ℤ◌, neg_ℤ, ◌≤ℤ◌, unsigned_abs, arith, refl, ap, sym, subst, ◌∙◌, inl, inr}
+use Rattle.std.proofs.Common.{◌≡◌, ℕ, ◌*◌, ◌^◌, ◌≤◌, Bool, true, false, cond, ◌||◌, ◌==◌, List, [], ◌∷◌, length, map, All, ℤ, pos, ◌*ℤ◌, neg_ℤ, ◌≤ℤ◌, unsigned_abs, arith, refl, ap, sym, subst, ◌∙◌, inl, inr}
 use Rattle.std.proofs.lemmas.Int.{ints}
 use Rattle.std.proofs.lemmas.List.Elements.{All-nil, All-cons}
 use Rattle.std.specs.List.{AllByRecursion, filter, list_any}
@@ -11,25 +11,13 @@ use Rattle.gic_model.specs.Limits.{IsWithinLimits, IsElementWithin, AreVolts}
 use Rattle.gic_model.specs.Standing.{standing_elements, is_live, IsLive, elements_at, other_end, leaving}
 use Rattle.gic_model.specs.Sums.{Placed}
 use Rattle.gic_model.specs.Guess.{residual as residual_of, IsSettledAt}
-use Rattle.gic_model.proofs.Members.{kept}
+use Rattle.gic_model.proofs.Members.{kept, some_kept}
 use Rattle.gic_model.proofs.Ends.{standing_within, IsLiveEnd, others_live, within_at}
 use Rattle.gic_converge.proofs.Links.{Link, IsLiveRow, IsLinkWithin, AreRowsBound, residual, conductance}
 use Rattle.gic_converge.proofs.LinkSweeps.{IsRowSweep, IsRowTarget, AreRowsWithin, IsPushWithin, IsFarLive, most_push}
 use Rattle.gic_sweep.specs.Sweep.{IsSweep, IsTarget}
 use Rattle.gic_bound.specs.Entries.{IsBoundWithin}
 use Rattle.gic_converge.proofs.LinksOfElements.{far_of, link_of, row_of, length_is, denominator_is, diagonal_is, conductance_is, row_sum_is, residual_is}
-
--- what a filter keeps is none exactly where no element passes
-some_kept : {X : Type 0} (test : X → Bool) (xs : List X) → list_any test xs ≡ true → 0 < length (filter test xs)
-some_kept test [] any = absurd (no_way any)
-  where
-    no_way : false ≡ true → ⊥
-    no_way e = cc
-some_kept test (x ∷ xs) any = by (some_kept test xs) (test x) refl
-  where
-    by : (list_any test xs ≡ true → 0 < length (filter test xs)) → (b : Bool) → test x ≡ b → 0 < length (cond b (x ∷ filter test xs) (filter test xs))
-    by later true is = omega arith
-    by later false is = later (sym (ap (λ b. b || list_any test xs) is) ∙ any)
 
 none_kept : {X : Type 0} (test : X → Bool) (xs : List X) → list_any test xs ≡ false → length (filter test xs) ≡ 0
 none_kept test [] any = refl

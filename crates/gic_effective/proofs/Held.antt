@@ -15,11 +15,10 @@ use Rattle.gic_model.specs.Sums.{Placed}
 use Rattle.gic_model.proofs.Members.{any_of_each}
 use Rattle.gic_model.proofs.Ends.{IsLiveEnd, from_own, end_own}
 use Rattle.gic_enclose.specs.Ends.{low_at, high_at}
-use Rattle.gic_fixed.specs.Ends.{Ends}
+use Rattle.gic_fixed.specs.Ends.{Ends, IsAtMostWide}
 use Rattle.gic_enclose.specs.Certain.{AreCertain}
 use Rattle.gic_effective.specs.Holds.{HoldsAt, HoldsSolution, HoldsSolutions}
 use Rattle.gic_effective.specs.Ohm.{drive_of, least_nano, most_nano}
-use Rattle.gic_effective.specs.Narrow.{IsAtMostWide}
 use Rattle.gic_effective.proofs.Currents.{current_holds}
 use Rattle.gic_effective.proofs.Widths.{milli_low, milli_high, same_width}
 

@@ -1,8 +1,9 @@
 -- Line items among the elements are lines of the case.
-use Rattle.std.proofs.Common.{ℕ, ◌<◌, Option, Some, None, List, [], ◌∷◌, length, arith, inl, inr}
+use Rattle.std.proofs.Common.{ℕ, ◌<◌, Option, Some, None, length, arith, inl, inr}
 use Rattle.std.proofs.lemmas.Bool.{cases_Bool}
 use Rattle.std.proofs.lemmas.List.Elements.{All-from_recursion}
 use Rattle.std.specs.List.{All, AllByRecursion, enumerate_from}
+use Rattle.gic_base.proofs.Each.{all_joined, anything}
 use Rattle.gic_case.specs.declared.item.Line.{Line}
 use Rattle.gic_case.specs.declared.item.Kind.{Kind}
 use Rattle.gic_case.specs.declared.item.Kind.TheVariants as kinds
@@ -13,7 +14,7 @@ use Rattle.gic_induce.specs.LineVolts.{IsLineWithin}
 use Rattle.gic_model.specs.declared.parts.Element.{Element}
 use Rattle.gic_winding.specs.ElementList.{earthing_of, line_of, windings_of, resistor_of, elements_of}
 use Rattle.gic_winding.proofs.Parts.{earthing_part, line_part, winding_part, resistor_part}
-use Rattle.gic_winding.proofs.Within.{all_joined, all_of_parts, IsPlaced, all_placed}
+use Rattle.gic_winding.proofs.Within.{all_of_parts, IsPlaced, all_placed}
 
 -- if the element is a line's, the line is one of the case
 abbrev OfLine : Lists → Element → Type 0
@@ -39,10 +40,6 @@ resistor_lines : (c : Lists) (place neutral grid : ℕ) (device : Option Neutral
 resistor_lines c place neutral grid None = tt
 resistor_lines c place neutral grid (Some (devices.Resistor ohm)) = (tt, tt)
 resistor_lines c place neutral grid (Some devices.Blocked) = tt
-
-anything : {X : Type 0} (xs : List X) → AllByRecursion (λ x. Unit {0}) xs
-anything [] = tt
-anything (x ∷ xs) = (tt, anything xs)
 
 pub all_of_lines : (c : Lists) → All (OfLine c) (elements_of c).list
 unfolding elements_of

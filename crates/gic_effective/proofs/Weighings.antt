@@ -12,7 +12,7 @@ use Rattle.gic_case.specs.Lists.{Lists}
 use Rattle.gic_case.specs.Sound.{IsSoundKind}
 use Rattle.gic_fixed.specs.Encloses.{Encloses}
 use Rattle.gic_fixed.specs.Rounding.{floor_div, ceil_div}
-use Rattle.gic_fixed.specs.Ends.{Ends, no_ends}
+use Rattle.gic_fixed.specs.Ends.{Ends, no_ends, IsAtMostWide}
 use Rattle.gic_fixed.proofs.Divisions.{floor_is, ceil_is}
 use Rattle.gic_fixed.proofs.Integers.{linear}
 use Rattle.gic_model.specs.declared.parts.Role.{Role}
@@ -22,7 +22,6 @@ use Rattle.gic_model.specs.Standing.{is_standing}
 use Rattle.gic_model.specs.Sums.{Placed, sum_of}
 use Rattle.gic_winding.specs.Weights.{low_volts_of, weight_of}
 use Rattle.gic_effective.specs.Holds.{HoldsSolution}
-use Rattle.gic_effective.specs.Narrow.{IsAtMostWide}
 use Rattle.gic_effective.specs.Shown.{AreSharp, IsShownWinding}
 use Rattle.gic_effective.specs.WeightedPair.{weighted, weight_in}
 use Rattle.gic_effective.proofs.Currents.{Encloses-same}

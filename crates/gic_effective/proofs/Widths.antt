@@ -4,10 +4,11 @@ use Rattle.std.proofs.lemmas.Int.{ints}
 use Rattle.std.proofs.Math.Nat.{mul-le-mul_left}
 use Rattle.gic_fixed.specs.Rounding.{floor_div, ceil_div}
 use Rattle.gic_fixed.proofs.Integers.{linear, *ℤ-≤ℤ, *ℤ--ℤ, *ℤ_assoc}
+use Rattle.gic_fixed.proofs.Widths.{times_width, wider}
 use Rattle.gic_fixed.proofs.Divisions.{outward_width, floor_below, ceil_above, floor-floor, ceil-ceil, floor-cancel, ceil-cancel}
 use Rattle.gic_base.specs.declared.id.ElementId.{ElementId}
 use Rattle.gic_effective.specs.Ohm.{current_low, current_high}
-use Rattle.gic_effective.specs.Narrow.{IsAtMostWide}
+use Rattle.gic_fixed.specs.Ends.{IsAtMostWide}
 use Rattle.gic_effective.specs.WeightedPair.{weighted, weight_in}
 
 -- an interval is at most as wide as its outward quotient, times the divisor
@@ -18,16 +19,6 @@ inner_width lo hi d k h wide =
     let parts = *ℤ--ℤ (pos d) (ceil_div hi (pos d)) (floor_div lo (pos d)) in
     let times : (pos d *ℤ (ceil_div hi (pos d) -ℤ floor_div lo (pos d))) ≤ℤ pos (d * k) = *ℤ-≤ℤ d _ (pos k) wide in
     omega (arith, linear)
-
--- a product is as much wider
-times_width : (lo hi : ℤ) (c w : ℕ) → IsAtMostWide w lo hi → IsAtMostWide (c * w) (pos c *ℤ lo) (pos c *ℤ hi)
-times_width lo hi c w h =
-    let parts = *ℤ--ℤ (pos c) hi lo in
-    let times : (pos c *ℤ (hi -ℤ lo)) ≤ℤ pos (c * w) = *ℤ-≤ℤ c _ (pos w) h in
-    omega (arith, linear)
-
-wider : (lo hi : ℤ) (a b : ℕ) → a ≤ b → IsAtMostWide a lo hi → IsAtMostWide b lo hi
-wider lo hi a b h k = omega (arith, linear)
 
 -- milliamperes by way of nanoamperes are milliamperes at once
 pub milli_low : (times r : ℕ) (drive : ℤ) → 0 < r → floor_div (current_low times r drive) (pos 1000000) ≡ floor_div (pos times *ℤ drive) (pos (r * 2 ^ 36))

@@ -1,16 +1,12 @@
 -- How wide intervals are.
-use Rattle.std.specs.Prelude.{ℕ, ◌<◌, Option, None, Some, length, ℤ, pos, ◌-ℤ◌, ◌≤ℤ◌}
+use Rattle.std.specs.Prelude.{ℕ, ◌<◌, Option, None, Some, length}
 use Rattle.gic_case.specs.Lists.{Lists, node_names}
 use Rattle.gic_view.specs.View.{View, node_at, element_at, effective_at}
-use Rattle.gic_fixed.specs.Ends.{Ends}
+use Rattle.gic_fixed.specs.Ends.{Ends, IsAtMostWide}
 use Rattle.gic_winding.specs.ElementList.{elements_of}
 use Rattle.gic_effective.specs.ViewLengths.{HasViewLengths}
 
--- the interval from lo to hi is at most this wide
-abbrev pub IsAtMostWide : ℕ → ℤ → ℤ → Type 0
-IsAtMostWide width lo hi = (hi -ℤ lo) ≤ℤ pos width
-
--- the same of an interval that may be missing
+-- an interval that may be missing is at most this wide
 abbrev pub IsNoWider : ℕ → Option Ends → Type 0
 IsNoWider width None = Unit {0}
 IsNoWider width (Some ends) = IsAtMostWide width ends.low ends.high

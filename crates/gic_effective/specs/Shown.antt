@@ -10,9 +10,9 @@ use Rattle.gic_model.specs.Solution.{Solution, IsSolution}
 use Rattle.gic_model.specs.Standing.{is_standing}
 use Rattle.gic_model.specs.Sums.{Placed}
 use Rattle.gic_view.specs.View.{View}
-use Rattle.gic_fixed.specs.Ends.{Ends}
+use Rattle.gic_fixed.specs.Ends.{Ends, IsAtMostWide}
 use Rattle.gic_effective.specs.Holds.{HoldsSolution, HoldsSolutions}
-use Rattle.gic_effective.specs.Narrow.{IsAtMostWide, IsNoWider}
+use Rattle.gic_effective.specs.Narrow.{IsNoWider}
 use Rattle.gic_effective.specs.RightView.{IsRightNode, IsRightElement, IsRightEffective}
 
 -- the potentials are sharp for this width

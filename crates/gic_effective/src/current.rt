@@ -12,7 +12,7 @@ ghost use Rattle.gic_net.specs.Net.{standing, element_of};
 ghost use Rattle.gic_enclose.specs.Ends.{low_at, high_at};
 ghost use Rattle.gic_effective.specs.Holds.{AreOfNetwork, HoldsSolution};
 ghost use Rattle.gic_effective.specs.Ohm.{least_nano, most_nano};
-ghost use Rattle.gic_effective.specs.Narrow.{IsAtMostWide};
+ghost use Rattle.gic_fixed.specs.Ends.{IsAtMostWide};
 
 use crate::ohm::ohms_law;
 use gic_base::ElementId;

@@ -3,7 +3,7 @@ ghost use Rattle.std.specs.Prelude.{◌≡◌, ℕ, ◌+◌, ◌*◌, ◌^◌, �
 ghost use Rattle.gic_fixed.specs.Rounding.{floor_div, ceil_div};
 ghost use Rattle.gic_fixed.specs.Encloses.{Encloses, IsWithin};
 ghost use Rattle.gic_effective.specs.WeightedPair.{weighted, weighted_sum, weight_in};
-ghost use Rattle.gic_effective.specs.Narrow.{IsAtMostWide};
+ghost use Rattle.gic_fixed.specs.Ends.{IsAtMostWide};
 
 use gic_base::ElementId;
 use gic_fixed::Interval;

@@ -19,7 +19,8 @@ use Rattle.gic_model.proofs.Residual.{error}
 use Rattle.gic_model.proofs.Ends.{standing_within}
 use Rattle.gic_model.proofs.Certificate.{error_bound}
 use Rattle.gic_model.proofs.Pushes.{no_guess, no_guess-at, settled_at_0, potentials_bounded}
-use Rattle.gic_enclose.proofs.LinearResidual.{no_volts, residual_sum, residual_same}
+use Rattle.gic_model.proofs.LiveGuesses.{residual_same}
+use Rattle.gic_enclose.proofs.LinearResidual.{no_volts, residual_sum}
 use Rattle.gic_enclose.specs.Laws.{SolutionsAreBelow, SettledGuessesAreBelow}
 
 -- over plain numbers: the limit in grains

@@ -7,14 +7,11 @@ use Rattle.gic_fixed.proofs.Integers.{linear, *ℤ-+ℤ, *ℤ--ℤ, *ℤ-neg_ℤ
 use Rattle.gic_model.specs.declared.parts.End.{End}
 use Rattle.gic_model.specs.declared.parts.End.TheVariants.{Node, Earth}
 use Rattle.gic_model.specs.declared.parts.Element.{Element}
-use Rattle.gic_model.specs.Network.{ends_at}
-use Rattle.gic_model.specs.Standing.{IsLive, is_live, elements_at, value_at, leaving}
+use Rattle.gic_model.specs.Standing.{elements_at, value_at, leaving}
 use Rattle.gic_model.specs.Sums.{Placed}
 use Rattle.gic_model.specs.Guess.{residual, conductance, guessed_current}
-use Rattle.gic_model.proofs.Members.{kept, for_each, any_of_each}
 use Rattle.gic_model.proofs.SumLaws.{sum_over_ohms-same, sum_over_ohms-+ℤ, sum_over_ohms-*ℤ}
 use Rattle.gic_model.proofs.Row.{weight}
-use Rattle.gic_model.proofs.Ends.{IsLiveEnd, end_own, from_own}
 use Rattle.gic_model.proofs.Pushes.{product_within, leaving_within, carried_within}
 
 -- no voltage
@@ -82,26 +79,6 @@ module _ (standing : List Placed) (k : ℕ) where
       each : (ps : List Placed) → AllByRecursion (λ p. leaving k p.1 (guessed_current (λ i. a *ℤ u i) (λ m. a *ℤ x m) p) ≡ a *ℤ leaving k p.1 (guessed_current u x p)) ps
       each [] = tt
       each (p ∷ ps) = (leaving_times k p.1 (guessed_current (λ i. a *ℤ u i) (λ m. a *ℤ x m) p) a (guessed_current u x p) (current_times a u x p), each ps)
-
-  -- guesses that are the same at live nodes have the same residuals
-  pub residual_same : (u v x y : ℕ → ℤ) → ((i : ℕ) → u i ≡ v i) → ((m : ℕ) → IsLive standing m → x m ≡ y m) → residual standing u x k ≡ residual standing v y k
-  residual_same u v x y volts guesses =
-      sum_over_ohms-same (λ p. leaving k p.1 (guessed_current u x p)) (λ p. leaving k p.1 (guessed_current v y p)) (elements_at standing k)
-      (kept (λ p. ends_at p.1 k) (λ p. (m : ℕ) → ends_at p.1 m ≡ true → is_live standing m ≡ true) (λ p. leaving k p.1 (guessed_current u x p) ≡ leaving k p.1 (guessed_current v y p))
-      (λ p is leads. ap (λ z. leaving k p.1 z) (current p leads)) standing
-      (for_each (λ m p. ends_at p.1 m ≡ true → is_live standing m ≡ true) standing (λ m. any_of_each (λ p. ends_at p.1 m) standing)))
-    where
-      there : (t : End) → IsLiveEnd (is_live standing) t → value_at x t ≡ value_at y t
-      there (Node m) live = guesses m.0 live
-      there Earth live = refl
-
-      current : (p : Placed) → ((m : ℕ) → ends_at p.1 m ≡ true → is_live standing m ≡ true) → guessed_current u x p ≡ guessed_current v y p
-      current p leads =
-          let from = guesses p.1.from.0 (from_own p.1 (is_live standing) leads) in
-          let to = there p.1.to (end_own p.1 p.1.to refl (is_live standing) leads) in
-          let push = ap (λ z. pos (2 ^ 36) *ℤ z) (volts p.0) in
-          let inner : x p.1.from.0 -ℤ value_at x p.1.to +ℤ pos (2 ^ 36) *ℤ u p.0 ≡ y p.1.from.0 -ℤ value_at y p.1.to +ℤ pos (2 ^ 36) *ℤ v p.0 = omega (arith, linear) in
-          ap (λ z. weight p *ℤ z) inner
 
   pub residual_nothing : residual standing no_volts no_volts k ≡ pos 0
   residual_nothing =

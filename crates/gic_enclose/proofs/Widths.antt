@@ -1,29 +1,18 @@
 -- How wide outward intervals are.
-use Rattle.std.proofs.Common.{ℕ, ◌*◌, ◌^◌, ◌<◌, ◌≤◌, List, [], ◌∷◌, ℤ, pos, ◌+ℤ◌, ◌-ℤ◌, ◌*ℤ◌, ◌≤ℤ◌, arith, inl, inr}
+use Rattle.std.proofs.Common.{ℕ, ◌*◌, ◌^◌, ◌<◌, ◌≤◌, List, [], ◌∷◌, ℤ, pos, ◌+ℤ◌, ◌-ℤ◌, ◌*ℤ◌, arith, inl, inr}
 use Rattle.std.specs.List.{AllByRecursion}
 use Rattle.std.proofs.lemmas.Int.{ints}
 use Rattle.std.proofs.lemmas.List.Elements.{All-from_recursion}
 use Rattle.gic_fixed.specs.Rounding.{floor_div, ceil_div}
+use Rattle.gic_fixed.specs.Ends.{IsAtMostWide}
 use Rattle.gic_fixed.proofs.Divisions.{outward_width}
+use Rattle.gic_fixed.proofs.Widths.{times_width, wider}
 use Rattle.gic_model.specs.declared.parts.End.{End}
 use Rattle.gic_model.specs.declared.parts.End.TheVariants.{Node, Earth}
 use Rattle.gic_model.specs.Limits.{IsElementWithin}
 use Rattle.gic_model.specs.Standing.{value_at}
 use Rattle.gic_model.specs.Sharp.{IsSharp, least_current, most_current}
 use Rattle.gic_model.specs.Sums.{Placed}
-use Rattle.gic_fixed.proofs.Integers.{linear, *ℤ-≤ℤ, *ℤ--ℤ}
-
-abbrev pub IsAtMostWide : ℕ → ℤ → ℤ → Type 0
-IsAtMostWide width lo hi = (hi -ℤ lo) ≤ℤ pos width
-
-times_width : (lo hi : ℤ) (c w : ℕ) → IsAtMostWide w lo hi → IsAtMostWide (c * w) (pos c *ℤ lo) (pos c *ℤ hi)
-times_width lo hi c w h =
-    let parts = *ℤ--ℤ (pos c) hi lo in
-    let times : (pos c *ℤ (hi -ℤ lo)) ≤ℤ pos (c * w) = *ℤ-≤ℤ c _ (pos w) h in
-    omega (arith, linear)
-
-wider : (lo hi : ℤ) (a b : ℕ) → a ≤ b → IsAtMostWide a lo hi → IsAtMostWide b lo hi
-wider lo hi a b h k = omega (arith, linear)
 
 drive_width : (push flo fhi tlo thi : ℤ) (w : ℕ) → IsAtMostWide w flo fhi → IsAtMostWide w tlo thi → IsAtMostWide (2 * w) (flo -ℤ thi +ℤ push) (fhi -ℤ tlo +ℤ push)
 drive_width push flo fhi tlo thi w h k = omega (arith, ints)

@@ -7,7 +7,8 @@ use Rattle.gic_model.specs.Sums.{Placed}
 use Rattle.gic_view.specs.View.{View, effective_at}
 use Rattle.gic_effective.specs.Weighted.{effective_numerator, effective_denominator}
 use Rattle.gic_effective.specs.RightView.{IsRightView}
-use Rattle.gic_effective.specs.Narrow.{IsAtMostWide, IsNarrowView}
+use Rattle.gic_fixed.specs.Ends.{IsAtMostWide}
+use Rattle.gic_effective.specs.Narrow.{IsNarrowView}
 use Rattle.gic_effective.specs.Threshold.{IsAtLeast, IsUnder}
 use Rattle.gic_screen.specs.Event.{threshold_of}
 use Rattle.gic_screen.specs.declared.criterion.Verdict.TheVariants.{Below, Reaches, Undecided}

@@ -75,7 +75,7 @@ pub floor-floor : (z : ℤ) (a b : ℕ) → floor_div (floor_div z (pos a)) (pos
 floor-floor (pos x) a b = ap pos (div-div-eq-div-mul x a b)
 floor-floor (negsuc x) a b = ap negsuc (div-div-eq-div-mul x a b)
 
-neg-neg : (z : ℤ) → neg_ℤ (neg_ℤ z) ≡ z
+pub neg-neg : (z : ℤ) → neg_ℤ (neg_ℤ z) ≡ z
 neg-neg z = omega (arith, ints)
 
 pub ceil-ceil : (z : ℤ) (a b : ℕ) → ceil_div (ceil_div z (pos a)) (pos b) ≡ ceil_div z (pos (a * b))

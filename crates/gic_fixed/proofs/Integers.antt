@@ -9,10 +9,11 @@ use borrow.Author.Differences.{up, down, same_in, same_out, lt_out, le_out, belo
 -- for `omega`: whole numbers up to sums and differences, where a product is an unknown
 pub ruleset linear = (same_out, same_in, lt_out, le_out, below_in, at_most_in, sum_is_lem, neg_is)
 
-up-*ℤ : (a b : ℤ) → up (a *ℤ b) ≡ up a * up b + down a * down b
+-- the parts of a product above and below 0
+pub up-*ℤ : (a b : ℤ) → up (a *ℤ b) ≡ up a * up b + down a * down b
 up-*ℤ a b = (product_is a b).0
 
-down-*ℤ : (a b : ℤ) → down (a *ℤ b) ≡ up a * down b + down a * up b
+pub down-*ℤ : (a b : ℤ) → down (a *ℤ b) ≡ up a * down b + down a * up b
 down-*ℤ a b = (product_is a b).1
 
 pub *ℤ_assoc : (a b c : ℤ) → (a *ℤ b) *ℤ c ≡ a *ℤ (b *ℤ c)

@@ -3,3 +3,4 @@ pub mod Signs
 pub mod Divisions
 pub mod Enclosures
 pub mod Sums
+pub mod Widths

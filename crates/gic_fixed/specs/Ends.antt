@@ -1,5 +1,5 @@
 -- An interval as its two ends.
-use Rattle.std.specs.Prelude.{ℤ, pos}
+use Rattle.std.specs.Prelude.{ℕ, ℤ, pos, ◌-ℤ◌, ◌≤ℤ◌}
 use Rattle.gic_fixed.specs.declared.interval.Interval.{Interval}
 
 -- the two ends of an interval
@@ -14,3 +14,7 @@ ends_of interval = record { low = interval.lo; high = interval.hi }
 -- those of the point 0
 abbrev pub no_ends : Ends
 no_ends = record { low = pos 0; high = pos 0 }
+
+-- the interval from lo to hi is at most this wide
+abbrev pub IsAtMostWide : ℕ → ℤ → ℤ → Type 0
+IsAtMostWide width lo hi = (hi -ℤ lo) ≤ℤ pos width

@@ -1,8 +1,8 @@
 -- Voltages are linear in the fields.
-use Rattle.std.proofs.Common.{◌≡◌, ℕ, zero, suc, List, [], ◌∷◌, length, map, ℤ, pos, ◌+ℤ◌, ◌*ℤ◌, ◌⊎◌, inl, inr, ⊎_elim, arith, refl, ap, ap₂, sym, ◌∙◌}
-use lib.IntN.{*ℤ-zero, *ℤ_comm}
+use Rattle.std.proofs.Common.{◌≡◌, ℕ, zero, suc, List, [], ◌∷◌, map, ℤ, pos, ◌+ℤ◌, ◌*ℤ◌, ◌⊎◌, inl, inr, ⊎_elim, arith, refl, ap, ap₂, sym, ◌∙◌}
+use lib.IntN.{*ℤ-zero}
 use Rattle.std.proofs.lemmas.List.{get_or_past}
-use Rattle.gic_fixed.proofs.Integers.{linear, *ℤ-+ℤ, *ℤ_assoc}
+use Rattle.gic_fixed.proofs.Integers.{linear, *ℤ-+ℤ, *ℤ_assoc, +ℤ-*ℤ}
 use Rattle.gic_scale.specs.ZoneView.{ZoneView, factor_of}
 use Rattle.gic_case.specs.Lists.{Lists}
 use Rattle.gic_case.specs.declared.item.Line.{Line}
@@ -15,10 +15,6 @@ use Rattle.gic_induce.specs.Voltage.{line_nanovolts}
 use Rattle.gic_induce.specs.LineVolts.{zone_among, line_volts, volts_of_item, volts_of}
 use Rattle.gic_induce.specs.Linear.{AreCombined}
 
--- a sum times a number
-sum_times : (x y z : ℤ) → (x +ℤ y) *ℤ z ≡ x *ℤ z +ℤ y *ℤ z
-sum_times x y z = *ℤ_comm (x +ℤ y) z ∙ *ℤ-+ℤ z x y ∙ ap₂ (λ u v. u +ℤ v) (*ℤ_comm z x) (*ℤ_comm z y)
-
 -- a voltage is that of the sum of two fields, and of a field times a number
 module _ (line : Line) (zone : ZoneView) where
   of_times : (a n e : ℤ) → line_nanovolts line zone (a *ℤ n) (a *ℤ e) ≡ a *ℤ line_nanovolts line zone n e
@@ -30,10 +26,10 @@ module _ (line : Line) (zone : ZoneView) where
   of_sum : (n m e d : ℤ) → line_nanovolts line zone (n +ℤ m) (e +ℤ d) ≡ line_nanovolts line zone n e +ℤ line_nanovolts line zone m d
   of_sum n m e d =
       let f = pos (factor_of zone) in
-      let north = sum_times n m line.north in
-      let east = sum_times e d line.east in
+      let north = +ℤ-*ℤ n m line.north in
+      let east = +ℤ-*ℤ e d line.east in
       let inner : (n +ℤ m) *ℤ line.north +ℤ (e +ℤ d) *ℤ line.east ≡ (n *ℤ line.north +ℤ e *ℤ line.east) +ℤ (m *ℤ line.north +ℤ d *ℤ line.east) = omega (arith, linear) in
-      ap (λ z. z *ℤ f) inner ∙ sum_times (n *ℤ line.north +ℤ e *ℤ line.east) (m *ℤ line.north +ℤ d *ℤ line.east) f
+      ap (λ z. z *ℤ f) inner ∙ +ℤ-*ℤ (n *ℤ line.north +ℤ e *ℤ line.east) (m *ℤ line.north +ℤ d *ℤ line.east) f
 
 -- an item of a list at a place, or none, for every function of it at once
 at_any : {X : Type 0} (xs : List X) (i : ℕ) → ((f : X → ℤ) → number_at (map f xs) i ≡ pos 0) ⊎ ((x : X) × ((f : X → ℤ) → number_at (map f xs) i ≡ f x))

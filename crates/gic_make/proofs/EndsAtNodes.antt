@@ -5,13 +5,13 @@ use Rattle.std.proofs.lemmas.Bool.{cases_lt}
 use Rattle.std.proofs.lemmas.Bool.Decides.{nat_tests}
 use Rattle.std.proofs.lemmas.List.Sums.{sum_by-append}
 use Rattle.std.specs.List.{AllByRecursion, range_with_len}
+use Rattle.gic_base.proofs.Each.{all_joined}
 use Rattle.gic_case.specs.Lists.{ends_of, degree_of}
 use Rattle.gic_model.specs.declared.parts.Element.{Element}
 use Rattle.gic_model.specs.Network.{ends_at}
 use Rattle.gic_model.proofs.Members.{or_cases}
 use Rattle.gic_winding.specs.ElementList.{element_list}
 use Rattle.gic_winding.proofs.Counts.{HasTwoEnds, as_many_at_a_node}
-use Rattle.gic_winding.proofs.Within.{all_joined}
 use Rattle.gic_make.specs.Made.{made_line, drawn_case}
 use Rattle.gic_make.proofs.Sites.{each_site, few_within, some_within}
 use Rattle.gic_make.proofs.RowsOfSites.{from_before}

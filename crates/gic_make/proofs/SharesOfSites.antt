@@ -5,6 +5,7 @@ use Rattle.std.proofs.lemmas.Int.{ints}
 use Rattle.std.proofs.lemmas.List.Sums.{sum_by-cons}
 use Rattle.std.specs.List.{AllByRecursion, range_with_len, enumerate_from}
 use lib.IntN.{*ℤ-zero}
+use Rattle.gic_base.proofs.Each.{all_joined}
 use Rattle.gic_fixed.proofs.Integers.{linear, *ℤ-≤ℤ, +ℤ-*ℤ}
 use Rattle.gic_fixed.proofs.Sums.{sum_of-++}
 use Rattle.gic_model.specs.declared.parts.Element.{Element}
@@ -17,7 +18,6 @@ use Rattle.gic_model.specs.Ohms.{product_of_ohms, sum_over_ohms}
 use Rattle.gic_model.proofs.Members.{kept, placed}
 use Rattle.gic_model.proofs.Row.{weight}
 use Rattle.gic_model.proofs.SumLaws.{sum_over_ohms-≤ℤ, sum_over_ohms-*ℤ, sum_over_ohms-+ℤ, sum_over_ohms-whole}
-use Rattle.gic_winding.proofs.Within.{all_joined}
 use Rattle.gic_bound.specs.Shares.{HaveShare, is_earthing, runs_to_substation}
 use Rattle.gic_make.specs.Made.{first_draw}
 use Rattle.gic_make.proofs.Sites.{each_site}

@@ -60,7 +60,7 @@ earth_value e k x is have =
     at_earth Earth h = refl
 
 -- an element that joins k and m ends at both
-joins_end : (k m : ℕ) (x : Element) → joins k m x ≡ true → ends_at x m ≡ true
+pub joins_end : (k m : ℕ) (x : Element) → joins k m x ≡ true → ends_at x m ≡ true
 joins_end k m x is =
     ⊎_elim (λ h. ap (λ b. (x.from.0 == m) || b) (and_second (x.from.0 == k) (is_node x.to m) h) ∙ or-true (x.from.0 == m))
     (λ h. ap (λ b. b || is_node x.to m) (and_first (x.from.0 == m) (is_node x.to k) h))

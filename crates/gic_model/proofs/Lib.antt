@@ -14,3 +14,4 @@ pub mod Superposition
 pub mod Agreement
 pub mod Items
 pub mod LastRow
+pub mod LiveGuesses

@@ -1,5 +1,5 @@
 -- What holds of each item of a list, of those that a test keeps, and of the one that passes it.
-use Rattle.std.proofs.Common.{◌≡◌, ◌⊎◌, ℕ, ◌+◌, Bool, true, false, cond, ◌&&◌, ◌||◌, List, [], ◌∷◌, refl, ap, sym, ◌∙◌, inl, inr}
+use Rattle.std.proofs.Common.{◌≡◌, ◌⊎◌, ℕ, ◌+◌, Bool, true, false, cond, ◌&&◌, ◌||◌, List, [], ◌∷◌, refl, ap, sym, ◌∙◌, inl, inr, ◌<◌, length, arith}
 use Rattle.std.specs.List.{AllByRecursion, filter, list_any, enumerate_from}
 use Rattle.gic_model.specs.declared.parts.Element.{Element}
 
@@ -54,6 +54,18 @@ by_any test P {C} leads (x ∷ xs) h any = by (by_any test P leads xs h.1) (test
     by : (list_any test xs ≡ true → C) → (b : Bool) → test x ≡ b → C
     by later true is = leads x is h.0
     by later false is = later (sym (ap (λ b. b || list_any test xs) is) ∙ any)
+
+-- a test that some item passes keeps an item
+pub some_kept : {X : Type 0} (test : X → Bool) (xs : List X) → list_any test xs ≡ true → 0 < length (filter test xs)
+some_kept test [] any = absurd (no_way any)
+  where
+    no_way : false ≡ true → ⊥
+    no_way e = cc
+some_kept test (x ∷ xs) any = by (some_kept test xs) (test x) any
+  where
+    by : (list_any test xs ≡ true → 0 < length (filter test xs)) → (b : Bool) → (b || list_any test xs) ≡ true → 0 < length (cond b (x ∷ filter test xs) (filter test xs))
+    by later true passes = omega arith
+    by later false passes = later passes
 
 -- from those that pass a test to all
 pub opened : {X : Type 0} (test : X → Bool) (Q : X → Type 0) (xs : List X) → AllByRecursion Q (filter test xs) → AllByRecursion (λ x. test x ≡ true → Q x) xs

@@ -1,5 +1,6 @@
 -- How wide the intervals are that potentials give. Each node has an interval from low to high, in grains of 2^-36 nanovolt.
-use Rattle.std.specs.Prelude.{ℕ, ◌*◌, ◌^◌, List, ℤ, pos, ◌+ℤ◌, ◌-ℤ◌, ◌*ℤ◌, ◌≤ℤ◌}
+use Rattle.std.specs.Prelude.{ℕ, ◌*◌, ◌^◌, List, ℤ, pos, ◌+ℤ◌, ◌-ℤ◌, ◌*ℤ◌}
+use Rattle.gic_fixed.specs.Ends.{IsAtMostWide}
 use Rattle.gic_fixed.specs.Rounding.{floor_div, ceil_div}
 use Rattle.std.specs.List.{All}
 use Rattle.gic_model.specs.Standing.{IsLive, value_at}
@@ -21,5 +22,5 @@ most_current volts low high p =
 
 -- no outward interval of a live node in millivolts, or of a standing element in milliamperes, is wider than this
 pub record IsSharp (standing : List Placed) (volts low high : ℕ → ℤ) (width : ℕ) : Type 0 where
-  pub nodes : (k : ℕ) → IsLive standing k → (ceil_div (high k) (pos millivolt) -ℤ floor_div (low k) (pos millivolt)) ≤ℤ pos width
-  pub elements : All (λ p. (most_current volts low high p -ℤ least_current volts low high p) ≤ℤ pos width) standing
+  pub nodes : (k : ℕ) → IsLive standing k → IsAtMostWide width (floor_div (low k) (pos millivolt)) (ceil_div (high k) (pos millivolt))
+  pub elements : All (λ p. IsAtMostWide width (least_current volts low high p) (most_current volts low high p)) standing

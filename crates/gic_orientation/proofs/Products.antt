@@ -1,33 +1,27 @@
 -- Products of whole numbers in another order, and a factor that is taken off.
 use Rattle.std.proofs.Common.{◌≡◌, ℕ, ◌+◌, ◌*◌, ◌<◌, ℤ, pos, ◌+ℤ◌, ◌*ℤ◌, arith, ap, sym, ◌∙◌}
-use borrow.Author.Differences.{up, down, same_in, product_is}
-use Rattle.gic_fixed.proofs.Integers.{linear, *ℤ-+ℤ, ≤ℤ-from_*ℤ}
-
-up-product : (a b : ℤ) → up (a *ℤ b) ≡ up a * up b + down a * down b
-up-product a b = (product_is a b).0
-
-down-product : (a b : ℤ) → down (a *ℤ b) ≡ up a * down b + down a * up b
-down-product a b = (product_is a b).1
+use borrow.Author.Differences.{same_in}
+use Rattle.gic_fixed.proofs.Integers.{linear, *ℤ-+ℤ, ≤ℤ-from_*ℤ, up-*ℤ, down-*ℤ}
 
 -- a common factor of a denominator goes to the front
 pub out : (a b : ℤ) (k d : ℕ) → a *ℤ (b *ℤ pos (k * d)) ≡ pos k *ℤ (a *ℤ (pos d *ℤ b))
-out a b k d = same_in _ _ (simp (up-product, down-product) (omega arith))
+out a b k d = same_in _ _ (simp (up-*ℤ, down-*ℤ) (omega arith))
 
 -- and so it does twice
 pub out_twice : (a b : ℤ) (k d e : ℕ) → a *ℤ (b *ℤ pos (k * d * (k * e))) ≡ pos (k * k) *ℤ (a *ℤ (b *ℤ pos (d * e)))
-out_twice a b k d e = same_in _ _ (simp (up-product, down-product) (omega arith))
+out_twice a b k d e = same_in _ _ (simp (up-*ℤ, down-*ℤ) (omega arith))
 
 pub in_twice : (z : ℤ) (k d : ℕ) → pos (k * d) *ℤ (pos k *ℤ z) ≡ pos (k * k) *ℤ (pos d *ℤ z)
-in_twice z k d = same_in _ _ (simp (up-product, down-product) (omega arith))
+in_twice z k d = same_in _ _ (simp (up-*ℤ, down-*ℤ) (omega arith))
 
 pub square_out : (z : ℤ) (d : ℕ) → z *ℤ pos (d * d) ≡ pos d *ℤ (pos d *ℤ z)
-square_out z d = same_in _ _ (simp (up-product, down-product) (omega arith))
+square_out z d = same_in _ _ (simp (up-*ℤ, down-*ℤ) (omega arith))
 
 pub once_out : (a z : ℤ) (d e : ℕ) → (a *ℤ (pos d *ℤ z)) *ℤ pos e ≡ pos d *ℤ (a *ℤ (z *ℤ pos e))
-once_out a z d e = same_in _ _ (simp (up-product, down-product) (omega arith))
+once_out a z d e = same_in _ _ (simp (up-*ℤ, down-*ℤ) (omega arith))
 
 pub crossed : (a b c d : ℤ) → (a *ℤ b) *ℤ (c *ℤ d) ≡ (a *ℤ d) *ℤ (c *ℤ b)
-crossed a b c d = same_in _ _ (simp (up-product, down-product) (omega arith))
+crossed a b c d = same_in _ _ (simp (up-*ℤ, down-*ℤ) (omega arith))
 
 -- a factor above 0 is taken off
 pub cancelled : (c : ℕ) (a b : ℤ) → 0 < c → pos c *ℤ a ≡ pos c *ℤ b → a ≡ b

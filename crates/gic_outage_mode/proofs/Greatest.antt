@@ -4,8 +4,8 @@ use Rattle.std.specs.Prelude.{MatchOption}
 use Rattle.std.proofs.lemmas.Int.{ints, clamps}
 use Rattle.std.proofs.lemmas.List.{map-append}
 use Rattle.std.specs.Int.{int_max}
-use Rattle.gic_effective.specs.Narrow.{IsAtMostWide, IsNoWider}
-use Rattle.gic_fixed.specs.Ends.{Ends}
+use Rattle.gic_effective.specs.Narrow.{IsNoWider}
+use Rattle.gic_fixed.specs.Ends.{Ends, IsAtMostWide}
 use Rattle.gic_peaks.specs.Peaks.{greater, greater_ends}
 use Rattle.gic_peaks.proofs.Greater.{greater_assoc, greater-none}
 use Rattle.gic_outage_mode.specs.Outages.{greatest_of, greatest_at}

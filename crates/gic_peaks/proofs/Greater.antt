@@ -3,6 +3,7 @@ use Rattle.std.proofs.Common.{◌≡◌, List, [], ◌∷◌, ◌++◌, map, Opt
 use Rattle.std.proofs.lemmas.Int.{ints, clamps}
 use Rattle.std.proofs.lemmas.List.{map-append}
 use Rattle.std.specs.Int.{int_max}
+use Rattle.gic_screen.proofs.Worsts.{least_not_negative, greatest_not_negative}
 use Rattle.gic_fixed.specs.Ends.{Ends, no_ends}
 use Rattle.gic_fixed.specs.Rounding.{least_abs, greatest_abs}
 use Rattle.gic_view.specs.View.{View}
@@ -39,12 +40,6 @@ peak-push_shown shown views view = ap peak_of (map-append shown views (view ∷ 
 
 above_nought : (a : ℤ) → pos 0 ≤ℤ a → a ≡ int_max (pos 0) a
 above_nought a h = omega (arith, ints, clamps)
-
-pub least_not_negative : (low high : ℤ) → pos 0 ≤ℤ least_abs low high
-least_not_negative low high = omega (arith, ints, clamps)
-
-greatest_not_negative : (low high : ℤ) → low ≤ℤ high → pos 0 ≤ℤ greatest_abs low high
-greatest_not_negative low high ordered = omega (arith, ints, clamps)
 
 -- 0 to 0 in place of no peak takes nothing from an absolute interval
 pub unwrapped : (peak : Option Ends) (e : Ends) → e.low ≤ℤ e.high → greater_ends (unwrap_or peak no_ends) (absolute_ends e) ≡ unwrap_or (greater peak (Some (absolute_ends e))) no_ends

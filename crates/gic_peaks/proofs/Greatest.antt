@@ -3,6 +3,7 @@ use Rattle.std.proofs.Common.{All, ◌≡◌, ℕ, zero, suc, ◌<◌, List, [],
 use Rattle.std.proofs.lemmas.Int.{ints, clamps}
 use Rattle.std.proofs.lemmas.List.Elements.{All-head, All-tail}
 use Rattle.std.specs.Int.{int_max}
+use Rattle.gic_screen.proofs.Worsts.{least_not_negative}
 use Rattle.gic_fixed.specs.Encloses.{EnclosesAbsolute}
 use Rattle.gic_fixed.specs.Ends.{Ends, no_ends}
 use Rattle.gic_fixed.specs.Rounding.{least_abs, greatest_abs}
@@ -12,7 +13,7 @@ use Rattle.gic_view.specs.View.{View, effective_at}
 use Rattle.gic_peaks.specs.Peaks.{greater_ends, greater, peak_of, shown_of_transformer, IsPeaksOf}
 use Rattle.gic_view.specs.Absolute.{absolute_ends}
 use Rattle.gic_peaks.specs.PeakLaws.{cell_at, AreEnclosed, EnclosesGreatest, IsNoWiderThan}
-use Rattle.gic_peaks.proofs.Greater.{least_not_negative, same_ends}
+use Rattle.gic_peaks.proofs.Greater.{same_ends}
 
 by_place : (P : ℕ → Type 0) → P zero → ((k : ℕ) → P (suc k)) → (k : ℕ) → P k
 by_place P first later zero = first

@@ -1,7 +1,7 @@
 -- What a peak says of numbers, one for each view, of which views show intervals.
-use Rattle.std.specs.Prelude.{◌≡◌, ℕ, ◌*◌, ◌<◌, ◌≤◌, List, length, slice_index_or, All, Option, None, Some, IfSome, IsNone, IsSome, MatchOption, ℤ, pos, ◌*ℤ◌, ◌-ℤ◌, ◌<ℤ◌, ◌≤ℤ◌, unsigned_abs}
+use Rattle.std.specs.Prelude.{◌≡◌, ℕ, ◌*◌, ◌<◌, ◌≤◌, List, length, slice_index_or, All, Option, None, Some, IfSome, IsNone, IsSome, MatchOption, ℤ, pos, ◌*ℤ◌, ◌<ℤ◌, ◌≤ℤ◌, unsigned_abs}
 use Rattle.gic_fixed.specs.Encloses.{Encloses}
-use Rattle.gic_fixed.specs.Ends.{Ends}
+use Rattle.gic_fixed.specs.Ends.{Ends, IsAtMostWide}
 use Rattle.gic_view.specs.View.{View, effective_at}
 use Rattle.gic_peaks.specs.Peaks.{peak_of, shown_of_transformer, IsPeaksOf}
 use Rattle.gic_view.specs.Absolute.{absolute_ends}
@@ -53,7 +53,7 @@ NotNegativeIsAbsolute = (e : Ends) → pos 0 ≤ℤ e.low → e.low ≤ℤ e.hig
 
 -- the interval is at most this wide
 abbrev pub IsNoWiderThan : (width : ℕ) → Ends → Type 0
-IsNoWiderThan width e = (e.high -ℤ e.low) ≤ℤ pos width
+IsNoWiderThan width e = IsAtMostWide width e.low e.high
 
 -- an absolute interval is no wider than the interval
 abbrev pub AbsoluteIsNoWider : Type 0

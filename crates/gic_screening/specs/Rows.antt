@@ -1,8 +1,7 @@
 -- What a screen shows of a transformer, with each interval as its two ends.
 use Rattle.std.specs.Prelude.{◌≡◌, ℕ, ◌*◌, ◌≤◌, List, slice_index_or, ℤ, ◌≤ℤ◌}
 use Rattle.gic_fixed.specs.Encloses.{Encloses}
-use Rattle.gic_fixed.specs.Ends.{Ends, ends_of, no_ends}
-use Rattle.gic_effective.specs.Narrow.{IsAtMostWide}
+use Rattle.gic_fixed.specs.Ends.{Ends, ends_of, no_ends, IsAtMostWide}
 use Rattle.gic_screen.specs.Worst.{EnclosesWorst}
 use Rattle.gic_screening.specs.declared.rows.ScreenRow.{ScreenRow}
 

@@ -4,7 +4,7 @@ use Rattle.gic_case.specs.Lists.{Lists}
 use Rattle.gic_storm.specs.Steps.{steps_in, time_of_step}
 use Rattle.gic_text.specs.Lines.{lines_text}
 use Rattle.gic_winding.specs.Weights.{transformer_at}
-use Rattle.gic_effective.specs.Narrow.{IsAtMostWide}
+use Rattle.gic_fixed.specs.Ends.{IsAtMostWide}
 use Rattle.gic_effective.specs.RightView.{IsRightEffective}
 use Rattle.gic_course.specs.declared.inputs.StormInputs.{StormInputs}
 use Rattle.gic_course.specs.Steps.{IsStepOf, standing_at_step, storm_volts}

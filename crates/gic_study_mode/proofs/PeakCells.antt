@@ -5,11 +5,11 @@ use Rattle.std.specs.Int.{w128}
 use Rattle.std.proofs.lemmas.Int.{ints, clamps, fits_signed_from_abs}
 use Rattle.std.proofs.lemmas.List.{get_or-map, length-map}
 use Rattle.std.proofs.lemmas.List.Elements.{All-get_or, All-from_get_or, All-head, All-tail}
-use Rattle.gic_fixed.specs.Ends.{Ends, no_ends}
+use Rattle.gic_fixed.specs.Ends.{Ends, no_ends, IsAtMostWide}
 use Rattle.gic_case.specs.Lists.{Lists}
 use Rattle.gic_view.specs.View.{View, node_at, element_at, effective_at}
 use Rattle.gic_view.specs.Kept.{blank_view}
-use Rattle.gic_effective.specs.Narrow.{IsAtMostWide, IsNoWider, IsNarrowView}
+use Rattle.gic_effective.specs.Narrow.{IsNoWider, IsNarrowView}
 use Rattle.gic_effective.specs.ViewLengths.{HasViewLengths}
 use Rattle.gic_peaks.specs.Peaks.{greater, peak_of, HasAbsolutes, HasLengthsOf, IsPeaksOf}
 use Rattle.gic_view.specs.Absolute.{absolute_ends, HasAbsolute}

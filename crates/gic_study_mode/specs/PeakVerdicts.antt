@@ -4,7 +4,8 @@ use Rattle.gic_case.specs.Lists.{Lists}
 use Rattle.gic_model.specs.Solution.{Solution}
 use Rattle.gic_view.specs.View.{View, effective_at}
 use Rattle.gic_screen.specs.declared.criterion.Verdict.TheVariants.{Below, Reaches, Undecided}
-use Rattle.gic_effective.specs.Narrow.{IsAtMostWide, IsNarrowView}
+use Rattle.gic_fixed.specs.Ends.{IsAtMostWide}
+use Rattle.gic_effective.specs.Narrow.{IsNarrowView}
 use Rattle.gic_effective.specs.Threshold.{IsAtLeast, IsUnder}
 use Rattle.gic_report.specs.VerdictText.{IsAcross, verdict_at}
 use Rattle.gic_view.specs.Absolute.{absolute_ends}

@@ -1,10 +1,10 @@
 -- Lines in front of any bytes.
-use Rattle.std.proofs.Common.{◌≡◌, ◌∙◌, ℕ, ◌≢◌, List, [], ◌∷◌, ◌++◌, length, take, drop, refl, sym, ap, arith, append_assoc}
+use Rattle.std.proofs.Common.{◌≡◌, ◌∙◌, ℕ, List, [], ◌∷◌, ◌++◌, length, take, drop, refl, sym, ap, arith, append_assoc}
 use Rattle.std.specs.List.{AllByRecursion}
 use Rattle.std.proofs.Math.Seq.{drop-append_seam, take-append_seam}
 use Rattle.gic_text.specs.Lines.{line_text, lines_text}
-use Rattle.gic_text.specs.Words.{spaced, IsWord, IsLine}
-use Rattle.gic_text.proofs.Injective.{ended_apart, line_text-cons, spaced_injective}
+use Rattle.gic_text.specs.Words.{spaced, IsLine}
+use Rattle.gic_text.proofs.Injective.{ended_apart, line_text-cons, spaced_injective, no_end_word, no_end_spaced}
 use Rattle.gic_text.proofs.Joined.{lines_text-append}
 use Rattle.gic_report.specs.SharedLines.{Words}
 
@@ -14,15 +14,6 @@ split_front xs ys r s n e = (
   sym (take-append_seam xs r) ∙ ap (λ l. take (length xs) l) e ∙ ap (λ k. take k (ys ++ s)) n ∙ take-append_seam ys s,
   sym (drop-append_seam xs r) ∙ ap (λ l. drop (length xs) l) e ∙ ap (λ k. drop k (ys ++ s)) n ∙ drop-append_seam ys s,
 )
-
--- a line without its end has no line feed
-no_end_word : (w rest : List ℕ) → IsWord w → AllByRecursion (λ b. b ≢ 10) rest → AllByRecursion (λ b. b ≢ 10) (w ++ rest)
-no_end_word [] rest h k = k
-no_end_word (b ∷ w) rest h k = (h.0.no_end, no_end_word w rest h.1 k)
-
-no_end_spaced : (ws : Words) → AllByRecursion IsWord ws → AllByRecursion (λ b. b ≢ 10) (spaced ws)
-no_end_spaced [] h = tt
-no_end_spaced (w ∷ ws) h = ((λ e. absurd (let f : 32 ≡ 10 = e in cc)), no_end_word w (spaced ws) h.0 (no_end_spaced ws h.1))
 
 line_before : (w : List ℕ) (ws : Words) (r : List ℕ) → line_text (w ∷ ws) ++ r ≡ (w ++ spaced ws) ++ 10 ∷ r
 line_before w ws r = ap (λ l. l ++ r) (line_text-cons w ws) ∙ append_assoc (w ++ spaced ws) (10 ∷ []) r

@@ -1,11 +1,10 @@
 -- Conductances of which each element's part is rounded down.
-use Rattle.std.proofs.Common.{◌≡◌, ℕ, ◌+◌, ◌*◌, ◌/◌, ◌^◌, ◌<◌, ◌≤◌, List, [], ◌∷◌, length, take, arith, ap, inl, inr, div-add-mod', mul-le-mul_left}
+use Rattle.std.proofs.Common.{ℕ, ◌*◌, ◌/◌, ◌^◌, ◌<◌, ◌≤◌, List, [], ◌∷◌, length, arith, inl, inr, div-add-mod', mul-le-mul_left}
 use Rattle.std.specs.List.{AllByRecursion, sum_by}
 use Rattle.std.proofs.lemmas.Nat.{le-div}
-use Rattle.std.proofs.lemmas.List.Sums.{sum_by-cons, sum_by_more, sum_by_more_le, sum_by-le}
+use Rattle.std.proofs.lemmas.List.Sums.{sum_by-cons, sum_by-le}
 use Rattle.std.proofs.lemmas.List.Elements.{All-from_recursion}
 use Rattle.gic_model.specs.Conductance.{conductance_down}
-use Rattle.gic_model.specs.declared.parts.Element.{Element}
 use Rattle.gic_model.specs.Limits.{IsWithinLimits, IsElementWithin}
 use Rattle.gic_model.specs.Sums.{Placed}
 use Rattle.gic_model.specs.Ohms.{product_of_ohms}
@@ -14,7 +13,7 @@ use Rattle.gic_model.specs.Guess.{least_conductance}
 use Rattle.gic_model.proofs.Members.{weaker}
 use Rattle.gic_model.proofs.SumLaws.{product_positive}
 use Rattle.gic_model.proofs.Ends.{standing_within, within_at, ohms_at_node}
-use Rattle.gic_net.specs.Net.{NetView, row_at, placed_at, no_element, standing, stands}
+use Rattle.gic_net.specs.Net.{NetView, row_at, standing, stands}
 use Rattle.gic_net.proofs.Places.{few_at}
 use Rattle.gic_sweep.proofs.NodeSums.{live_some}
 
@@ -23,7 +22,7 @@ abbrev pub floor_part : Placed → ℕ
 floor_part p = conductance_down p.1
 
 -- it is from 1048 to 2^32
-part_least : (nodes : ℕ) (p : Placed) → IsElementWithin nodes p.1 → 1048 ≤ floor_part p
+pub part_least : (nodes : ℕ) (p : Placed) → IsElementWithin nodes p.1 → 1048 ≤ floor_part p
 part_least nodes p h =
     let some : 1 ≤ p.1.times = elim h.one_or_three [ inl one ↦ omega arith | inr three ↦ omega arith ] in
     le-div 1048 (p.1.times * 1000000 * 2 ^ 20) p.1.micro_ohm (omega (arith, h.least_ohm)) (omega (arith, h.most_ohm, some))
@@ -58,13 +57,3 @@ module _ (net : NetView) (k : ℕ) (limits : IsWithinLimits net.network) where
 
   pub ohms_some : 0 < product_of_ohms (row_at net k)
   ohms_some = product_positive (row_at net k) (ohms_at_node net.network.nodes (standing net) k (standing_within net.network (stands net) limits))
-
--- one more element
-pub floor_more : (net : NetView) (k i : ℕ) → i < length (row_at net k) → (place : ℕ) (e : Element) → placed_at net k i ≡ (place, e) →
-    (sum_by floor_part (take (i + 1) (row_at net k)) ≡ sum_by floor_part (take i (row_at net k)) + floor_part (place, e))
-    × (sum_by floor_part (take i (row_at net k)) + floor_part (place, e) ≤ least_conductance (standing net) k)
-floor_more net k i h place e is =
-    let a = sum_by_more floor_part (row_at net k) i (0, no_element) h in
-    let b = sum_by_more_le floor_part (row_at net k) i (0, no_element) h in
-    let last : floor_part (placed_at net k i) ≡ floor_part (place, e) = ap floor_part is in
-    (omega (arith, a, last), omega (arith, b, last))

@@ -58,14 +58,15 @@ module _ (f : Placed → ℤ) (net : NetView) (k i : ℕ) (h : i < length (row_a
       let last : f (placed_at net k i) ≡ f (place, e) = ap f is in
       cc
 
-  pub diagonal_step :
-      (sum_by diagonal_part (take (i + 1) (row_at net k)) ≡ sum_by diagonal_part (take i (row_at net k)) + diagonal_part (place, e))
-      × (sum_by diagonal_part (take i (row_at net k)) + diagonal_part (place, e) ≤ diagonal (standing net) k)
-  diagonal_step =
-      let one = sum_by_more diagonal_part (row_at net k) i (0, no_element) h in
-      let all = sum_by_more_le diagonal_part (row_at net k) i (0, no_element) h in
-      let last : diagonal_part (placed_at net k i) ≡ diagonal_part (place, e) = ap diagonal_part is in
-      (omega (arith, one, last), omega (arith, all, last))
+-- the same of parts that aren't below 0, and what they come to in the end
+pub part_more : (part : Placed → ℕ) (net : NetView) (k i : ℕ) → i < length (row_at net k) → (place : ℕ) (e : Element) → placed_at net k i ≡ (place, e) →
+    (sum_by part (take (i + 1) (row_at net k)) ≡ sum_by part (take i (row_at net k)) + part (place, e))
+    × (sum_by part (take i (row_at net k)) + part (place, e) ≤ sum_by part (row_at net k))
+part_more part net k i h place e is =
+    let one = sum_by_more part (row_at net k) i (0, no_element) h in
+    let all = sum_by_more_le part (row_at net k) i (0, no_element) h in
+    let last : part (placed_at net k i) ≡ part (place, e) = ap part is in
+    (omega (arith, one, last), omega (arith, all, last))
 
 -- a sum of parts and one more fit, and are as small as the diagonal tells
 pub sum_fits : (sum part : ℤ) (m n d : ℕ) → unsigned_abs sum ≤ m * 2 ^ 86 → unsigned_abs part ≤ n * 2 ^ 86 → m + n ≤ d → d ≤ 2 ^ 40 → FitsSigned w128 (sum +ℤ part)

@@ -3,14 +3,12 @@ use Rattle.std.proofs.Common.{arith, ◌≡◌, ℕ, ◌+◌, ◌^◌, ◌≤◌
 use Rattle.std.proofs.lemmas.Int.{ints}
 use Rattle.std.proofs.lemmas.Bool.Decides.{nat_tests}
 use Rattle.gic_fixed.specs.Rounding.{floor_div, ceil_div}
+use Rattle.gic_fixed.proofs.Divisions.{neg-neg}
 use Rattle.gic_model.specs.declared.parts.Element.{Element}
 use Rattle.gic_model.specs.Network.{is_node, ends_at}
 use Rattle.gic_model.specs.Guess.{guessed_current, part_times_ohms}
 use Rattle.gic_model.specs.Sums.{Placed}
 use Rattle.gic_sweep.specs.Passes.{part_down, part_up, share_at}
-
-neg_neg : (z : ℤ) → neg_ℤ (neg_ℤ z) ≡ z
-neg_neg z = omega (arith, ints)
 
 none_first : (z : ℤ) → pos 0 +ℤ z ≡ z
 none_first z = omega (arith, ints)
@@ -19,10 +17,10 @@ turned_product : (z : ℤ) → pos 256 *ℤ neg_ℤ z ≡ neg_ℤ (pos 256 *ℤ 
 turned_product z = omega (arith, ints)
 
 floor_turned : (z : ℤ) (d : ℕ) → floor_div (pos 256 *ℤ neg_ℤ z) (pos d) ≡ neg_ℤ (ceil_div (pos 256 *ℤ z) (pos d))
-floor_turned z d = ap (λ (w : ℤ). floor_div w (pos d)) (turned_product z) ∙ sym (neg_neg (floor_div (neg_ℤ (pos 256 *ℤ z)) (pos d)))
+floor_turned z d = ap (λ (w : ℤ). floor_div w (pos d)) (turned_product z) ∙ sym (neg-neg (floor_div (neg_ℤ (pos 256 *ℤ z)) (pos d)))
 
 ceil_turned : (z : ℤ) (d : ℕ) → ceil_div (pos 256 *ℤ neg_ℤ z) (pos d) ≡ neg_ℤ (floor_div (pos 256 *ℤ z) (pos d))
-ceil_turned z d = ap (λ (w : ℤ). ceil_div w (pos d)) (turned_product z) ∙ ap (λ (w : ℤ). neg_ℤ (floor_div w (pos d))) (neg_neg (pos 256 *ℤ z))
+ceil_turned z d = ap (λ (w : ℤ). ceil_div w (pos d)) (turned_product z) ∙ ap (λ (w : ℤ). neg_ℤ (floor_div w (pos d))) (neg-neg (pos 256 *ℤ z))
 
 -- the two ends are not one node
 pub ends_apart : (f m k : ℕ) → (m == f) ≡ false → (f == k) ≡ true → (m == k) ≡ true → ⊥

@@ -1,29 +1,19 @@
 -- The item that a row switches is one of the case's.
-use Rattle.std.proofs.Common.{◌≡◌, ℕ, suc, ◌+◌, ◌<◌, List, [], ◌∷◌, length, map, Bool, true, false, cond, Option, Some, None, option_map, refl, arith, inl, inr}
+use Rattle.std.proofs.Common.{◌≡◌, ℕ, ◌+◌, ◌<◌, List, length, map, Bool, true, false, cond, Option, Some, None, option_map, refl, arith}
 use Rattle.std.specs.Prelude.{IfSome}
-use Rattle.std.proofs.lemmas.Bool.{cases_Bool}
 use Rattle.std.proofs.lemmas.List.{length-map}
-use Rattle.gic_case.specs.Keys.{same}
-use Rattle.gic_case.specs.Names.{place_from, place_in}
+use Rattle.gic_case.specs.Names.{place_in, or_else}
 use Rattle.gic_case.specs.Lists.{Lists}
 use Rattle.gic_case.specs.declared.item.Line.{Line}
 use Rattle.gic_case.specs.declared.item.Substation.{Substation}
 use Rattle.gic_case.specs.declared.item.Transformer.{Transformer}
+use Rattle.gic_case.proofs.Sound.{place_below}
 use Rattle.gic_model.specs.declared.parts.Item.{Item}
 use Rattle.gic_model.specs.declared.parts.Item.TheVariants as items
 use Rattle.gic_switch.specs.declared.action.Action.{Action}
 use Rattle.gic_switch.specs.declared.action.Action.TheVariants.{Open, Close, Block, Unblock}
-use Rattle.gic_switch.specs.Items.{or_else, named, has_ground, has_resistor, plain_item, neutral_item, switched_item}
+use Rattle.gic_switch.specs.Items.{named, has_ground, has_resistor, plain_item, neutral_item, switched_item}
 use Rattle.gic_switch.specs.ItemsOf.{IsItemOf}
-
--- the place of a name is one of its list
-place_within : (n : ℕ) (names : List (List ℕ)) (q : List ℕ) → IfSome (place_from n names q) (λ p. p < n + length names)
-place_within n [] q = tt
-place_within n (x ∷ names) q =
-    elim (cases_Bool (same q x)) [
-      | inl here ↦ rw here (omega arith)
-      | inr other ↦ let sums : n + 1 + length names ≡ n + suc (length names) = omega arith in rw (other, ← sums) (place_within (n + 1) names q)
-    ]
 
 -- a line or a transformer that is named is one of the case's
 abbrev IsNamedOf : Lists → Item → Type 0
@@ -47,9 +37,9 @@ named_within case q =
     let substations = map (λ (s : Substation). s.name) case.substations in
     let few_lines = length-map case.lines (λ (l : Line). l.name) in
     let few_transformers = length-map case.transformers (λ (t : Transformer). t.name) in
-    let line = of_place (λ p. p < 0 + length lines) (IsNamedOf case) (λ p. items.Line p) (place_in lines q) (λ p h. omega arith) (place_within 0 lines q) in
-    let transformer = of_place (λ p. p < 0 + length transformers) (IsNamedOf case) (λ p. items.Transformer p) (place_in transformers q) (λ p h. omega arith) (place_within 0 transformers q) in
-    let substation = of_place (λ p. p < 0 + length substations) (IsNamedOf case) (λ p. items.Ground p) (place_in substations q) (λ p h. tt) (place_within 0 substations q) in
+    let line = of_place (λ p. p < 0 + length lines) (IsNamedOf case) (λ p. items.Line p) (place_in lines q) (λ p h. omega arith) (place_below 0 lines q) in
+    let transformer = of_place (λ p. p < 0 + length transformers) (IsNamedOf case) (λ p. items.Transformer p) (place_in transformers q) (λ p h. omega arith) (place_below 0 transformers q) in
+    let substation = of_place (λ p. p < 0 + length substations) (IsNamedOf case) (λ p. items.Ground p) (place_in substations q) (λ p h. tt) (place_below 0 substations q) in
     of_either (IsNamedOf case) (option_map items.Line (place_in lines q)) (or_else (option_map items.Transformer (place_in transformers q)) (option_map items.Ground (place_in substations q)))
     line (of_either (IsNamedOf case) (option_map items.Transformer (place_in transformers q)) (option_map items.Ground (place_in substations q)) transformer substation)
 

@@ -1,5 +1,5 @@
 -- What each name stands for.
-use Rattle.std.proofs.Common.{◌≡◌, ℕ, suc, ◌+◌, ◌<◌, List, [], ◌∷◌, ◌++◌, length, map, take, get_or, Bool, true, false, cond, Option, Some, None, option_map, refl, sym, ap, ◌∙◌, arith, inl, inr, zero-add, length-take-le}
+use Rattle.std.proofs.Common.{◌≡◌, ℕ, ◌+◌, ◌<◌, List, [], ◌∷◌, ◌++◌, length, map, take, get_or, Bool, true, false, cond, Option, Some, None, option_map, refl, sym, ap, ◌∙◌, arith, inl, inr, zero-add, length-take-le}
 use Rattle.std.specs.Prelude.{IsTrue}
 use Rattle.std.specs.List.{AllByRecursion}
 use Rattle.std.specs.Cmp.Lexicographic.{same_text}
@@ -8,23 +8,16 @@ use Rattle.std.proofs.lemmas.Cmp.{nat_list_eq_equiv}
 use Rattle.std.proofs.lemmas.List.{take_more, map-append, length-map}
 use Rattle.std.proofs.lemmas.List.Elements.{recursion_from_All}
 use Rattle.gic_base.specs.Name.{is_name}
+use Rattle.gic_base.proofs.Each.{both_parts}
 use Rattle.gic_case.specs.Keys.{same}
-use Rattle.gic_case.specs.Names.{place_from, place_in}
+use Rattle.gic_case.specs.Names.{place_from, place_in, or_else}
 use Rattle.gic_case.specs.Lists.{Lists}
 use Rattle.gic_case.specs.Sound.{IsSound}
+use Rattle.gic_case.proofs.Repeats.{place_last}
 use Rattle.gic_model.specs.declared.parts.Item.{Item}
-use Rattle.gic_switch.specs.Items.{or_else, named}
+use Rattle.gic_switch.specs.Items.{named}
 
--- one more name behind the others
-place_last : (n : ℕ) (names : List (List ℕ)) (x q : List ℕ) → place_from n (names ++ x ∷ []) q ≡ or_else (place_from n names q) (cond (same q x) (Some (n + length names)) None)
-place_last n [] x q = let zeros : n ≡ n + 0 = omega arith in ap (λ m. cond (same q x) (Some m) None) zeros
-place_last n (y ∷ names) x q =
-    let sums : n + 1 + length names ≡ n + suc (length names) = omega arith in
-    elim (cases_Bool (same q y)) [
-      | inl here ↦ rw here
-      | inr other ↦ rw (other, place_last (n + 1) names x q, sums)
-    ]
-
+-- what was found before, what is found among the names, and one more name
 joined : (item : ℕ → Item) (a : Option Item) (p : Option ℕ) (b : Bool) (i : ℕ)
     → or_else (or_else a (option_map item p)) (cond b (Some (item i)) None) ≡ or_else a (option_map item (or_else p (cond b (Some i) None)))
 joined item (Some x) p b i = refl
@@ -43,15 +36,6 @@ entered name item before now after xs i x within at old new q =
     let more : map name (take (i + 1) xs) ≡ map name (take i xs) ++ name x ∷ [] =
     ap (map name) (take_more xs i x within ∙ ap (λ y. take i xs ++ y ∷ []) (sym at)) ∙ map-append name (take i xs) (x ∷ []) in
     rw (new q, old q, turned, more, place_last 0 (map name (take i xs)) (name x) q, count, zero-add) (joined item (before q) (place_in (map name (take i xs)) q) (same q (name x)) i)
-
-or_none : {A : Type 0} (o : Option A) → o ≡ or_else o None
-or_none None = refl
-or_none (Some x) = refl
-
--- the names that are left after a list with the same elements are those of both lists
-both_parts : {X : Type 0} (P : X → Type 0) (xs ys : List X) → AllByRecursion P (xs ++ ys) → AllByRecursion P xs × AllByRecursion P ys
-both_parts P [] ys all = (tt, all)
-both_parts P (x ∷ xs) ys all = let rest = both_parts P xs ys all.1 in ((all.0, rest.0), rest.1)
 
 -- all of these are names
 abbrev AreNames : List (List ℕ) → Type 0

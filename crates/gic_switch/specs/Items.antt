@@ -1,18 +1,13 @@
 -- What the name in a row stands for, and the items that each action may have.
 use Rattle.std.specs.Prelude.{ℕ, List, map, slice_index_or, Bool, true, false, if◌then◌else◌, Option, Some, None, option_map, option_and_then, is_some}
 use Rattle.gic_case.specs.Lists.{Lists}
-use Rattle.gic_case.specs.Names.{place_in}
+use Rattle.gic_case.specs.Names.{place_in, or_else}
 use Rattle.gic_case.specs.declared.item.Neutral.{Neutral}
 use Rattle.gic_case.specs.declared.item.Neutral.TheVariants as devices
 use Rattle.gic_model.specs.declared.parts.Item.{Item}
 use Rattle.gic_model.specs.declared.parts.Item.TheVariants as items
 use Rattle.gic_switch.specs.declared.action.Action.{Action}
 use Rattle.gic_switch.specs.declared.action.Action.TheVariants.{Open, Close, Block, Unblock}
-
--- the first of two, or else the second
-abbrev pub or_else : {A : Type 0} → Option A → Option A → Option A
-or_else (Some x) second = Some x
-or_else None second = second
 
 -- what is named: a line, else a transformer, else a substation; names are unique in the whole case
 abbrev pub named : Lists → (name : List ℕ) → Option Item

@@ -52,21 +52,19 @@ spaced_injective (w ∷ ws) (v ∷ vs) h k e =
     cc
 
 -- a text without a line feed
-NoEnd : List ℕ → Type 0
+abbrev pub NoEnd : List ℕ → Type 0
 NoEnd bs = AllByRecursion (λ b. b ≢ 10) bs
 
-no_end_word : (w rest : List ℕ) → IsWord w → NoEnd rest → NoEnd (w ++ rest)
-unfolding NoEnd
+pub no_end_word : (w rest : List ℕ) → IsWord w → NoEnd rest → NoEnd (w ++ rest)
 no_end_word [] rest h k = k
 no_end_word (b ∷ w) rest h k = (h.0.no_end, no_end_word w rest h.1 k)
 
-no_end_spaced : (ws : List (List ℕ)) → AllByRecursion IsWord ws → NoEnd (spaced ws)
-unfolding NoEnd
+pub no_end_spaced : (ws : List (List ℕ)) → AllByRecursion IsWord ws → NoEnd (spaced ws)
 no_end_spaced [] h = tt
 no_end_spaced (w ∷ ws) h = ((λ e. absurd (let f : 32 ≡ 10 = e in cc)), no_end_word w (spaced ws) h.0 (no_end_spaced ws h.1))
 
 -- the lines of a text
-lines-cons : (w : List ℕ) (ws : List (List ℕ)) (xs : List (List (List ℕ))) → lines_text ((w ∷ ws) ∷ xs) ≡ (w ++ spaced ws) ++ 10 ∷ lines_text xs
+pub lines-cons : (w : List ℕ) (ws : List (List ℕ)) (xs : List (List (List ℕ))) → lines_text ((w ∷ ws) ∷ xs) ≡ (w ++ spaced ws) ++ 10 ∷ lines_text xs
 lines-cons w ws xs = ap (λ l. l ++ lines_text xs) (line_text-cons w ws) ∙ append_assoc (w ++ spaced ws) (10 ∷ []) (lines_text xs)
 
 never_nil : (us bs : List ℕ) (z : ℕ) → us ++ z ∷ bs ≡ [] → ⊥
@@ -75,7 +73,6 @@ never_nil (u ∷ us) bs z e = let f : u ∷ (us ++ z ∷ bs) ≡ [] = e in cc
 
 -- a text of lines determines the lines
 pub lines_injective : (xs ys : List (List (List ℕ))) → AllByRecursion IsLine xs → AllByRecursion IsLine ys → lines_text xs ≡ lines_text ys → xs ≡ ys
-unfolding NoEnd
 lines_injective [] [] h k e = refl
 lines_injective [] ([] ∷ ys) h k e = absurd k.0
 lines_injective [] ((v ∷ vs) ∷ ys) h k e = absurd (never_nil (v ++ spaced vs) (lines_text ys) 10 (sym (e ∙ lines-cons v vs ys)))

@@ -6,6 +6,7 @@ use Rattle.std.proofs.lemmas.Bool.Decides.{nat_tests}
 use Rattle.std.proofs.lemmas.Grind.{flat_map-append}
 use Rattle.std.proofs.lemmas.List.FromFn.{length-enumerate_from, get_or-enumerate_from}
 use Rattle.std.specs.List.{AllByRecursion, enumerate_from}
+use Rattle.gic_base.proofs.Each.{all_joined, anything}
 use Rattle.gic_case.specs.declared.item.Line.{Line}
 use Rattle.gic_case.specs.declared.item.Kind.{Kind}
 use Rattle.gic_case.specs.declared.item.Kind.TheVariants as kinds
@@ -21,7 +22,7 @@ use Rattle.gic_winding.specs.ElementList.{earthing_of, line_of, winding, winding
 use Rattle.gic_winding.specs.Order.{comes_before}
 use Rattle.gic_case.proofs.NeutralNodes.{length-neutrals_of}
 use Rattle.gic_winding.proofs.Parts.{earthing_part, line_part, winding_part, resistor_part}
-use Rattle.gic_winding.proofs.Within.{all_joined, all_of_parts}
+use Rattle.gic_winding.proofs.Within.{all_of_parts}
 
 -- whether the element is of the transformer at the place t
 abbrev pub is_its : ℕ → Element → Bool
@@ -90,10 +91,6 @@ all_dropped zero i bound [] room = tt
 all_dropped (suc n) i bound [] room = tt
 all_dropped zero i bound (x ∷ xs) room = (omega arith, all_dropped zero (i + 1) bound xs (omega arith))
 all_dropped (suc n) i bound (x ∷ xs) room = all_dropped n (i + 1) bound xs (omega arith)
-
-anything : {X : Type 0} (xs : List X) → AllByRecursion (λ x. Unit {0}) xs
-anything [] = tt
-anything (x ∷ xs) = (tt, anything xs)
 
 -- the elements before the windings of the transformer at the place t, and those after them
 abbrev pub front_of : Lists → ℕ → List Element

@@ -5,6 +5,7 @@ use Rattle.std.proofs.lemmas.Bool.Decides.{nat_tests}
 use Rattle.std.proofs.lemmas.List.Sums.{sum_by-append}
 use Rattle.std.specs.List.{AllByRecursion, enumerate_from}
 use Rattle.std.specs.Prelude.{◌==◌, if◌then◌else◌}
+use Rattle.gic_base.proofs.Each.{both_parts}
 use Rattle.gic_case.specs.declared.item.Substation.{Substation}
 use Rattle.gic_case.specs.declared.item.Line.{Line}
 use Rattle.gic_case.specs.declared.item.Kind.{Kind}
@@ -26,10 +27,6 @@ HasTwoEnds e = is_node e.to e.from.0 ≡ false
 -- as many of the elements end at the node as its place is among the ends, where the two ends of each differ
 abbrev pub AreAsManyAt : ℕ → List Element → List ℕ → Type 0
 AreAsManyAt k elements ends = AllByRecursion HasTwoEnds elements → count_by (λ e. ends_at e k) elements ≡ degree_of ends k
-
-both_parts : {X : Type 0} (P : X → Type 0) (xs ys : List X) → AllByRecursion P (xs ++ ys) → AllByRecursion P xs × AllByRecursion P ys
-both_parts P [] ys all = (tt, all)
-both_parts P (x ∷ xs) ys all = let rest = both_parts P xs ys all.1 in ((all.0, rest.0), rest.1)
 
 many_joined : (k : ℕ) (es fs : List Element) (xs ys : List ℕ) → AreAsManyAt k es xs → AreAsManyAt k fs ys → AreAsManyAt k (es ++ fs) (xs ++ ys)
 many_joined k es fs xs ys first second two =

@@ -6,6 +6,7 @@ use Rattle.std.proofs.lemmas.List.Elements.{recursion_from_All}
 use Rattle.std.proofs.lemmas.List.Sums.{length-filter, count_by-le-length}
 use Rattle.std.specs.List.{AllByRecursion, enumerate_from}
 use Rattle.gic_base.specs.declared.limits.TheConstants.{MOST_ELEMENTS}
+use Rattle.gic_base.proofs.Each.{all_joined}
 use Rattle.gic_case.specs.declared.item.Line.{Line}
 use Rattle.gic_case.specs.declared.item.Kind.{Kind}
 use Rattle.gic_case.specs.declared.item.Kind.TheVariants as kinds
@@ -22,7 +23,7 @@ use Rattle.gic_winding.proofs.Parts.{earthing_part, line_part, winding_part, res
 use Rattle.gic_winding.proofs.Grids.{IsNeutral, neutrals_within, grid_within}
 use Rattle.gic_case.proofs.NeutralNodes.{length-neutrals_of}
 use Rattle.gic_winding.proofs.Counts.{HasTwoEnds, as_many_at_a_node}
-use Rattle.gic_winding.proofs.Within.{IsPlaced, all_placed, all_joined, all_of_parts, earthing_within, line_within, windings_within, resistor_within}
+use Rattle.gic_winding.proofs.Within.{IsPlaced, all_placed, all_of_parts, earthing_within, line_within, windings_within, resistor_within}
 
 -- the number of nodes
 pub length-node_names : (c : Lists) → length (node_names c) ≡ length c.substations + length c.buses + length (with_device c.transformers)

@@ -3,6 +3,7 @@ use Rattle.std.proofs.Common.{◌≡◌, ℕ, ◌+◌, ◌<◌, ◌≤◌, true,
 use Rattle.std.proofs.lemmas.List.{get_or_default}
 use Rattle.std.specs.List.{AllByRecursion, enumerate_from, filter}
 use Rattle.gic_base.specs.declared.id.ElementId.{ElementId}
+use Rattle.gic_base.proofs.Each.{all_joined}
 use Rattle.gic_case.specs.declared.item.Kind.{Kind}
 use Rattle.gic_case.specs.declared.item.Kind.TheVariants as kinds
 use Rattle.gic_case.specs.declared.item.Transformer.{Transformer}
@@ -19,7 +20,6 @@ use Rattle.gic_winding.specs.WeightPair.{weights_of}
 use Rattle.gic_winding.specs.Order.{comes_before, roles_of, weighted_from}
 use Rattle.gic_winding.proofs.Neutrals.{transformer_of}
 use Rattle.gic_winding.proofs.Parts.{winding_part}
-use Rattle.gic_winding.proofs.Within.{all_joined}
 use Rattle.gic_winding.proofs.Parted.{middle_kept}
 use Rattle.gic_winding.proofs.Around.{is_its, IsBefore, IsAfter, IsIts, front_of, back_of, front_before, back_after, windings_its, around}
 

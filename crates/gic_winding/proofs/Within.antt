@@ -1,9 +1,10 @@
 -- Each element of a case is within the limits.
-use Rattle.std.proofs.Common.{◌≡◌, ◌≢◌, ℕ, ◌+◌, ◌<◌, ◌≤◌, ◌⊎◌, true, false, Option, Some, None, List, [], ◌∷◌, ◌++◌, length, is_some, refl, sym, arith, inl, inr, flat_map}
+use Rattle.std.proofs.Common.{◌≡◌, ◌≢◌, ℕ, ◌+◌, ◌<◌, ◌≤◌, ◌⊎◌, true, false, Option, Some, None, List, [], ◌∷◌, length, is_some, refl, sym, arith, inl, inr, flat_map}
 use Rattle.std.proofs.lemmas.Bool.{cases_Bool}
 use Rattle.std.proofs.lemmas.Bool.Decides.{nat_tests}
 use Rattle.std.specs.Prelude.{◌==◌, IfSome}
 use Rattle.std.specs.List.{AllByRecursion, enumerate_from}
+use Rattle.gic_base.proofs.Each.{all_joined}
 use Rattle.gic_case.specs.declared.item.Line.{Line}
 use Rattle.gic_case.specs.declared.item.Kind.{Kind}
 use Rattle.gic_case.specs.declared.item.Kind.TheVariants as kinds
@@ -14,10 +15,6 @@ use Rattle.gic_case.specs.Sound.{IsSoundLine, IsSoundKind, IsSoundDevice, IsOhm}
 use Rattle.gic_model.specs.declared.parts.Role.{Role}
 use Rattle.gic_model.specs.Limits.{IsElementWithin}
 use Rattle.gic_winding.specs.ElementList.{earthing_of, line_of, winding, windings_of, resistor_of}
-
-pub all_joined : {X : Type 0} (P : X → Type 0) (xs ys : List X) → AllByRecursion P xs → AllByRecursion P ys → AllByRecursion P (xs ++ ys)
-all_joined P [] ys h k = k
-all_joined P (x ∷ xs) ys h k = (h.0, all_joined P xs ys h.1 k)
 
 -- what holds of each part holds of the whole
 pub all_of_parts : {X A : Type 0} (Q : X → Type 0) (P : A → Type 0) (part : X → List A) → ((x : X) → Q x → AllByRecursion P (part x)) → (xs : List X) → AllByRecursion Q xs → AllByRecursion P (flat_map part xs)

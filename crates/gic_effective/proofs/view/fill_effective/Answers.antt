@@ -5,7 +5,8 @@ use Rattle.gic_model.specs.Voltages.{number_at}
 use Rattle.gic_net.specs.Net.{standing}
 use Rattle.gic_view.specs.View.{View}
 use Rattle.gic_effective.specs.Shown.{IsShownEffective}
-use Rattle.gic_effective.proofs.Filled.{filled, effective_alone}
+use Rattle.gic_view.proofs.Alone.{effective_alone}
+use Rattle.gic_effective.proofs.Filled.{filled}
 use Rattle.gic_effective.proofs.view.fill_effective.Goals as goal
 
 pub loop-transformer-preserved : goal.loop-transformer-preserved

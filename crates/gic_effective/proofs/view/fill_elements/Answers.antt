@@ -5,7 +5,8 @@ use Rattle.gic_net.specs.Net.{standing}
 use Rattle.gic_view.specs.View.{View}
 use Rattle.gic_view.specs.Kept.{optional_ends}
 use Rattle.gic_effective.specs.Shown.{IsShownElement}
-use Rattle.gic_effective.proofs.Filled.{filled, elements_alone}
+use Rattle.gic_view.proofs.Alone.{elements_alone}
+use Rattle.gic_effective.proofs.Filled.{filled}
 use Rattle.gic_effective.proofs.view.fill_elements.Goals as goal
 
 pub loop-place-preserved : goal.loop-place-preserved

@@ -4,7 +4,8 @@ use Rattle.gic_net.specs.Net.{standing}
 use Rattle.gic_view.specs.View.{View}
 use Rattle.gic_view.specs.Kept.{optional_ends}
 use Rattle.gic_effective.specs.Shown.{IsShownNode}
-use Rattle.gic_effective.proofs.Filled.{filled, nodes_alone}
+use Rattle.gic_view.proofs.Alone.{nodes_alone}
+use Rattle.gic_effective.proofs.Filled.{filled}
 use Rattle.gic_effective.proofs.view.fill_nodes.Goals as goal
 
 pub loop-node-preserved : goal.loop-node-preserved

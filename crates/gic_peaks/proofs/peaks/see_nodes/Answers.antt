@@ -6,7 +6,8 @@ use Rattle.gic_view.specs.View.{View, node_at}
 use Rattle.gic_view.specs.Kept.{optional_ends}
 use Rattle.gic_peaks.specs.Peaks.{greater}
 use Rattle.gic_view.specs.Absolute.{absolute_ends}
-use Rattle.gic_peaks.proofs.Written.{IsWritten, written, nodes_alone}
+use Rattle.gic_view.proofs.Alone.{nodes_alone}
+use Rattle.gic_peaks.proofs.Written.{IsWritten, written}
 use Rattle.gic_peaks.proofs.peaks.see_nodes.Goals as goal
 
 pub loop-place-preserved : goal.loop-place-preserved

@@ -5,7 +5,8 @@ use Rattle.gic_fixed.specs.Ends.{Ends, ends_of, no_ends}
 use Rattle.gic_view.specs.View.{View, effective_at}
 use Rattle.gic_peaks.specs.Peaks.{greater_ends}
 use Rattle.gic_view.specs.Absolute.{absolute_ends}
-use Rattle.gic_peaks.proofs.Written.{IsWritten, written, effective_alone}
+use Rattle.gic_view.proofs.Alone.{effective_alone}
+use Rattle.gic_peaks.proofs.Written.{IsWritten, written}
 use Rattle.gic_peaks.proofs.peaks.see_transformers.Goals as goal
 
 pub loop-transformer-preserved : goal.loop-transformer-preserved

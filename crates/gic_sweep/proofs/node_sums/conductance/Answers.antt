@@ -3,8 +3,9 @@ use Rattle.std.specs.List.{sum_by}
 use Rattle.std.proofs.Math.Seq.{take-length}
 use Rattle.gic_model.specs.Guess.{least_conductance}
 use Rattle.gic_net.specs.Net.{row_at, element_of, standing}
-use Rattle.gic_sweep.proofs.Conductances.{floor_part, floor_more, conductance_most, conductance_some}
+use Rattle.gic_sweep.proofs.Conductances.{floor_part, conductance_most, conductance_some}
 use Rattle.gic_sweep.proofs.node_sums.conductance.Goals as goal
+use Rattle.gic_sweep.proofs.NodeSums.{part_more}
 
 pub overflow_add-sum : goal.overflow_add-sum
 overflow_add-sum c =
@@ -12,7 +13,7 @@ overflow_add-sum c =
     let k = c.args.node.0 in
     let h : c.loop-place.place < length (row_at net k) = omega (arith, c.loop-place-test.true, c.degree-place-end.ensures.value) in
     let id = c.element_at-id.result.0 in
-    let more = floor_more net k c.loop-place.place h id (element_of net.network id) c.element_at-id.ensures.value in
+    let more = part_more floor_part net k c.loop-place.place h id (element_of net.network id) c.element_at-id.ensures.value in
     let most = conductance_most net k c.within_limits.ensures c.requires in
     record { fits = omega (arith, more.1, most, c.loop-place.invariant, c.conductance-sum.ensures) }
 
@@ -22,7 +23,7 @@ loop-place-preserved c =
     let k = c.args.node.0 in
     let h : c.loop-place.place < length (row_at net k) = omega (arith, c.loop-place-test.true, c.degree-place-end.ensures.value) in
     let id = c.element_at-id.result.0 in
-    let more = floor_more net k c.loop-place.place h id (element_of net.network id) c.element_at-id.ensures.value in
+    let more = part_more floor_part net k c.loop-place.place h id (element_of net.network id) c.element_at-id.ensures.value in
     omega (arith, more.0, c.loop-place.invariant, c.conductance-sum.ensures)
 
 pub returns : goal.returns

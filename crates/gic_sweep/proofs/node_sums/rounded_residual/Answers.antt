@@ -8,7 +8,7 @@ use Rattle.gic_model.specs.Guess.{diagonal, part_times_ohms}
 use Rattle.gic_model.specs.Sums.{Placed, sum_of}
 use Rattle.gic_model.specs.Voltages.{number_at}
 use Rattle.gic_net.specs.Net.{standing, row_at, placed_at}
-use Rattle.gic_sweep.proofs.NodeSums.{diagonal_part, diagonal_step, diagonal_most, sum_more, sum_fits, sum_small}
+use Rattle.gic_sweep.proofs.NodeSums.{diagonal_part, part_more, diagonal_most, sum_more, sum_fits, sum_small}
 use Rattle.gic_sweep.proofs.node_sums.rounded_residual.Goals as goal
 
 pub add-sum-requires : goal.add-sum-requires
@@ -20,7 +20,7 @@ add-sum-requires c =
     let id = c.element_at-id.result.0 in
     let e = c.element-element.result in
     let is : placed_at net k i ≡ (id, e) = c.element_at-id.ensures.value ∙ ap (λ (x : Element). (id, x)) (sym c.element-element.ensures.value) in
-    let d = diagonal_step (λ p. pos 0) net k i h id e is in
+    let d = part_more diagonal_part net k i h id e is in
     let most = diagonal_most net k c.within_limits.ensures c.requires.node in
     let before = sum_by diagonal_part (take i (row_at net k)) in
     let small = c.loop-place.invariant.small in
@@ -41,7 +41,7 @@ loop-place-preserved c =
     let id = c.element_at-id.result.0 in
     let e = c.element-element.result in
     let is : placed_at net k i ≡ (id, e) = c.element_at-id.ensures.value ∙ ap (λ (x : Element). (id, x)) (sym c.element-element.ensures.value) in
-    let d = diagonal_step (λ p. pos 0) net k i h id e is in
+    let d = part_more diagonal_part net k i h id e is in
     let before = sum_by diagonal_part (take i (row_at net k)) in
     let after = sum_by diagonal_part (take (i + 1) (row_at net k)) in
     let small = c.loop-place.invariant.small in

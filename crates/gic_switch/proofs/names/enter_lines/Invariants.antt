@@ -1,10 +1,9 @@
 use Rattle.std.proofs.Common.{◌≡◌, ℕ, List, map, take, option_map}
 use Rattle.std.specs.HashMap.{get}
 use Rattle.gic_case.specs.Keys.{same}
-use Rattle.gic_case.specs.Names.{place_in}
+use Rattle.gic_case.specs.Names.{place_in, or_else}
 use Rattle.gic_case.specs.declared.item.Line.{Line}
 use Rattle.gic_model.specs.declared.parts.Item.TheVariants as items
-use Rattle.gic_switch.specs.Items.{or_else}
 use Rattle.gic_switch.proofs.names.enter_lines.Given as goal
 
 -- the lines so far are entered

@@ -1,6 +1,6 @@
 use Rattle.std.proofs.Common.{rules, ◌≡◌, pos, map, replicate, ap, ◌∙◌}
 use Rattle.gic_fixed.specs.Ends.{ends_of, no_ends}
-use Rattle.gic_view.proofs.Repeats.{map-replicate}
+use Rattle.gic_base.proofs.Each.{map-replicate}
 use Rattle.gic_view.proofs.step_view.points.Goals as goal
 
 pub returns-clause-noughts : goal.returns-clause-noughts

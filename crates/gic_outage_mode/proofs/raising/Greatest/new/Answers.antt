@@ -1,6 +1,6 @@
 use Rattle.std.proofs.Common.{◌≡◌, None, map, replicate, rules, ap, ◌∙◌}
 use Rattle.gic_view.specs.Kept.{optional_ends}
-use Rattle.gic_view.proofs.Repeats.{map-replicate}
+use Rattle.gic_base.proofs.Each.{map-replicate}
 use Rattle.gic_outage_mode.proofs.raising.Greatest.new.Goals as goal
 
 pub returns : goal.returns

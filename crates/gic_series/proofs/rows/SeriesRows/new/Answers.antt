@@ -1,6 +1,6 @@
 use Rattle.std.proofs.Common.{rules, ◌≡◌, pos, map, replicate, ap, ◌∙◌}
 use Rattle.gic_fixed.specs.Ends.{Ends, ends_of, no_ends}
-use Rattle.gic_view.proofs.Repeats.{map-replicate}
+use Rattle.gic_base.proofs.Each.{map-replicate}
 use Rattle.gic_series.specs.Rows.{Row, row_of}
 use Rattle.gic_series.proofs.rows.SeriesRows.new.Goals as goal
 

@@ -1,6 +1,6 @@
 use Rattle.std.proofs.Common.{◌≡◌, None, map, replicate, ap, ◌∙◌}
 use Rattle.gic_view.specs.Kept.{optional_ends}
-use Rattle.gic_view.proofs.Repeats.{map-replicate}
+use Rattle.gic_base.proofs.Each.{map-replicate}
 use Rattle.gic_view.proofs.step_view.StepView.new.Goals as goal
 
 pub returns : goal.returns

@@ -1,0 +1,15 @@
+-- How wide intervals are.
+use Rattle.std.proofs.Common.{ℕ, ◌*◌, ◌≤◌, ℤ, pos, ◌-ℤ◌, ◌*ℤ◌, ◌≤ℤ◌, arith}
+use Rattle.gic_fixed.specs.Ends.{IsAtMostWide}
+use Rattle.gic_fixed.proofs.Integers.{linear, *ℤ-≤ℤ, *ℤ--ℤ}
+
+-- a product is as much wider
+pub times_width : (lo hi : ℤ) (c w : ℕ) → IsAtMostWide w lo hi → IsAtMostWide (c * w) (pos c *ℤ lo) (pos c *ℤ hi)
+times_width lo hi c w h =
+    let parts = *ℤ--ℤ (pos c) hi lo in
+    let times : (pos c *ℤ (hi -ℤ lo)) ≤ℤ pos (c * w) = *ℤ-≤ℤ c _ (pos w) h in
+    omega (arith, linear)
+
+-- what is at most so wide is at most wider
+pub wider : (lo hi : ℤ) (a b : ℕ) → a ≤ b → IsAtMostWide a lo hi → IsAtMostWide b lo hi
+wider lo hi a b h k = omega (arith, linear)
