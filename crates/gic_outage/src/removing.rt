@@ -1,5 +1,5 @@
 //! Taking an item out of a network, and bringing it back.
-ghost use Rattle.std.specs.Prelude.{◌≡◌, ◌<◌, not, length, true, false, IsTrue, IsFalse, IfNone, IfSome};
+ghost use Rattle.std.specs.Prelude.{◌≡◌, ◌<◌, length, true, false, IsTrue, IsFalse, IfNone, IfSome};
 ghost use Rattle.gic_model.specs.Standing.{is_item};
 ghost use Rattle.gic_net.specs.Switched.{has_element};
 ghost use Rattle.gic_net.specs.Net.{NetView, stands, standing, element_of, switched_net};

@@ -5,7 +5,7 @@ ghost use Rattle.gic_base.specs.Causes.{HasCause};
 ghost use Rattle.gic_base.specs.Pieces.{AppendsPart};
 ghost use Rattle.gic_text.specs.Words.{spaced};
 ghost use Rattle.gic_storm.specs.declared.refusal.StormRefusal.TheVariants.{Number};
-ghost use Rattle.gic_study.specs.Faults.{usage_words, case_words, column_word, storm_row_words, storm_words, switch_words, input_words, network_words, certificate_row_words, certificate_words, memory_words, file_word, part_word, row_words, field_words, switch_row_words, node_words, told_line, line_of_fault};
+ghost use Rattle.gic_study.specs.Faults.{usage_words, case_words, column_word, record_words, storm_words, switch_words, input_words, network_words, certificate_words, memory_words, file_word, part_word, row_words, field_words, node_words, told_line, line_of_fault};
 
 use crate::fault::Fault;
 use gic_ask::{File, InputFault, InputRefusal};
@@ -211,14 +211,19 @@ fn column_word(field: StormField) -> &'static str
     }
 }
 
-/// Writes the line of what a row of the storm breaks.
-fn write_storm_row<E: Sink>(what: &str, row: u32, err: &mut E) -> Result<(), WriteFailed>
-    ensures all { OnOk result (Appends (E.written err.old) (E.written err.new) (told_line (storm_row_words what.now row))) }
-    ensures part { AppendsPart (E.written err.old) (E.written err.new) (told_line (storm_row_words what.now row)) }
+/// Writes the line of what a row of the storm or of the switchings breaks, or a line of the certificate.
+fn write_record<E: Sink>(
+    file: &str,
+    what: &str,
+    row: u32,
+    err: &mut E,
+) -> Result<(), WriteFailed>
+    ensures all { OnOk result (Appends (E.written err.old) (E.written err.new) (told_line (record_words file.now what.now row))) }
+    ensures part { AppendsPart (E.written err.old) (E.written err.new) (told_line (record_words file.now what.now row)) }
     ensures cause { HasCause (E.faults err.old) (E.faults err.new) result }
 {
     let mut buffer = itoa::Buffer::new();
-    write_line(&["storm:", what, "in", "row", buffer.format(row)], err)
+    write_line(&[file, what, "in", "row", buffer.format(row)], err)
 }
 
 /// Writes the line of a number in a row of the storm.
@@ -239,24 +244,14 @@ fn write_storm<E: Sink>(refusal: StormRefusal, err: &mut E) -> Result<(), WriteF
     ensures cause { HasCause (E.faults err.old) (E.faults err.new) result }
 {
     match refusal {
-        StormRefusal::Shape { row } => write_storm_row("shape", row, err),
+        StormRefusal::Shape { row } => write_record("storm:", "shape", row, err),
         StormRefusal::Number { row, field } => write_storm_number(row, field, err),
-        StormRefusal::Zone { row } => write_storm_row("zone", row, err),
-        StormRefusal::Order { row } => write_storm_row("order", row, err),
+        StormRefusal::Zone { row } => write_record("storm:", "zone", row, err),
+        StormRefusal::Order { row } => write_record("storm:", "order", row, err),
         StormRefusal::Empty => write_line(&["storm:", "empty"], err),
         StormRefusal::TooMany => write_line(&["storm:", "too", "many"], err),
         StormRefusal::Memory => write_line(&["out", "of", "memory"], err),
     }
-}
-
-/// Writes the line of what a row of the switchings breaks.
-fn write_switch_row<E: Sink>(what: &str, row: u32, err: &mut E) -> Result<(), WriteFailed>
-    ensures all { OnOk result (Appends (E.written err.old) (E.written err.new) (told_line (switch_row_words what.now row))) }
-    ensures part { AppendsPart (E.written err.old) (E.written err.new) (told_line (switch_row_words what.now row)) }
-    ensures cause { HasCause (E.faults err.old) (E.faults err.new) result }
-{
-    let mut buffer = itoa::Buffer::new();
-    write_line(&["switch:", what, "in", "row", buffer.format(row)], err)
 }
 
 /// Writes the line of refused switchings.
@@ -266,11 +261,11 @@ fn write_switchings<E: Sink>(refusal: SwitchRefusal, err: &mut E) -> Result<(), 
     ensures cause { HasCause (E.faults err.old) (E.faults err.new) result }
 {
     match refusal {
-        SwitchRefusal::Shape { row } => write_switch_row("shape", row, err),
-        SwitchRefusal::Number { row } => write_switch_row("number", row, err),
-        SwitchRefusal::Order { row } => write_switch_row("order", row, err),
-        SwitchRefusal::Action { row } => write_switch_row("action", row, err),
-        SwitchRefusal::Item { row } => write_switch_row("item", row, err),
+        SwitchRefusal::Shape { row } => write_record("switch:", "shape", row, err),
+        SwitchRefusal::Number { row } => write_record("switch:", "number", row, err),
+        SwitchRefusal::Order { row } => write_record("switch:", "order", row, err),
+        SwitchRefusal::Action { row } => write_record("switch:", "action", row, err),
+        SwitchRefusal::Item { row } => write_record("switch:", "item", row, err),
         SwitchRefusal::TooMany => write_line(&["switch:", "too", "many"], err),
         SwitchRefusal::Memory => write_line(&["out", "of", "memory"], err),
     }
@@ -314,16 +309,6 @@ fn write_network<E: Sink>(refusal: NetworkRefusal, err: &mut E) -> Result<(), Wr
     }
 }
 
-/// Writes the line of a line of the certificate that breaks a rule.
-fn write_certificate_row<E: Sink>(what: &str, row: u32, err: &mut E) -> Result<(), WriteFailed>
-    ensures all { OnOk result (Appends (E.written err.old) (E.written err.new) (told_line (certificate_row_words what.now row))) }
-    ensures part { AppendsPart (E.written err.old) (E.written err.new) (told_line (certificate_row_words what.now row)) }
-    ensures cause { HasCause (E.faults err.old) (E.faults err.new) result }
-{
-    let mut buffer = itoa::Buffer::new();
-    write_line(&["cert:", what, "in", "row", buffer.format(row)], err)
-}
-
 /// Writes the line of a refused certificate.
 fn write_certificate<E: Sink>(refusal: CertificateRefusal, err: &mut E) -> Result<(), WriteFailed>
     ensures all { OnOk result (Appends (E.written err.old) (E.written err.new) (told_line (certificate_words refusal))) }
@@ -331,9 +316,9 @@ fn write_certificate<E: Sink>(refusal: CertificateRefusal, err: &mut E) -> Resul
     ensures cause { HasCause (E.faults err.old) (E.faults err.new) result }
 {
     match refusal {
-        CertificateRefusal::Shape { row } => write_certificate_row("shape", row, err),
-        CertificateRefusal::Number { row } => write_certificate_row("number", row, err),
-        CertificateRefusal::Node { row } => write_certificate_row("node", row, err),
+        CertificateRefusal::Shape { row } => write_record("cert:", "shape", row, err),
+        CertificateRefusal::Number { row } => write_record("cert:", "number", row, err),
+        CertificateRefusal::Node { row } => write_record("cert:", "node", row, err),
         CertificateRefusal::Row { node } => write_named(&["cert:", "row", "at", "node"], node, err),
         CertificateRefusal::Residual { node } => {
             write_named(&["cert:", "residual", "at", "node"], node, err)
