@@ -2,7 +2,7 @@
 use Rattle.std.proofs.Common.{◌≡◌, ◌⊎◌, ℕ, zero, suc, ◌*◌, ◌^◌, ◌<◌, Bool, true, false, cond, ◌&&◌, ◌||◌, ◌==◌, List, [], ◌∷◌, length, ℤ, pos, ◌-ℤ◌, ◌*ℤ◌, ◌≤ℤ◌, arith, refl, ap, sym, ◌∙◌, inl, inr, eq-eqb}
 use lib.IntN.{*ℤ-zero}
 use Rattle.std.specs.List.{AllByRecursion, filter, list_any}
-use Rattle.std.proofs.lemmas.Bool.{or_cases, or_left, or_right}
+use Rattle.std.proofs.lemmas.Bool.{and_from, or_cases, or_left, or_right}
 use Rattle.std.proofs.lemmas.Int.{by_lt_z}
 use Rattle.gic_fixed.proofs.Divisions.{floor_below}
 use Rattle.gic_fixed.proofs.Integers.{linear, *ℤ-≤ℤ, ≤ℤ-from_*ℤ}
@@ -21,9 +21,6 @@ use Rattle.gic_model.proofs.Row.{signed}
 
 no_way : false ≡ true → ⊥
 no_way e = cc
-
-and_true : (a b : Bool) → a ≡ true → b ≡ true → (a && b) ≡ true
-and_true a b h k = ap (λ c. c && b) h ∙ k
 
 -- a sum above 0 has a term that isn't below 0
 some_of_positive : {X : Type 0} (f : X → ℤ) (P : X → Type 0) {C : Type 0} → ((x : X) → P x → pos 0 ≤ℤ f x → C) → (xs : List X) → AllByRecursion P xs → pos 1 ≤ℤ sum_of f xs → C
@@ -72,16 +69,16 @@ way_over : (standing : List Placed) (v : ℕ → ℕ) (k : ℕ) (e : Element) �
 way_over standing v k e ends leads joined fall = by (e.from.0 == k) refl fall
   where
     at_to : (e.from.0 == k) ≡ true → (t : End) → e.to ≡ t → pos 1 ≤ℤ (pos (v k) -ℤ value_at (signed v) t) → HasWayDown standing v k
-    at_to at_from Earth is less = inl (leads (and_true (e.from.0 == k) (is_earth e.to) at_from (ap is_earth is)))
+    at_to at_from Earth is less = inl (leads (and_from (e.from.0 == k) (is_earth e.to) at_from (ap is_earth is)))
     at_to at_from (Node m) is less =
         let here : is_node e.to m.0 ≡ true = ap (λ t. is_node t m.0) is ∙ eq-eqb m.0 m.0 refl in
-        inr (m.0, (joined m.0 (or_left ((e.from.0 == k) && is_node e.to m.0) ((e.from.0 == m.0) && is_node e.to k) (and_true (e.from.0 == k) (is_node e.to m.0) at_from here)), omega (arith, linear)))
+        inr (m.0, (joined m.0 (or_left ((e.from.0 == k) && is_node e.to m.0) ((e.from.0 == m.0) && is_node e.to k) (and_from (e.from.0 == k) (is_node e.to m.0) at_from here)), omega (arith, linear)))
 
     by : (b : Bool) → (e.from.0 == k) ≡ b → pos 1 ≤ℤ (pos (v k) -ℤ value_at (signed v) (cond b e.to (Node e.from))) → HasWayDown standing v k
     by true is less = at_to is e.to refl less
     by false is less =
         let here : is_node e.to k ≡ true = sym (ap (λ b. b || is_node e.to k) is) ∙ ends in
-        inr (e.from.0, (joined e.from.0 (or_right ((e.from.0 == k) && is_node e.to e.from.0) ((e.from.0 == e.from.0) && is_node e.to k) (and_true (e.from.0 == e.from.0) (is_node e.to k) (eq-eqb e.from.0 e.from.0 refl) here)), omega (arith, linear)))
+        inr (e.from.0, (joined e.from.0 (or_right ((e.from.0 == k) && is_node e.to e.from.0) ((e.from.0 == e.from.0) && is_node e.to k) (and_from (e.from.0 == e.from.0) (is_node e.to k) (eq-eqb e.from.0 e.from.0 refl) here)), omega (arith, linear)))
 
 -- what is known of a standing element at k
 abbrev ShowsWay : ℕ → List Placed → ℕ → Placed → Type 0

@@ -1,6 +1,6 @@
 -- Nodes that standing elements join to each other and to earth.
 use Rattle.std.proofs.Common.{◌≡◌, ◌⊎◌, ℕ, ◌<◌, Bool, true, false, cond, ◌&&◌, ◌==◌, List, [], ◌∷◌, length, refl, ap, sym, ◌∙◌, subst, inl, inr, eqb-true, eq-eqb}
-use Rattle.std.proofs.lemmas.Bool.{or_cases, or_left, or_right}
+use Rattle.std.proofs.lemmas.Bool.{and_from, or_cases, or_left, or_right}
 use Rattle.std.proofs.lemmas.List.Folds.{list_any_at}
 use Rattle.std.proofs.lemmas.List.Elements.{All-from_get_or, recursion_from_All}
 use Rattle.gic_base.specs.declared.id.NodeId.{NodeId}
@@ -19,9 +19,6 @@ use Rattle.gic_island.proofs.Members.{any_of_kept, any_kept, any_weaker}
 
 no_way : false ≡ true → ⊥
 no_way e = cc
-
-and_true : (a b : Bool) → a ≡ true → b ≡ true → (a && b) ≡ true
-and_true a b h k = ap (λ c. c && b) h ∙ k
 
 -- an element joins the nodes either way
 joins_turned : (k m : ℕ) (e : Element) → joins k m e ≡ true → joins m k e ≡ true
@@ -72,7 +69,7 @@ module _ (net : NetView) (k : ℕ) where
   leads_at j h earth ends =
       any_of_kept (λ (p : Placed). (p.1.from.0 == k) && is_earth p.1.to) (λ p. ends_at p.1 k) (standing net)
       (list_any_at (λ (p : Placed). (p.1.from.0 == k) && is_earth p.1.to) (row_at net k) j (0, no_element) h
-      (and_true ((placed_at net k j).1.from.0 == k) (is_earth (placed_at net k j).1.to) (earth_from (placed_at net k j).1 k earth ends) earth))
+      (and_from ((placed_at net k j).1.from.0 == k) (is_earth (placed_at net k j).1.to) (earth_from (placed_at net k j).1 k earth ends) earth))
 
   pub leads_not : ((j : ℕ) → j < length (row_at net k) → is_earth (placed_at net k j).1.to ≡ false) → LeadsToEarth (standing net) k → ⊥
   leads_not none leads =
@@ -88,11 +85,11 @@ joins_other e k m ends is = by (e.from.0 == k) refl is
     by : (b : Bool) → (e.from.0 == k) ≡ b → cond b e.to (Node e.from) ≡ Node m → joins k m.0 e ≡ true
     by true from same =
         or_left ((e.from.0 == k) && is_node e.to m.0) ((e.from.0 == m.0) && is_node e.to k)
-        (and_true (e.from.0 == k) (is_node e.to m.0) from (ap (λ t. is_node t m.0) same ∙ eq-eqb m.0 m.0 refl))
+        (and_from (e.from.0 == k) (is_node e.to m.0) from (ap (λ t. is_node t m.0) same ∙ eq-eqb m.0 m.0 refl))
     by false from same =
         let one : e.from ≡ m = cc in
         or_right ((e.from.0 == k) && is_node e.to m.0) ((e.from.0 == m.0) && is_node e.to k)
-        (and_true (e.from.0 == m.0) (is_node e.to k) (eq-eqb e.from.0 m.0 (ap (λ (n : NodeId). n.0) one)) (elim (or_cases (e.from.0 == k) (is_node e.to k) ends) [
+        (and_from (e.from.0 == m.0) (is_node e.to k) (eq-eqb e.from.0 m.0 (ap (λ (n : NodeId). n.0) one)) (elim (or_cases (e.from.0 == k) (is_node e.to k) ends) [
           | inl at_from ↦ absurd (no_way (sym from ∙ at_from))
           | inr at_to ↦ at_to
         ]))

@@ -1,5 +1,6 @@
 -- A letter and a number are a name.
-use Rattle.std.proofs.Common.{◌≡◌, ℕ, ◌+◌, ◌<◌, ◌%◌, ◌^◌, suc, take, Bool, true, ◌∙◌, ◌&&◌, nat_le, List, [], ◌∷◌, ◌++◌, length, decimal, refl, ap, arith}
+use Rattle.std.proofs.Common.{◌≡◌, ℕ, ◌+◌, ◌<◌, ◌%◌, ◌^◌, suc, take, true, ◌∙◌, nat_le, List, [], ◌∷◌, ◌++◌, length, decimal, refl, ap, arith}
+use Rattle.std.proofs.lemmas.Bool.{and_from}
 use Rattle.std.proofs.lemmas.Bool.Decides.{nat_tests}
 use Rattle.std.proofs.lemmas.Fmt.{decimal_by_steps, length-decimal-le}
 use Rattle.std.proofs.lemmas.List.Folds.{list_all-append}
@@ -18,15 +19,12 @@ digits : (n : ℕ) → n < 2 ^ 64 → list_all is_name_byte (decimal n) ≡ true
 digits n h =
     decimal_by_steps (λ n ds. list_all is_name_byte ds ≡ true) (λ n lt. rw (digit n lt) refl) (λ n ds le w. digit_more ds (n % 10) (omega arith) w) n h
 
-both_true : (a b : Bool) → a ≡ true → b ≡ true → (a && b) ≡ true
-both_true a b p q = rw (p, q) refl
-
 pub numbered_name : (letter number : ℕ) → is_name_byte letter ≡ true → number < 2 ^ 16 → is_name (numbered letter number) ≡ true
 numbered_name letter number h small =
     let few = length-decimal-le 5 number (omega arith) (omega arith) (omega arith) in
     let some : nat_le 1 (length (numbered letter number)) ≡ true = grind (arith, nat_tests) in
     let short : nat_le (length (numbered letter number)) 32 ≡ true = grind (arith, nat_tests, few) in
-    both_true _ _ (both_true _ _ some short) (both_true _ _ h (digits number (omega arith)))
+    and_from _ _ (and_from _ _ some short) (and_from _ _ h (digits number (omega arith)))
 
 -- a letter, and behind it digits among more bytes
 pub written : (letter : ℕ) (digits more : List ℕ) → take (1 + length digits) (letter ∷ (digits ++ more)) ≡ letter ∷ digits
