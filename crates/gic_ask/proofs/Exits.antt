@@ -1,6 +1,6 @@
 -- What is asked for, at each exit.
 use Rattle.std.proofs.Common.{◌≡◌, ℕ, List, Option, Some, None, Result, Ok, Err, sym, ap, subst, ◌∙◌, arith}
-use Rattle.std.specs.Prelude.{◌≢◌, IfOk, IfErr, IfSome, IsSomeAnd, IsOkAnd, IsErrAnd}
+use Rattle.std.specs.Prelude.{◌≢◌, IfOk, IfErr, IfSome, IsSomeAnd, IsOkAnd}
 use Rattle.gic_base.specs.Files.{Files, HasFailed}
 use Rattle.gic_case.specs.Lists.{Lists}
 use Rattle.gic_model.specs.declared.parts.Switching.{Switching}
@@ -365,11 +365,6 @@ certificate_given files name text bytes handed named may same =
       may = may;
       passes = λ next. ap next (sym same);
     })
-
--- the answer is this fault
-pub answered : {A : Type 0} (answer : Result A InputFault) (fault : InputFault) → IsErrAnd answer (λ e. e ≡ fault) → answer ≡ Err fault
-answered (Ok done) fault h = absurd h
-answered (Err e) fault h = ap Err h
 
 -- ---- what the words ask for
 

@@ -8,7 +8,7 @@ use Rattle.std.proofs.lemmas.List.Folds.{find-append}
 use Rattle.gic_model.specs.declared.parts.Item.{Item}
 use Rattle.gic_model.specs.declared.parts.Switching.{Switching}
 use Rattle.gic_model.specs.Standing.{is_item}
-use Rattle.gic_net.proofs.Switched.{decided}
+use Rattle.gic_net.proofs.Switched.{decided, decided-cons}
 
 -- a row that closes what this row names
 abbrev pub closing : Switching → Switching
@@ -29,14 +29,6 @@ decided-append before item xs ys =
     ap (λ zs. option_map_or (λ r. not r.opens) (find (λ r. is_item r.item item) zs) before) (reverse-append xs ys) ∙
     ap (λ o. option_map_or (λ r. not r.opens) o before) (find-append (λ r. is_item r.item item) (reverse ys) (reverse xs)) ∙
     option_chain (find (λ r. is_item r.item item) (reverse ys)) (find (λ r. is_item r.item item) (reverse xs)) before
-
-one_decides : (row : Switching) (same before : Bool) → option_map_or (λ r. not r.opens) (cond same (Some row) None) before ≡ cond same (not row.opens) before
-one_decides row true before = refl
-one_decides row false before = refl
-
-decided-cons : (before : Bool) (item : Item) (row : Switching) (rows : List Switching) → decided before item (row ∷ rows) ≡ decided (cond (is_item row.item item) (not row.opens) before) item rows
-decided-cons before item row rows =
-    decided-append before item (row ∷ []) rows ∙ ap (λ b. decided b item rows) (one_decides row (is_item row.item item) before)
 
 stays_true : (b : Bool) → cond b true true ≡ true
 stays_true true = refl

@@ -1,26 +1,20 @@
 -- Nets in which items stand as the first rows of a list say.
-use Rattle.std.proofs.Common.{◌≡◌, ℕ, ◌+◌, ◌-◌, ◌≤◌, true, false, List, [], ◌∷◌, take, drop, refl, ap, sym, subst, ◌∙◌, arith, eq-eqb, take-add}
-use Rattle.std.specs.Prelude.{IsTrue, ◌==◌}
-use Rattle.std.specs.List.{list_any}
+use Rattle.std.proofs.Common.{◌≡◌, ℕ, ◌+◌, ◌-◌, ◌≤◌, true, false, List, [], ◌∷◌, take, drop, refl, ap, sym, subst, ◌∙◌, arith, take-add}
+use Rattle.std.specs.Prelude.{IsTrue}
 use Rattle.gic_model.specs.declared.parts.Item.{Item}
 use Rattle.gic_model.specs.declared.parts.Switching.{Switching}
 use Rattle.gic_model.specs.Network.{Network}
-use Rattle.gic_model.specs.Standing.{item_number, stands_after, standing_elements}
-use Rattle.gic_model.proofs.Members.{any_of_each, weaker, for_each}
-use Rattle.gic_net.specs.Switched.{has_element, switched_by}
+use Rattle.gic_model.specs.Standing.{stands_after, standing_elements}
+use Rattle.gic_net.specs.Switched.{has_element}
 use Rattle.gic_net.specs.Net.{NetView, stands, standing, closed_net, switched_net, net_after}
 use Rattle.gic_net.proofs.Switched.{decided, after_rows, standing-same}
-use Rattle.gic_net.proofs.Runs.{network_stays, items_stand}
+use Rattle.gic_net.proofs.Runs.{run_is, network_stays, items_stand}
 use Rattle.gic_course.specs.Switched.{closed_after}
 use Rattle.gic_course.proofs.Decided.{closings, decided-append, closed_again}
 
 -- each item that has an element does
 abbrev pub ItemsStand : List Switching → ℕ → NetView → Type 0
 ItemsStand rows through net = (item : Item) → IsTrue (has_element net.network item) → stands net item ≡ stands_after (take through rows) item
-
-run_is : (net : NetView) (rows : List Switching) → net_after net rows ≡ record { network = net.network; open_items = switched_by net.network net.open_items rows }
-run_is net [] = refl
-run_is net (row ∷ rows) = run_is (switched_net net row.item row.opens) rows
 
 -- after rows, an item stands as the last of them that names it says, and as before where none does
 net_decides : (net : NetView) (rows : List Switching) (item : Item) → has_element net.network item ≡ true → stands (net_after net rows) item ≡ decided (stands net item) item rows
@@ -67,10 +61,4 @@ back_network net rows b =
 
 -- so do the elements
 pub elements_so : (net : NetView) (rows : List Switching) (through : ℕ) → ItemsStand rows through net → standing net ≡ standing_elements net.network (stands_after (take through rows))
-elements_so net rows through h =
-    let network = net.network in
-    standing-same network (stands net) (stands_after (take through rows))
-    (weaker (λ e. (m : ℕ) → (item_number e.item == m) ≡ true → list_any (λ x. item_number x.item == m) network.list ≡ true) (λ e. stands net e.item ≡ stands_after (take through rows) e.item)
-    (λ e has. h e.item (has (item_number e.item) (eq-eqb (item_number e.item) (item_number e.item) refl)))
-    network.list
-    (for_each (λ m e. (item_number e.item == m) ≡ true → list_any (λ x. item_number x.item == m) network.list ≡ true) network.list (λ m. any_of_each (λ x. item_number x.item == m) network.list)))
+elements_so net rows through h = standing-same net.network (stands net) (stands_after (take through rows)) h

@@ -29,6 +29,13 @@ Encloses-outer lo hi lo' hi' n d low high e =
       below_hi = omega (arith, linear, e.below_hi);
     }
 
+-- an interval that encloses a fraction begins no higher than it ends
+pub Encloses-in_order : (lo hi n : ℤ) (d : ℕ) → 0 < d → Encloses lo hi n d → lo ≤ℤ hi
+Encloses-in_order lo hi n d some e =
+    let first = *ℤ_comm lo (pos d) in
+    let second = *ℤ_comm hi (pos d) in
+    ≤ℤ-from_*ℤ d lo hi some (omega (arith, linear, first, second, e.above_lo, e.below_hi))
+
 -- a factor of numerator and denominator
 pub Encloses-common : (lo hi n : ℤ) (d c : ℕ) → Encloses lo hi n d → Encloses lo hi (pos c *ℤ n) (c * d)
 Encloses-common lo hi n d c e =

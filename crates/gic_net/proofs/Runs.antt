@@ -9,7 +9,7 @@ use Rattle.gic_net.proofs.Switched.{items_by_row, row_by_row}
 use Rattle.gic_net.specs.Net.{NetView, stands, standing, closed_net, switched_net, net_after}
 
 -- a run changes the open items alone, as the rows do one by one
-run_is : (net : NetView) (rows : List Switching) → net_after net rows ≡ record { network = net.network; open_items = switched_by net.network net.open_items rows }
+pub run_is : (net : NetView) (rows : List Switching) → net_after net rows ≡ record { network = net.network; open_items = switched_by net.network net.open_items rows }
 run_is net [] = refl
 run_is net (row ∷ rows) = run_is (switched_net net row.item row.opens) rows
 

@@ -1,6 +1,6 @@
 -- Open items that rows change one by one.
 use Rattle.std.proofs.Common.{◌≡◌, ℕ, Bool, true, false, cond, not, ◌&&◌, ◌||◌, ◌==◌, List, [], ◌∷◌, reverse, Option, Some, None, refl, ap, sym, ◌∙◌, eqb-true, eq-eqb}
-use Rattle.std.specs.List.{find, list_any, enumerate_from, AllByRecursion}
+use Rattle.std.specs.List.{find, list_any, enumerate_from}
 use Rattle.std.specs.Option.{option_map_or, option_or}
 use Rattle.std.specs.Ordering.{nat_cmp}
 use Rattle.std.specs.FinSet.{contains, insert, remove, empty, contains-insert, contains-remove, contains-empty}
@@ -14,9 +14,15 @@ use Rattle.gic_model.specs.Standing.{item_number, is_item, stands_after, standin
 use Rattle.gic_net.specs.Switched.{Items, has_element, stands_without, switched, switched_by}
 use Rattle.gic_model.proofs.Members.{filter_same, placed, any_of_each, weaker, for_each}
 
--- tests that agree on the items of the elements let the same elements stand
-pub standing-same : (network : Network) (f g : Item → Bool) → AllByRecursion (λ e. f e.item ≡ g e.item) network.list → standing_elements network f ≡ standing_elements network g
-standing-same network f g h = filter_same (λ p. f p.1.item) (λ p. g p.1.item) (enumerate_from 0 network.list) (placed (λ e. f e.item ≡ g e.item) 0 network.list h)
+-- tests that agree on the items that have an element let the same elements stand
+pub standing-same : (network : Network) (f g : Item → Bool) → ((item : Item) → has_element network item ≡ true → f item ≡ g item) → standing_elements network f ≡ standing_elements network g
+standing-same network f g same =
+    filter_same (λ p. f p.1.item) (λ p. g p.1.item) (enumerate_from 0 network.list)
+    (placed (λ e. f e.item ≡ g e.item) 0 network.list
+    (weaker (λ e. (m : ℕ) → (item_number e.item == m) ≡ true → list_any (λ x. item_number x.item == m) network.list ≡ true) (λ e. f e.item ≡ g e.item)
+    (λ e has. same e.item (has (item_number e.item) (eq-eqb (item_number e.item) (item_number e.item) refl)))
+    network.list
+    (for_each (λ m e. (item_number e.item == m) ≡ true → list_any (λ x. item_number x.item == m) network.list ≡ true) network.list (λ m. any_of_each (λ x. item_number x.item == m) network.list))))
 
 module _ (network : Network) (opened : Items) (row : Switching) (item : Item) (has : has_element network item ≡ true) where
   inserted : contains (insert opened (item_number row.item)) (item_number item) ≡ (is_item row.item item || contains opened (item_number item))
@@ -58,7 +64,7 @@ option_last (Some r) row same before = refl
 option_last None row true before = refl
 option_last None row false before = refl
 
-decided-cons : (before : Bool) (item : Item) (row : Switching) (rows : List Switching) → decided before item (row ∷ rows) ≡ decided (cond (is_item row.item item) (not row.opens) before) item rows
+pub decided-cons : (before : Bool) (item : Item) (row : Switching) (rows : List Switching) → decided before item (row ∷ rows) ≡ decided (cond (is_item row.item item) (not row.opens) before) item rows
 decided-cons before item row rows =
     ap (λ ys. option_map_or (λ r. not r.opens) (find (λ r. is_item r.item item) ys) before) (reverse-cons row rows) ∙
     ap (λ o. option_map_or (λ r. not r.opens) o before) (find-append (λ r. is_item r.item item) (reverse rows) (row ∷ [])) ∙
@@ -77,8 +83,4 @@ items_by_row network rows item has = after_rows network empty rows item has ∙ 
 
 pub row_by_row : (network : Network) (rows : List Switching) → standing_elements network (stands_without (switched_by network empty rows)) ≡ standing_elements network (stands_after rows)
 row_by_row network rows =
-    standing-same network (stands_without (switched_by network empty rows)) (stands_after rows)
-    (weaker (λ e. (m : ℕ) → (item_number e.item == m) ≡ true → list_any (λ x. item_number x.item == m) network.list ≡ true) (λ e. stands_without (switched_by network empty rows) e.item ≡ stands_after rows e.item)
-    (λ e has. items_by_row network rows e.item (has (item_number e.item) (eq-eqb (item_number e.item) (item_number e.item) refl)))
-    network.list
-    (for_each (λ m e. (item_number e.item == m) ≡ true → list_any (λ x. item_number x.item == m) network.list ≡ true) network.list (λ m. any_of_each (λ x. item_number x.item == m) network.list)))
+    standing-same network (stands_without (switched_by network empty rows)) (stands_after rows) (items_by_row network rows)

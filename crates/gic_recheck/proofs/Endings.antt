@@ -5,6 +5,7 @@ use Rattle.std.specs.Io.KnownBytes.{Appends}
 use Rattle.gic_base.specs.Causes.{HasCause}
 use Rattle.gic_base.specs.Pieces.{AppendsPart}
 use Rattle.gic_base.specs.declared.sink.WriteFailed.{WriteFailed}
+use Rattle.gic_base.proofs.Parts.{keeps-refl}
 use Rattle.gic_case.specs.Lists.{Lists}
 use Rattle.gic_model.specs.Sums.{Placed}
 use Rattle.gic_cert.specs.Written.{Certificate}
@@ -12,7 +13,7 @@ use Rattle.gic_cert.specs.declared.refusal.CertRefusal.{CertRefusal}
 use Rattle.gic_cert.specs.declared.refusal.CertRefusal.TheVariants as cert
 use Rattle.gic_stand.specs.Serves.{Shown}
 use Rattle.gic_stand.specs.declared.fault.ReportFault.TheVariants.{Refused as NetworkRefused, CannotWrite, Memory}
-use Rattle.gic_stand.proofs.Served.{kept_same, met_nothing}
+use Rattle.gic_stand.proofs.Served.{met_nothing}
 use Rattle.gic_recheck.specs.Accepted.{BreaksOwn}
 use Rattle.gic_recheck.specs.RightRecheck.{ShowsAccepted, ServesCertificate}
 use Rattle.gic_recheck.specs.Told.{IsFaultOf, told_as, IsToldBreak, shown_so}
@@ -37,8 +38,8 @@ writing_not_memory (Err failed) answer is e = grind (arith, is, e)
 -- a certificate that is not accepted, and nothing was written
 pub fault_served : (case : Lists) (standing : List Placed) (bytes : List ℕ) (s : Shown) (fault : RecheckFault)
     → IsFaultOf case standing bytes fault → ServesCertificate case standing bytes s s (Err fault)
-fault_served case standing bytes s (Refused refusal) h = (h, kept_same s.bytes)
-fault_served case standing bytes s (Report Memory) h = kept_same s.bytes
+fault_served case standing bytes s (Refused refusal) h = (h, keeps-refl s.bytes)
+fault_served case standing bytes s (Report Memory) h = keeps-refl s.bytes
 fault_served case standing bytes s (Report CannotWrite) h = absurd h
 fault_served case standing bytes s (Report (NetworkRefused refusal)) h = absurd h
 

@@ -7,7 +7,7 @@ use Rattle.gic_case.specs.Lists.{Lists, node_names, with_device}
 use Rattle.gic_case.specs.Sound.{IsSound, names_of}
 use Rattle.gic_case.specs.declared.item.Transformer.{Transformer}
 use Rattle.gic_cert.specs.declared.limits.TheConstants.{MOST_WRITTEN_NODES}
-use Rattle.gic_stand.proofs.CaseNodes.{nodes_named}
+use Rattle.gic_winding.proofs.Limits.{nodes_named}
 use Rattle.gic_winding.proofs.Limits.{within_limits}
 
 -- it is a name

@@ -12,7 +12,7 @@ use Rattle.gic_cert.specs.Reading.{NamedNode, certificate_nodes, cert_of}
 use Rattle.gic_cert.specs.Text.{cert_text}
 use Rattle.gic_cert.specs.TextLaws.{ReadingGivesBack}
 use Rattle.gic_cert.specs.Written.{Certificate}
-use Rattle.gic_stand.proofs.CaseNodes.{nodes_named}
+use Rattle.gic_winding.proofs.Limits.{nodes_named}
 use Rattle.gic_recheck.specs.Determines.{PassingTextIsAccepted}
 use Rattle.gic_recheck.proofs.NodeNames.{IsName, node_names_sound, node_names_few}
 

@@ -1,3 +1,3 @@
-pub mod CaseNodes
 pub mod Rooms
 pub mod Served
+pub mod StandingOf

@@ -1,10 +1,11 @@
 -- How a mode's call ends.
-use Rattle.std.proofs.Common.{◌≡◌, ◌≢◌, ℕ, zero, suc, List, [], ◌∷◌, Option, Some, None, Result, Ok, Err, refl, sym, ap, subst, arith}
+use Rattle.std.proofs.Common.{◌≡◌, ◌≢◌, ℕ, zero, suc, List, [], ◌∷◌, Result, Ok, Err, sym, ap, subst, arith}
 use Rattle.std.specs.Prelude.{OnOk, IsErrAnd}
-use Rattle.std.specs.Io.KnownBytes.{Appends, Keeps}
+use Rattle.std.specs.Io.KnownBytes.{Appends}
 use Rattle.gic_base.specs.Causes.{HasCause}
 use Rattle.gic_base.specs.Pieces.{AppendsPart}
 use Rattle.gic_base.specs.declared.sink.WriteFailed.{WriteFailed}
+use Rattle.gic_base.proofs.Parts.{keeps-refl}
 use Rattle.gic_case.specs.Lists.{Lists}
 use Rattle.gic_model.specs.Sums.{Placed}
 use Rattle.gic_stand.specs.Needs.{Need, Nothing, Meets, Fails, IsMet, IsUnmet}
@@ -31,11 +32,6 @@ unmet_once need case standing refusal h = record {
   fails = h;
 }
 
--- bytes that stay are kept
-pub kept_same : (bytes : Option (List ℕ)) → Keeps bytes bytes
-kept_same None = tt
-kept_same (Some xs) = refl
-
 -- a text that is right was written, or a front part of it
 pub served : (need : Need) (case : Lists) (steps : List (List Placed)) (IsRight : List ℕ → Type 0) (text : List ℕ) (before now : Shown)
     (writing : Result (Unit {0}) WriteFailed) (answer : Result (Unit {0}) ReportFault)
@@ -48,7 +44,7 @@ served need case steps IsRight text before now (Err e) answer met right all part
     subst (Serves need case steps IsRight before now) (sym is) (record { met = met; text = text; right = right; part = part; cause = cause.failed })
 
 -- the answer is this fault
-pub answered : {A : Type 0} (answer : Result A ReportFault) (fault : ReportFault) → IsErrAnd answer (λ e. e ≡ fault) → answer ≡ Err fault
+pub answered : {A E : Type 0} (answer : Result A E) (fault : E) → IsErrAnd answer (λ e. e ≡ fault) → answer ≡ Err fault
 answered (Ok done) fault h = absurd h
 answered (Err e) fault h = ap Err h
 
@@ -56,7 +52,7 @@ answered (Err e) fault h = ap Err h
 pub unserved_network : (need : Need) (case : Lists) (standing : List Placed) (IsRight : List ℕ → Type 0) (s : Shown) (refusal : NetworkRefusal) (answer : Result (Unit {0}) ReportFault)
     → IsErrAnd answer (λ e. e ≡ Refused refusal) → Fails need case 1 standing refusal → Serves need case (standing ∷ []) IsRight s s answer
 unserved_network need case standing IsRight s refusal answer h fails =
-    subst (Serves need case (standing ∷ []) IsRight s s) (sym (answered answer (Refused refusal) h)) (unmet_once need case standing refusal fails, kept_same s.bytes)
+    subst (Serves need case (standing ∷ []) IsRight s s) (sym (answered answer (Refused refusal) h)) (unmet_once need case standing refusal fails, keeps-refl s.bytes)
 
 -- a refusal of the network is no want of memory
 pub refused_not_memory : (refusal : NetworkRefusal) (answer : Result (Unit {0}) ReportFault) → IsErrAnd answer (λ e. e ≡ Refused refusal) → answer ≢ Err Memory

@@ -1,9 +1,8 @@
 -- The reports of a study are right.
-use Rattle.std.proofs.Common.{◌≡◌, ℕ, suc, ◌-◌, ◌<◌, ◌≤◌, List, [], length, Option, Some, None, Result, Ok, Err, ℤ, pos, ◌≤ℤ◌, refl, sym, ap, subst, ◌∙◌, arith, append-nil}
+use Rattle.std.proofs.Common.{◌≡◌, ℕ, suc, ◌-◌, ◌<◌, ◌≤◌, List, [], length, Option, Some, None, Result, Ok, Err, ℤ, ◌≤ℤ◌, refl, sym, ap, subst, ◌∙◌, arith, append-nil}
 use Rattle.std.specs.Prelude.{All, IfSome, IsErrAnd, option_map}
-use lib.IntN.{*ℤ_comm}
-use Rattle.gic_fixed.specs.Encloses.{Encloses}
-use Rattle.gic_fixed.proofs.Integers.{linear, ≤ℤ-from_*ℤ}
+use Rattle.gic_base.proofs.Parts.{keeps-refl}
+use Rattle.gic_fixed.proofs.Enclosures.{Encloses-in_order}
 use Rattle.gic_case.specs.Lists.{Lists}
 use Rattle.gic_case.specs.Sound.{IsSound}
 use Rattle.gic_exists.specs.Exists.{EarthedNetworksAreSolved}
@@ -24,7 +23,7 @@ use Rattle.gic_stand.specs.Standing.{rows_in, IsSolvable}
 use Rattle.gic_stand.specs.declared.fault.ReportFault.{ReportFault}
 use Rattle.gic_stand.specs.declared.fault.ReportFault.TheVariants.{Refused, CannotWrite, Memory}
 use Rattle.gic_stand.specs.declared.fault.NetworkRefusal.{NetworkRefusal}
-use Rattle.gic_stand.proofs.Served.{kept_same, answered}
+use Rattle.gic_stand.proofs.Served.{answered}
 use Rattle.gic_monitor.specs.RosterView.{RosterView}
 use Rattle.gic_course.specs.declared.inputs.StormInputs.{StormInputs}
 use Rattle.gic_course.specs.Steps.{IsStormOf, IsStepOf, standing_at_step, storm_volts, storm_fields, storm_steps}
@@ -43,13 +42,6 @@ use Rattle.gic_study_mode.proofs.TrueVerdicts.{true_verdicts}
 use Rattle.gic_uniform.proofs.Denominators.{some_denominator}
 use Rattle.gic_study_mode.proofs.PeakCells.{narrow_peaks, absolute_peaks}
 
--- an interval that encloses something begins no higher than it ends
-in_order : (lo hi q : ℤ) (d : ℕ) → 0 < d → Encloses lo hi q d → lo ≤ℤ hi
-in_order lo hi q d some holds =
-    let first = *ℤ_comm lo (pos d) in
-    let second = *ℤ_comm hi (pos d) in
-    ≤ℤ-from_*ℤ d lo hi some (omega (arith, linear, first, second, holds.above_lo, holds.below_hi))
-
 -- the network has a solution, which the interval of a transformer encloses: it ends no lower than it begins
 ordered_at : EarthedNetworksAreSolved → (inputs : StormInputs) (number : ℕ) (view : View) → IsSound inputs.inputs.case → IsWithinLimits (elements_of inputs.inputs.case)
     → IsSolvable (standing_at_step inputs number) → IsRightStep inputs number view → (t : ℕ) → t < length inputs.inputs.case.transformers → (effective_at view t).low ≤ℤ (effective_at view t).high
@@ -58,7 +50,7 @@ ordered_at exist inputs number view sound limits solvable right t within =
     let rows = rows_in_force (time_of_step inputs.storm.rows number) (rows_in inputs.inputs.switchings) in
     let has = exist (elements_of case) (stands_after rows) (storm_volts inputs number) limits solvable.earthed in
     let s = has.solution in
-    in_order (effective_at view t).low (effective_at view t).high (effective_numerator case s t) (effective_denominator case t s)
+    Encloses-in_order (effective_at view t).low (effective_at view t).high (effective_numerator case s t) (effective_denominator case t s)
     (some_denominator case t s sound within has.solves.denominator_above_0) ((right.right.effective t within).holds s has.solves)
 
 -- what was seen of all steps
@@ -151,12 +143,12 @@ serves_by need case steps One Other before now (Err Memory) by h = h
 pub unserved_steps : (need : Need) (case : Lists) (steps : List (List Placed)) (IsRight : List ℕ → Type 0) (s : Shown) (refusal : NetworkRefusal) (answer : Result (Unit {0}) ReportFault)
     → IsErrAnd answer (λ e. e ≡ Refused refusal) → IsUnmet need case steps refusal → Serves need case steps IsRight s s answer
 unserved_steps need case steps IsRight s refusal answer h unmet =
-    subst (Serves need case steps IsRight s s) (sym (answered answer (Refused refusal) h)) (unmet, kept_same s.bytes)
+    subst (Serves need case steps IsRight s s) (sym (answered answer (Refused refusal) h)) (unmet, keeps-refl s.bytes)
 
 -- nor for want of memory
 pub want_of_memory : (need : Need) (case : Lists) (steps : List (List Placed)) (IsRight : List ℕ → Type 0) (s : Shown) (answer : Result (Unit {0}) ReportFault)
     → IsErrAnd answer (λ e. e ≡ Memory) → Serves need case steps IsRight s s answer
-want_of_memory need case steps IsRight s answer h = subst (Serves need case steps IsRight s s) (sym (answered answer Memory h)) (kept_same s.bytes)
+want_of_memory need case steps IsRight s answer h = subst (Serves need case steps IsRight s s) (sym (answered answer Memory h)) (keeps-refl s.bytes)
 
 -- the step in detail has a field for each zone
 pub zones_of : (inputs : StormInputs) (asked : Option ℕ) (fields : Option (List (ℤ × ℤ))) → IsStormOf inputs → fields ≡ option_map (storm_fields inputs) asked → IfSome fields (λ f. length f ≡ length inputs.inputs.case.zones)

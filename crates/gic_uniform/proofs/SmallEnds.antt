@@ -7,7 +7,8 @@ use Rattle.gic_case.specs.Lists.{Lists}
 use Rattle.gic_case.specs.Sound.{IsSound, IsSoundTransformer}
 use Rattle.gic_exists.specs.Exists.{EarthedNetworksAreSolved}
 use Rattle.gic_fixed.specs.Encloses.{Encloses, IsWithin}
-use Rattle.gic_fixed.proofs.Integers.{linear, ≤ℤ-from_*ℤ, *ℤ-neg_ℤ}
+use Rattle.gic_fixed.proofs.Enclosures.{Encloses-in_order}
+use Rattle.gic_fixed.proofs.Integers.{≤ℤ-from_*ℤ, *ℤ-neg_ℤ}
 use Rattle.gic_model.specs.declared.parts.Item.{Item}
 use Rattle.gic_model.specs.Limits.{IsWithinLimits, AreVolts}
 use Rattle.gic_model.specs.Network.{Network}
@@ -44,15 +45,9 @@ both_small lo hi width low high narrow order least = record {
   high = omega (arith, ints, low, high, narrow, order);
 }
 
-in_order : (lo hi q : ℤ) (d : ℕ) → 0 < d → Encloses lo hi q d → lo ≤ℤ hi
-in_order lo hi q d some holds =
-    let first = *ℤ_comm lo (pos d) in
-    let second = *ℤ_comm hi (pos d) in
-    ≤ℤ-from_*ℤ d lo hi some (omega (arith, linear, first, second, holds.above_lo, holds.below_hi))
-
 pub ends_small : (lo hi q : ℤ) (d width : ℕ) → 0 < d → Encloses lo hi q d → unsigned_abs q ≤ d * 2 ^ 51 → (hi -ℤ lo) ≤ℤ pos width → width ≤ 10000 → IsWithin (2 ^ 52) lo hi
 ends_small lo hi q d width some holds few narrow least =
-    both_small lo hi width (low_end lo q d (2 ^ 51) some holds.above_lo few) (high_end hi q d (2 ^ 51) some holds.below_hi few) narrow (in_order lo hi q d some holds) least
+    both_small lo hi width (low_end lo q d (2 ^ 51) some holds.above_lo few) (high_end hi q d (2 ^ 51) some holds.below_hi few) narrow (Encloses-in_order lo hi q d some holds) least
 
 -- in a view of a network that can be solved
 pub view_small : EarthedNetworksAreSolved → PotentialsAreBounded → (case : Lists) (network : Network) (stands : Item → Bool) (volts : ℕ → ℤ) (width : ℕ) (view : View)

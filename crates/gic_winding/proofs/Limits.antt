@@ -1,5 +1,5 @@
 -- The elements of a case are within the limits.
-use Rattle.std.proofs.Common.{◌≡◌, ◌*◌, count_by, ℕ, ◌+◌, ◌≤◌, true, Option, Some, None, List, [], ◌∷◌, ◌++◌, length, map, is_some, ap, ◌∙◌, arith, inl, inr, flat_map, append_assoc, length-append}
+use Rattle.std.proofs.Common.{◌≡◌, ◌*◌, count_by, ℕ, ◌+◌, ◌≤◌, true, Option, Some, None, List, [], ◌∷◌, ◌++◌, length, map, is_some, refl, ap, ◌∙◌, arith, inl, inr, flat_map, append_assoc, length-append}
 use Rattle.std.proofs.lemmas.Bool.{cases_Bool}
 use Rattle.std.proofs.lemmas.List.{length-map}
 use Rattle.std.proofs.lemmas.List.Elements.{recursion_from_All}
@@ -24,6 +24,11 @@ use Rattle.gic_winding.proofs.Grids.{IsNeutral, neutrals_within, grid_within}
 use Rattle.gic_case.proofs.NeutralNodes.{length-neutrals_of}
 use Rattle.gic_winding.proofs.Counts.{HasTwoEnds, as_many_at_a_node}
 use Rattle.gic_winding.proofs.Within.{IsPlaced, all_placed, all_of_parts, earthing_within, line_within, windings_within, resistor_within}
+
+-- there is a node for each name
+pub nodes_named : (c : Lists) → (elements_of c).nodes ≡ length (node_names c)
+unfolding elements_of
+nodes_named c = refl
 
 -- the number of nodes
 pub length-node_names : (c : Lists) → length (node_names c) ≡ length c.substations + length c.buses + length (with_device c.transformers)

@@ -1,8 +1,9 @@
 use Rattle.std.proofs.Common.{sym, subst}
 use Rattle.gic_stand.specs.declared.inputs.Inputs.{Inputs}
+use Rattle.gic_stand.proofs.Served.{answered}
 use Rattle.gic_ask.specs.Outcome.{reading_inputs}
 use Rattle.gic_ask.specs.Steps.{Reads}
-use Rattle.gic_ask.proofs.Exits.{case_fails, switchings_fail, all_read, answered}
+use Rattle.gic_ask.proofs.Exits.{case_fails, switchings_fail, all_read}
 use Rattle.gic_ask.proofs.asking.inputs.Goals as goal
 
 pub returns-in_err-case-clause-reads : goal.returns-in_err-case-clause-reads

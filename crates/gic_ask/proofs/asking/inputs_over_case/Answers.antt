@@ -1,8 +1,9 @@
 use Rattle.std.proofs.Common.{sym, subst}
 use Rattle.gic_course.specs.declared.inputs.StormInputs.{StormInputs}
+use Rattle.gic_stand.proofs.Served.{answered}
 use Rattle.gic_ask.specs.Outcome.{reading_over_case}
 use Rattle.gic_ask.specs.Steps.{Reads}
-use Rattle.gic_ask.proofs.Exits.{storm_fails, storm_switchings_fail, over_case_read, answered}
+use Rattle.gic_ask.proofs.Exits.{storm_fails, storm_switchings_fail, over_case_read}
 use Rattle.gic_ask.proofs.asking.inputs_over_case.Goals as goal
 
 pub returns-in_err-storm-clause-reads : goal.returns-in_err-storm-clause-reads

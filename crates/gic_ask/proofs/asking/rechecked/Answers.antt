@@ -1,8 +1,9 @@
 use Rattle.std.proofs.Common.{sym, subst}
+use Rattle.gic_stand.proofs.Served.{answered}
 use Rattle.gic_ask.specs.Outcome.{reading_recheck}
 use Rattle.gic_ask.specs.Steps.{Reads}
 use Rattle.gic_ask.specs.declared.request.Asked.{Asked}
-use Rattle.gic_ask.proofs.Exits.{certificate_fails, certificate_is_asked, answered}
+use Rattle.gic_ask.proofs.Exits.{certificate_fails, certificate_is_asked}
 use Rattle.gic_ask.proofs.asking.rechecked.Goals as goal
 
 pub returns-in_err-certificate-clause-reads : goal.returns-in_err-certificate-clause-reads

@@ -1,8 +1,9 @@
 use Rattle.std.proofs.Common.{sym, subst}
+use Rattle.gic_stand.proofs.Served.{answered}
 use Rattle.gic_ask.specs.Outcome.{reading_series}
 use Rattle.gic_ask.specs.Steps.{Reads}
 use Rattle.gic_ask.specs.declared.request.Asked.{Asked}
-use Rattle.gic_ask.proofs.Exits.{series_case_fails, transformer_fails, series_fails, series_read, answered}
+use Rattle.gic_ask.proofs.Exits.{series_case_fails, transformer_fails, series_fails, series_read}
 use Rattle.gic_ask.proofs.asking.series.Goals as goal
 
 pub returns-in_err-case-clause-reads : goal.returns-in_err-case-clause-reads

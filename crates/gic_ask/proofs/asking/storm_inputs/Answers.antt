@@ -1,8 +1,9 @@
 use Rattle.std.proofs.Common.{sym, subst}
 use Rattle.gic_course.specs.declared.inputs.StormInputs.{StormInputs}
+use Rattle.gic_stand.proofs.Served.{answered}
 use Rattle.gic_ask.specs.Outcome.{reading_storm_inputs}
 use Rattle.gic_ask.specs.Steps.{Reads}
-use Rattle.gic_ask.proofs.Exits.{study_case_fails, study_case_read, answered}
+use Rattle.gic_ask.proofs.Exits.{study_case_fails, study_case_read}
 use Rattle.gic_ask.proofs.asking.storm_inputs.Goals as goal
 
 pub returns-in_err-case-clause-reads : goal.returns-in_err-case-clause-reads

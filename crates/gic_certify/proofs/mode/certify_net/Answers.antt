@@ -4,7 +4,7 @@ use Rattle.gic_model.specs.Voltages.{number_at}
 use Rattle.gic_net.specs.Net.{standing}
 use Rattle.gic_stand.specs.Needs.{Solved}
 use Rattle.gic_stand.specs.Serves.{shown}
-use Rattle.gic_stand.proofs.CaseNodes.{nodes_named}
+use Rattle.gic_winding.proofs.Limits.{nodes_named}
 use Rattle.gic_stand.proofs.Served.{served, met_once, unserved_network, refused_not_memory}
 use Rattle.gic_certify.specs.RightCertify.{ShowsPassing}
 use Rattle.gic_certify.proofs.Passing.{shows_passing}

@@ -8,7 +8,7 @@ use Rattle.gic_model.specs.Standing.{is_live}
 use Rattle.gic_net.specs.Net.{standing}
 use Rattle.gic_text.specs.Lines.{lines_text}
 use Rattle.gic_check.specs.CheckText.{check_report}
-use Rattle.gic_stand.proofs.CaseNodes.{nodes_named}
+use Rattle.gic_winding.proofs.Limits.{nodes_named}
 use Rattle.gic_check.proofs.mode.write_live.Goals as goal
 
 pub returns-clause-all : goal.returns-clause-all

@@ -3,7 +3,6 @@ use Rattle.gic_case.specs.Lists.{Lists}
 use Rattle.gic_induce.specs.LineVolts.{volts_of}
 use Rattle.gic_induce.specs.Voltage.{IsFieldWithin}
 use Rattle.gic_model.specs.Network.{Network}
-use Rattle.gic_model.specs.Standing.{standing_elements, stands_after}
 use Rattle.gic_model.specs.Sums.{Placed}
 use Rattle.gic_model.specs.Voltages.{number_at}
 use Rattle.gic_net.specs.Net.{standing}
@@ -11,8 +10,9 @@ use Rattle.gic_screen.specs.declared.event.Event.TheVariants.{Benchmark}
 use Rattle.gic_screen.specs.Event.{field_of}
 use Rattle.gic_winding.specs.ElementList.{elements_of}
 use Rattle.gic_stand.specs.Needs.{Nothing}
-use Rattle.gic_stand.specs.Standing.{IsSolvable, rows_in, standing_of}
+use Rattle.gic_stand.specs.Standing.{IsSolvable, standing_of}
 use Rattle.gic_stand.proofs.Served.{served, met_nothing}
+use Rattle.gic_stand.proofs.StandingOf.{stands_of_case}
 use Rattle.gic_uniform.specs.Uniform.{uniform_field}
 use Rattle.gic_uniform.proofs.UniformFields.{same_part}
 use Rattle.gic_make.specs.Made.{made_case}
@@ -30,8 +30,7 @@ summarise-summary-requires-clause-some g c =
 
 pub summarise-summary-requires-clause-solvable : goal.summarise-summary-requires-clause-solvable
 summarise-summary-requires-clause-solvable g c =
-    let stands : standing c.in_ok-net.net ≡ standing_of c.in_ok-case.case None =
-    c.in_ok-net.ensures.standing ∙ ap (λ (n : Network). standing_elements n (stands_after (rows_in None))) c.in_ok-elements.ensures in
+    let stands = stands_of_case c.in_ok-case.case None _ (standing c.in_ok-net.net) c.in_ok-elements.ensures c.in_ok-net.ensures.standing in
     let made : standing_of c.in_ok-case.case None ≡ standing_of (made_case c.args.seed c.args.size) None = ap (λ (case : Lists). standing_of case None) c.in_ok-case.ensures in
     subst (λ (s : List Placed). IsSolvable s) (sym (stands ∙ made))
     (made_solvable c.limits_law.ensures c.made_cases_law.ensures.sound c.made_cases_law.ensures.earthed c.made_cases_law.ensures.near
@@ -49,8 +48,7 @@ returns g c =
     let same : to_z w32 (of_z w32 c.field.result) ≡ field_of Benchmark = same_part c.field.result within ∙ field in
     let in_north : number_at volts ≡ north_volts case =
     ap number_at (c.in_ok-volts.ensures ∙ ap (λ (z : ℤ). volts_of case (uniform_field case z (pos 0)) (elements_of case).list) same) in
-    let stands : standing c.in_ok-net.net ≡ standing_of case None =
-    c.in_ok-net.ensures.standing ∙ ap (λ (n : Network). standing_elements n (stands_after (rows_in None))) c.in_ok-elements.ensures in
+    let stands = stands_of_case case None _ (standing c.in_ok-net.net) c.in_ok-elements.ensures c.in_ok-net.ensures.standing in
     let answer : IsRightSummary (made_case seed size) (standing_of (made_case seed size) None) (north_volts (made_case seed size)) summary =
     subst (λ (made : Lists). IsRightSummary made (standing_of made None) (north_volts made) summary) c.in_ok-case.ensures
     (subst (λ (v : ℕ → ℤ). IsRightSummary case (standing_of case None) v summary) in_north

@@ -6,7 +6,7 @@ use Rattle.gic_island.proofs.Steps.{live_node}
 use Rattle.gic_model.specs.Network.{Network}
 use Rattle.gic_model.specs.Voltages.{number_at}
 use Rattle.gic_net.specs.Net.{standing}
-use Rattle.gic_stand.proofs.CaseNodes.{nodes_named}
+use Rattle.gic_winding.proofs.Limits.{nodes_named}
 use Rattle.gic_uniform.specs.Uniform.{uniform_volts}
 use Rattle.gic_winding.specs.ElementList.{elements_of}
 use Rattle.gic_recheck.specs.Told.{IsNodeWithin}

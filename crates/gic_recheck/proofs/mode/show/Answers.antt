@@ -8,7 +8,7 @@ use Rattle.gic_cert.specs.Written.{entry_of}
 use Rattle.gic_induce.specs.Voltage.{IsFieldWithin}
 use Rattle.gic_model.specs.Network.{Network}
 use Rattle.gic_net.specs.Net.{standing, stands}
-use Rattle.gic_stand.proofs.CaseNodes.{nodes_named}
+use Rattle.gic_winding.proofs.Limits.{nodes_named}
 use Rattle.gic_text.specs.Lines.{lines_text}
 use Rattle.gic_uniform.specs.Uniform.{uniform_volts}
 use Rattle.gic_view.specs.Kept.{optional_ends}

@@ -1,7 +1,7 @@
 use Rattle.std.proofs.Common.{ℕ, ◌≡◌, ◌<◌, length, refl, ap, subst, ◌∙◌}
 use Rattle.gic_case.specs.Lists.{node_names}
 use Rattle.gic_model.specs.Network.{Network}
-use Rattle.gic_stand.proofs.CaseNodes.{nodes_named}
+use Rattle.gic_winding.proofs.Limits.{nodes_named}
 use Rattle.gic_stand.proofs.network.expect_earthed.Goals as goal
 
 pub node_name-node-requires : goal.node_name-node-requires

@@ -1,11 +1,17 @@
-use Rattle.std.proofs.Common.{ℕ, ◌≡◌, ◌<◌, length, refl, ap, subst, ◌∙◌, arith}
+use Rattle.std.proofs.Common.{ℕ, zero, suc, ◌≡◌, ◌<◌, List, [], ◌∷◌, length, refl, ap, subst, ◌∙◌, arith}
 use Rattle.std.specs.Prelude.{slice_index}
 use Rattle.gic_case.specs.Lists.{node_names}
 use Rattle.gic_model.specs.Network.{Network}
 use Rattle.gic_net.specs.Net.{standing}
 use Rattle.gic_stand.specs.Standing.{IsFirstUnresolved}
-use Rattle.gic_stand.proofs.CaseNodes.{nodes_named, within_by_index}
+use Rattle.gic_winding.proofs.Limits.{nodes_named}
 use Rattle.gic_stand.proofs.network.expect_resolved.Goals as goal
+
+-- a number that is not 0 stands within the list
+within_by_index : (xs : List ℕ) (k n : ℕ) → slice_index xs k ≡ suc n → k < length xs
+within_by_index [] k n h = absurd (grind (arith, h))
+within_by_index (x ∷ xs) zero n h = omega arith
+within_by_index (x ∷ xs) (suc k) n h = omega (arith, within_by_index xs k n h)
 
 pub node_name-node-requires : goal.node_name-node-requires
 node_name-node-requires c =
