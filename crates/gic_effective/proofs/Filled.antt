@@ -1,9 +1,8 @@
 -- Lists that are filled place by place.
-use Rattle.std.proofs.Common.{◌≡◌, ℕ, ◌+◌, ◌<◌, List, length, get_or, set, arith, refl, sym, subst, inl, inr}
+use Rattle.std.proofs.Common.{◌≡◌, ℕ, ◌+◌, ◌<◌, List, length, get_or, set, arith, sym, subst, inl, inr}
 use Rattle.std.proofs.lemmas.Bool.{cases_lt}
 use Rattle.std.proofs.lemmas.List.{get_or-set_same, get_or-set_other}
-use Rattle.gic_case.specs.Lists.{Lists, node_names}
-use Rattle.gic_winding.specs.ElementList.{elements_of}
+use Rattle.gic_case.specs.Lists.{Lists}
 
 -- a fact of each place below i, and of the item that is put at i
 pub filled : {X : Type 0} (P : ℕ → X → Type 0) (xs : List X) (d x : X) (i : ℕ) → i < length xs →
@@ -14,8 +13,3 @@ filled P xs d x i inside before here k below = elim (cases_lt k i) [
       let e : k ≡ i = omega (arith, more, below) in
       subst (λ n. P n (get_or (set xs i x) n d)) (sym e) (subst (P i) (sym (get_or-set_same xs i x d inside)) here)
 ]
-
--- a node of a case is one of its names
-pub nodes_named : (case : Lists) → (elements_of case).nodes ≡ length (node_names case)
-unfolding elements_of
-nodes_named case = refl

@@ -14,9 +14,9 @@ use Rattle.gic_model.specs.Solution.{Solution, IsOhm, IsSolution}
 use Rattle.gic_model.specs.SolutionLaws.{combined}
 use Rattle.gic_fixed.proofs.Integers.{linear, nothing_from}
 use Rattle.gic_model.proofs.Row.{weight}
-use Rattle.gic_model.proofs.Members.{weaker, both, any_of_each, by_any, for_each}
+use Rattle.gic_model.proofs.Members.{weaker, both, by_any}
 use Rattle.gic_model.proofs.Superposition.{superposition}
-use Rattle.gic_model.proofs.Ends.{IsLiveEnd, end_own, from_own}
+use Rattle.gic_model.proofs.Ends.{IsLiveEnd, end_own, from_own, ends_live}
 use Rattle.gic_model.proofs.Agreement.{no_potential, same_less, crosswise, potentials_agree}
 use Rattle.gic_exists.specs.Exists.{Agree}
 
@@ -38,9 +38,6 @@ module _ (nodes : ℕ) (standing : List Placed) (within : AllByRecursion (λ p. 
   no_current : (volts : ℕ → ℤ) (s : Solution) → IsSolution standing volts s → ((place : ℕ) → volts place ≡ pos 0) → (place : ℕ) → s.current place ≡ pos 0
   no_current volts s solves none place = by (is_standing standing place) refl
     where
-      ends_live : AllByRecursion (λ p. (m : ℕ) → ends_at p.1 m ≡ true → is_live standing m ≡ true) standing
-      ends_live = for_each (λ m p. ends_at p.1 m ≡ true → is_live standing m ≡ true) standing (λ m. any_of_each (λ p. ends_at p.1 m) standing)
-
       at_end : (m : ℕ) → is_live standing m ≡ true → s.potential m ≡ pos 0
       at_end m live = no_potential nodes standing within volts s solves none earthed m live
 
@@ -51,7 +48,7 @@ module _ (nodes : ℕ) (standing : List Placed) (within : AllByRecursion (λ p. 
           no_flow p.1.micro_ohm (weight p) (s.potential p.1.from.0) (value_at s.potential p.1.to) (pos s.denominator) (volts p.0) (s.current p.0) (omega arith)
           (at_end p.1.from.0 (from_own p.1 (is_live standing) h.1)) (value_none (is_live standing) s.potential at_end p.1.to (end_own p.1 p.1.to refl (is_live standing) h.1)) (none p.0) h.0.1) standing
           (both (λ p. IsElementWithin nodes p.1 × IsOhm volts s p) (λ p. (m : ℕ) → ends_at p.1 m ≡ true → is_live standing m ≡ true) standing
-          (both (λ p. IsElementWithin nodes p.1) (IsOhm volts s) standing within (recursion_from_All (IsOhm volts s) standing solves.ohm)) ends_live)
+          (both (λ p. IsElementWithin nodes p.1) (IsOhm volts s) standing within (recursion_from_All (IsOhm volts s) standing solves.ohm)) (ends_live standing))
 
       by : (b : Bool) → is_standing standing place ≡ b → s.current place ≡ pos 0
       by true stands = by_any (λ p. p.0 == place) (λ p. s.current p.0 ≡ pos 0) (λ p is h. ap s.current (sym (eqb-true p.0 place is)) ∙ h) standing each stands

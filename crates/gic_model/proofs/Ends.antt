@@ -51,12 +51,16 @@ other_live k e live leads = by (e.from.0 == k)
     by true = end_own e e.to refl live leads
     by false = from_own e live leads
 
+-- each node at which a standing element ends is live
+pub ends_live : (standing : List Placed) → AllByRecursion (λ p. (m : ℕ) → ends_at p.1 m ≡ true → is_live standing m ≡ true) standing
+ends_live standing = for_each (λ m p. ends_at p.1 m ≡ true → is_live standing m ≡ true) standing (λ m. any_of_each (λ p. ends_at p.1 m) standing)
+
 -- the other ends of the standing elements at a node are live, or earth
 pub others_live : (standing : List Placed) (k : ℕ) → AllByRecursion (λ p. IsLiveEnd (is_live standing) (other_end k p.1)) (elements_at standing k)
 others_live standing k =
     kept (λ p. ends_at p.1 k) (λ p. (m : ℕ) → ends_at p.1 m ≡ true → is_live standing m ≡ true) (λ p. IsLiveEnd (is_live standing) (other_end k p.1))
     (λ p is leads. other_live k p.1 (is_live standing) leads) standing
-    (for_each (λ m p. ends_at p.1 m ≡ true → is_live standing m ≡ true) standing (λ m. any_of_each (λ p. ends_at p.1 m) standing))
+    (ends_live standing)
 
 -- the standing elements of a network within the limits are within them
 pub standing_within : (network : Network) (stands : Item → Bool) → IsWithinLimits network → AllByRecursion (λ p. IsElementWithin network.nodes p.1) (standing_elements network stands)

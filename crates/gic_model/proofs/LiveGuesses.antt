@@ -7,8 +7,8 @@ use Rattle.gic_model.specs.Network.{ends_at}
 use Rattle.gic_model.specs.Standing.{is_live, IsLive, elements_at, value_at, leaving}
 use Rattle.gic_model.specs.Guess.{guessed_current, residual, conductance, IsSettled}
 use Rattle.gic_model.specs.Sums.{Placed}
-use Rattle.gic_model.proofs.Members.{kept, for_each, any_of_each}
-use Rattle.gic_model.proofs.Ends.{IsLiveEnd, end_own, from_own}
+use Rattle.gic_model.proofs.Members.{kept}
+use Rattle.gic_model.proofs.Ends.{IsLiveEnd, end_own, from_own, ends_live}
 use Rattle.gic_model.proofs.Row.{weight}
 use Rattle.gic_model.proofs.SumLaws.{sum_over_ohms-same}
 
@@ -18,7 +18,7 @@ residual_same standing k u v x y volts guesses =
     sum_over_ohms-same (λ p. leaving k p.1 (guessed_current u x p)) (λ p. leaving k p.1 (guessed_current v y p)) (elements_at standing k)
     (kept (λ p. ends_at p.1 k) (λ p. (m : ℕ) → ends_at p.1 m ≡ true → is_live standing m ≡ true) (λ p. leaving k p.1 (guessed_current u x p) ≡ leaving k p.1 (guessed_current v y p))
     (λ p is leads. ap (λ z. leaving k p.1 z) (current p leads)) standing
-    (for_each (λ m p. ends_at p.1 m ≡ true → is_live standing m ≡ true) standing (λ m. any_of_each (λ p. ends_at p.1 m) standing)))
+    (ends_live standing))
   where
     there : (t : End) → IsLiveEnd (is_live standing) t → value_at x t ≡ value_at y t
     there (Node m) live = guesses m.0 live

@@ -19,8 +19,8 @@ use Rattle.gic_model.specs.Network.{ends_at}
 use Rattle.gic_model.specs.Solution.{Solution, IsOhm, IsSolution}
 use Rattle.gic_model.specs.Standing.{is_live, IsLive, is_standing, value_at}
 use Rattle.gic_model.specs.Sums.{Placed}
-use Rattle.gic_model.proofs.Ends.{IsLiveEnd, end_own, from_own}
-use Rattle.gic_model.proofs.Members.{weaker, both, any_of_each, by_any, for_each}
+use Rattle.gic_model.proofs.Ends.{IsLiveEnd, end_own, from_own, ends_live}
+use Rattle.gic_model.proofs.Members.{weaker, both, by_any}
 use Rattle.gic_winding.specs.ElementList.{elements_of}
 use Rattle.gic_winding.specs.Order.{weighted_from}
 use Rattle.gic_winding.specs.Weights.{low_volts_of, transformer_at, no_transformer, weighted_windings, windings_at}
@@ -68,9 +68,6 @@ value_few live x m few Earth alive = omega arith
 
 module _ (nodes : ℕ) (standing : List Placed) (within : AllByRecursion (λ p. IsElementWithin nodes p.1) standing) (volts : ℕ → ℤ) (driven : AreVolts volts)
     (s : Solution) (solves : IsSolution standing volts s) (few : (k : ℕ) → IsLive standing k → unsigned_abs (s.potential k) ≤ most_potential * s.denominator) where
-  ends_live : AllByRecursion (λ p. (m : ℕ) → ends_at p.1 m ≡ true → is_live standing m ≡ true) standing
-  ends_live = for_each (λ m p. ends_at p.1 m ≡ true → is_live standing m ≡ true) standing (λ m. any_of_each (λ p. ends_at p.1 m) standing)
-
   each_few : AllByRecursion (λ p. unsigned_abs (s.current p.0) ≤ most_current * s.denominator) standing
   each_few =
       weaker (λ p. (IsElementWithin nodes p.1 × IsOhm volts s p) × ((m : ℕ) → ends_at p.1 m ≡ true → is_live standing m ≡ true)) (λ p. unsigned_abs (s.current p.0) ≤ most_current * s.denominator)
@@ -81,7 +78,7 @@ module _ (nodes : ℕ) (standing : List Placed) (within : AllByRecursion (λ p. 
       let flow = few_flow p.1.micro_ohm p.1.times (s.current p.0) _ _ h.0.0.least_ohm (times_few p.1.times h.0.0.one_or_three) h.0.1 drive in
       omega (arith, flow)) standing
       (both (λ p. IsElementWithin nodes p.1 × IsOhm volts s p) (λ p. (m : ℕ) → ends_at p.1 m ≡ true → is_live standing m ≡ true) standing
-      (both (λ p. IsElementWithin nodes p.1) (IsOhm volts s) standing within (recursion_from_All (IsOhm volts s) standing solves.ohm)) ends_live)
+      (both (λ p. IsElementWithin nodes p.1) (IsOhm volts s) standing within (recursion_from_All (IsOhm volts s) standing solves.ohm)) (ends_live standing))
 
   -- the current at each place
   pub current_few : (place : ℕ) → unsigned_abs (s.current place) ≤ most_current * s.denominator

@@ -8,7 +8,7 @@ use Rattle.gic_winding.specs.ElementList.{elements_of}
 use Rattle.gic_effective.specs.Narrow.{IsNoWider}
 use Rattle.gic_effective.specs.RightView.{IsRightNode, IsRightElement}
 use Rattle.gic_effective.specs.ViewLengths.{HasViewLengths}
-use Rattle.gic_effective.proofs.Filled.{nodes_named}
+use Rattle.gic_winding.proofs.Limits.{nodes_named}
 use Rattle.gic_effective.proofs.view.fill_view.Goals as goal
 
 pub fill_nodes-requires-clause-room : goal.fill_nodes-requires-clause-room

@@ -3,7 +3,7 @@ use Rattle.std.proofs.lemmas.List.{length-replicate}
 use Rattle.gic_model.specs.Network.{Network}
 use Rattle.gic_view.specs.View.{View}
 use Rattle.gic_winding.specs.ElementList.{elements_of}
-use Rattle.gic_effective.proofs.Filled.{nodes_named}
+use Rattle.gic_winding.proofs.Limits.{nodes_named}
 use Rattle.gic_effective.proofs.view.view_of_case.Goals as goal
 
 pub returns-clause-lengths : goal.returns-clause-lengths
