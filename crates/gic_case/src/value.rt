@@ -118,7 +118,10 @@ pub(crate) fn optional_ohm_at(
     ensures { Answers Memory (λ n. n) result (optional ohm_within list row at (table_view table.now)) }
 {
     match at_key(table, at.key()) {
-        Some(value) => Ok(Some(natural_within(1000, 1000000000, value).ok_or(refused(list, row, at))?)),
+        Some(value) => {
+            let number = natural_within(1000, 1000000000, value).ok_or(refused(list, row, at))?;
+            Ok(Some(number))
+        }
         None => Ok(None),
     }
 }

@@ -212,12 +212,7 @@ fn column_word(field: StormField) -> &'static str
 }
 
 /// Writes the line of what a row of the storm or of the switchings breaks, or a line of the certificate.
-fn write_record<E: Sink>(
-    file: &str,
-    what: &str,
-    row: u32,
-    err: &mut E,
-) -> Result<(), WriteFailed>
+fn write_record<E: Sink>(file: &str, what: &str, row: u32, err: &mut E) -> Result<(), WriteFailed>
     ensures all { OnOk result (Appends (E.written err.old) (E.written err.new) (told_line (record_words file.now what.now row))) }
     ensures part { AppendsPart (E.written err.old) (E.written err.new) (told_line (record_words file.now what.now row)) }
     ensures cause { HasCause (E.faults err.old) (E.faults err.new) result }
