@@ -1,6 +1,5 @@
 //! Whether a certificate passes.
-ghost use Rattle.std.specs.Prelude.{◌≡◌, ℕ, ◌*◌, ◌<◌, ◌≤◌, ◌↔◌, length, IsOk, IfErr, IfNone, IfSome, IsTrue};
-ghost use Rattle.gic_model.specs.Standing.{is_live, IsLive};
+ghost use Rattle.std.specs.Prelude.{◌≡◌, ◌*◌, ◌<◌, ◌≤◌, ◌↔◌, length, IsOk, IfErr, IfNone, IfSome, IsTrue};
 ghost use Rattle.gic_model.specs.Bound.{IsRowPositive};
 ghost use Rattle.gic_model.specs.Voltages.{number_at};
 ghost use Rattle.gic_net.specs.Net.{standing};

@@ -1,15 +1,10 @@
 //! The certificate of a solver's guesses.
-ghost use Rattle.std.specs.Prelude.{◌≡◌, ℕ, ℤ, ◌*◌, ◌<◌, ◌≤◌, length, slice_index, pos, unsigned_abs, IfOk, if◌then◌else◌};
-ghost use Rattle.gic_base.specs.declared.limits.TheConstants.{MOST_FIELD, MOST_WALK};
-ghost use Rattle.gic_cert.specs.declared.limits.TheConstants.{MOST_CHECKED_STEP, MOST_MADE_RADIUS, MOST_WRITTEN_GUESS};
-ghost use Rattle.gic_model.specs.Standing.{is_live, IsLive};
+ghost use Rattle.std.specs.Prelude.{◌≡◌, ℕ, ◌*◌, ◌<◌, ◌≤◌, length, slice_index, pos, IfOk, if◌then◌else◌};
+ghost use Rattle.gic_base.specs.declared.limits.TheConstants.{MOST_WALK};
+ghost use Rattle.gic_cert.specs.declared.limits.TheConstants.{MOST_CHECKED_STEP};
+ghost use Rattle.gic_model.specs.Standing.{is_live};
 ghost use Rattle.gic_model.specs.Voltages.{number_at};
-ghost use Rattle.gic_model.specs.Guess.{IsSettled};
 ghost use Rattle.gic_net.specs.Net.{standing};
-ghost use Rattle.gic_bound.specs.Entries.{IsBoundWithin};
-ghost use Rattle.gic_cert.specs.Written.{entry_of, guess_of, radius_of};
-ghost use Rattle.gic_cert.specs.Step.{checked_step as checked_step_of};
-ghost use Rattle.gic_cert.specs.Passing.{IsPassing};
 
 use crate::cert::Cert;
 use crate::checking::needed_radius;
@@ -82,49 +77,15 @@ fn radii(
     Ok(list)
 }
 
-/// The certificate of settled guesses, whose field is this one.
-fn certified(
-    alloc: Global,
-    net: &Net,
-    volts: &Volts,
-    field: &Field,
-    solver: &Solver,
-    bound: &BoundVector,
-) -> Result<Cert, OutOfMemory>
-    requires volts { length volts.now ≡ length net.now.network.list }
-    requires nodes { length solver.now ≡ net.now.network.nodes }
-    requires entries { length bound.now ≡ net.now.network.nodes }
-    requires north { unsigned_abs field.now.north ≤ MOST_FIELD }
-    requires east { unsigned_abs field.now.east ≤ MOST_FIELD }
-    requires bound { IsBoundWithin (standing net.now) MOST_WALK (slice_index bound.now) }
-    requires settled { IsSettled (standing net.now) (number_at volts.now) (number_at solver.now) }
-    requires guesses { (k : ℕ) → IsLive (standing net.now) k → unsigned_abs (number_at solver.now k) ≤ MOST_WRITTEN_GUESS }
-    ensures field { IfOk result (λ cert. (cert.north ≡ field.now.north) × (cert.east ≡ field.now.east)) }
-    ensures passes { IfOk result (IsPassing net.now.network.nodes (standing net.now) (number_at volts.now)) }
-    ensures radii { IfOk result (λ cert. (k : ℕ) →
-        radius_of cert k ≡ entry_of cert k * checked_step_of (standing net.now) (number_at volts.now) (guess_of cert) net.now.network.nodes) }
-    ensures small { IfOk result (λ cert. (k : ℕ) → radius_of cert k ≤ MOST_MADE_RADIUS) }
-{
-    settled_step_law();
-    let nodes = net.nodes();
-    let entries = copied(alloc, nodes, bound)?;
-    let guesses = live_guesses(alloc, net, solver)?;
-    let step = checked_step(net, volts, guesses.as_slice());
-    let radii = radii(alloc, nodes, bound, step)?;
-    Ok(Cert::from_columns(field, entries, guesses, radii))
-}
-
 impl Cert {
-    ghost use Rattle.std.specs.Prelude.{◌≡◌, ℕ, ◌*◌, ◌≤◌, length, slice_index, unsigned_abs, IfOk};
-    ghost use Rattle.gic_base.specs.declared.limits.TheConstants.{MOST_FIELD, MOST_WALK};
-    ghost use Rattle.gic_model.specs.Standing.{IsLive};
-    ghost use Rattle.gic_cert.specs.declared.limits.TheConstants.{MOST_MADE_RADIUS, MOST_WRITTEN_GUESS};
+    ghost use Rattle.std.specs.Prelude.{◌≡◌, ℕ, ◌*◌, ◌≤◌, unsigned_abs, IfOk};
+    ghost use Rattle.gic_base.specs.declared.limits.TheConstants.{MOST_FIELD};
+    ghost use Rattle.gic_cert.specs.declared.limits.TheConstants.{MOST_MADE_RADIUS};
     ghost use Rattle.gic_model.specs.Voltages.{number_at};
-    ghost use Rattle.gic_model.specs.Guess.{IsSettled};
     ghost use Rattle.gic_net.specs.Net.{standing};
-    ghost use Rattle.gic_bound.specs.Entries.{IsBoundWithin};
+    ghost use Rattle.gic_cert.specs.Settled.{IsSettledSolution};
     ghost use Rattle.gic_cert.specs.Written.{entry_of, guess_of, radius_of};
-    ghost use Rattle.gic_cert.specs.Step.{checked_step};
+    ghost use Rattle.gic_cert.specs.Step.{checked_step as checked_step_of};
     ghost use Rattle.gic_cert.specs.Passing.{IsPassing};
 
     /// The certificate of settled guesses, whose radii are what the checked step asks for. It passes for this net and
@@ -141,21 +102,22 @@ impl Cert {
         solver: &Solver,
         bound: &BoundVector,
     ) -> Result<Cert, OutOfMemory>
-        requires volts { length volts.now ≡ length net.now.network.list }
-        requires nodes { length solver.now ≡ net.now.network.nodes }
-        requires entries { length bound.now ≡ net.now.network.nodes }
+        requires settled { IsSettledSolution net.now volts.now solver.now bound.now }
         requires north { unsigned_abs north ≤ MOST_FIELD }
         requires east { unsigned_abs east ≤ MOST_FIELD }
-        requires bound { IsBoundWithin (standing net.now) MOST_WALK (slice_index bound.now) }
-        requires settled { IsSettled (standing net.now) (number_at volts.now) (number_at solver.now) }
-        requires guesses { (k : ℕ) → IsLive (standing net.now) k → unsigned_abs (number_at solver.now k) ≤ MOST_WRITTEN_GUESS }
         ensures field { IfOk result (λ cert. (cert.north ≡ north) × (cert.east ≡ east)) }
         ensures passes { IfOk result (IsPassing net.now.network.nodes (standing net.now) (number_at volts.now)) }
         ensures radii { IfOk result (λ cert. (k : ℕ) →
-            radius_of cert k ≡ entry_of cert k * checked_step (standing net.now) (number_at volts.now) (guess_of cert) net.now.network.nodes) }
+            radius_of cert k ≡ entry_of cert k * checked_step_of (standing net.now) (number_at volts.now) (guess_of cert) net.now.network.nodes) }
         ensures small { IfOk result (λ cert. (k : ℕ) → radius_of cert k ≤ MOST_MADE_RADIUS) }
     {
+        settled_step_law();
+        let nodes = net.nodes();
+        let entries = copied(alloc, nodes, bound)?;
+        let guesses = live_guesses(alloc, net, solver)?;
+        let step = checked_step(net, volts, guesses.as_slice());
+        let radii = radii(alloc, nodes, bound, step)?;
         let field = Field { north, east };
-        certified(alloc, net, volts, &field, solver, bound)
+        Ok(Cert::from_columns(&field, entries, guesses, radii))
     }
 }

@@ -1,6 +1,5 @@
 //! The certificate that the mode writes.
 ghost use Rattle.std.specs.Prelude.{◌≡◌, ◌*◌, ◌∷◌, [], ℕ, ◌≤◌, length, Err, IfOk};
-ghost use Rattle.gic_case.specs.Lists.{node_names};
 ghost use Rattle.gic_cert.specs.declared.limits.TheConstants.{MOST_MADE_RADIUS};
 ghost use Rattle.gic_cert.specs.Passing.{IsPassing};
 ghost use Rattle.gic_cert.specs.Step.{checked_step};

@@ -1,14 +1,29 @@
-use Rattle.std.proofs.Common.{◌<◌, ◌^◌, ℤ, List, unsigned_abs, subst, sym, arith}
+use Rattle.std.proofs.Common.{◌≡◌, ◌<◌, ◌^◌, ℕ, ℤ, List, unsigned_abs, ap, sym, subst₂, ◌∙◌, arith}
+use Rattle.gic_model.specs.Network.{Network}
 use Rattle.gic_model.specs.Voltages.{number_at}
 use Rattle.gic_net.specs.Net.{stands}
+use Rattle.gic_winding.specs.ElementList.{elements_of}
+use Rattle.gic_cert.specs.Settled.{IsSettledSolution}
 use Rattle.gic_certify.proofs.mode.settled_certificate.Goals as goal
 
-pub from_solver-requires-clause-guesses : goal.from_solver-requires-clause-guesses
-from_solver-requires-clause-guesses c k live =
+pub from_solver-requires-clause-settled : goal.from_solver-requires-clause-settled
+from_solver-requires-clause-settled c =
     let net = c.args.net.now in
-    let below : unsigned_abs (number_at c.settle_guesses.new.room.solver k) < 2 ^ 94 =
-    c.potential_bound_law.ensures.guesses net.network (stands net) (number_at c.args.volts.now) (number_at c.settle_guesses.new.room.solver) k
-    c.within_limits.ensures c.requires.ready.solvable.within c.within_limit.ensures c.settle_guesses.ensures.settled live in
-    let same : unsigned_abs (number_at c.solver.result.now k) < 2 ^ 94 =
-    subst (λ (x : List ℤ). unsigned_abs (number_at x k) < 2 ^ 94) (sym c.solver.ensures) below in
-    omega (arith, same)
+    let volts = c.args.volts.now in
+    let room = c.settle_guesses.new.room in
+    let ready = c.settle_guesses.ensures.ready in
+    let settled = c.settle_guesses.ensures.settled in
+    let nodes : (elements_of c.args.case.now).nodes ≡ net.network.nodes = sym (ap (λ (n : Network). n.nodes) c.requires.net) in
+    let solution : IsSettledSolution net volts room.solver room.vector = record {
+      volt_count = c.requires.volts;
+      guess_count = ready.has_room.solver ∙ nodes;
+      entry_count = ready.has_room.vector ∙ nodes;
+      bound = ready.bound;
+      settled = settled;
+      written = λ k live.
+          let below : unsigned_abs (number_at room.solver k) < 2 ^ 94 =
+          c.potential_bound_law.ensures.guesses net.network (stands net) (number_at volts) (number_at room.solver) k
+          c.within_limits.ensures ready.solvable.within c.within_limit.ensures settled live in
+          omega (arith, below);
+    } in
+    subst₂ (λ (xs : List ℤ) (vs : List ℕ). IsSettledSolution net volts xs vs) (sym c.solver.ensures) (sym c.vector.ensures) solution
