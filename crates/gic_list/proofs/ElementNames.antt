@@ -1,6 +1,6 @@
 -- The items of the elements of a case, and the names of the nodes at which they end.
-use Rattle.std.proofs.Common.{◌≡◌, ◌∙◌, ℕ, ◌+◌, ◌<◌, ◌≤◌, Bool, true, false, Option, Some, None, [], ◌∷◌, ◌++◌, length, map, get_or, refl, sym, ap, subst, arith, inl, inr, ◌⊎◌}
-use Rattle.std.specs.Prelude.{◌==◌, ◌||◌, if◌then◌else◌, is_some, Contains, IsTrue, ⊤}
+use Rattle.std.proofs.Common.{◌≡◌, ◌∙◌, ℕ, ◌+◌, ◌<◌, ◌≤◌, Bool, true, false, Option, Some, None, [], ◌∷◌, ◌++◌, length, map, get_or, refl, sym, ap, subst, arith, inl, inr}
+use Rattle.std.specs.Prelude.{◌==◌, if◌then◌else◌, is_some, Contains, IsTrue, ⊤}
 use Rattle.std.specs.List.{AllByRecursion}
 use Rattle.std.proofs.lemmas.Bool.{eqb-true}
 use Rattle.std.proofs.lemmas.List.{get_or-map, length-map}
@@ -18,6 +18,7 @@ use Rattle.gic_model.specs.declared.parts.Item.{Item}
 use Rattle.gic_model.specs.declared.parts.Item.TheVariants as item
 use Rattle.gic_model.specs.declared.parts.Element.{Element}
 use Rattle.gic_model.specs.Network.{ends_at, is_node}
+use Rattle.gic_model.proofs.Members.{or_cases}
 use Rattle.gic_winding.specs.ElementList.{elements_of, element_list, earthing_of, earthings_of, line, line_of, lines_of, windings_of, all_windings_of, resistor_of, resistors_of, item_name}
 use Rattle.gic_list.specs.ListText.{node_name}
 use Rattle.gic_report.specs.Items.{HasPlace}
@@ -156,10 +157,6 @@ element_by c e (k, within, is) = subst (IsElementOf c) is (all_at (IsElementOf c
 pub item_of : (c : Lists) (e : Element) → Contains (elements_of c).list e → HasPlace c e.item
 item_of c e h = (element_by c e h).item_of
 
-either : (a b : Bool) → (a || b) ≡ true → (a ≡ true) ⊎ (b ≡ true)
-either true b h = inl refl
-either false b h = inr h
-
 end_by : (c : Lists) (kept : Item) (to : End) (node : ℕ) → IsEndBy c kept to → is_node to node ≡ true → IsNodeBy c kept node
 end_by c kept (Node n) node h e = subst (IsNodeBy c kept) (eqb-true n.0 node e) h
 end_by c kept Earth node h e = absurd (let f : false ≡ true = e in cc)
@@ -168,7 +165,7 @@ end_by c kept Earth node h e = absurd (let f : false ≡ true = e in cc)
 pub node_by_item : (c : Lists) (e : Element) (node : ℕ) → IsSound c → Contains (elements_of c).list e → IsTrue (ends_at e node) → first_neutral c ≤ node → node_name c node ≡ item_name c e.item
 node_by_item c e node sound h ends past =
     let by = element_by c e h in
-    elim (either (e.from.0 == node) (is_node e.to node) ends) [
+    elim (or_cases (e.from.0 == node) (is_node e.to node) ends) [
       | inl at ↦ subst (IsNodeBy c e.item) (eqb-true e.from.0 node at) (by.from_by sound) past
       | inr at ↦ end_by c e.item e.to node (by.to_by sound) at past
     ]
