@@ -20,10 +20,12 @@ use Rattle.gic_report.proofs.ViewDetermined.{are_effectives, are_transformers, s
 use Rattle.gic_report.proofs.WordsDetermined.{first_of_lines, same_32, same_natural, word_at, word_of_32, word_of_natural}
 
 module _ (names : List (List ℕ)) (rows : List ItemRow) (ts : List Transformer) where
-  -- the lines from those of the nodes on
+  -- the lines behind those of the rows, and those from the nodes on
+  abbrev behind : (threshold : ℕ) → View → List Words
+  behind threshold view = effective_lines ts view.effective ++ (transformer_lines threshold ts view.effective ++ word_line (codes "end") ∷ [])
+
   abbrev body : (threshold : ℕ) → View → List Words
-  body threshold view =
-      node_lines names view.nodes ++ (row_lines rows view.elements ++ (effective_lines ts view.effective ++ (transformer_lines threshold ts view.effective ++ word_line (codes "end") ∷ [])))
+  body threshold view = node_lines names view.nodes ++ (row_lines rows view.elements ++ behind threshold view)
 
   abbrev pub lines : (north east : ℤ) (width threshold : ℕ) → View → List Words
   lines north east width threshold view = word_line (codes "field") ∷ setting_line north east width threshold ∷ body threshold view
@@ -59,7 +61,7 @@ module _ (names : List (List ℕ)) (rows : List ItemRow) (ts : List Transformer)
       let last : AllByRecursion IsLine (word_line (codes "end") ∷ []) = ((word_from_test (codes "end") refl, tt), tt) in
       let after = are_transformers threshold ts view.effective (word_line (codes "end") ∷ []) named.transformer_words s.view_shown.transformer_count s.view_shown.effective_fit last in
       let currents = are_effectives ts view.effective _ named.transformer_words s.view_shown.transformer_count s.view_shown.effective_fit after in
-      ((word_from_test (codes "field") refl, tt), (setting_words north east width threshold view s, are_items names rows ts view _ named s.view_shown currents))
+      ((word_from_test (codes "field") refl, tt), (setting_words north east width threshold view s, are_items names rows ts view (behind threshold view) named s.view_shown currents))
 
   -- the text determines the numbers and the lists of the view
   pub field_determined : (north east : ℤ) (width threshold : ℕ) (view : View) (north' east' : ℤ) (width' threshold' : ℕ) (view' : View) → AreNamed names rows ts
@@ -71,7 +73,7 @@ module _ (names : List (List ℕ)) (rows : List ItemRow) (ts : List Transformer)
       let both : word_line (codes "field") ∷ setting_line north east width threshold ∷ body threshold view ≡ word_line (codes "field") ∷ setting_line north' east' width' threshold' ∷ body threshold' view' = words in
       let setting : setting_line north east width threshold ≡ setting_line north' east' width' threshold' = ap (λ ls. first_of_lines ls) (ap (drop 1) words) in
       let later : body threshold view ≡ body threshold' view' = ap (drop 2) words in
-      let items = same_items names rows ts view view' _ _ s.view_shown s'.view_shown later in
+      let items = same_items names rows ts view view' (behind threshold view) (behind threshold' view') s.view_shown s'.view_shown later in
       record {
         same_north = same_32 north north' s.north_fits s'.north_fits (ap (λ ws. word_at ws 1) setting);
         same_east = same_32 east east' s.east_fits s'.east_fits (ap (λ ws. word_at ws 3) setting);

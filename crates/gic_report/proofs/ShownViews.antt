@@ -33,7 +33,7 @@ module _ (names : List (List ℕ)) (rows : List ItemRow) (ts : List Transformer)
 
   -- the lines of the nodes and rows, and some lines behind them, are lines
   pub are_items : (view : View) (rest : List Words) → AreNamed → IsShown view → AllByRecursion IsLine rest → AllByRecursion IsLine (node_lines names view.nodes ++ (row_lines rows view.elements ++ rest))
-  are_items view rest named s k = are_nodes names view.nodes _ named.node_words s.nodes_fit (are_rows rows view.elements rest named.row_words s.elements_fit k)
+  are_items view rest named s k = are_nodes names view.nodes (row_lines rows view.elements ++ rest) named.node_words s.nodes_fit (are_rows rows view.elements rest named.row_words s.elements_fit k)
 
   -- what they determine: the intervals of the nodes and the elements, and the lines behind them
   pub record SameItems (v w : View) (rest others : List Words) : Type 0 where
@@ -44,7 +44,7 @@ module _ (names : List (List ℕ)) (rows : List ItemRow) (ts : List Transformer)
   pub same_items : (v w : View) (rest others : List Words) → IsShown v → IsShown w
       → node_lines names v.nodes ++ (row_lines rows v.elements ++ rest) ≡ node_lines names w.nodes ++ (row_lines rows w.elements ++ others) → SameItems v w rest others
   same_items v w rest others s t e =
-      let nodes = same_nodes names v.nodes w.nodes _ _ s.node_count t.node_count s.nodes_fit t.nodes_fit e in
+      let nodes = same_nodes names v.nodes w.nodes (row_lines rows v.elements ++ rest) (row_lines rows w.elements ++ others) s.node_count t.node_count s.nodes_fit t.nodes_fit e in
       let elements = same_rows rows rest others v.elements w.elements s.element_count t.element_count s.elements_fit t.elements_fit nodes.1 in
       record { nodes = nodes.0; elements = elements.0; behind = elements.1 }
 

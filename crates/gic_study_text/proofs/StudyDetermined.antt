@@ -65,8 +65,8 @@ module _ (zones : List ZoneView) (names : List (List ℕ)) (rows : List ItemRow)
     pub number_fits : d.view.number < 2 ^ 32
     pub time_fits : d.view.time < 2 ^ 32
 
-  -- so are the names of the zones words, and those of the items
-  pub record AreNamedZones : Type 0 where
+  -- the names of the zones are words, and so are those of the items
+  pub record AreAllNamed : Type 0 where
     pub zone_words : AllByRecursion IsWord (map (λ z. z.name) zones)
     pub items : AreNamed names rows ts
 
@@ -85,7 +85,7 @@ module _ (zones : List ZoneView) (names : List (List ℕ)) (rows : List ItemRow)
   step_is : (number time : ℕ) → number < 2 ^ 32 → time < 2 ^ 32 → IsLine (step_line number time)
   step_is number time h k = (word_from_test (codes "step") refl, (word_decimal number (omega (arith, h)), (word_from_test (codes "time") refl, (word_decimal time (omega (arith, k)), tt))))
 
-  detailed_are : (d : DetailView) → AreNamedZones → IsDetail d → AllByRecursion IsLine (detailed d)
+  detailed_are : (d : DetailView) → AreAllNamed → IsDetail d → AllByRecursion IsLine (detailed d)
   detailed_are d n h = (step_is d.view.number d.view.time h.number_fits h.time_fits, are_zones zones d.fields (signed d.view) n.zone_words h.fields_fit (signed_are d.view n.items h.shown))
 
   -- ---- how many
@@ -158,7 +158,7 @@ module _ (zones : List ZoneView) (names : List (List ℕ)) (rows : List ItemRow)
       omega (arith, n)
 
   -- the block of a step in detail, and what follows it
-  same_block : (d e : Option DetailView) (more others : List Words) (r s : List ℕ) → AreNamedZones → IfSome d IsDetail → IfSome e IsDetail
+  same_block : (d e : Option DetailView) (more others : List Words) (r s : List ℕ) → AreAllNamed → IfSome d IsDetail → IfSome e IsDetail
       → lines_text (block d ++ mark ∷ more) ++ r ≡ lines_text (block e ++ mark ∷ others) ++ s → (d ≡ e) × (lines_text (mark ∷ more) ++ r ≡ lines_text (mark ∷ others) ++ s)
   same_block None None more others r s n h k e = (refl, e)
   same_block None (Some d) more others r s n h k e = absurd (no_detail d more ((zone_lines zones d.fields ++ signed d.view) ++ mark ∷ others) r s k e)
@@ -204,7 +204,7 @@ module _ (zones : List ZoneView) (names : List (List ℕ)) (rows : List ItemRow)
     pub same_behind : r ≡ r'
 
   pub lines_determined : (width threshold steps : ℕ) (detail : Option DetailView) (peaks : View) (r : List ℕ)
-      (width' threshold' steps' : ℕ) (detail' : Option DetailView) (peaks' : View) (r' : List ℕ) → AreNamedZones
+      (width' threshold' steps' : ℕ) (detail' : Option DetailView) (peaks' : View) (r' : List ℕ) → AreAllNamed
       → Shown width threshold steps detail peaks → Shown width' threshold' steps' detail' peaks'
       → lines_text (lines width threshold steps detail peaks) ++ r ≡ lines_text (lines width' threshold' steps' detail' peaks') ++ r'
       → SameLines width threshold steps detail peaks r width' threshold' steps' detail' peaks' r'
@@ -228,8 +228,8 @@ module _ (zones : List ZoneView) (names : List (List ℕ)) (rows : List ItemRow)
 
 -- ---- on a case
 
-zones_named : (case : Lists) → HasNames case → AreNamedZones case.zones (node_names case) (rows_of case) case.transformers
-zones_named case h = record { zone_words = zone_names case h; items = case_named case h }
+all_named : (case : Lists) → HasNames case → AreAllNamed case.zones (node_names case) (rows_of case) case.transformers
+all_named case h = record { zone_words = zone_names case h; items = case_named case h }
 
 shown_view : (case : Lists) (view : View) → HasViewLengths case view → IsViewInRange view → IsShown (node_names case) (rows_of case) case.transformers view
 shown_view case view lengths fits = case_shown case view lengths.nodes lengths.elements lengths.transformers fits
@@ -266,7 +266,7 @@ pub study_determined : TextDeterminesStudy
 study_determined case named width threshold steps detail peaks texts width' threshold' steps' detail' peaks' texts' p q e =
     let behind : List (List ℕ) → List ℕ = λ ts. monitor_texts 1 ts ++ last_line in
     let same = lines_determined case.zones (node_names case) (rows_of case) case.transformers width threshold steps detail peaks (behind texts) width' threshold' steps' detail' peaks' (behind texts')
-    (zones_named case named) (shown_of case width threshold steps detail peaks texts p) (shown_of case width' threshold' steps' detail' peaks' texts' q)
+    (all_named case named) (shown_of case width threshold steps detail peaks texts p) (shown_of case width' threshold' steps' detail' peaks' texts' q)
     (ap (λ ls. lines_text ls ++ behind texts) (sym (same_lines case width threshold steps detail peaks)) ∙ e ∙ ap (λ ls. lines_text ls ++ behind texts') (same_lines case width' threshold' steps' detail' peaks')) in
     record {
       same_width = same.same_width;
