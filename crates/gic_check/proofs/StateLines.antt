@@ -1,11 +1,7 @@
 -- The lines of the nodes that are left.
-use Rattle.std.proofs.Common.{◌≡◌, ◌∙◌, ℕ, Bool, List, [], ◌∷◌, ◌++◌, ◌⊎◌, inl, inr, length, refl, ap, arith}
+use Rattle.std.proofs.Common.{◌≡◌, ◌∙◌, ℕ, Bool, List, [], ◌∷◌, ◌++◌, ◌⊎◌, inl, inr, refl, ap}
 use Rattle.gic_text.specs.Lines.{line_text, lines_text}
 use Rattle.gic_check.specs.CheckText.{state_line, state_lines}
-
-pub no_items : {A : Type 0} (xs : List A) → length xs ≡ 0 → xs ≡ []
-no_items [] e = refl
-no_items (x ∷ xs) e = absurd (omega arith)
 
 -- what follows where one of two iterators has ended
 pub either_ended : {S T : Type 0} {P : S → Type 0} {Q : T → Type 0} (a b : Type 0) → ((s : S) → P s → a) → ((t : T) → Q t → b) → ((s : S) × P s) ⊎ ((t : T) × Q t) → a ⊎ b

@@ -1,6 +1,5 @@
 -- The verdicts of a right view are true of every solution.
-use Rattle.std.proofs.Common.{ℕ, ◌<◌, List, length, ℤ, pos, ◌-ℤ◌, ◌≤ℤ◌, arith}
-use Rattle.std.proofs.lemmas.Int.{ints, clamps}
+use Rattle.std.proofs.Common.{ℕ, ◌<◌, List, length, ℤ}
 use Rattle.gic_fixed.proofs.Enclosures.{Encloses-abs}
 use Rattle.gic_fixed.specs.Encloses.{EnclosesAbsolute}
 use Rattle.gic_fixed.specs.Rounding.{least_abs, greatest_abs}
@@ -15,6 +14,7 @@ use Rattle.gic_effective.specs.RightView.{IsRightView}
 use Rattle.gic_effective.specs.Weighted.{effective_numerator, effective_denominator}
 use Rattle.gic_screen.specs.VerdictLaws.{BelowIsUnder, ReachesIsAtLeast, UndecidedIsAcross}
 use Rattle.gic_report.specs.VerdictText.{earthed_high}
+use Rattle.gic_report.proofs.Absolutes.{absolute_narrow}
 use Rattle.gic_uniform.proofs.Denominators.{some_denominator}
 use Rattle.gic_field.specs.RightField.{AreTrueVerdicts, AreRightAbsolutes}
 
@@ -46,10 +46,6 @@ true_verdicts case standing volts threshold view below reaches undecided sound r
       undecided = λ t within verdict.
           undecided (lo t) (hi t) threshold (transformer_at case t).high_volts (earthed_high (transformer_at case t).kind) verdict;
     }
-
--- the absolute values of the numbers between two ends are no further apart than the ends
-absolute_narrow : (lo hi : ℤ) (width : ℕ) → (hi -ℤ lo) ≤ℤ pos width → (greatest_abs lo hi -ℤ least_abs lo hi) ≤ℤ pos width
-absolute_narrow lo hi width narrow = omega (arith, ints, clamps, narrow)
 
 pub right_absolutes : (case : Lists) (standing : List Placed) (volts : ℕ → ℤ) (width : ℕ) (view : View)
     → IsRightView case standing volts view → IsNarrowView case width view

@@ -18,6 +18,7 @@ use Rattle.gic_model.specs.declared.parts.Item.{Item}
 use Rattle.gic_model.specs.declared.parts.Item.TheVariants as item
 use Rattle.gic_model.specs.declared.parts.Element.{Element}
 use Rattle.gic_model.specs.Network.{ends_at, is_node}
+use Rattle.gic_model.proofs.Members.{or_cases}
 use Rattle.gic_winding.specs.ElementList.{elements_of, element_list, earthing_of, earthings_of, line, line_of, lines_of, windings_of, all_windings_of, resistor_of, resistors_of, item_name}
 use Rattle.gic_list.specs.ListText.{node_name}
 use Rattle.gic_report.specs.Items.{HasPlace}

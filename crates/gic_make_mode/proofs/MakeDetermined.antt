@@ -1,83 +1,36 @@
 -- The text of the report determines what it shows.
-use Rattle.std.proofs.Common.{◌≡◌, ◌∙◌, ℕ, ◌<◌, ◌^◌, List, [], get_or, refl, ap, arith}
-use Rattle.std.specs.Prelude.{codes, decimal}
+use Rattle.std.proofs.Common.{◌∙◌, ℕ, List, [], get_or, refl, ap, arith}
+use Rattle.std.specs.Prelude.{codes}
 use Rattle.std.specs.List.{AllByRecursion}
-use Rattle.gic_text.specs.Words.{IsWord, IsLine}
+use Rattle.gic_text.specs.Words.{IsLine}
 use Rattle.gic_text.proofs.Injective.{lines_injective}
-use Rattle.gic_text.proofs.Words.{word_from_test, word_decimal}
-use Rattle.gic_report.specs.Counts.{counts_words, AreCounts}
+use Rattle.gic_text.proofs.Words.{word_from_test}
 use Rattle.gic_report.specs.SharedLines.{Words}
-use Rattle.gic_report.proofs.ViewDetermined.{same_natural}
+use Rattle.gic_report.proofs.CountsDetermined.{counts_are_line, same_counts}
+use Rattle.gic_report.proofs.WordsDetermined.{same_natural, same_small, word_at, word_of_natural}
 use Rattle.gic_report.specs.declared.counts.Counts.{Counts}
 use Rattle.gic_make_mode.specs.declared.text.Summary.{Summary}
 use Rattle.gic_make_mode.specs.MakeText.{make_report}
 use Rattle.gic_make_mode.specs.Determines.{AreShown, TextDeterminesMake}
 
--- the line at a place of a report, and the word at a place of a line
+-- the line at a place of a report
 abbrev line_at : List Words → ℕ → Words
 line_at ls k = get_or ls k []
-
-abbrev word_at : Words → ℕ → List ℕ
-word_at ws k = get_or ws k []
-
-number : (n : ℕ) → n < 2 ^ 32 → IsWord (decimal n)
-number n fits = word_decimal n (omega (arith, fits))
-
-same_small : (m n : ℕ) → m < 2 ^ 16 → n < 2 ^ 16 → decimal m ≡ decimal n → m ≡ n
-same_small m n h k e = same_natural m n (omega (arith, h)) (omega (arith, k)) e
-
--- the words of the counts are a line, and determine them
-counts_are_words : (counts : Counts) → AreCounts counts → IsLine (counts_words counts)
-unfolding counts_words
-counts_are_words counts fit = (
-  word_from_test (codes "below") refl,
-  (
-    number counts.below (omega (arith, fit.below_fits)),
-    (
-      word_from_test (codes "reaches") refl,
-      (
-        number counts.reaches (omega (arith, fit.reaches_fits)),
-        (
-          word_from_test (codes "undecided") refl,
-          (
-            number counts.undecided (omega (arith, fit.undecided_fits)),
-            (word_from_test (codes "outside") refl, (number counts.outside (omega (arith, fit.outside_fits)), tt)),
-          ),
-        ),
-      ),
-    ),
-  ),
-)
-
-abbrev counts_with : ℕ → ℕ → ℕ → ℕ → Counts
-counts_with a b c d = record { below = a; reaches = b; undecided = c; outside = d }
-
-same_counts : (counts other : Counts) → AreCounts counts → AreCounts other → counts_words counts ≡ counts_words other → counts ≡ other
-unfolding counts_words
-same_counts counts other fit fit' e =
-    let below = same_small counts.below other.below fit.below_fits fit'.below_fits (ap (λ ws. word_at ws 1) e) in
-    let reaches = same_small counts.reaches other.reaches fit.reaches_fits fit'.reaches_fits (ap (λ ws. word_at ws 3) e) in
-    let undecided = same_small counts.undecided other.undecided fit.undecided_fits fit'.undecided_fits (ap (λ ws. word_at ws 5) e) in
-    let outside = same_small counts.outside other.outside fit.outside_fits fit'.outside_fits (ap (λ ws. word_at ws 7) e) in
-    ap (λ a. counts_with a counts.reaches counts.undecided counts.outside) below
-    ∙ ap (λ b. counts_with other.below b counts.undecided counts.outside) reaches
-    ∙ ap (λ c. counts_with other.below other.reaches c counts.outside) undecided
-    ∙ ap (λ d. counts_with other.below other.reaches other.undecided d) outside
 
 -- the lines of a report are such
 are_lines : (seed size : ℕ) (shown : Summary) → AreShown seed size shown → AllByRecursion IsLine (make_report seed size shown)
 are_lines seed size shown fit = (
   (word_from_test (codes "make") refl, tt),
   (
-    (word_from_test (codes "seed") refl, (number seed fit.seed_fits, (word_from_test (codes "size") refl, (number size (omega (arith, fit.size_fits)), tt)))),
+    (word_from_test (codes "seed") refl, (word_of_natural seed fit.seed_fits, (word_from_test (codes "size") refl, (word_of_natural size (omega (arith, fit.size_fits)), tt)))),
     (
       (
         word_from_test (codes "nodes") refl,
-        (number shown.nodes (omega (arith, fit.nodes_fit)), (word_from_test (codes "elements") refl, (number shown.elements (omega (arith, fit.elements_fit)), tt))),
+        (word_of_natural shown.nodes (omega (arith, fit.nodes_fit)), (word_from_test (codes "elements") refl, (word_of_natural shown.elements (omega (arith, fit.elements_fit)), tt))),
       ),
       (
-        (word_from_test (codes "walk") refl, (number shown.walk (omega (arith, fit.walk_fits)), tt)),
-        (counts_are_words shown.counts fit.counts_fit, ((word_from_test (codes "end") refl, tt), tt)),
+        (word_from_test (codes "walk") refl, (word_of_natural shown.walk (omega (arith, fit.walk_fits)), tt)),
+        (counts_are_line shown.counts fit.counts_fit, ((word_from_test (codes "end") refl, tt), tt)),
       ),
     ),
   ),

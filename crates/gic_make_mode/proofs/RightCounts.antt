@@ -3,17 +3,17 @@ use Rattle.std.proofs.Common.{◌≡◌, ◌∙◌, ℕ, ◌+◌, ◌<◌, ◌�
 use Rattle.std.specs.Prelude.{nat_lt, nat_le}
 use Rattle.std.proofs.lemmas.Bool.{and_parts, and_from}
 use Rattle.std.proofs.lemmas.Bool.Decides.{nat_tests}
-use Rattle.std.proofs.lemmas.Int.{ints, clamps}
+use Rattle.std.proofs.lemmas.Int.{ints}
 use Rattle.gic_case.specs.Lists.{Lists}
 use Rattle.gic_case.specs.Sound.{IsSound}
 use Rattle.gic_fixed.specs.Encloses.{EnclosesAbsolute}
-use Rattle.gic_fixed.specs.Rounding.{least_abs, greatest_abs}
 use Rattle.gic_fixed.proofs.Enclosures.{Encloses-abs}
 use Rattle.gic_model.specs.Solution.{Solution, IsSolution}
 use Rattle.gic_model.specs.Sums.{Placed}
 use Rattle.gic_effective.specs.Weighted.{effective_numerator, effective_denominator}
 use Rattle.gic_report.specs.VerdictText.{earthed_high, verdict_at}
 use Rattle.gic_view.specs.Absolute.{absolute_ends}
+use Rattle.gic_report.proofs.Absolutes.{absolute_narrow}
 use Rattle.gic_report.proofs.CountedVerdicts.{total_at}
 use Rattle.gic_screen.specs.declared.criterion.Verdict.{Verdict}
 use Rattle.gic_screen.specs.declared.criterion.Verdict.TheVariants.{Below, Reaches, Undecided, Outside}
@@ -29,10 +29,6 @@ use Rattle.gic_make_mode.specs.Counting.{verdicts_of}
 use Rattle.gic_make_mode.specs.RightMake.{benchmark_threshold, surely_below, surely_reached, is_judged, is_under, is_at_least, TellOf, AreRightCounts}
 use Rattle.gic_make_mode.proofs.Verdicts.{is_below, is_reaching, is_outside, is_below_so, is_reaching_so, low_under, high_over, says_below, says_reaches, below_judged, reaches_judged, outside_is}
 use Rattle.gic_make_mode.proofs.Counted.{count_le, counted_at}
-
--- the absolute values of the numbers between two ends are no further apart than the ends
-absolute_narrow : (lo hi : ℤ) (width : ℕ) → (hi -ℤ lo) ≤ℤ pos width → (greatest_abs lo hi -ℤ least_abs lo hi) ≤ℤ pos width
-absolute_narrow lo hi width narrow = omega (arith, ints, clamps, narrow)
 
 less_so : (a b : ℕ) → a < b → nat_lt a b ≡ true
 less_so a b h = grind (arith, nat_tests, h)

@@ -1,28 +1,29 @@
 -- The text of the report determines what it shows.
-use Rattle.std.proofs.Common.{◌≡◌, ◌∙◌, ℕ, ◌<◌, ◌^◌, Option, Some, None, List, [], ◌∷◌, ◌++◌, map, length, drop, take, get_or, ℤ, FitsSigned, w32, refl, sym, ap, subst, arith}
+use Rattle.std.proofs.Common.{◌≡◌, ◌∙◌, ℕ, ◌<◌, Option, Some, None, List, [], ◌∷◌, ◌++◌, map, length, drop, get_or, refl, sym, ap, subst, arith}
 use Rattle.std.proofs.lemmas.List.{length-map}
-use Rattle.std.specs.Prelude.{codes, decimal, IfSome}
+use Rattle.std.specs.Prelude.{codes, IfSome}
 use Rattle.std.specs.List.{AllByRecursion}
 use Rattle.std.proofs.lemmas.List.Elements.{recursion_from_All}
 use Rattle.gic_text.specs.Words.{IsWord, IsLine}
 use Rattle.gic_text.proofs.Injective.{lines_injective}
-use Rattle.gic_text.proofs.Words.{word_from_test, word_decimal, word_signed, signed_decimal_injective_wide}
+use Rattle.gic_text.proofs.Words.{word_from_test}
 use Rattle.gic_case.specs.declared.item.Transformer.{Transformer}
 use Rattle.gic_case.specs.Lists.{Lists}
 use Rattle.gic_fixed.specs.Ends.{Ends}
 use Rattle.gic_screen.specs.declared.criterion.Verdict.{Verdict}
-use Rattle.gic_screen.specs.declared.criterion.Verdict.TheVariants.{Below, Reaches, Undecided, Outside}
 use Rattle.gic_outage.specs.Plan.{plan_of}
 use Rattle.gic_report.specs.SharedLines.{Words, word_line}
-use Rattle.gic_report.specs.VerdictText.{verdict_word}
 use Rattle.gic_report.specs.Fits.{AreInRange, HasNames}
 use Rattle.gic_report.specs.declared.counts.Counts.{Counts}
-use Rattle.gic_report.specs.Counts.{counts_words, AreCounts}
+use Rattle.gic_report.specs.Counts.{counts_words}
 use Rattle.gic_report.proofs.CaseNames.{line_names, transformer_names}
 use Rattle.gic_report.proofs.ListParts.{all_append}
-use Rattle.gic_report.proofs.ViewDetermined.{CellInRange, ends_words, same_ends, same_natural}
+use Rattle.gic_report.proofs.CountsDetermined.{counts_are_words, same_counts}
+use Rattle.gic_report.proofs.ViewDetermined.{CellInRange, ends_words, same_ends}
+use Rattle.gic_report.proofs.WordsDetermined.{first_of_lines, pair_at, verdict_is_word, word_at}
 use Rattle.gic_screening.specs.RightRows.{worst_verdict}
 use Rattle.gic_screening.specs.Setting.{setting_line}
+use Rattle.gic_screening.proofs.SettingDetermined.{same_setting, setting_is_line}
 use Rattle.gic_winding.specs.ElementList.{item_name}
 use Rattle.gic_outage_mode.specs.declared.outcome.Outcome.{Outcome}
 use Rattle.gic_outage_mode.specs.declared.outcome.Outcome.TheVariants.{Idle, Unearthed, Unresolved, Solved}
@@ -30,66 +31,17 @@ use Rattle.gic_outage_mode.specs.OutageText.{greatest_line, outage_report, outco
 use Rattle.gic_outage_mode.specs.Determines.{IsShownOutcome, TextDeterminesOutage}
 use Rattle.gic_outage_mode.proofs.PlanNames as plan
 
--- the word at a place of a line, and the first line
-abbrev word_at : Words → ℕ → List ℕ
-word_at ws k = get_or ws k []
-
-abbrev first_of_lines : List Words → Words
-first_of_lines ls = get_or ls 0 []
-
--- ---- counts
-
-same_count : (m n : ℕ) → m < 2 ^ 16 → n < 2 ^ 16 → decimal m ≡ decimal n → m ≡ n
-same_count m n h k e = same_natural m n (omega (arith, h)) (omega (arith, k)) e
-
-count_is_word : (n : ℕ) → n < 2 ^ 16 → IsWord (decimal n)
-count_is_word n h = word_decimal n (omega (arith, h))
-
-are_counts_words : (counts : Counts) → AreCounts counts → AllByRecursion IsWord (counts_words counts)
-unfolding counts_words
-are_counts_words counts fit = (
-  word_from_test (codes "below") refl,
-  (
-    count_is_word counts.below fit.below_fits,
-    (
-      word_from_test (codes "reaches") refl,
-      (
-        count_is_word counts.reaches fit.reaches_fits,
-        (
-          word_from_test (codes "undecided") refl,
-          (count_is_word counts.undecided fit.undecided_fits, (word_from_test (codes "outside") refl, (count_is_word counts.outside fit.outside_fits, tt))),
-        ),
-      ),
-    ),
-  ),
-)
-
-abbrev counts_with : ℕ → ℕ → ℕ → ℕ → Counts
-counts_with a b c d = record { below = a; reaches = b; undecided = c; outside = d }
-
-same_counts : (counts other : Counts) → AreCounts counts → AreCounts other → counts_words counts ≡ counts_words other → counts ≡ other
-unfolding counts_words
-same_counts counts other fit fit' e =
-    let below = same_count counts.below other.below fit.below_fits fit'.below_fits (ap (λ ws. word_at ws 1) e) in
-    let reaches = same_count counts.reaches other.reaches fit.reaches_fits fit'.reaches_fits (ap (λ ws. word_at ws 3) e) in
-    let undecided = same_count counts.undecided other.undecided fit.undecided_fits fit'.undecided_fits (ap (λ ws. word_at ws 5) e) in
-    let outside = same_count counts.outside other.outside fit.outside_fits fit'.outside_fits (ap (λ ws. word_at ws 7) e) in
-    ap (λ a. counts_with a counts.reaches counts.undecided counts.outside) below
-    ∙ ap (λ b. counts_with other.below b counts.undecided counts.outside) reaches
-    ∙ ap (λ c. counts_with other.below other.reaches c counts.outside) undecided
-    ∙ ap (λ d. counts_with other.below other.reaches other.undecided d) outside
+-- ---- outcomes
 
 counts_length : (counts : Counts) → length (counts_words counts) ≡ 8
 unfolding counts_words
 counts_length counts = refl
 
--- ---- outcomes
-
 are_outcome_words : (outcome : Outcome) → IsShownOutcome outcome → AllByRecursion IsWord (outcome_words outcome)
 are_outcome_words Idle h = (word_from_test (codes "idle") refl, tt)
 are_outcome_words (Unearthed node) h = (word_from_test (codes "unearthed") refl, (h, tt))
 are_outcome_words (Unresolved node) h = (word_from_test (codes "unresolved") refl, (h, tt))
-are_outcome_words (Solved counts) h = are_counts_words counts h
+are_outcome_words (Solved counts) h = counts_are_words counts h
 
 outcome_is_line : (name : List ℕ) (outcome : Outcome) → IsWord name → IsShownOutcome outcome → IsLine (outcome_line name outcome)
 unfolding outcome_line
@@ -149,12 +101,6 @@ same_outcomes (name ∷ names) (x ∷ xs) (y ∷ ys) rest others p q h k e =
 
 -- ---- transformers
 
-verdict_is_word : (v : Verdict) → IsWord (verdict_word v)
-verdict_is_word Below = word_from_test (codes "below") refl
-verdict_is_word Reaches = word_from_test (codes "reaches") refl
-verdict_is_word Undecided = word_from_test (codes "undecided") refl
-verdict_is_word Outside = word_from_test (codes "outside") refl
-
 greatest_is_line : (name : List ℕ) (e : Ends) (said : Verdict) → IsWord name → AreInRange e → IsLine (greatest_line name e said)
 unfolding greatest_line
 greatest_is_line name e said n fits =
@@ -174,9 +120,6 @@ are_transformer_lines threshold (t ∷ ts) (cell ∷ cells) names h = (transform
 greatest_length : (name : List ℕ) (e : Ends) (said : Verdict) → length (greatest_line name e said) ≡ 6
 unfolding greatest_line
 greatest_length name e said = refl
-
-abbrev pair_at : Words → ℕ → Words
-pair_at ws k = take 2 (drop k ws)
 
 same_greatest : (name : List ℕ) (e f : Ends) (said told : Verdict) → AreInRange e → AreInRange f → greatest_line name e said ≡ greatest_line name f told → e ≡ f
 unfolding greatest_line
@@ -207,15 +150,6 @@ same_cells threshold threshold' (t ∷ ts) (x ∷ xs) (y ∷ ys) p q h k e =
 
 -- ---- the report
 
-setting_words : (width threshold : ℕ) (field : ℤ) → width < 2 ^ 32 → threshold < 2 ^ 32 → FitsSigned w32 field → IsLine (setting_line width threshold field)
-setting_words width threshold field w t f = (
-  word_from_test (codes "width") refl,
-  (
-    word_decimal width (omega (arith, w)),
-    (word_from_test (codes "threshold") refl, (word_decimal threshold (omega (arith, t)), (word_from_test (codes "field") refl, (word_signed field (omega (arith, f.sfits)), tt)))),
-  ),
-)
-
 plan_words : (case : Lists) → HasNames case → AllByRecursion IsWord (plan_names case)
 plan_words case named =
     subst (AllByRecursion IsWord) (sym (plan.in_turn case)) (all_append IsWord (plan.line_names case) (plan.transformer_names case) (line_names case named) (transformer_names case named))
@@ -235,15 +169,16 @@ report_determined case named width threshold field outcomes greatest width' thre
     let rest' = transformer_lines threshold' ts greatest' ++ word_line (codes "end") ∷ [] in
     let count = length-map (plan_of case) (item_name case) in
     let lines = lines_injective (outage_report case width threshold field outcomes greatest) (outage_report case width' threshold' field' outcomes' greatest')
-    ((word_from_test (codes "outage") refl, tt), (setting_words width threshold field p.width_fits p.threshold_fits p.field_fits, are_outcome_lines names outcomes rest words fit (are_transformer_lines threshold ts greatest transformers cells)))
-    ((word_from_test (codes "outage") refl, tt), (setting_words width' threshold' field' q.width_fits q.threshold_fits q.field_fits, are_outcome_lines names outcomes' rest' words fit' (are_transformer_lines threshold' ts greatest' transformers cells'))) e in
+    ((word_from_test (codes "outage") refl, tt), (setting_is_line width threshold field p.width_fits p.threshold_fits p.field_fits, are_outcome_lines names outcomes rest words fit (are_transformer_lines threshold ts greatest transformers cells)))
+    ((word_from_test (codes "outage") refl, tt), (setting_is_line width' threshold' field' q.width_fits q.threshold_fits q.field_fits, are_outcome_lines names outcomes' rest' words fit' (are_transformer_lines threshold' ts greatest' transformers cells'))) e in
     let setting : setting_line width threshold field ≡ setting_line width' threshold' field' = ap (λ ls. first_of_lines ls) (ap (drop 1) lines) in
+    let asked = same_setting width threshold field width' threshold' field' p.width_fits p.threshold_fits p.field_fits q.width_fits q.threshold_fits q.field_fits setting in
     let later : outcome_lines names outcomes ++ rest ≡ outcome_lines names outcomes' ++ rest' = ap (drop 2) lines in
     let items = same_outcomes names outcomes outcomes' rest rest' (p.outcome_count ∙ sym count) (q.outcome_count ∙ sym count) fit fit' later in
     record {
-      same_width = same_natural width width' p.width_fits q.width_fits (ap (λ ws. word_at ws 1) setting);
-      same_threshold = same_natural threshold threshold' p.threshold_fits q.threshold_fits (ap (λ ws. word_at ws 3) setting);
-      same_field = signed_decimal_injective_wide field field' (omega (arith, p.field_fits.sfits)) (omega (arith, q.field_fits.sfits)) (ap (λ ws. word_at ws 5) setting);
+      same_width = asked.same_width;
+      same_threshold = asked.same_threshold;
+      same_field = asked.same_field;
       same_outcomes = items.0;
       same_greatest = same_cells threshold threshold' ts greatest greatest' p.greatest_count q.greatest_count cells cells' items.1;
     }

@@ -1,5 +1,5 @@
 -- The text of a report of a certificate determines what it shows.
-use Rattle.std.proofs.Common.{◌≡◌, ◌∙◌, ℕ, true, false, List, [], ◌∷◌, ◌++◌, map, length, drop, get_or, is_some, Option, Some, None, ℤ, FitsSigned, w32, refl, ap, arith}
+use Rattle.std.proofs.Common.{◌≡◌, ◌∙◌, ℕ, true, false, List, [], ◌∷◌, ◌++◌, map, length, drop, get_or, is_some, Option, Some, None, refl, ap, arith}
 use Rattle.std.specs.Prelude.{codes}
 use Rattle.std.specs.List.{AllByRecursion}
 use Rattle.std.proofs.lemmas.List.Elements.{recursion_from_All}
@@ -7,11 +7,12 @@ use Rattle.gic_case.specs.Lists.{node_names}
 use Rattle.gic_fixed.specs.Ends.{Ends}
 use Rattle.gic_text.specs.Words.{IsWord, IsLine}
 use Rattle.gic_text.proofs.Injective.{lines_injective}
-use Rattle.gic_text.proofs.Words.{word_from_test, word_signed, signed_decimal_injective_wide}
+use Rattle.gic_text.proofs.Words.{word_from_test}
 use Rattle.gic_report.specs.ItemText.{ends_words as words_of_ends}
 use Rattle.gic_report.specs.SharedLines.{Words, word_line, field_line}
 use Rattle.gic_report.proofs.CaseNames.{node_words}
 use Rattle.gic_report.proofs.ViewDetermined.{CellInRange, ends_words, same_ends}
+use Rattle.gic_report.proofs.WordsDetermined.{field_is_line, same_field_line}
 use Rattle.gic_recheck.specs.Determines.{TextDeterminesPotentials}
 use Rattle.gic_recheck.specs.RecheckText.{potential_lines, recheck_report}
 
@@ -27,10 +28,6 @@ are_potential_lines (name ∷ names) [] words fit = ((word_from_test (codes "end
 are_potential_lines (name ∷ names) (None ∷ intervals) words fit = are_potential_lines names intervals words.1 fit.1
 are_potential_lines (name ∷ names) (Some ends ∷ intervals) words fit =
     ((word_from_test (codes "node") refl, (words.0, ends_words ends fit.0)), are_potential_lines names intervals words.1 fit.1)
-
-field_words : (north east : ℤ) → FitsSigned w32 north → FitsSigned w32 east → IsLine (field_line north east)
-field_words north east n e =
-    (word_from_test (codes "north") refl, (word_signed north (omega (arith, n.sfits)), (word_from_test (codes "east") refl, (word_signed east (omega (arith, e.sfits)), tt))))
 
 -- where the same nodes have an interval, the lines of the nodes determine the intervals
 same_potentials : (names : List (List ℕ)) (xs ys : List (Option Ends)) → length xs ≡ length names → length ys ≡ length names
@@ -59,10 +56,8 @@ potentials_determined case named north east xs north' east' ys p q live e =
     let h = recursion_from_All CellInRange xs p.ends_fit in
     let k = recursion_from_All CellInRange ys q.ends_fit in
     let same = lines_injective (recheck_report case north east xs) (recheck_report case north' east' ys)
-    ((word_from_test (codes "recheck") refl, tt), (field_words north east p.north_fits p.east_fits, are_potential_lines names xs words h))
-    ((word_from_test (codes "recheck") refl, tt), (field_words north' east' q.north_fits q.east_fits, are_potential_lines names ys words k)) e in
-    let field : field_line north east ≡ field_line north' east' = ap (λ ls. get_or (drop 1 ls) 0 []) same in (
-      signed_decimal_injective_wide north north' (omega (arith, p.north_fits.sfits)) (omega (arith, q.north_fits.sfits)) (ap (λ ws. get_or ws 1 []) field),
-      signed_decimal_injective_wide east east' (omega (arith, p.east_fits.sfits)) (omega (arith, q.east_fits.sfits)) (ap (λ ws. get_or ws 3 []) field),
-      same_potentials names xs ys p.count q.count h k live (ap (drop 2) same),
-    )
+    ((word_from_test (codes "recheck") refl, tt), (field_is_line north east p.north_fits p.east_fits, are_potential_lines names xs words h))
+    ((word_from_test (codes "recheck") refl, tt), (field_is_line north' east' q.north_fits q.east_fits, are_potential_lines names ys words k)) e in
+    let field : field_line north east ≡ field_line north' east' = ap (λ ls. get_or (drop 1 ls) 0 []) same in
+    let parts = same_field_line north east north' east' p.north_fits p.east_fits q.north_fits q.east_fits field in
+    (parts.0, parts.1, same_potentials names xs ys p.count q.count h k live (ap (drop 2) same))

@@ -1,7 +1,7 @@
 -- The text of a certificate that passes is accepted.
 use Rattle.std.proofs.Common.{◌≡◌, ◌∙◌, ℕ, zero, suc, ◌+◌, ◌<◌, ◌≤◌, true, List, [], ◌∷◌, map, length, get_or, is_some, false, None, refl, ap, sym, subst, arith}
 use Rattle.std.specs.List.{AllByRecursion, enumerate_from}
-use Rattle.std.proofs.lemmas.List.{ext_get_or, get_or-map}
+use Rattle.std.proofs.lemmas.List.{ext_get_or, get_or-map, length-map}
 use Rattle.gic_base.specs.Name.{is_name}
 use Rattle.gic_case.specs.Lists.{Lists, node_names}
 use Rattle.gic_model.specs.Standing.{is_live}
@@ -23,10 +23,6 @@ named_from standing place names = map (λ p. (p.1, is_live standing p.0)) (enume
 names_back : (standing : List Placed) (place : ℕ) (names : List (List ℕ)) → map (λ (node : NamedNode). node.0) (named_from standing place names) ≡ names
 names_back standing place [] = refl
 names_back standing place (name ∷ names) = ap (λ l. name ∷ l) (names_back standing (place + 1) names)
-
-mapped_count : {X Y : Type 0} (f : X → Y) (xs : List X) → length (map f xs) ≡ length xs
-mapped_count f [] = refl
-mapped_count f (x ∷ xs) = ap (λ n. suc n) (mapped_count f xs)
 
 as_many : (standing : List Placed) (place : ℕ) (names : List (List ℕ)) → length (named_from standing place names) ≡ length names
 as_many standing place [] = refl
@@ -50,9 +46,9 @@ same_live : (case : Lists) (standing : List Placed) (c : Certificate) → HasNod
 same_live case standing c placed =
     let names = node_names case in
     let lives = map (λ (node : NamedNode). node.1) (named_from standing 0 names) in
-    let many : length (map is_some c.nodes) ≡ length names = mapped_count is_some c.nodes ∙ placed.count in
+    let many : length (map is_some c.nodes) ≡ length names = length-map c.nodes is_some ∙ placed.count in
     ext_get_or false (map is_some c.nodes) lives
-    (many ∙ sym (mapped_count (λ (node : NamedNode). node.1) (named_from standing 0 names) ∙ as_many standing 0 names))
+    (many ∙ sym (length-map (named_from standing 0 names) (λ (node : NamedNode). node.1) ∙ as_many standing 0 names))
     (λ k within.
     let inside : k < length names = omega (arith, within, many) in
     get_or-map is_some c.nodes k None false (omega (arith, inside, placed.count)) ∙ placed.live k inside

@@ -1,11 +1,9 @@
 -- The lines of the nodes that are left.
-use Rattle.std.proofs.Common.{◌≡◌, ◌∙◌, ℕ, List, [], ◌∷◌, ◌++◌, ◌⊎◌, inl, inr, Option, Some, None, option_to_list, length, map, refl, sym, ap, append-nil, arith}
+use Rattle.std.proofs.Common.{◌≡◌, ◌∙◌, ℕ, List, [], ◌∷◌, ◌++◌, ◌⊎◌, inl, inr, Option, Some, None, option_to_list, refl, sym, ap, append-nil}
 use Rattle.gic_fixed.specs.Ends.{Ends}
-use Rattle.gic_fixed.specs.declared.interval.Interval.{Interval}
 use Rattle.gic_report.specs.ItemText.{ends_words}
 use Rattle.gic_text.specs.Lines.{line_text, lines_text}
 use Rattle.std.specs.Prelude.{codes}
-use Rattle.gic_view.specs.Kept.{optional_ends}
 use Rattle.gic_recheck.specs.RecheckText.{potential_line, potential_lines}
 
 -- the text of the first node's line, and of those behind it
@@ -28,8 +26,3 @@ no_potential_left [] intervals e = refl
 no_potential_left (name ∷ names) [] e = refl
 no_potential_left (name ∷ names) (interval ∷ intervals) (inl e) = absurd (let f : name ∷ names ≡ [] = e in cc)
 no_potential_left (name ∷ names) (interval ∷ intervals) (inr e) = absurd (let f : interval ∷ intervals ≡ [] = e in cc)
-
--- no interval is shown of none
-pub none_shown : (intervals : List (Option Interval)) → length intervals ≡ 0 → map optional_ends intervals ≡ []
-none_shown [] e = refl
-none_shown (interval ∷ intervals) e = absurd (omega (arith, e))

@@ -1,4 +1,4 @@
--- The names of a case are words.
+-- What holds of the names of a case holds of those of each of its lists; and these names are words.
 use Rattle.std.proofs.Common.{ℕ, true, false, List, [], ◌∷◌, ◌++◌, map, IsTrue}
 use Rattle.std.specs.Prelude.{if◌then◌else◌, is_some}
 use Rattle.std.specs.List.{AllByRecursion}
@@ -10,21 +10,9 @@ use Rattle.gic_case.specs.declared.item.Transformer.{Transformer}
 use Rattle.gic_case.specs.Lists.{Lists, node_names, with_device}
 use Rattle.gic_case.specs.Sound.{names_of}
 use Rattle.gic_report.specs.Fits.{HasNames}
+use Rattle.gic_report.proofs.ListParts.{all_append, all_behind, all_front}
 
-are_words : (names : List (List ℕ)) → AllByRecursion (λ name. IsTrue (is_name name)) names → AllByRecursion IsWord names
-are_words [] h = tt
-are_words (name ∷ names) h = (word_name name h.0, are_words names h.1)
-
--- what holds of the items of two lists holds of those of each
-first : (xs ys : List (List ℕ)) → AllByRecursion IsWord (xs ++ ys) → AllByRecursion IsWord xs
-first [] ys h = tt
-first (x ∷ xs) ys h = (h.0, first xs ys h.1)
-
-second : (xs ys : List (List ℕ)) → AllByRecursion IsWord (xs ++ ys) → AllByRecursion IsWord ys
-second [] ys h = h
-second (x ∷ xs) ys h = second xs ys h.1
-
-module _ (case : Lists) where
+module _ (P : List ℕ → Type 0) (case : Lists) where
   zones : List (List ℕ)
   zones = map (λ z. z.name) case.zones
 
@@ -40,47 +28,73 @@ module _ (case : Lists) where
   transformers : List (List ℕ)
   transformers = map (λ t. t.name) case.transformers
 
-  past_zones : HasNames case → AllByRecursion IsWord (substations ++ (buses ++ (lines ++ transformers)))
+  past_zones : AllByRecursion P (names_of case) → AllByRecursion P (substations ++ (buses ++ (lines ++ transformers)))
   unfolding zones substations buses lines transformers
-  past_zones h = second zones (substations ++ (buses ++ (lines ++ transformers))) (are_words (names_of case) (recursion_from_All (λ name. IsTrue (is_name name)) (names_of case) h))
+  past_zones h = all_behind P zones (substations ++ (buses ++ (lines ++ transformers))) h
 
-  past_substations : HasNames case → AllByRecursion IsWord (buses ++ (lines ++ transformers))
-  past_substations h = second substations (buses ++ (lines ++ transformers)) (past_zones h)
+  past_substations : AllByRecursion P (names_of case) → AllByRecursion P (buses ++ (lines ++ transformers))
+  past_substations h = all_behind P substations (buses ++ (lines ++ transformers)) (past_zones h)
 
-  past_buses : HasNames case → AllByRecursion IsWord (lines ++ transformers)
-  past_buses h = second buses (lines ++ transformers) (past_substations h)
+  past_buses : AllByRecursion P (names_of case) → AllByRecursion P (lines ++ transformers)
+  past_buses h = all_behind P buses (lines ++ transformers) (past_substations h)
 
-  -- the names of each list are words
-  pub substation_names : HasNames case → AllByRecursion IsWord (map (λ s. s.name) case.substations)
+  -- of each list
+  of_zones : AllByRecursion P (names_of case) → AllByRecursion P (map (λ z. z.name) case.zones)
+  unfolding zones substations buses lines transformers
+  of_zones h = all_front P zones (substations ++ (buses ++ (lines ++ transformers))) h
+
+  of_substations : AllByRecursion P (names_of case) → AllByRecursion P (map (λ s. s.name) case.substations)
   unfolding substations
-  substation_names h = first substations (buses ++ (lines ++ transformers)) (past_zones h)
+  of_substations h = all_front P substations (buses ++ (lines ++ transformers)) (past_zones h)
 
-  pub bus_names : HasNames case → AllByRecursion IsWord (map (λ b. b.name) case.buses)
+  of_buses : AllByRecursion P (names_of case) → AllByRecursion P (map (λ b. b.name) case.buses)
   unfolding buses
-  bus_names h = first buses (lines ++ transformers) (past_substations h)
+  of_buses h = all_front P buses (lines ++ transformers) (past_substations h)
 
-  pub line_names : HasNames case → AllByRecursion IsWord (map (λ l. l.name) case.lines)
+  of_lines : AllByRecursion P (names_of case) → AllByRecursion P (map (λ l. l.name) case.lines)
   unfolding lines
-  line_names h = first lines transformers (past_buses h)
+  of_lines h = all_front P lines transformers (past_buses h)
 
-  pub transformer_names : HasNames case → AllByRecursion IsWord (map (λ t. t.name) case.transformers)
+  of_transformers : AllByRecursion P (names_of case) → AllByRecursion P (map (λ t. t.name) case.transformers)
   unfolding transformers
-  transformer_names h = second lines transformers (past_buses h)
+  of_transformers h = all_behind P lines transformers (past_buses h)
 
--- so are those of the neutral nodes
-neutral_names : (ts : List Transformer) → AllByRecursion IsWord (map (λ t. t.name) ts) → AllByRecursion IsWord (map (λ t. t.name) (with_device ts))
-neutral_names [] h = tt
-neutral_names (t ∷ ts) h =
-    elim (is_some t.neutral) as (λ b. AllByRecursion IsWord (map (λ t. t.name) (if b then t ∷ with_device ts else with_device ts)))
-    [ true ↦ (h.0, neutral_names ts h.1) | false ↦ neutral_names ts h.1 ]
+-- of the neutral nodes
+of_devices : (P : List ℕ → Type 0) (ts : List Transformer) → AllByRecursion P (map (λ t. t.name) ts) → AllByRecursion P (map (λ t. t.name) (with_device ts))
+of_devices P [] h = tt
+of_devices P (t ∷ ts) h =
+    elim (is_some t.neutral) as (λ b. AllByRecursion P (map (λ t. t.name) (if b then t ∷ with_device ts else with_device ts)))
+    [ true ↦ (h.0, of_devices P ts h.1) | false ↦ of_devices P ts h.1 ]
 
-both : (xs ys : List (List ℕ)) → AllByRecursion IsWord xs → AllByRecursion IsWord ys → AllByRecursion IsWord (xs ++ ys)
-both [] ys h k = k
-both (x ∷ xs) ys h k = (h.0, both xs ys h.1 k)
+-- of all nodes
+pub of_nodes : (P : List ℕ → Type 0) (case : Lists) → AllByRecursion P (names_of case) → AllByRecursion P (node_names case)
+of_nodes P case h =
+    all_append P (map (λ s. s.name) case.substations) (map (λ b. b.name) case.buses ++ map (λ t. t.name) (with_device case.transformers)) (of_substations P case h)
+    (all_append P (map (λ b. b.name) case.buses) (map (λ t. t.name) (with_device case.transformers)) (of_buses P case h)
+    (of_devices P case.transformers (of_transformers P case h)))
 
--- the names of the nodes are words
+-- ---- words
+
+are_words : (names : List (List ℕ)) → AllByRecursion (λ name. IsTrue (is_name name)) names → AllByRecursion IsWord names
+are_words [] h = tt
+are_words (name ∷ names) h = (word_name name h.0, are_words names h.1)
+
+all_words : (case : Lists) → HasNames case → AllByRecursion IsWord (names_of case)
+all_words case h = are_words (names_of case) (recursion_from_All (λ name. IsTrue (is_name name)) (names_of case) h)
+
+-- the names of each list are words
+pub zone_names : (case : Lists) → HasNames case → AllByRecursion IsWord (map (λ z. z.name) case.zones)
+zone_names case h = of_zones IsWord case (all_words case h)
+
+pub substation_names : (case : Lists) → HasNames case → AllByRecursion IsWord (map (λ s. s.name) case.substations)
+substation_names case h = of_substations IsWord case (all_words case h)
+
+pub line_names : (case : Lists) → HasNames case → AllByRecursion IsWord (map (λ l. l.name) case.lines)
+line_names case h = of_lines IsWord case (all_words case h)
+
+pub transformer_names : (case : Lists) → HasNames case → AllByRecursion IsWord (map (λ t. t.name) case.transformers)
+transformer_names case h = of_transformers IsWord case (all_words case h)
+
+-- so are those of the nodes
 pub node_words : (case : Lists) → HasNames case → AllByRecursion IsWord (node_names case)
-node_words case h =
-    both (map (λ s. s.name) case.substations) (map (λ b. b.name) case.buses ++ map (λ t. t.name) (with_device case.transformers)) (substation_names case h)
-    (both (map (λ b. b.name) case.buses) (map (λ t. t.name) (with_device case.transformers)) (bus_names case h)
-    (neutral_names case.transformers (transformer_names case h)))
+node_words case h = of_nodes IsWord case (all_words case h)

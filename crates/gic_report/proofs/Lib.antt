@@ -1,5 +1,6 @@
 pub mod Written
 pub mod Framed
+pub mod PassedField
 pub mod CaseNames
 pub mod RowsWritten
 pub mod ListParts
@@ -9,5 +10,9 @@ pub mod LinesWritten
 pub mod RowHeads
 pub mod RowCounts
 pub mod LinePlaces
+pub mod WordsDetermined
+pub mod CountsDetermined
 pub mod ViewDetermined
+pub mod ShownViews
 pub mod CountedVerdicts
+pub mod Absolutes

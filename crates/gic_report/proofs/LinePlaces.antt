@@ -69,7 +69,8 @@ rows_along (row ∷ rows) cells =
       | false ↦ ap (λ ls. with_cell (row_words row) (first_cell cells) ∷ ls) (rows_along rows (drop 1 cells))
     ]
 
-row_count : (rows : List ItemRow) (cells : List (Option Ends)) → length (row_lines rows cells) ≡ length rows
+-- each row has a line
+pub row_count : (rows : List ItemRow) (cells : List (Option Ends)) → length (row_lines rows cells) ≡ length rows
 row_count [] cells = refl
 row_count (row ∷ rows) cells = ap suc (row_count rows (left_behind row.blocked cells))
 

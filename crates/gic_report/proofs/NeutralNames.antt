@@ -2,14 +2,13 @@
 use Rattle.std.proofs.Common.{◌≡◌, ℕ, ◌+◌, ◌<◌, ◌≤◌, true, false, List, [], ◌∷◌, length, map, drop, get_or, refl, ap, arith}
 use Rattle.std.specs.Prelude.{if◌then◌else◌, is_some}
 use Rattle.std.specs.List.{AllByRecursion}
-use Rattle.std.proofs.lemmas.List.{get_or-map, length-map}
+use Rattle.std.proofs.lemmas.List.{length-map}
 use Rattle.std.proofs.lemmas.List.Elements.{recursion_from_All}
 use Rattle.gic_case.specs.declared.item.Bus.{Bus}
-use Rattle.gic_case.specs.declared.item.Kind.{Kind}
-use Rattle.gic_case.specs.declared.item.Kind.TheVariants as kinds
 use Rattle.gic_case.specs.declared.item.Transformer.{Transformer}
-use Rattle.gic_case.specs.Lists.{Lists, node_names, with_device, grid_of, substation_at, neutrals_from, neutrals_of, has_windings}
-use Rattle.gic_case.specs.Sound.{IsSound, IsSoundKind, IsSoundTransformer}
+use Rattle.gic_case.specs.Lists.{Lists, node_names, with_device, grid_of, neutrals_from, neutrals_of, has_windings}
+use Rattle.gic_case.specs.Sound.{IsSound, IsSoundTransformer}
+use Rattle.gic_winding.proofs.Grids.{grid_within}
 use Rattle.gic_report.proofs.ListParts.{drop_first, drop_two}
 
 -- how many nodes come before the neutral ones
@@ -24,20 +23,8 @@ IsNamedNeutral first names p = has_windings p.1.kind ≡ true → first ≤ p.0 
 abbrev pub IsAtGrid : Lists → Transformer → Type 0
 IsAtGrid c t = has_windings t.kind ≡ true → grid_of c.buses t.kind < length c.substations
 
-no_bus : Bus
-no_bus = record { name = []; substation = 0 }
-
-bus_within : (c : Lists) → IsSound c → (place : ℕ) → place < length c.buses → substation_at c.buses place < length c.substations
-bus_within c sound place h = rw (get_or-map (λ b. b.substation) c.buses place no_bus 0 h) (sound.buses_within place no_bus h)
-
-kind_at_grid : (c : Lists) → IsSound c → (volts : ℕ) (kind : Kind) → IsSoundKind c volts kind → has_windings kind ≡ true → grid_of c.buses kind < length c.substations
-kind_at_grid c sound volts (kinds.DeltaWye high ohm) k w = bus_within c sound high k.0
-kind_at_grid c sound volts (kinds.WyeWye high low low_volts ohm low_ohm) k w = bus_within c sound high k.0.high_within
-kind_at_grid c sound volts (kinds.Auto high low low_volts ohm low_ohm) k w = bus_within c sound high k.0.high_within
-kind_at_grid c sound volts kinds.DeltaDelta k w = absurd (let f : false ≡ true = w in cc)
-
 pub at_grid : (c : Lists) → IsSound c → (t : Transformer) → IsSoundTransformer c t → IsAtGrid c t
-at_grid c sound t h w = kind_at_grid c sound t.high_volts t.kind h.kind_sound w
+at_grid c sound t h w = grid_within c sound t.high_volts t.kind h.kind_sound w
 
 all_at_grid : (c : Lists) → IsSound c → (ts : List Transformer) → AllByRecursion (IsSoundTransformer c) ts → AllByRecursion (IsAtGrid c) ts
 all_at_grid c sound [] h = tt

@@ -1,37 +1,31 @@
 -- What lines of nodes, items, effective currents and verdicts determine: their intervals, where these are in range.
 use Rattle.std.proofs.Common.{◌≡◌, ◌∙◌, ℕ, ◌<◌, ◌^◌, suc, Bool, true, false, Option, Some, None, List, [], ◌∷◌, ◌++◌, map, length, drop, ℤ, pos, negsuc, neg_ℤ, int_lt, cond, zero, FitsSigned, refl, ap, arith}
 use Rattle.std.specs.Prelude.{codes, IfSome}
-use Rattle.std.specs.Fmt.{signed_decimal, decimal}
+use Rattle.std.specs.Fmt.{signed_decimal}
 use Rattle.std.specs.Int.{w128, int_max}
 use Rattle.std.specs.List.{AllByRecursion}
 use lib.Signed.{mag}
 use Rattle.gic_fixed.specs.Rounding.{least_abs, greatest_abs}
 use Rattle.gic_fixed.specs.Ends.{Ends}
 use Rattle.gic_text.specs.Words.{IsWord, IsLine}
-use Rattle.gic_text.proofs.Words.{word_from_test, word_signed, signed_decimal_injective_wide}
+use Rattle.gic_text.proofs.Words.{word_from_test, word_signed}
 use Rattle.gic_case.specs.declared.item.Transformer.{Transformer}
 use Rattle.gic_screen.specs.declared.criterion.Verdict.{Verdict}
-use Rattle.gic_screen.specs.declared.criterion.Verdict.TheVariants.{Below, Reaches, Undecided, Outside}
 use Rattle.gic_report.specs.SharedLines.{Words}
 use Rattle.gic_report.specs.declared.rows.ItemRow.{ItemRow}
 use Rattle.gic_report.specs.Fits.{AreInRange}
 use Rattle.gic_report.specs.ItemText.{cell_words, effective_line, effective_lines, left_behind, node_line, node_lines, row_lines, row_words, shown_words}
-use Rattle.gic_report.specs.VerdictText.{judged_line, transformer_lines, verdict_on, verdict_word}
+use Rattle.gic_report.specs.VerdictText.{judged_line, transformer_lines, verdict_on}
 use Rattle.gic_view.specs.Absolute.{absolute_ends}
 use Rattle.gic_report.proofs.ListParts.{all_append}
 use Rattle.gic_report.proofs.RowCounts.{HasLine, shown, shows}
+use Rattle.gic_report.proofs.WordsDetermined.{same_128, verdict_is_word, word_of_128}
 
 -- the interval's ends are in range, if there is one
 abbrev pub CellInRange : Option Ends → Type 0
 CellInRange cell = IfSome cell AreInRange
 
 -- ---- words
-
-word_of_128 : (z : ℤ) → FitsSigned w128 z → IsWord (signed_decimal z)
-word_of_128 z h = word_signed z (omega (arith, h.sfits))
-
-same_128 : (y z : ℤ) → FitsSigned w128 y → FitsSigned w128 z → signed_decimal y ≡ signed_decimal z → y ≡ z
-same_128 y z h k e = signed_decimal_injective_wide y z (omega (arith, h.sfits)) (omega (arith, k.sfits)) e
 
 pub ends_words : (e : Ends) → AreInRange e → AllByRecursion IsWord (signed_decimal e.low ∷ signed_decimal e.high ∷ [])
 ends_words e h = (word_of_128 e.low h.low_fits, (word_of_128 e.high h.high_fits, tt))
@@ -54,12 +48,6 @@ same_cell absent None None h k e = refl
 same_cell absent None (Some f) h k e = absurd (let n : ◌≡◌ {A = ℕ} 1 2 = ap length e in omega (arith, n))
 same_cell absent (Some f) None h k e = absurd (let n : ◌≡◌ {A = ℕ} 2 1 = ap length e in omega (arith, n))
 same_cell absent (Some f) (Some g) h k e = ap (λ x. Some x) (same_ends f g h k e)
-
--- a number of 32 bits
-pub same_natural : (m n : ℕ) → m < 2 ^ 32 → n < 2 ^ 32 → decimal m ≡ decimal n → m ≡ n
-same_natural m n h k e =
-    let same : pos m ≡ pos n = signed_decimal_injective_wide (pos m) (pos n) (omega (arith, h)) (omega (arith, k)) e in
-    ap (λ z. mag z) same
 
 -- ---- nodes
 
@@ -165,12 +153,6 @@ same_effectives (t ∷ ts) (x ∷ xs) (y ∷ ys) rest others p q h k e =
     ap (λ z. z ∷ xs) here ∙ ap (λ zs. y ∷ zs) more
 
 -- ---- transformers
-
-verdict_is_word : (v : Verdict) → IsWord (verdict_word v)
-verdict_is_word Below = word_from_test (codes "below") refl
-verdict_is_word Reaches = word_from_test (codes "reaches") refl
-verdict_is_word Undecided = word_from_test (codes "undecided") refl
-verdict_is_word Outside = word_from_test (codes "outside") refl
 
 -- sizes of negatives and of the greater of two numbers
 turned_small : (z : ℤ) → FitsSigned w128 z → mag (neg_ℤ z) < 2 ^ 128

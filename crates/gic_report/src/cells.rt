@@ -1,75 +1,76 @@
 //! The intervals of a view, one after another. Past the last there is none.
-ghost use Rattle.std.specs.Prelude.{◌≡◌, drop};
+ghost use Rattle.std.specs.Prelude.{◌≡◌, ◌<◌, None, drop, length, slice_index_or};
 ghost use Rattle.gic_fixed.specs.Ends.{ends_of};
 ghost use Rattle.gic_view.specs.Kept.{optional_ends};
-ghost use Rattle.gic_report.specs.Cells.{first_cell, first_ends};
+ghost use Rattle.gic_report.specs.Cells.{first_cell, first_ends, listed_cells};
 
+use crate::listed::Listed;
 use gic_base::{ElementId, NodeId};
 use gic_fixed::Interval;
 use gic_view::StepView;
 use std::marker::Model;
 
-/// The intervals of the nodes from one on, in mV; it is seen as their list.
+/// How many intervals there are.
+fn count(listed: Listed, source: &StepView) -> u16
+    ensures { result ≡ length (listed_cells listed source.now) }
+{
+    let (nodes, elements, _) = source.sizes();
+    match listed {
+        Listed::Nodes => nodes,
+        Listed::Elements => elements,
+    }
+}
+
+/// The interval at a place.
+fn cell_at(listed: Listed, source: &StepView, place: u16) -> Option<Interval>
+    requires { place < length (listed_cells listed source.now) }
+    ensures { optional_ends result ≡ slice_index_or (listed_cells listed source.now) place None }
+{
+    match listed {
+        Listed::Nodes => source.node(NodeId(place)),
+        Listed::Elements => source.element(ElementId(place)),
+    }
+}
+
+/// The intervals of the nodes from one on, in mV, or those of the elements, in mA; it is seen as their list.
 #[derive(Drop)]
-pub struct NodeCells<'a> {
+pub struct Cells<'a> {
     source: &'a StepView,
+    listed: Listed,
     next: u16,
 }
 
-impl<'a> Model for NodeCells<'a> {
+impl<'a> Model for Cells<'a> {
     ghost use Rattle.std.specs.Prelude.{List, Option, drop};
     ghost use Rattle.gic_fixed.specs.Ends.{Ends};
+    ghost use Rattle.gic_report.specs.Cells.{listed_cells};
 
     ghost Value = { List (Option Ends) };
 
-    ghost view = { λ c. drop c.next c.source.now.nodes };
+    ghost view = { λ c. drop c.next (listed_cells c.listed c.source.now) };
 }
 
-impl<'a> NodeCells<'a> {
+impl<'a> Cells<'a> {
     /// The intervals of all nodes.
-    pub fn of(source: &'a StepView) -> NodeCells<'a>
+    pub fn of_nodes(source: &'a StepView) -> Cells<'a>
         ensures { result ≡ source.now.nodes }
     {
-        NodeCells { source, next: 0 }
-    }
-
-    /// The next interval.
-    pub fn take(&mut self) -> Option<Interval>
-        ensures cell { optional_ends result ≡ first_cell self.old }
-        ensures left { self.new ≡ drop 1 self.old }
-    {
-        let (nodes, _, _) = self.source.sizes();
-        if self.next >= nodes {
-            return None;
+        Cells {
+            source,
+            listed: Listed::Nodes,
+            next: 0,
         }
-        let cell = self.source.node(NodeId(self.next));
-        self.next += 1;
-        cell
     }
-}
 
-/// The intervals of the elements from one on, in mA; it is seen as their list.
-#[derive(Drop)]
-pub struct ElementCells<'a> {
-    source: &'a StepView,
-    next: u16,
-}
-
-impl<'a> Model for ElementCells<'a> {
-    ghost use Rattle.std.specs.Prelude.{List, Option, drop};
-    ghost use Rattle.gic_fixed.specs.Ends.{Ends};
-
-    ghost Value = { List (Option Ends) };
-
-    ghost view = { λ c. drop c.next c.source.now.elements };
-}
-
-impl<'a> ElementCells<'a> {
     /// The intervals of all elements.
-    pub fn of(source: &'a StepView) -> ElementCells<'a>
+    pub fn of_elements(source: &'a StepView) -> Cells<'a>
         ensures { result ≡ source.now.elements }
     {
-        ElementCells { source, next: 0 }
+        Cells {
+            source,
+            listed: Listed::Elements,
+            next: 0,
+        }
     }
 
     /// The next interval.
@@ -77,11 +78,10 @@ impl<'a> ElementCells<'a> {
         ensures cell { optional_ends result ≡ first_cell self.old }
         ensures left { self.new ≡ drop 1 self.old }
     {
-        let (_, elements, _) = self.source.sizes();
-        if self.next >= elements {
+        if self.next >= count(self.listed, self.source) {
             return None;
         }
-        let cell = self.source.element(ElementId(self.next));
+        let cell = cell_at(self.listed, self.source, self.next);
         self.next += 1;
         cell
     }

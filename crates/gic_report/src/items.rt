@@ -11,7 +11,7 @@ ghost use Rattle.gic_report.specs.ItemText.{ends_words, cell_words, shown_words,
 ghost use Rattle.gic_report.specs.ItemText.{row_words, row_line, row_lines, rows_of};
 ghost use Rattle.gic_report.specs.ItemText.{node_line, node_lines, effective_line, effective_lines, signed_lines};
 
-use crate::cells::{EffectiveCells, ElementCells, NodeCells};
+use crate::cells::{Cells, EffectiveCells};
 use crate::role::role_word;
 use crate::rows::{ItemRow, ItemRows};
 use gic_base::{Name, Sink, WriteFailed, write_all};
@@ -48,7 +48,7 @@ fn add_cell(cell: Option<Interval>, absent: &[u8], line: &mut LineBuilder)
 
 /// Adds what a row shows to the line, and takes its interval where it isn't blocked.
 #[tactic(auto, using(gic_text::proofs::Sizes::line_room))]
-fn add_shown(blocked: bool, cells: &mut ElementCells<'_>, line: &mut LineBuilder)
+fn add_shown(blocked: bool, cells: &mut Cells<'_>, line: &mut LineBuilder)
     requires room { length line.old.bytes ≤ 400 }
     ensures words { line.new ≡ with_words line.old (shown_words blocked cells.old) }
     ensures left { cells.new ≡ left_behind blocked cells.old }
@@ -94,7 +94,7 @@ fn add_row_words(row: &ItemRow, line: &mut LineBuilder)
 #[tactic(auto, using(gic_text::proofs::Sizes::line_room))]
 fn write_row<S: Sink>(
     row: &ItemRow,
-    cells: &mut ElementCells<'_>,
+    cells: &mut Cells<'_>,
     line: &mut LineBuilder,
     out: &mut S,
 ) -> Result<(), WriteFailed>
@@ -124,7 +124,7 @@ pub fn write_nodes<S: Sink>(
         (lines_text (node_lines (node_names case.now) view.now.nodes)) }
     ensures cause { HasCause (S.faults out.old) (S.faults out.new) result }
 {
-    let mut cells = NodeCells::of(view);
+    let mut cells = Cells::of_nodes(view);
     for name in NodeNames::of(case) {
         write_node(&name, cells.take(), line, out)?;
     }
@@ -165,7 +165,7 @@ pub fn write_rows<S: Sink>(
         (lines_text (row_lines (rows_of case.now) view.now.elements)) }
     ensures cause { HasCause (S.faults out.old) (S.faults out.new) result }
 {
-    let mut cells = ElementCells::of(view);
+    let mut cells = Cells::of_elements(view);
     for row in ItemRows::of(case) {
         write_row(&row, &mut cells, line, out)?;
     }

@@ -5,6 +5,7 @@ mod cells;
 mod counts;
 mod items;
 pub mod laws;
+mod listed;
 mod names;
 mod role;
 mod rows;

@@ -1,37 +1,24 @@
 -- The text of the report determines what it shows.
-use Rattle.std.proofs.Common.{◌≡◌, ◌∙◌, ℕ, ◌<◌, ◌^◌, List, [], ◌∷◌, ◌++◌, map, length, drop, take, get_or, ℤ, FitsSigned, w32, refl, ap, arith}
+use Rattle.std.proofs.Common.{◌≡◌, ◌∙◌, ℕ, List, [], ◌∷◌, ◌++◌, map, length, drop, refl, ap, arith}
 use Rattle.std.specs.Prelude.{codes}
 use Rattle.std.specs.List.{AllByRecursion}
 use Rattle.std.proofs.lemmas.List.Elements.{recursion_from_All}
 use Rattle.gic_text.specs.Words.{IsWord, IsLine}
 use Rattle.gic_text.proofs.Injective.{lines_injective}
-use Rattle.gic_text.proofs.Words.{word_from_test, word_decimal, word_signed, signed_decimal_injective_wide}
+use Rattle.gic_text.proofs.Words.{word_from_test}
 use Rattle.gic_case.specs.declared.item.Transformer.{Transformer}
 use Rattle.gic_fixed.specs.Ends.{Ends}
 use Rattle.gic_screen.specs.declared.criterion.Verdict.{Verdict}
-use Rattle.gic_screen.specs.declared.criterion.Verdict.TheVariants.{Below, Reaches, Undecided, Outside}
-use Rattle.gic_report.specs.SharedLines.{Words, word_line}
-use Rattle.gic_report.specs.VerdictText.{verdict_word}
+use Rattle.gic_report.specs.SharedLines.{word_line}
 use Rattle.gic_report.proofs.CaseNames.{transformer_names}
-use Rattle.gic_report.proofs.ViewDetermined.{ends_words, same_ends, same_natural}
+use Rattle.gic_report.proofs.ViewDetermined.{ends_words, same_ends}
+use Rattle.gic_report.proofs.WordsDetermined.{first_of_lines, pair_at, verdict_is_word}
 use Rattle.gic_screening.specs.Rows.{Row}
 use Rattle.gic_screening.specs.RightRows.{worst_verdict}
 use Rattle.gic_screening.specs.Setting.{setting_line}
+use Rattle.gic_screening.proofs.SettingDetermined.{same_setting, setting_is_line}
 use Rattle.gic_screen_mode.specs.ScreenText.{row_line, screen_report, transformer_line, transformer_lines}
 use Rattle.gic_screen_mode.specs.Determines.{IsRowInRange, TextDeterminesScreen}
-
--- the word at a place of a line, and the first line
-abbrev word_at : Words → ℕ → List ℕ
-word_at ws k = get_or ws k []
-
-abbrev first_of_lines : List Words → Words
-first_of_lines ls = get_or ls 0 []
-
-verdict_is_word : (v : Verdict) → IsWord (verdict_word v)
-verdict_is_word Below = word_from_test (codes "below") refl
-verdict_is_word Reaches = word_from_test (codes "reaches") refl
-verdict_is_word Undecided = word_from_test (codes "undecided") refl
-verdict_is_word Outside = word_from_test (codes "outside") refl
 
 -- the line of a row is one
 row_is_line : (name : List ℕ) (row : Row) (said : Verdict) → IsWord name → IsRowInRange row → IsLine (row_line name row said)
@@ -65,19 +52,7 @@ are_lines threshold [] rows names h = ((word_from_test (codes "end") refl, tt), 
 are_lines threshold (t ∷ ts) [] names h = ((word_from_test (codes "end") refl, tt), tt)
 are_lines threshold (t ∷ ts) (row ∷ rows) names h = (row_is_line t.name row (worst_verdict threshold t row.worst) names.0 h.0, are_lines threshold ts rows names.1 h.1)
 
-setting_words : (width threshold : ℕ) (field : ℤ) → width < 2 ^ 32 → threshold < 2 ^ 32 → FitsSigned w32 field → IsLine (setting_line width threshold field)
-setting_words width threshold field w t f = (
-  word_from_test (codes "width") refl,
-  (
-    word_decimal width (omega (arith, w)),
-    (word_from_test (codes "threshold") refl, (word_decimal threshold (omega (arith, t)), (word_from_test (codes "field") refl, (word_signed field (omega (arith, f.sfits)), tt)))),
-  ),
-)
-
 -- the line of a row determines it
-abbrev pair_at : Words → ℕ → Words
-pair_at ws k = take 2 (drop k ws)
-
 abbrev row_with : Ends → Ends → Ends → Row
 row_with a b c = record { north = a; east = b; worst = c }
 
@@ -113,13 +88,14 @@ report_determined case named width threshold field rows width' threshold' field'
     let fit' = recursion_from_All IsRowInRange rows' q.rows_fit in
     let names = transformer_names case named in
     let words = lines_injective (screen_report ts width threshold field rows) (screen_report ts width' threshold' field' rows')
-    ((word_from_test (codes "screen") refl, tt), (setting_words width threshold field p.width_fits p.threshold_fits p.field_fits, are_lines threshold ts rows names fit))
-    ((word_from_test (codes "screen") refl, tt), (setting_words width' threshold' field' q.width_fits q.threshold_fits q.field_fits, are_lines threshold' ts rows' names fit')) e in
+    ((word_from_test (codes "screen") refl, tt), (setting_is_line width threshold field p.width_fits p.threshold_fits p.field_fits, are_lines threshold ts rows names fit))
+    ((word_from_test (codes "screen") refl, tt), (setting_is_line width' threshold' field' q.width_fits q.threshold_fits q.field_fits, are_lines threshold' ts rows' names fit')) e in
     let setting : setting_line width threshold field ≡ setting_line width' threshold' field' = ap (λ ls. first_of_lines ls) (ap (drop 1) words) in
+    let asked = same_setting width threshold field width' threshold' field' p.width_fits p.threshold_fits p.field_fits q.width_fits q.threshold_fits q.field_fits setting in
     let later : transformer_lines threshold ts rows ++ word_line (codes "end") ∷ [] ≡ transformer_lines threshold' ts rows' ++ word_line (codes "end") ∷ [] = ap (drop 2) words in
     record {
-      same_width = same_natural width width' p.width_fits q.width_fits (ap (λ ws. word_at ws 1) setting);
-      same_threshold = same_natural threshold threshold' p.threshold_fits q.threshold_fits (ap (λ ws. word_at ws 3) setting);
-      same_field = signed_decimal_injective_wide field field' (omega (arith, p.field_fits.sfits)) (omega (arith, q.field_fits.sfits)) (ap (λ ws. word_at ws 5) setting);
+      same_width = asked.same_width;
+      same_threshold = asked.same_threshold;
+      same_field = asked.same_field;
       same_rows = same_lines threshold threshold' ts rows rows' p.count q.count fit fit' later;
     }

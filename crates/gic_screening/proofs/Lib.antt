@@ -1,1 +1,2 @@
 pub mod RightRows
+pub mod SettingDetermined

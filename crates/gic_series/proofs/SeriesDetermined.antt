@@ -1,5 +1,5 @@
 -- The text of the report determines what it shows.
-use Rattle.std.proofs.Common.{◌≡◌, ◌∙◌, ℕ, zero, suc, ◌+◌, ◌<◌, ◌^◌, List, [], ◌∷◌, ◌++◌, map, length, drop, get_or, inl, inr, refl, sym, ap, subst, subst₂, arith, length-append}
+use Rattle.std.proofs.Common.{◌≡◌, ◌∙◌, ℕ, ◌+◌, ◌<◌, ◌^◌, List, [], ◌∷◌, ◌++◌, map, length, drop, get_or, inl, inr, refl, sym, ap, subst, subst₂, arith, length-append}
 use Rattle.std.specs.Prelude.{◌≢◌, AllPairs, codes}
 use Rattle.std.specs.List.{AllByRecursion}
 use Rattle.std.proofs.lemmas.Bool.{cases_lt}
@@ -14,17 +14,12 @@ use Rattle.gic_fixed.specs.Ends.{Ends}
 use Rattle.gic_winding.specs.Weights.{transformer_at, no_transformer}
 use Rattle.gic_report.specs.SharedLines.{Words, word_line}
 use Rattle.gic_report.proofs.CaseNames.{transformer_names}
-use Rattle.gic_report.proofs.ViewDetermined.{ends_words, same_ends, same_natural}
+use Rattle.gic_report.proofs.ListParts.{all_at}
+use Rattle.gic_report.proofs.ViewDetermined.{ends_words, same_ends}
+use Rattle.gic_report.proofs.WordsDetermined.{first_of_lines, same_natural, word_at}
 use Rattle.gic_series.specs.Rows.{Row}
 use Rattle.gic_series.specs.SeriesText.{setting_line, step_line, series_report}
 use Rattle.gic_series.specs.Determines.{IsRowInRange, TextDeterminesSeries}
-
--- the word at a place of a line, and the first line
-abbrev word_at : Words → ℕ → List ℕ
-word_at ws k = get_or ws k []
-
-abbrev first_of_lines : List Words → Words
-first_of_lines ls = get_or ls 0 []
 
 -- ---- lines
 
@@ -122,16 +117,11 @@ module _ (case : Lists) (sound : IsSound case) where
       same_place names names_differ t u (omega (arith, inside, many)) (omega (arith, within, many)) (name_at t inside ∙ e ∙ sym (name_at u within))
 
 -- the name of a transformer is a word
-name_is_word : (names : List (List ℕ)) (k : ℕ) → AllByRecursion IsWord names → k < length names → IsWord (get_or names k [])
-name_is_word [] k words within = absurd (omega (arith, within))
-name_is_word (name ∷ names) zero words within = words.0
-name_is_word (name ∷ names) (suc k) words within = name_is_word names k words.1 (omega (arith, within))
-
 word_of : (case : Lists) → IsSound case → (t : ℕ) → t < length case.transformers → IsWord (transformer_at case t).name
 unfolding names
 word_of case sound t within =
     subst IsWord (name_at case sound t within)
-    (name_is_word (map (λ t. t.name) case.transformers) t (transformer_names case sound.names_sound) (omega (arith, within, length-map case.transformers (λ t. t.name))))
+    (all_at IsWord (map (λ t. t.name) case.transformers) t [] (omega (arith, within, length-map case.transformers (λ t. t.name))) (transformer_names case sound.names_sound))
 
 -- ---- the report
 

@@ -1,12 +1,12 @@
 -- The texts of monitors are determined by the bytes that show them, whatever bytes they hold.
-use Rattle.std.proofs.Common.{◌≡◌, ◌∙◌, ℕ, ◌+◌, ◌<◌, ◌≤◌, ◌^◌, List, [], ◌∷◌, ◌++◌, length, get_or, pos, refl, sym, ap, arith, append_assoc}
-use Rattle.std.specs.Prelude.{codes, decimal}
+use Rattle.std.proofs.Common.{◌≡◌, ◌∙◌, ℕ, ◌+◌, ◌<◌, ◌≤◌, ◌^◌, List, [], ◌∷◌, ◌++◌, length, get_or, refl, sym, ap, arith, append_assoc}
+use Rattle.std.specs.Prelude.{codes}
 use Rattle.std.specs.List.{AllByRecursion}
-use lib.Signed.{mag}
 use Rattle.gic_text.specs.Lines.{line_text}
 use Rattle.gic_text.specs.Words.{IsLine}
-use Rattle.gic_text.proofs.Words.{word_from_test, word_decimal, signed_decimal_injective_wide}
+use Rattle.gic_text.proofs.Words.{word_from_test, word_decimal}
 use Rattle.gic_report.specs.SharedLines.{word_line}
+use Rattle.gic_report.proofs.WordsDetermined.{same_long}
 use Rattle.gic_study_text.specs.StudyText.{monitor_line, monitor_text, monitor_texts}
 use Rattle.gic_study_text.proofs.Fronts.{front_line, split_front}
 
@@ -19,12 +19,6 @@ is_last = (word_from_test (codes "end") refl, tt)
 
 is_monitor : (number size : ℕ) → number ≤ 2 ^ 64 → size < 2 ^ 64 → IsLine (monitor_line number size)
 is_monitor number size h k = (word_from_test (codes "monitor") refl, (word_decimal number (omega (arith, h)), (word_decimal size (omega (arith, k)), tt)))
-
--- a number of 64 bits
-same_size : (m n : ℕ) → m < 2 ^ 64 → n < 2 ^ 64 → decimal m ≡ decimal n → m ≡ n
-same_size m n h k e =
-    let same : pos m ≡ pos n = signed_decimal_injective_wide (pos m) (pos n) (omega (arith, h)) (omega (arith, k)) e in
-    ap (λ z. mag z) same
 
 -- the line of a monitor, its text, and what follows
 monitor_before : (number : ℕ) (text more : List ℕ) → (monitor_text number text ++ more) ++ last_line ≡ line_text (monitor_line number (length text)) ++ (text ++ (more ++ last_line))
@@ -50,7 +44,7 @@ monitors_determined number (t ∷ ts) (u ∷ us) p q h k e =
     let line = front_line (monitor_line number (length t)) (monitor_line number (length u)) (t ++ (monitor_texts (number + 1) ts ++ last_line)) (u ++ (monitor_texts (number + 1) us ++ last_line))
     (is_monitor number (length t) (omega (arith, p)) h.0) (is_monitor number (length u) (omega (arith, q)) k.0)
     (sym (monitor_before number t (monitor_texts (number + 1) ts)) ∙ e ∙ monitor_before number u (monitor_texts (number + 1) us)) in
-    let size : length t ≡ length u = same_size (length t) (length u) h.0 k.0 (ap (λ ws. get_or ws 2 []) line.0) in
+    let size : length t ≡ length u = same_long (length t) (length u) h.0 k.0 (ap (λ ws. get_or ws 2 []) line.0) in
     let text = split_front t u (monitor_texts (number + 1) ts ++ last_line) (monitor_texts (number + 1) us ++ last_line) size line.1 in
     let later = monitors_determined (number + 1) ts us (omega (arith, p)) (omega (arith, q)) h.1 k.1 text.1 in
     ap (λ x. x ∷ ts) text.0 ∙ ap (λ xs. u ∷ xs) later

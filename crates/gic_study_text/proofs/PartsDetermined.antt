@@ -1,24 +1,20 @@
 -- What lines of zones and of the peaks of transformers determine, and how many lines there are.
-use Rattle.std.proofs.Common.{◌≡◌, ◌∙◌, ℕ, suc, Option, List, [], ◌∷◌, ◌++◌, map, length, drop, get_or, ℤ, FitsSigned, w32, IsTrue, refl, sym, ap, arith}
+use Rattle.std.proofs.Common.{◌≡◌, ◌∙◌, ℕ, suc, Option, List, [], ◌∷◌, ◌++◌, map, length, drop, get_or, ℤ, refl, sym, ap, arith}
 use Rattle.std.specs.Prelude.{codes}
 use Rattle.std.specs.Fmt.{signed_decimal}
 use Rattle.std.specs.List.{AllByRecursion}
-use Rattle.std.proofs.lemmas.List.Elements.{recursion_from_All}
-use Rattle.gic_base.specs.Name.{is_name}
 use Rattle.gic_fixed.specs.Ends.{Ends}
 use Rattle.gic_scale.specs.ZoneView.{ZoneView}
 use Rattle.gic_text.specs.Words.{IsWord, IsLine}
-use Rattle.gic_text.proofs.Words.{word_from_test, word_name, word_signed, signed_decimal_injective_wide}
+use Rattle.gic_text.proofs.Words.{word_from_test}
 use Rattle.gic_case.specs.declared.item.Transformer.{Transformer}
-use Rattle.gic_case.specs.Lists.{Lists}
-use Rattle.gic_case.specs.Sound.{names_of}
 use Rattle.gic_report.specs.SharedLines.{Words}
-use Rattle.gic_report.specs.declared.rows.ItemRow.{ItemRow}
-use Rattle.gic_report.specs.Fits.{AreInRange, HasNames}
-use Rattle.gic_report.specs.ItemText.{left_behind, node_lines, per_transformer, row_lines}
+use Rattle.gic_report.specs.Fits.{AreInRange}
+use Rattle.gic_report.specs.ItemText.{node_lines, per_transformer}
 use Rattle.gic_report.specs.VerdictText.{judged_line, transformer_line, transformer_lines}
 use Rattle.gic_view.specs.Absolute.{absolute_ends}
 use Rattle.gic_report.proofs.ViewDetermined.{same_ends}
+use Rattle.gic_report.proofs.WordsDetermined.{field_is_line, same_field_line}
 use Rattle.gic_study_text.specs.StudyText.{zone_line, zone_lines}
 use Rattle.gic_study_text.specs.Determines.{IsAbsolute, IsFieldInRange}
 
@@ -27,10 +23,6 @@ use Rattle.gic_study_text.specs.Determines.{IsAbsolute, IsFieldInRange}
 pub node_count : (names : List (List ℕ)) (cells : List (Option Ends)) → length (node_lines names cells) ≡ length names
 node_count [] cells = refl
 node_count (name ∷ names) cells = ap suc (node_count names (drop 1 cells))
-
-pub row_count : (rows : List ItemRow) (cells : List (Option Ends)) → length (row_lines rows cells) ≡ length rows
-row_count [] cells = refl
-row_count (row ∷ rows) cells = ap suc (row_count rows (left_behind row.blocked cells))
 
 pub transformer_count : (line : Transformer → Ends → Words) (ts : List Transformer) (cells : List Ends) → length (per_transformer line ts cells) ≡ length ts
 transformer_count line [] cells = refl
@@ -43,25 +35,8 @@ zone_count (zone ∷ zones) (field ∷ fields) h = ap suc (zone_count zones fiel
 
 -- ---- zones
 
--- the names of the zones are words
-first_words : (xs ys : List (List ℕ)) → AllByRecursion (λ name. IsTrue (is_name name)) (xs ++ ys) → AllByRecursion IsWord xs
-first_words [] ys h = tt
-first_words (x ∷ xs) ys h = (word_name x h.0, first_words xs ys h.1)
-
-pub zone_names : (case : Lists) → HasNames case → AllByRecursion IsWord (map (λ z. z.name) case.zones)
-zone_names case h = first_words (map (λ z. z.name) case.zones) _ (recursion_from_All (λ name. IsTrue (is_name name)) (names_of case) h)
-
-word_of_32 : (z : ℤ) → FitsSigned w32 z → IsWord (signed_decimal z)
-word_of_32 z h = word_signed z (omega (arith, h.sfits))
-
-same_32 : (y z : ℤ) → FitsSigned w32 y → FitsSigned w32 z → signed_decimal y ≡ signed_decimal z → y ≡ z
-same_32 y z h k e = signed_decimal_injective_wide y z (omega (arith, h.sfits)) (omega (arith, k.sfits)) e
-
 is_zone_line : (name : List ℕ) (field : ℤ × ℤ) → IsWord name → IsFieldInRange field → IsLine (zone_line name field)
-is_zone_line name field w h = (
-  word_from_test (codes "zone") refl,
-  (w, (word_from_test (codes "north") refl, (word_of_32 field.0 h.north_fits, (word_from_test (codes "east") refl, (word_of_32 field.1 h.east_fits, tt))))),
-)
+is_zone_line name field w h = (word_from_test (codes "zone") refl, (w, field_is_line field.0 field.1 h.north_fits h.east_fits))
 
 pub are_zones : (zones : List ZoneView) (fields : List (ℤ × ℤ)) (rest : List Words) → AllByRecursion IsWord (map (λ z. z.name) zones) → AllByRecursion IsFieldInRange fields
     → AllByRecursion IsLine rest → AllByRecursion IsLine (zone_lines zones fields ++ rest)
@@ -71,10 +46,9 @@ are_zones (zone ∷ zones) (field ∷ fields) rest names h k = (is_zone_line zon
 
 same_field : (name : List ℕ) (f g : ℤ × ℤ) → IsFieldInRange f → IsFieldInRange g → zone_line name f ≡ zone_line name g → f ≡ g
 same_field name f g h k e =
-    let north : f.0 ≡ g.0 = same_32 f.0 g.0 h.north_fits k.north_fits (ap (λ ws. get_or ws 3 []) e) in
-    let east : f.1 ≡ g.1 = same_32 f.1 g.1 h.east_fits k.east_fits (ap (λ ws. get_or ws 5 []) e) in
+    let parts = same_field_line f.0 f.1 g.0 g.1 h.north_fits h.east_fits k.north_fits k.east_fits (ap (drop 2) e) in
     let pair : ℤ → ℤ → ℤ × ℤ = λ n m. (n, m) in
-    ap (λ n. pair n f.1) north ∙ ap (λ m. pair g.0 m) east
+    ap (λ n. pair n f.1) parts.0 ∙ ap (λ m. pair g.0 m) parts.1
 
 pub same_zones : (zones : List ZoneView) (xs ys : List (ℤ × ℤ)) → length xs ≡ length zones → length ys ≡ length zones → AllByRecursion IsFieldInRange xs → AllByRecursion IsFieldInRange ys
     → zone_lines zones xs ≡ zone_lines zones ys → xs ≡ ys

@@ -1,5 +1,5 @@
 -- The text of a study determines what it shows.
-use Rattle.std.proofs.Common.{◌≡◌, ◌∙◌, ℕ, ◌+◌, ◌<◌, ◌^◌, ℤ, Option, Some, None, List, [], ◌∷◌, ◌++◌, map, length, drop, get_or, refl, sym, ap, subst, arith, append-nil, length-append}
+use Rattle.std.proofs.Common.{◌≡◌, ◌∙◌, ℕ, ◌+◌, ◌<◌, ◌^◌, ℤ, Option, Some, None, List, [], ◌∷◌, ◌++◌, map, length, drop, refl, sym, ap, subst, arith, append-nil, length-append}
 use Rattle.std.specs.Prelude.{codes, IfSome}
 use Rattle.std.specs.List.{AllByRecursion}
 use Rattle.std.proofs.lemmas.List.Elements.{recursion_from_All}
@@ -14,24 +14,19 @@ use Rattle.gic_case.specs.Lists.{Lists, node_names}
 use Rattle.gic_effective.specs.ViewLengths.{HasViewLengths}
 use Rattle.gic_report.specs.SharedLines.{Words, word_line}
 use Rattle.gic_report.specs.declared.rows.ItemRow.{ItemRow}
-use Rattle.gic_report.specs.Fits.{AreInRange, HasNames, IsViewInRange}
+use Rattle.gic_report.specs.Fits.{HasNames, IsViewInRange}
 use Rattle.gic_report.specs.ItemText.{effective_line, effective_lines, node_lines, row_lines, rows_of}
 use Rattle.gic_report.specs.VerdictText.{transformer_line, transformer_lines}
-use Rattle.gic_report.proofs.CaseNames.{node_words, transformer_names}
-use Rattle.gic_report.proofs.RowCounts.{HasLine, element_count, rows_named, shows}
-use Rattle.gic_report.proofs.ViewDetermined.{CellInRange, are_effectives, are_nodes, are_rows, are_transformers, same_effectives, same_natural, same_nodes, same_rows}
+use Rattle.gic_report.proofs.CaseNames.{zone_names}
+use Rattle.gic_report.proofs.LinePlaces.{row_count}
+use Rattle.gic_report.proofs.ShownViews.{AreNamed, IsShown, are_items, case_named, case_shown, same_items}
+use Rattle.gic_report.proofs.ViewDetermined.{are_effectives, are_transformers, same_effectives}
+use Rattle.gic_report.proofs.WordsDetermined.{first_of_lines, same_natural, word_at}
 use Rattle.gic_study_text.specs.StudyText.{DetailView, monitor_texts, setting_line, step_line, study_lines, zone_lines}
 use Rattle.gic_study_text.specs.Determines.{AreShownOf, IsAbsolute, IsDetailOf, IsFieldInRange, TextDeterminesStudy}
 use Rattle.gic_study_text.proofs.Fronts.{first_lines, front_lines, split_front}
 use Rattle.gic_study_text.proofs.MonitorsDetermined.{last_line, monitors_determined}
-use Rattle.gic_study_text.proofs.PartsDetermined.{are_zones, node_count, row_count, same_peaks, same_zones, transformer_count, zone_count, zone_names}
-
--- the word at a place of a line, and the first line
-abbrev word_at : Words → ℕ → List ℕ
-word_at ws k = get_or ws k []
-
-abbrev first_of_lines : List Words → Words
-first_of_lines ls = get_or ls 0 []
+use Rattle.gic_study_text.proofs.PartsDetermined.{are_zones, node_count, same_peaks, same_zones, transformer_count, zone_count}
 
 -- equal part by part
 same_detail : (d e : DetailView) → d.fields ≡ e.fields → d.view.number ≡ e.view.number → d.view.time ≡ e.view.time → d.view.nodes ≡ e.view.nodes → d.view.elements ≡ e.view.elements
@@ -62,47 +57,36 @@ module _ (zones : List ZoneView) (names : List (List ℕ)) (rows : List ItemRow)
   block None = []
   block (Some d) = detailed d
 
-  -- the view is one of these names, rows and transformers, and its ends are in range
-  pub record IsShown (view : View) : Type 0 where
-    pub node_count : length view.nodes ≡ length names
-    pub element_count : length view.elements ≡ shows rows
-    pub transformer_count : length view.effective ≡ length ts
-    pub nodes_fit : AllByRecursion CellInRange view.nodes
-    pub elements_fit : AllByRecursion CellInRange view.elements
-    pub effective_fit : AllByRecursion AreInRange view.effective
-
-  -- so is the view of a step in detail, which has a field for each zone, and its numbers fit
+  -- the view of a step in detail can be shown of these, it has a field for each zone, and its numbers fit
   pub record IsDetail (d : DetailView) : Type 0 where
-    pub shown : IsShown d.view
+    pub shown : IsShown names rows ts d.view
     pub zone_count : length d.fields ≡ length zones
     pub fields_fit : AllByRecursion IsFieldInRange d.fields
     pub number_fits : d.view.number < 2 ^ 32
     pub time_fits : d.view.time < 2 ^ 32
 
-  -- the names are words, and rows are named by words
-  pub record AreNamed : Type 0 where
+  -- the names of the zones are words, and so are those of the items
+  pub record AreAllNamed : Type 0 where
     pub zone_words : AllByRecursion IsWord (map (λ z. z.name) zones)
-    pub node_words : AllByRecursion IsWord names
-    pub row_words : AllByRecursion HasLine rows
-    pub transformer_words : AllByRecursion IsWord (map (λ t. t.name) ts)
+    pub items : AreNamed names rows ts
 
   -- ---- lines
 
-  signed_are : (v : View) → AreNamed → IsShown v → AllByRecursion IsLine (signed v)
+  signed_are : (v : View) → AreNamed names rows ts → IsShown names rows ts v → AllByRecursion IsLine (signed v)
   signed_are v n s =
       let currents = subst (AllByRecursion IsLine) (append-nil (effective_lines ts v.effective)) (are_effectives ts v.effective [] n.transformer_words s.transformer_count s.effective_fit tt) in
-      are_nodes names v.nodes _ n.node_words s.nodes_fit (are_rows rows v.elements _ n.row_words s.elements_fit currents)
+      are_items names rows ts v (effective_lines ts v.effective) n s currents
 
-  peaked_are : (threshold : ℕ) (v : View) → AreNamed → IsShown v → AllByRecursion IsLine (peaked threshold v)
+  peaked_are : (threshold : ℕ) (v : View) → AreNamed names rows ts → IsShown names rows ts v → AllByRecursion IsLine (peaked threshold v)
   peaked_are threshold v n s =
       let judged = subst (AllByRecursion IsLine) (append-nil (transformer_lines threshold ts v.effective)) (are_transformers threshold ts v.effective [] n.transformer_words s.transformer_count s.effective_fit tt) in
-      are_nodes names v.nodes _ n.node_words s.nodes_fit (are_rows rows v.elements _ n.row_words s.elements_fit judged)
+      are_items names rows ts v (transformer_lines threshold ts v.effective) n s judged
 
   step_is : (number time : ℕ) → number < 2 ^ 32 → time < 2 ^ 32 → IsLine (step_line number time)
   step_is number time h k = (word_from_test (codes "step") refl, (word_decimal number (omega (arith, h)), (word_from_test (codes "time") refl, (word_decimal time (omega (arith, k)), tt))))
 
-  detailed_are : (d : DetailView) → AreNamed → IsDetail d → AllByRecursion IsLine (detailed d)
-  detailed_are d n h = (step_is d.view.number d.view.time h.number_fits h.time_fits, are_zones zones d.fields (signed d.view) n.zone_words h.fields_fit (signed_are d.view n h.shown))
+  detailed_are : (d : DetailView) → AreAllNamed → IsDetail d → AllByRecursion IsLine (detailed d)
+  detailed_are d n h = (step_is d.view.number d.view.time h.number_fits h.time_fits, are_zones zones d.fields (signed d.view) n.zone_words h.fields_fit (signed_are d.view n.items h.shown))
 
   -- ---- how many
 
@@ -124,31 +108,29 @@ module _ (zones : List ZoneView) (names : List (List ℕ)) (rows : List ItemRow)
 
   -- ---- what lines determine
 
-  pub record SameItems (v w : View) : Type 0 where
+  pub record SameShown (v w : View) : Type 0 where
     pub nodes : v.nodes ≡ w.nodes
     pub elements : v.elements ≡ w.elements
     pub effective : v.effective ≡ w.effective
 
-  same_signed : (v w : View) → IsShown v → IsShown w → signed v ≡ signed w → SameItems v w
+  same_signed : (v w : View) → IsShown names rows ts v → IsShown names rows ts w → signed v ≡ signed w → SameShown v w
   same_signed v w s t e =
-      let nodes = same_nodes names v.nodes w.nodes _ _ s.node_count t.node_count s.nodes_fit t.nodes_fit e in
-      let elements = same_rows rows _ _ v.elements w.elements s.element_count t.element_count s.elements_fit t.elements_fit nodes.1 in
-      let last = append-nil (effective_lines ts v.effective) ∙ elements.1 ∙ sym (append-nil (effective_lines ts w.effective)) in
+      let items = same_items names rows ts v w (effective_lines ts v.effective) (effective_lines ts w.effective) s t e in
+      let last = append-nil (effective_lines ts v.effective) ∙ items.behind ∙ sym (append-nil (effective_lines ts w.effective)) in
       record {
-        nodes = nodes.0;
-        elements = elements.0;
+        nodes = items.nodes;
+        elements = items.elements;
         effective = same_effectives ts v.effective w.effective [] [] s.transformer_count t.transformer_count s.effective_fit t.effective_fit last;
       }
 
-  same_peaked : (threshold threshold' : ℕ) (v w : View) → IsShown v → IsShown w → AllByRecursion IsAbsolute v.effective → AllByRecursion IsAbsolute w.effective
-      → peaked threshold v ≡ peaked threshold' w → SameItems v w
+  same_peaked : (threshold threshold' : ℕ) (v w : View) → IsShown names rows ts v → IsShown names rows ts w → AllByRecursion IsAbsolute v.effective → AllByRecursion IsAbsolute w.effective
+      → peaked threshold v ≡ peaked threshold' w → SameShown v w
   same_peaked threshold threshold' v w s t a b e =
-      let nodes = same_nodes names v.nodes w.nodes _ _ s.node_count t.node_count s.nodes_fit t.nodes_fit e in
-      let elements = same_rows rows _ _ v.elements w.elements s.element_count t.element_count s.elements_fit t.elements_fit nodes.1 in
+      let items = same_items names rows ts v w (transformer_lines threshold ts v.effective) (transformer_lines threshold' ts w.effective) s t e in
       record {
-        nodes = nodes.0;
-        elements = elements.0;
-        effective = same_peaks threshold threshold' ts v.effective w.effective s.transformer_count t.transformer_count s.effective_fit t.effective_fit a b elements.1;
+        nodes = items.nodes;
+        elements = items.elements;
+        effective = same_peaks threshold threshold' ts v.effective w.effective s.transformer_count t.transformer_count s.effective_fit t.effective_fit a b items.behind;
       }
 
   same_detailed : (d e : DetailView) → IsDetail d → IsDetail e → detailed d ≡ detailed e → d ≡ e
@@ -176,7 +158,7 @@ module _ (zones : List ZoneView) (names : List (List ℕ)) (rows : List ItemRow)
       omega (arith, n)
 
   -- the block of a step in detail, and what follows it
-  same_block : (d e : Option DetailView) (more others : List Words) (r s : List ℕ) → AreNamed → IfSome d IsDetail → IfSome e IsDetail
+  same_block : (d e : Option DetailView) (more others : List Words) (r s : List ℕ) → AreAllNamed → IfSome d IsDetail → IfSome e IsDetail
       → lines_text (block d ++ mark ∷ more) ++ r ≡ lines_text (block e ++ mark ∷ others) ++ s → (d ≡ e) × (lines_text (mark ∷ more) ++ r ≡ lines_text (mark ∷ others) ++ s)
   same_block None None more others r s n h k e = (refl, e)
   same_block None (Some d) more others r s n h k e = absurd (no_detail d more ((zone_lines zones d.fields ++ signed d.view) ++ mark ∷ others) r s k e)
@@ -196,7 +178,7 @@ module _ (zones : List ZoneView) (names : List (List ℕ)) (rows : List ItemRow)
     pub threshold_fits : threshold < 2 ^ 32
     pub steps_fit : steps < 2 ^ 32
     pub detail_shown : IfSome detail IsDetail
-    pub peaks_shown : IsShown peaks
+    pub peaks_shown : IsShown names rows ts peaks
     pub absolutes : AllByRecursion IsAbsolute peaks.effective
 
   setting_is : (width threshold steps : ℕ) → width < 2 ^ 32 → threshold < 2 ^ 32 → steps < 2 ^ 32 → IsLine (setting_line width threshold steps)
@@ -218,11 +200,11 @@ module _ (zones : List ZoneView) (names : List (List ℕ)) (rows : List ItemRow)
     pub same_threshold : threshold ≡ threshold'
     pub same_steps : steps ≡ steps'
     pub same_detail : detail ≡ detail'
-    pub same_items : SameItems peaks peaks'
+    pub same_shown : SameShown peaks peaks'
     pub same_behind : r ≡ r'
 
   pub lines_determined : (width threshold steps : ℕ) (detail : Option DetailView) (peaks : View) (r : List ℕ)
-      (width' threshold' steps' : ℕ) (detail' : Option DetailView) (peaks' : View) (r' : List ℕ) → AreNamed
+      (width' threshold' steps' : ℕ) (detail' : Option DetailView) (peaks' : View) (r' : List ℕ) → AreAllNamed
       → Shown width threshold steps detail peaks → Shown width' threshold' steps' detail' peaks'
       → lines_text (lines width threshold steps detail peaks) ++ r ≡ lines_text (lines width' threshold' steps' detail' peaks') ++ r'
       → SameLines width threshold steps detail peaks r width' threshold' steps' detail' peaks' r'
@@ -233,31 +215,24 @@ module _ (zones : List ZoneView) (names : List (List ℕ)) (rows : List ItemRow)
       let setting : setting_line width threshold steps ≡ setting_line width' threshold' steps' = ap (λ ls. first_of_lines ls) (ap (drop 1) heads.0) in
       let inner = same_block detail detail' (peaked threshold peaks) (peaked threshold' peaks') r r' n s.detail_shown s'.detail_shown heads.1 in
       let last = front_lines (mark ∷ peaked threshold peaks) (mark ∷ peaked threshold' peaks') r r' (omega (arith, peaked_count threshold peaks, peaked_count threshold' peaks'))
-      (is_mark, peaked_are threshold peaks n s.peaks_shown) (is_mark, peaked_are threshold' peaks' n s'.peaks_shown) inner.1 in
+      (is_mark, peaked_are threshold peaks n.items s.peaks_shown) (is_mark, peaked_are threshold' peaks' n.items s'.peaks_shown) inner.1 in
       let shown : peaked threshold peaks ≡ peaked threshold' peaks' = ap (drop 1) last.0 in
       record {
         same_width = same_natural width width' s.width_fits s'.width_fits (ap (λ ws. word_at ws 1) setting);
         same_threshold = same_natural threshold threshold' s.threshold_fits s'.threshold_fits (ap (λ ws. word_at ws 3) setting);
         same_steps = same_natural steps steps' s.steps_fit s'.steps_fit (ap (λ ws. word_at ws 5) setting);
         same_detail = inner.0;
-        same_items = same_peaked threshold threshold' peaks peaks' s.peaks_shown s'.peaks_shown s.absolutes s'.absolutes shown;
+        same_shown = same_peaked threshold threshold' peaks peaks' s.peaks_shown s'.peaks_shown s.absolutes s'.absolutes shown;
         same_behind = last.1;
       }
 
 -- ---- on a case
 
-case_named : (case : Lists) → HasNames case → AreNamed case.zones (node_names case) (rows_of case) case.transformers
-case_named case h = record { zone_words = zone_names case h; node_words = node_words case h; row_words = rows_named case h; transformer_words = transformer_names case h }
+all_named : (case : Lists) → HasNames case → AreAllNamed case.zones (node_names case) (rows_of case) case.transformers
+all_named case h = record { zone_words = zone_names case h; items = case_named case h }
 
-shown_view : (case : Lists) (view : View) → HasViewLengths case view → IsViewInRange view → IsShown case.zones (node_names case) (rows_of case) case.transformers view
-shown_view case view lengths fits = record {
-  node_count = lengths.nodes;
-  element_count = lengths.elements ∙ element_count case;
-  transformer_count = lengths.transformers;
-  nodes_fit = recursion_from_All CellInRange view.nodes fits.nodes;
-  elements_fit = recursion_from_All CellInRange view.elements fits.elements;
-  effective_fit = recursion_from_All AreInRange view.effective fits.effective;
-}
+shown_view : (case : Lists) (view : View) → HasViewLengths case view → IsViewInRange view → IsShown (node_names case) (rows_of case) case.transformers view
+shown_view case view lengths fits = case_shown case view lengths.nodes lengths.elements lengths.transformers fits
 
 shown_detail : (case : Lists) (detail : Option DetailView) → IfSome detail (IsDetailOf case) → IfSome detail (IsDetail case.zones (node_names case) (rows_of case) case.transformers)
 shown_detail case None h = tt
@@ -291,16 +266,16 @@ pub study_determined : TextDeterminesStudy
 study_determined case named width threshold steps detail peaks texts width' threshold' steps' detail' peaks' texts' p q e =
     let behind : List (List ℕ) → List ℕ = λ ts. monitor_texts 1 ts ++ last_line in
     let same = lines_determined case.zones (node_names case) (rows_of case) case.transformers width threshold steps detail peaks (behind texts) width' threshold' steps' detail' peaks' (behind texts')
-    (case_named case named) (shown_of case width threshold steps detail peaks texts p) (shown_of case width' threshold' steps' detail' peaks' texts' q)
+    (all_named case named) (shown_of case width threshold steps detail peaks texts p) (shown_of case width' threshold' steps' detail' peaks' texts' q)
     (ap (λ ls. lines_text ls ++ behind texts) (sym (same_lines case width threshold steps detail peaks)) ∙ e ∙ ap (λ ls. lines_text ls ++ behind texts') (same_lines case width' threshold' steps' detail' peaks')) in
     record {
       same_width = same.same_width;
       same_threshold = same.same_threshold;
       same_steps = same.same_steps;
       same_detail = same.same_detail;
-      same_nodes = same.same_items.nodes;
-      same_elements = same.same_items.elements;
-      same_effective = same.same_items.effective;
+      same_nodes = same.same_shown.nodes;
+      same_elements = same.same_shown.elements;
+      same_effective = same.same_shown.effective;
       same_texts = monitors_determined 1 texts texts' (omega (arith, p.texts_fit.few)) (omega (arith, q.texts_fit.few))
           (recursion_from_All (λ t. length t < 2 ^ 64) texts p.texts_fit.short) (recursion_from_All (λ t. length t < 2 ^ 64) texts' q.texts_fit.short) same.same_behind;
     }

@@ -9,16 +9,11 @@ use Rattle.gic_text.proofs.Injective.{lines_injective}
 use Rattle.gic_text.proofs.Words.{word_from_test, word_signed, signed_decimal_injective_wide}
 use Rattle.gic_case.specs.declared.item.Line.{Line}
 use Rattle.gic_report.specs.SharedLines.{word_line, field_line}
+use Rattle.gic_report.proofs.WordsDetermined.{field_is_line, same_field_line}
 use Rattle.gic_volts.specs.VoltsText.{volts_line, volts_lines, volts_report}
-
-word_of_32 : (z : ℤ) → FitsSigned w32 z → IsWord (signed_decimal z)
-word_of_32 z h = word_signed z (omega (arith, h.sfits))
 
 word_of_64 : (z : ℤ) → FitsSigned w64 z → IsWord (signed_decimal z)
 word_of_64 z h = word_signed z (omega (arith, h.sfits))
-
-same_32 : (y z : ℤ) → FitsSigned w32 y → FitsSigned w32 z → signed_decimal y ≡ signed_decimal z → y ≡ z
-same_32 y z h k e = signed_decimal_injective_wide y z (omega (arith, h.sfits)) (omega (arith, k.sfits)) e
 
 same_64 : (y z : ℤ) → FitsSigned w64 y → FitsSigned w64 z → signed_decimal y ≡ signed_decimal z → y ≡ z
 same_64 y z h k e = signed_decimal_injective_wide y z (omega (arith, h.sfits)) (omega (arith, k.sfits)) e
@@ -36,7 +31,7 @@ are_report_lines : (lines : List Line) (north east : ℤ) (ns : List ℤ) → Al
 are_report_lines lines north east ns names n e h = (
   (word_from_test (codes "volts") refl, tt),
   (
-    (word_from_test (codes "north") refl, (word_of_32 north n, (word_from_test (codes "east") refl, (word_of_32 east e, tt)))),
+    field_is_line north east n e,
     are_volts_lines lines ns names h,
   ),
 )
@@ -69,8 +64,6 @@ volts_determined lines north east xs north' east' ys names p q n e h n' e' k s =
     let both : word_line (codes "volts") ∷ field_line north east ∷ (volts_lines lines xs ++ word_line (codes "end") ∷ [])
     ≡ word_line (codes "volts") ∷ field_line north' east' ∷ (volts_lines lines ys ++ word_line (codes "end") ∷ []) = words in
     let head : field_line north east ≡ field_line north' east' = cc in
-    let field : codes "north" ∷ signed_decimal north ∷ codes "east" ∷ signed_decimal east ∷ [] ≡ codes "north" ∷ signed_decimal north' ∷ codes "east" ∷ signed_decimal east' ∷ [] = head in
-    let north_text : signed_decimal north ≡ signed_decimal north' = cc in
-    let east_text : signed_decimal east ≡ signed_decimal east' = cc in
     let later : volts_lines lines xs ++ word_line (codes "end") ∷ [] ≡ volts_lines lines ys ++ word_line (codes "end") ∷ [] = cc in
-    (same_32 north north' n n' north_text, same_32 east east' e e' east_text, same_volts lines xs ys p q h k later)
+    let parts = same_field_line north east north' east' n e n' e' head in
+    (parts.0, parts.1, same_volts lines xs ys p q h k later)

@@ -2,11 +2,12 @@ use Rattle.std.proofs.Common.{rules, arith, ◌≡◌, ◌∙◌, [], ◌∷◌,
 use Rattle.std.specs.Iterator.{YieldsFirst}
 use Rattle.std.specs.Iterator.Adapters.{zip_first, zip_second, zip_steps}
 use Rattle.std.specs.Slice.Iter.{iter_rest, iter_steps}
+use Rattle.std.proofs.lemmas.List.{nil_from_length}
 use Rattle.gic_text.specs.Lines.{lines_text}
 use Rattle.gic_case.specs.Lists.{node_names}
 use Rattle.gic_check.specs.CheckText.{state_lines}
 use Rattle.gic_case.specs.NodeNames.{names_left}
-use Rattle.gic_check.proofs.StateLines.{either_ended, next_state, no_items, no_state_left}
+use Rattle.gic_check.proofs.StateLines.{either_ended, next_state, no_state_left}
 use Rattle.gic_report.proofs.Written.{begins, goes_on, same_left, stops, ends}
 use Rattle.gic_check.proofs.text.write_states.Goals as goal
 
@@ -44,5 +45,5 @@ pub returns-clause-all : goal.returns-clause-all
 returns-clause-all g c =
     let it = c.loop-name.name-iterator in
     let ended = subst (λ o. zip_steps (YieldsFirst names_left) iter_steps it o c.next.new.self) c.in-None.is c.next.ensures.steps in
-    let none = either_ended (names_left (zip_first it) ≡ []) (iter_rest (zip_second it) ≡ []) (λ s h. h.0) (λ t h. no_items (iter_rest (zip_second it)) h.0) ended in
+    let none = either_ended (names_left (zip_first it) ≡ []) (iter_rest (zip_second it) ≡ []) (λ s h. h.0) (λ t h. nil_from_length (iter_rest (zip_second it)) h.0) ended in
     ends _ _ _ (same_left _ _ _ _ _ c.loop-name.invariant.written (no_state_left _ _ none))

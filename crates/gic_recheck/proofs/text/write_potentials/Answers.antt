@@ -2,12 +2,13 @@ use Rattle.std.proofs.Common.{rules, arith, ◌≡◌, ◌∙◌, ◌∷◌, map
 use Rattle.std.specs.Iterator.{YieldsFirst}
 use Rattle.std.specs.Iterator.Adapters.{zip_first, zip_second, zip_steps}
 use Rattle.std.specs.Slice.Iter.{iter_rest, iter_steps}
+use Rattle.std.proofs.lemmas.List.{nil_from_length}
 use Rattle.gic_text.specs.Lines.{lines_text}
 use Rattle.gic_case.specs.Lists.{node_names}
 use Rattle.gic_case.specs.NodeNames.{names_left}
 use Rattle.gic_view.specs.Kept.{optional_ends}
 use Rattle.gic_recheck.specs.RecheckText.{potential_lines}
-use Rattle.gic_recheck.proofs.PotentialLines.{next_potential, no_potential_left, none_shown}
+use Rattle.gic_recheck.proofs.PotentialLines.{next_potential, no_potential_left}
 use Rattle.gic_report.proofs.Written.{begins, goes_on, same_left, stops, ends}
 use Rattle.gic_recheck.proofs.text.write_potentials.Goals as goal
 
@@ -47,5 +48,5 @@ returns-clause-all g c =
     let ended = subst (λ o. zip_steps (YieldsFirst names_left) iter_steps it o c.next.new.self) c.in-None.is c.next.ensures.steps in
     ends _ _ _ (same_left _ _ _ _ _ c.loop-name.invariant.written (no_potential_left _ _ (elim ended [
       | inl h ↦ inl h.1.0
-      | inr h ↦ inr (none_shown (iter_rest (zip_second it)) h.1.0)
+      | inr h ↦ inr (ap (map optional_ends) (nil_from_length (iter_rest (zip_second it)) h.1.0))
     ])))

@@ -1,32 +1,23 @@
-use Rattle.std.proofs.Common.{◌≡◌, ℤ, FitsSigned, w32, to_z, of_z, List, Option, map, ap, ◌∙◌, subst}
+use Rattle.std.proofs.Common.{◌≡◌, ℤ, FitsSigned, w32, List, Option, map, subst}
 use Rattle.std.specs.Prelude.{codes}
 use Rattle.std.specs.Io.KnownBytes.{Appends}
-use Rattle.std.proofs.lemmas.Int.{to_z-of_z}
 use Rattle.std.proofs.lemmas.Result.{on_ok_weaker}
 use Rattle.gic_base.specs.Pieces.{AppendsPart}
 use Rattle.gic_text.specs.Lines.{lines_text}
 use Rattle.gic_case.specs.Lists.{Lists, node_names}
 use Rattle.gic_fixed.specs.Ends.{Ends}
 use Rattle.gic_view.specs.Kept.{optional_ends}
-use Rattle.gic_report.specs.SharedLines.{Words, word_line, field_line}
+use Rattle.gic_report.specs.SharedLines.{word_line}
 use Rattle.gic_recheck.specs.RecheckText.{potential_lines, recheck_report}
 use Rattle.gic_report.proofs.Framed.{whole, part_first, part_second, part_body, part_last, all_written}
+use Rattle.gic_report.proofs.PassedField.{passed_line, same_whole}
 use Rattle.gic_recheck.proofs.text.write_recheck.Goals as goal
-
--- the line of the field, whose numbers are passed by their bits
-passed_line : ℤ → ℤ → Words
-passed_line north east = field_line (to_z w32 (of_z w32 north)) (to_z w32 (of_z w32 east))
-
-same_line : (north east : ℤ) → FitsSigned w32 north → FitsSigned w32 east → passed_line north east ≡ field_line north east
-unfolding passed_line
-same_line north east n e =
-    ap (λ y. field_line (to_z w32 (of_z w32 north)) y) (to_z-of_z w32 east e) ∙ ap (λ x. field_line x east) (to_z-of_z w32 north n)
 
 -- the report with the line that was passed
 same_report : (case : Lists) (north east : ℤ) (intervals : List (Option Ends)) → FitsSigned w32 north → FitsSigned w32 east →
     whole (word_line (codes "recheck")) (passed_line north east) (potential_lines (node_names case) intervals) (word_line (codes "end")) ≡ lines_text (recheck_report case north east intervals)
 same_report case north east intervals n e =
-    ap (λ (l : Words). whole (word_line (codes "recheck")) l (potential_lines (node_names case) intervals) (word_line (codes "end"))) (same_line north east n e)
+    same_whole (word_line (codes "recheck")) north east (potential_lines (node_names case) intervals) (word_line (codes "end")) n e
 
 pub returns-in_err-write_word-clause-part : goal.returns-in_err-write_word-clause-part
 returns-in_err-write_word-clause-part g c =

@@ -1,30 +1,21 @@
-use Rattle.std.proofs.Common.{◌≡◌, ℤ, FitsSigned, w32, to_z, of_z, List, ap, ◌∙◌, subst}
+use Rattle.std.proofs.Common.{◌≡◌, ℤ, FitsSigned, w32, List, subst}
 use Rattle.std.specs.Prelude.{codes}
 use Rattle.std.specs.Io.KnownBytes.{Appends}
-use Rattle.std.proofs.lemmas.Int.{to_z-of_z}
 use Rattle.std.proofs.lemmas.Result.{on_ok_weaker}
 use Rattle.gic_base.specs.Pieces.{AppendsPart}
 use Rattle.gic_text.specs.Lines.{lines_text}
 use Rattle.gic_case.specs.declared.item.Line.{Line}
-use Rattle.gic_report.specs.SharedLines.{Words, word_line, field_line}
+use Rattle.gic_report.specs.SharedLines.{word_line}
 use Rattle.gic_volts.specs.VoltsText.{volts_lines, volts_report}
 use Rattle.gic_report.proofs.Framed.{whole, part_first, part_second, part_body, part_last, all_written}
+use Rattle.gic_report.proofs.PassedField.{passed_line, same_whole}
 use Rattle.gic_volts.proofs.text.write_volts.Goals as goal
-
--- the line of the field, whose numbers are passed by their bits
-passed_line : ℤ → ℤ → Words
-passed_line north east = field_line (to_z w32 (of_z w32 north)) (to_z w32 (of_z w32 east))
-
-same_line : (north east : ℤ) → FitsSigned w32 north → FitsSigned w32 east → passed_line north east ≡ field_line north east
-unfolding passed_line
-same_line north east n e =
-    ap (λ y. field_line (to_z w32 (of_z w32 north)) y) (to_z-of_z w32 east e) ∙ ap (λ x. field_line x east) (to_z-of_z w32 north n)
 
 -- the report with the line that was passed
 same_report : (lines : List Line) (north east : ℤ) (numbers : List ℤ) → FitsSigned w32 north → FitsSigned w32 east →
     whole (word_line (codes "volts")) (passed_line north east) (volts_lines lines numbers) (word_line (codes "end")) ≡ lines_text (volts_report lines north east numbers)
 same_report lines north east numbers n e =
-    ap (λ (l : Words). whole (word_line (codes "volts")) l (volts_lines lines numbers) (word_line (codes "end"))) (same_line north east n e)
+    same_whole (word_line (codes "volts")) north east (volts_lines lines numbers) (word_line (codes "end")) n e
 
 pub returns-in_err-write_word-clause-part : goal.returns-in_err-write_word-clause-part
 returns-in_err-write_word-clause-part g c =
