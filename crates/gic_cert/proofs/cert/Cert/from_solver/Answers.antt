@@ -57,9 +57,10 @@ returns c =
     subst (IsCertified c.args.net.now c.args.volts.now) (sym c.from_columns.ensures)
     (certified made _ _ (omega (arith, ints, c.requires.north)) (omega (arith, ints, c.requires.east))) in
     record {
-      field =
-          (ap (λ (d : Certificate). d.north) c.from_columns.ensures ∙ (omega (arith, ints, c.requires.north)),
-          ap (λ (d : Certificate). d.east) c.from_columns.ensures ∙ (omega (arith, ints, c.requires.east)));
+      field = (
+        ap (λ (d : Certificate). d.north) c.from_columns.ensures ∙ (omega (arith, ints, c.requires.north)),
+        ap (λ (d : Certificate). d.east) c.from_columns.ensures ∙ (omega (arith, ints, c.requires.east)),
+      );
       passes = right.passes;
       radii = right.radii;
       small = right.small;
