@@ -13,7 +13,7 @@ use Rattle.gic_model.proofs.Ends.{live_within, standing_within}
 use Rattle.gic_net.specs.Net.{NetView, standing, stands}
 use Rattle.gic_sweep.specs.Residuals.{most_reach}
 use Rattle.gic_cert.specs.declared.limits.TheConstants.{MOST_MADE_RADIUS}
-use Rattle.gic_cert.specs.Settled.{IsSettledSolution}
+use Rattle.gic_cert.specs.Certifiable.{IsCertifiable}
 use Rattle.gic_cert.specs.Written.{Certificate, entry_of, guess_of, radius_of}
 use Rattle.gic_cert.specs.Columns.{written_of, IsKept}
 use Rattle.gic_cert.specs.Step.{most_residual, checked_step}
@@ -43,9 +43,9 @@ settled_there law net volts guesses xs limits settled each = law net (number_at 
         let inside = live_within net.network.nodes (standing net) k (standing_within net.network (stands net) limits) live in
         sym (each k inside ∙ ap (λ b. cond b (number_at guesses k) (pos 0)) live)
 
--- the columns that a settled solution is written in, each told for the net's nodes, and the step that the radii are made with
+-- the columns of a certificate, each told for the net's nodes, and the step that the radii are made with
 pub record AreMade (net : NetView) (volts guesses : List ℤ) (bound vs : List ℕ) (xs : List ℤ) (rs : List ℕ) (step : ℕ) : Type 0 where
-  pub solution : IsSettledSolution net volts guesses bound
+  pub certifiable : IsCertifiable net volts guesses bound
   pub entry_count : length vs ≡ net.network.nodes
   pub entry_each : (k : ℕ) → k < net.network.nodes → slice_index vs k ≡ slice_index bound k
   pub guess_count : length xs ≡ net.network.nodes
@@ -67,7 +67,7 @@ module _ {net : NetView} {volts guesses : List ℤ} {bound vs : List ℕ} {xs : 
   entries_same : (k : ℕ) → slice_index vs k ≡ slice_index bound k
   entries_same k =
       ⊎_elim (λ inside. columns.entry_each k inside)
-      (λ past. get_or_past vs k 0 (omega (arith, past, columns.entry_count)) ∙ sym (get_or_past bound k 0 (omega (arith, past, columns.solution.entry_count))))
+      (λ past. get_or_past vs k 0 (omega (arith, past, columns.entry_count)) ∙ sym (get_or_past bound k 0 (omega (arith, past, columns.certifiable.entry_count))))
       (cases_lt k net.network.nodes)
 
   radii_same : (k : ℕ) → slice_index rs k ≡ slice_index bound k * step
@@ -75,17 +75,17 @@ module _ {net : NetView} {volts guesses : List ℤ} {bound vs : List ℕ} {xs : 
       ⊎_elim (λ inside. columns.radius_each k inside)
       (λ past.
       let none = get_or_past rs k 0 (omega (arith, past, columns.radius_count)) in
-      let nothing = ap (λ n. n * step) (get_or_past bound k 0 (omega (arith, past, columns.solution.entry_count))) in
+      let nothing = ap (λ n. n * step) (get_or_past bound k 0 (omega (arith, past, columns.certifiable.entry_count))) in
       omega (arith, none, nothing))
       (cases_lt k net.network.nodes)
 
   radius_most : (k : ℕ) → slice_index rs k ≤ 2 ^ 31
   radius_most k =
-      let most : slice_index bound k * step ≤ MOST_WALK * (most_reach (2 ^ 18)) = mul-le-mul (columns.solution.bound.none_above k) columns.step_small in
+      let most : slice_index bound k * step ≤ MOST_WALK * (most_reach (2 ^ 18)) = mul-le-mul (columns.certifiable.bound.none_above k) columns.step_small in
       omega (arith, most, radii_same k)
 
   dead_where_0 : (k : ℕ) → slice_index bound k ≡ 0 → (b : Bool) → is_live (standing net) k ≡ b → cond b (number_at guesses k) (pos 0) ≡ pos 0
-  dead_where_0 k none true live = absurd (omega (arith, none, columns.solution.bound.bound.live_above_0 k live))
+  dead_where_0 k none true live = absurd (omega (arith, none, columns.certifiable.bound.bound.live_above_0 k live))
   dead_where_0 k none false dead = refl
 
   pub kept : IsKept north east vs xs rs
@@ -94,9 +94,9 @@ module _ {net : NetView} {volts guesses : List ℤ} {bound vs : List ℕ} {xs : 
     east_range = east_range;
     guess_count = columns.guess_count ∙ sym columns.entry_count;
     radius_count = columns.radius_count ∙ sym columns.entry_count;
-    entry_range = λ k. omega (arith, entries_same k, columns.solution.bound.none_above k);
+    entry_range = λ k. omega (arith, entries_same k, columns.certifiable.bound.none_above k);
     guess_range = λ k. ⊎_elim
-        (λ inside. subst (λ (z : ℤ). unsigned_abs z ≤ 2 ^ 95) (sym (columns.guess_each k inside)) (cond_small (is_live (standing net) k) (number_at guesses k) (columns.solution.written k)))
+        (λ inside. subst (λ (z : ℤ). unsigned_abs z ≤ 2 ^ 95) (sym (columns.guess_each k inside)) (cond_small (is_live (standing net) k) (number_at guesses k) (columns.certifiable.written k)))
         (λ past. let none = get_or_past xs k (pos 0) (omega (arith, past, columns.guess_count)) in subst (λ (z : ℤ). unsigned_abs z ≤ 2 ^ 95) (sym none) (omega arith))
         (cases_lt k net.network.nodes);
     radius_range = λ k. omega (arith, radius_most k);
@@ -125,8 +125,8 @@ module _ {net : NetView} {volts guesses : List ℤ} {bound vs : List ℕ} {xs : 
       ap (λ t. entry_of made k * t) (columns.step_is ∙ ap (λ f. checked_step (standing net) (number_at volts) f net.network.nodes) guess_fun)
 
   written_live : (k : ℕ) (b : Bool) → is_live (standing net) k ≡ b → is_some (written_of (slice_index vs k) (number_at xs k) (slice_index rs k)) ≡ b
-  written_live k true live = some_written (slice_index vs k) (number_at xs k) (slice_index rs k) (omega (arith, entries_same k, columns.solution.bound.bound.live_above_0 k live))
-  written_live k false dead = none_written (slice_index vs k) (number_at xs k) (slice_index rs k) (entries_same k ∙ columns.solution.bound.bound.dead_0 k dead)
+  written_live k true live = some_written (slice_index vs k) (number_at xs k) (slice_index rs k) (omega (arith, entries_same k, columns.certifiable.bound.bound.live_above_0 k live))
+  written_live k false dead = none_written (slice_index vs k) (number_at xs k) (slice_index rs k) (entries_same k ∙ columns.certifiable.bound.bound.dead_0 k dead)
 
   passing : IsPassing net.network.nodes (standing net) (number_at volts) made
   passing = record {
@@ -134,7 +134,7 @@ module _ {net : NetView} {volts guesses : List ℤ} {bound vs : List ℕ} {xs : 
       count = count_is north east vs xs rs ∙ columns.entry_count;
       live = λ k inside. ap is_some (row_is north east vs xs rs k) ∙ written_live k (is_live (standing net) k) refl;
     };
-    vector = subst (IsBoundVector (standing net)) entry_fun columns.solution.bound.bound;
+    vector = subst (IsBoundVector (standing net)) entry_fun columns.certifiable.bound.bound;
     residuals = λ k live. subst (λ (f : ℕ → ℤ). most_residual (standing net) (number_at volts) f k ≤ 2 ^ 110) guess_fun (omega (arith, columns.residual_small k live));
     radii = λ k live. omega (arith, radius_is k);
   }

@@ -83,7 +83,7 @@ impl Cert {
     ghost use Rattle.gic_cert.specs.declared.limits.TheConstants.{MOST_MADE_RADIUS};
     ghost use Rattle.gic_model.specs.Voltages.{number_at};
     ghost use Rattle.gic_net.specs.Net.{standing};
-    ghost use Rattle.gic_cert.specs.Settled.{IsSettledSolution};
+    ghost use Rattle.gic_cert.specs.Certifiable.{IsCertifiable};
     ghost use Rattle.gic_cert.specs.Written.{entry_of, guess_of, radius_of};
     ghost use Rattle.gic_cert.specs.Step.{checked_step as checked_step_of};
     ghost use Rattle.gic_cert.specs.Passing.{IsPassing};
@@ -102,7 +102,7 @@ impl Cert {
         solver: &Solver,
         bound: &BoundVector,
     ) -> Result<Cert, OutOfMemory>
-        requires settled { IsSettledSolution net.now volts.now solver.now bound.now }
+        requires certifiable { IsCertifiable net.now volts.now solver.now bound.now }
         requires north { unsigned_abs north ≤ MOST_FIELD }
         requires east { unsigned_abs east ≤ MOST_FIELD }
         ensures field { IfOk result (λ cert. (cert.north ≡ north) × (cert.east ≡ east)) }

@@ -3,18 +3,18 @@ use Rattle.gic_model.specs.Network.{Network}
 use Rattle.gic_model.specs.Voltages.{number_at}
 use Rattle.gic_net.specs.Net.{stands}
 use Rattle.gic_winding.specs.ElementList.{elements_of}
-use Rattle.gic_cert.specs.Settled.{IsSettledSolution}
+use Rattle.gic_cert.specs.Certifiable.{IsCertifiable}
 use Rattle.gic_certify.proofs.mode.settled_certificate.Goals as goal
 
-pub from_solver-requires-clause-settled : goal.from_solver-requires-clause-settled
-from_solver-requires-clause-settled c =
+pub from_solver-requires-clause-certifiable : goal.from_solver-requires-clause-certifiable
+from_solver-requires-clause-certifiable c =
     let net = c.args.net.now in
     let volts = c.args.volts.now in
     let room = c.settle_guesses.new.room in
     let ready = c.settle_guesses.ensures.ready in
     let settled = c.settle_guesses.ensures.settled in
     let nodes : (elements_of c.args.case.now).nodes ≡ net.network.nodes = sym (ap (λ (n : Network). n.nodes) c.requires.net) in
-    let solution : IsSettledSolution net volts room.solver room.vector = record {
+    let certifiable : IsCertifiable net volts room.solver room.vector = record {
       volt_count = c.requires.volts;
       guess_count = ready.has_room.solver ∙ nodes;
       entry_count = ready.has_room.vector ∙ nodes;
@@ -26,4 +26,4 @@ from_solver-requires-clause-settled c =
           c.within_limits.ensures ready.solvable.within c.within_limit.ensures settled live in
           omega (arith, below);
     } in
-    subst₂ (λ (xs : List ℤ) (vs : List ℕ). IsSettledSolution net volts xs vs) (sym c.solver.ensures) (sym c.vector.ensures) solution
+    subst₂ (λ (xs : List ℤ) (vs : List ℕ). IsCertifiable net volts xs vs) (sym c.solver.ensures) (sym c.vector.ensures) certifiable

@@ -14,8 +14,8 @@ zero_there n k =
     (λ past. get_or_past (replicate n (pos 0)) k (pos 0) (omega (arith, past, length-replicate n (pos 0))))
     (cases_lt k n)
 
-pub from_solver-requires-clause-settled : goal.from_solver-requires-clause-settled
-from_solver-requires-clause-settled c =
+pub from_solver-requires-clause-certifiable : goal.from_solver-requires-clause-certifiable
+from_solver-requires-clause-certifiable c =
     let grounded = c.args.grounded.now in
     let nodes = c.nodes-nodes.result in
     let same = c.is_settled.ensures.same in

@@ -18,11 +18,11 @@ columns c =
     let xs = c.in_ok-guesses.guesses.items in
     let limits = c.nodes-nodes.ensures.limits in
     let settled : IsSettled (standing net) volts (number_at xs) =
-    settled_there c.settled_step_law.ensures.live net c.args.volts.now c.args.solver.now xs limits c.requires.settled.settled c.in_ok-guesses.ensures.each in
+    settled_there c.settled_step_law.ensures.live net c.args.volts.now c.args.solver.now xs limits c.requires.certifiable.settled c.in_ok-guesses.ensures.each in
     let step_is : c.checked_step-step.result ≡ checked_step (standing net) volts (number_at xs) net.network.nodes =
     c.checked_step-step.ensures.value ∙ ap (λ ys. checked_step (standing net) volts (number_at ys) net.network.nodes) c.as_slice.ensures.value in
     record {
-      solution = c.requires.settled;
+      certifiable = c.requires.certifiable;
       entry_count = c.in_ok-entries.ensures.count ∙ c.nodes-nodes.ensures.value;
       entry_each = λ k inside. c.in_ok-entries.ensures.each k (omega (arith, inside, c.nodes-nodes.ensures.value));
       guess_count = c.in_ok-guesses.ensures.count;
@@ -41,7 +41,7 @@ checked_step-step-requires-clause-small c k live =
     let xs = c.in_ok-guesses.guesses.items in
     let limits = c.nodes-nodes.ensures.limits in
     let settled : IsSettled (standing net) volts (number_at xs) =
-    settled_there c.settled_step_law.ensures.live net c.args.volts.now c.args.solver.now xs limits c.requires.settled.settled c.in_ok-guesses.ensures.each in
+    settled_there c.settled_step_law.ensures.live net c.args.volts.now c.args.solver.now xs limits c.requires.certifiable.settled c.in_ok-guesses.ensures.each in
     let small = c.settled_step_law.ensures.residuals net volts (number_at xs) k limits settled live in
     subst (λ ys. most_residual (standing net) volts (number_at ys) k ≤ MOST_CHECKED_RESIDUAL) (sym c.as_slice.ensures.value) (omega (arith, small))
 

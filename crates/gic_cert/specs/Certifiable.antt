@@ -9,7 +9,7 @@ use Rattle.gic_bound.specs.Entries.{IsBoundWithin}
 use Rattle.gic_cert.specs.declared.limits.TheConstants.{MOST_WRITTEN_GUESS}
 
 -- voltages of the net's elements, guesses of its nodes that are settled in them and small enough to be written at live nodes, and a bound vector of its nodes without an entry above `MOST_WALK`
-pub record IsSettledSolution (net : NetView) (volts guesses : List ℤ) (entries : List ℕ) : Type 0 where
+pub record IsCertifiable (net : NetView) (volts guesses : List ℤ) (entries : List ℕ) : Type 0 where
   pub volt_count : length volts ≡ length net.network.list
   pub guess_count : length guesses ≡ net.network.nodes
   pub entry_count : length entries ≡ net.network.nodes
