@@ -5,8 +5,9 @@ use Rattle.std.proofs.lemmas.List.{take_more, get_or_default}
 use Rattle.std.proofs.lemmas.List.Folds.{list_any_more}
 use Rattle.std.specs.List.{list_any}
 use Rattle.std.proofs.lemmas.Cmp.{nat_list_eq_equiv}
+use Rattle.std.specs.Option.{option_or}
 use Rattle.gic_case.specs.Keys.{same}
-use Rattle.gic_case.specs.Names.{is_repeat, place_from, place_in, or_else}
+use Rattle.gic_case.specs.Names.{is_repeat, place_from, place_in}
 use Rattle.gic_case.specs.OneByOne.{first_from, first_repeat}
 
 -- no place below n repeats a name
@@ -41,7 +42,7 @@ pub is_repeat-at : (names : List (List ℕ)) (i : ℕ) (x : List ℕ) → i < le
 is_repeat-at names i x h at = ap (λ y. list_any (same y) (take i names)) (get_or_default names i [] x h ∙ sym at)
 
 -- one more name behind the others
-pub place_last : (n : ℕ) (xs : List (List ℕ)) (x q : List ℕ) → place_from n (xs ++ x ∷ []) q ≡ or_else (place_from n xs q) (cond (same q x) (Some (n + length xs)) None)
+pub place_last : (n : ℕ) (xs : List (List ℕ)) (x q : List ℕ) → place_from n (xs ++ x ∷ []) q ≡ option_or (place_from n xs q) (cond (same q x) (Some (n + length xs)) None)
 place_last n [] x q = let zeros : n ≡ n + 0 = omega arith in ap (λ m. cond (same q x) (Some m) None) zeros
 place_last n (y ∷ ys) x q =
     let sums : n + 1 + length ys ≡ n + suc (length ys) = omega arith in
@@ -55,16 +56,16 @@ place_congr n [] x q h = refl
 place_congr n (y ∷ ys) x q h = rw (nat_list_eq_equiv.congr q x y h, place_congr (n + 1) ys x q h)
 
 place_more : (names : List (List ℕ)) (i : ℕ) (x q : List ℕ) → i < length names → x ≡ get_or names i x
-    → place_in (take (i + 1) names) q ≡ or_else (place_in (take i names) q) (cond (same q x) (Some i) None)
+    → place_in (take (i + 1) names) q ≡ option_or (place_in (take i names) q) (cond (same q x) (Some i) None)
 place_more names i x q h at =
     let count : length (take i names) ≡ i = length-take-le i names (omega arith) in
     rw (take_more names i x h, ← at, place_last 0 (take i names) x q, count, zero-add)
 
-pub or_none : {A : Type 0} (o : Option A) → o ≡ or_else o None
+pub or_none : {A : Type 0} (o : Option A) → o ≡ option_or o None
 or_none None = refl
 or_none (Some x) = refl
 
-stays : (o p : Option ℕ) → is_some o ≡ true → o ≡ or_else o p
+stays : (o p : Option ℕ) → is_some o ≡ true → o ≡ option_or o p
 stays None p h = absurd (false≢true h)
 stays (Some n) p h = refl
 

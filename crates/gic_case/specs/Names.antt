@@ -15,8 +15,3 @@ place_from n (x ∷ xs) q = if same q x then Some n else place_from (n + 1) xs q
 -- the first place of the name, from 0
 abbrev pub place_in : List (List ℕ) → List ℕ → Option ℕ
 place_in = place_from 0
-
--- the first of two, or else the second
-abbrev pub or_else : {A : Type 0} → Option A → Option A → Option A
-or_else (Some x) second = Some x
-or_else None second = second

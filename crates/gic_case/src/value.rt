@@ -1,11 +1,11 @@
 //! The values of fields.
-ghost use Rattle.std.specs.Prelude.{◌≡◌, ◌≤◌, IfSome, IfOk, OnOk};
+ghost use Rattle.std.specs.Prelude.{◌≡◌, ◌≤◌, IfSome, IfOk};
 ghost use Rattle.toml.specs.Data.{as_bool};
 ghost use Rattle.toml.specs.View.{view, table_view};
 ghost use Rattle.gic_base.specs.Refusals.{Answers};
 ghost use Rattle.gic_case.specs.declared.refusal.CaseRefusal.TheVariants as refusals;
 ghost use Rattle.gic_case.specs.declared.refusal.CaseRefusal.TheVariants.{Memory};
-ghost use Rattle.gic_case.specs.Values.{natural_within, span_within, read_name};
+ghost use Rattle.gic_case.specs.Values.{natural_within, read_name};
 ghost use Rattle.gic_case.specs.Rows.{ohm_within, volts_within, metres_within, read_neutral};
 ghost use Rattle.gic_case.specs.Pass.{required, optional};
 

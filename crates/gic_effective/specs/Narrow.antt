@@ -1,4 +1,4 @@
--- How wide intervals are.
+-- Views whose intervals are at most so wide.
 use Rattle.std.specs.Prelude.{ℕ, ◌<◌, Option, None, Some, length}
 use Rattle.gic_case.specs.Lists.{Lists, node_names}
 use Rattle.gic_view.specs.View.{View, node_at, element_at, effective_at}

@@ -4,6 +4,7 @@ use Rattle.std.specs.Prelude.{◌==◌, if◌then◌else◌, is_some, Contains, 
 use Rattle.std.specs.List.{AllByRecursion}
 use Rattle.std.proofs.lemmas.Bool.{eqb-true, or_cases}
 use Rattle.std.proofs.lemmas.List.{get_or-map, length-map}
+use Rattle.gic_base.proofs.Each.{all_joined}
 use Rattle.gic_case.specs.declared.item.Line.{Line}
 use Rattle.gic_case.specs.declared.item.Kind.{Kind}
 use Rattle.gic_case.specs.declared.item.Kind.TheVariants as kinds
@@ -18,11 +19,10 @@ use Rattle.gic_model.specs.declared.parts.Item.{Item}
 use Rattle.gic_model.specs.declared.parts.Item.TheVariants as item
 use Rattle.gic_model.specs.declared.parts.Element.{Element}
 use Rattle.gic_model.specs.Network.{ends_at, is_node}
-use Rattle.gic_model.proofs.Members.{or_cases}
 use Rattle.gic_winding.specs.ElementList.{elements_of, element_list, earthing_of, earthings_of, line, line_of, lines_of, windings_of, all_windings_of, resistor_of, resistors_of, item_name}
 use Rattle.gic_list.specs.ListText.{node_name}
 use Rattle.gic_report.specs.Items.{HasPlace}
-use Rattle.gic_report.proofs.ListParts.{all_append, all_at, all_numbered}
+use Rattle.gic_report.proofs.ListParts.{all_at, all_numbered}
 use Rattle.gic_report.proofs.NeutralNames.{IsNamedNeutral, at_grid, first_neutral, neutrals_named, transformers_of_neutrals}
 
 -- the node is a substation or a bus, or it is named as the item
@@ -145,9 +145,9 @@ resistors_by c = all_numbered (IsElementOf c) (λ p. resistor_of p.0 p.1.0 (grid
 
 elements_by : (c : Lists) → AllByRecursion (IsElementOf c) (element_list c)
 elements_by c =
-    all_append (IsElementOf c) (earthings_of c) (lines_of c ++ (all_windings_of c ++ resistors_of c)) (earthings_by c)
-    (all_append (IsElementOf c) (lines_of c) (all_windings_of c ++ resistors_of c) (lines_by c)
-    (all_append (IsElementOf c) (all_windings_of c) (resistors_of c) (all_windings_by c) (resistors_by c)))
+    all_joined (IsElementOf c) (earthings_of c) (lines_of c ++ (all_windings_of c ++ resistors_of c)) (earthings_by c)
+    (all_joined (IsElementOf c) (lines_of c) (all_windings_of c ++ resistors_of c) (lines_by c)
+    (all_joined (IsElementOf c) (all_windings_of c) (resistors_of c) (all_windings_by c) (resistors_by c)))
 
 element_by : (c : Lists) (e : Element) → Contains (elements_of c).list e → IsElementOf c e
 unfolding elements_of

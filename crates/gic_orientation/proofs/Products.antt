@@ -1,5 +1,5 @@
 -- Products of whole numbers in another order, and a factor that is taken off.
-use Rattle.std.proofs.Common.{◌≡◌, ℕ, ◌+◌, ◌*◌, ◌<◌, ℤ, pos, ◌+ℤ◌, ◌*ℤ◌, arith, ap, sym, ◌∙◌}
+use Rattle.std.proofs.Common.{◌≡◌, ℕ, ◌*◌, ◌<◌, ℤ, pos, ◌+ℤ◌, ◌*ℤ◌, arith, ap, sym, ◌∙◌}
 use borrow.Author.Differences.{same_in}
 use Rattle.gic_fixed.proofs.Integers.{linear, *ℤ-+ℤ, ≤ℤ-from_*ℤ, up-*ℤ, down-*ℤ}
 

@@ -4,6 +4,7 @@ use Rattle.std.proofs.lemmas.List.{length-map}
 use Rattle.std.specs.Prelude.{codes, IfSome}
 use Rattle.std.specs.List.{AllByRecursion}
 use Rattle.std.proofs.lemmas.List.Elements.{recursion_from_All}
+use Rattle.gic_base.proofs.Each.{all_joined}
 use Rattle.gic_text.specs.Words.{IsWord, IsLine}
 use Rattle.gic_text.proofs.Injective.{lines_injective}
 use Rattle.gic_text.proofs.Words.{word_from_test}
@@ -17,7 +18,6 @@ use Rattle.gic_report.specs.Fits.{AreInRange, HasNames}
 use Rattle.gic_report.specs.declared.counts.Counts.{Counts}
 use Rattle.gic_report.specs.Counts.{counts_words}
 use Rattle.gic_report.proofs.CaseNames.{line_names, transformer_names}
-use Rattle.gic_report.proofs.ListParts.{all_append}
 use Rattle.gic_report.proofs.CountsDetermined.{counts_are_words, same_counts}
 use Rattle.gic_report.proofs.ViewDetermined.{CellInRange, ends_words, same_ends}
 use Rattle.gic_report.proofs.WordsDetermined.{first_of_lines, pair_at, verdict_is_word, word_at}
@@ -152,7 +152,7 @@ same_cells threshold threshold' (t ∷ ts) (x ∷ xs) (y ∷ ys) p q h k e =
 
 plan_words : (case : Lists) → HasNames case → AllByRecursion IsWord (plan_names case)
 plan_words case named =
-    subst (AllByRecursion IsWord) (sym (plan.in_turn case)) (all_append IsWord (plan.line_names case) (plan.transformer_names case) (line_names case named) (transformer_names case named))
+    subst (AllByRecursion IsWord) (sym (plan.in_turn case)) (all_joined IsWord (plan.line_names case) (plan.transformer_names case) (line_names case named) (transformer_names case named))
 
 -- the text of the report determines all that it shows
 pub report_determined : TextDeterminesOutage

@@ -7,4 +7,4 @@ pub mod NodeNames
 pub mod PassingText
 pub mod LineRefusals
 pub mod Telling
-pub mod Volts
+pub mod OwnReport

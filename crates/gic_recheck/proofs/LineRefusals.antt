@@ -3,8 +3,8 @@ use Rattle.std.proofs.Common.{◌≡◌, ℕ, ◌+◌, Bool, true, false, List, 
 use Rattle.std.specs.Prelude.{codes}
 use Rattle.std.specs.List.{AllByRecursion}
 use Rattle.gic_base.specs.Refusals.{unless, settle}
+use Rattle.gic_base.proofs.Each.{all_joined}
 use Rattle.gic_report.specs.SharedLines.{Words}
-use Rattle.gic_report.proofs.ListParts.{all_append}
 use Rattle.gic_cert.specs.Cuts.{lines_of}
 use Rattle.gic_cert.specs.Reading.{NamedNode, is_only, is_field_line, are_field_numbers, breaks_field, is_node_line, are_node_numbers, is_line_of, breaks_node, breaks_after, breaks_behind, breaks_second, broken, cert_in, cert_of}
 use Rattle.gic_cert.specs.declared.refusal.CertRefusal.{CertRefusal}
@@ -23,9 +23,9 @@ of_unless false refusal h = (h, tt)
 
 of_node : (row : ℕ) (node : NamedNode) (words : Words) → AllByRecursion IsOfLine (breaks_node row node words)
 of_node row node words =
-    all_append IsOfLine (unless (is_node_line words) (cert.Shape row)) (unless (are_node_numbers words) (cert.Number row) ++ unless (is_line_of node words) (cert.Node row))
+    all_joined IsOfLine (unless (is_node_line words) (cert.Shape row)) (unless (are_node_numbers words) (cert.Number row) ++ unless (is_line_of node words) (cert.Node row))
     (of_unless (is_node_line words) (cert.Shape row) tt)
-    (all_append IsOfLine (unless (are_node_numbers words) (cert.Number row)) (unless (is_line_of node words) (cert.Node row))
+    (all_joined IsOfLine (unless (are_node_numbers words) (cert.Number row)) (unless (is_line_of node words) (cert.Node row))
     (of_unless (are_node_numbers words) (cert.Number row) tt) (of_unless (is_line_of node words) (cert.Node row) tt))
 
 of_after : (row : ℕ) (lines : List Words) → AllByRecursion IsOfLine (breaks_after row lines)
@@ -36,21 +36,21 @@ of_behind : (row : ℕ) (nodes : List NamedNode) (lines : List Words) → AllByR
 of_behind row [] [] = (tt, tt)
 of_behind row (node ∷ nodes) [] = (tt, tt)
 of_behind row [] (line ∷ lines) =
-    all_append IsOfLine (unless (is_only (codes "end") line) (cert.Shape row)) (breaks_after (row + 1) lines) (of_unless (is_only (codes "end") line) (cert.Shape row) tt) (of_after (row + 1) lines)
-of_behind row (node ∷ nodes) (line ∷ lines) = all_append IsOfLine (breaks_node row node line) (breaks_behind (row + 1) nodes lines) (of_node row node line) (of_behind (row + 1) nodes lines)
+    all_joined IsOfLine (unless (is_only (codes "end") line) (cert.Shape row)) (breaks_after (row + 1) lines) (of_unless (is_only (codes "end") line) (cert.Shape row) tt) (of_after (row + 1) lines)
+of_behind row (node ∷ nodes) (line ∷ lines) = all_joined IsOfLine (breaks_node row node line) (breaks_behind (row + 1) nodes lines) (of_node row node line) (of_behind (row + 1) nodes lines)
 
 of_second : (nodes : List NamedNode) (lines : List Words) → AllByRecursion IsOfLine (breaks_second nodes lines)
 of_second nodes [] = (tt, tt)
 of_second nodes (second ∷ lines) =
-    all_append IsOfLine (breaks_field (length nodes) second) (breaks_behind 3 nodes lines)
-    (all_append IsOfLine (unless (is_field_line second) (cert.Shape 2)) (unless (are_field_numbers (length nodes) second) (cert.Number 2))
+    all_joined IsOfLine (breaks_field (length nodes) second) (breaks_behind 3 nodes lines)
+    (all_joined IsOfLine (unless (is_field_line second) (cert.Shape 2)) (unless (are_field_numbers (length nodes) second) (cert.Number 2))
     (of_unless (is_field_line second) (cert.Shape 2) tt) (of_unless (are_field_numbers (length nodes) second) (cert.Number 2) tt))
     (of_behind 3 nodes lines)
 
 of_broken : (nodes : List NamedNode) (lines : List Words) → AllByRecursion IsOfLine (broken nodes lines)
 of_broken nodes [] = (tt, tt)
 of_broken nodes (first ∷ lines) =
-    all_append IsOfLine (unless (is_only (codes "certificate") first) (cert.Shape 1)) (breaks_second nodes lines) (of_unless (is_only (codes "certificate") first) (cert.Shape 1) tt) (of_second nodes lines)
+    all_joined IsOfLine (unless (is_only (codes "certificate") first) (cert.Shape 1)) (breaks_second nodes lines) (of_unless (is_only (codes "certificate") first) (cert.Shape 1) tt) (of_second nodes lines)
 
 abbrev error_or : {A : Type 0} → Result A CertRefusal → CertRefusal → CertRefusal
 error_or (Ok x) other = other

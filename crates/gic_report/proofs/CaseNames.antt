@@ -4,13 +4,13 @@ use Rattle.std.specs.Prelude.{if◌then◌else◌, is_some}
 use Rattle.std.specs.List.{AllByRecursion}
 use Rattle.std.proofs.lemmas.List.Elements.{recursion_from_All}
 use Rattle.gic_base.specs.Name.{is_name}
+use Rattle.gic_base.proofs.Each.{all_joined, both_parts}
 use Rattle.gic_text.specs.Words.{IsWord}
 use Rattle.gic_text.proofs.Words.{word_name}
 use Rattle.gic_case.specs.declared.item.Transformer.{Transformer}
 use Rattle.gic_case.specs.Lists.{Lists, node_names, with_device}
 use Rattle.gic_case.specs.Sound.{names_of}
 use Rattle.gic_report.specs.Fits.{HasNames}
-use Rattle.gic_report.proofs.ListParts.{all_append, all_behind, all_front}
 
 module _ (P : List ℕ → Type 0) (case : Lists) where
   zones : List (List ℕ)
@@ -30,34 +30,34 @@ module _ (P : List ℕ → Type 0) (case : Lists) where
 
   past_zones : AllByRecursion P (names_of case) → AllByRecursion P (substations ++ (buses ++ (lines ++ transformers)))
   unfolding zones substations buses lines transformers
-  past_zones h = all_behind P zones (substations ++ (buses ++ (lines ++ transformers))) h
+  past_zones h = (both_parts P zones (substations ++ (buses ++ (lines ++ transformers))) h).1
 
   past_substations : AllByRecursion P (names_of case) → AllByRecursion P (buses ++ (lines ++ transformers))
-  past_substations h = all_behind P substations (buses ++ (lines ++ transformers)) (past_zones h)
+  past_substations h = (both_parts P substations (buses ++ (lines ++ transformers)) (past_zones h)).1
 
   past_buses : AllByRecursion P (names_of case) → AllByRecursion P (lines ++ transformers)
-  past_buses h = all_behind P buses (lines ++ transformers) (past_substations h)
+  past_buses h = (both_parts P buses (lines ++ transformers) (past_substations h)).1
 
   -- of each list
   of_zones : AllByRecursion P (names_of case) → AllByRecursion P (map (λ z. z.name) case.zones)
   unfolding zones substations buses lines transformers
-  of_zones h = all_front P zones (substations ++ (buses ++ (lines ++ transformers))) h
+  of_zones h = (both_parts P zones (substations ++ (buses ++ (lines ++ transformers))) h).0
 
   of_substations : AllByRecursion P (names_of case) → AllByRecursion P (map (λ s. s.name) case.substations)
   unfolding substations
-  of_substations h = all_front P substations (buses ++ (lines ++ transformers)) (past_zones h)
+  of_substations h = (both_parts P substations (buses ++ (lines ++ transformers)) (past_zones h)).0
 
   of_buses : AllByRecursion P (names_of case) → AllByRecursion P (map (λ b. b.name) case.buses)
   unfolding buses
-  of_buses h = all_front P buses (lines ++ transformers) (past_substations h)
+  of_buses h = (both_parts P buses (lines ++ transformers) (past_substations h)).0
 
   of_lines : AllByRecursion P (names_of case) → AllByRecursion P (map (λ l. l.name) case.lines)
   unfolding lines
-  of_lines h = all_front P lines transformers (past_buses h)
+  of_lines h = (both_parts P lines transformers (past_buses h)).0
 
   of_transformers : AllByRecursion P (names_of case) → AllByRecursion P (map (λ t. t.name) case.transformers)
   unfolding transformers
-  of_transformers h = all_behind P lines transformers (past_buses h)
+  of_transformers h = (both_parts P lines transformers (past_buses h)).1
 
 -- of the neutral nodes
 of_devices : (P : List ℕ → Type 0) (ts : List Transformer) → AllByRecursion P (map (λ t. t.name) ts) → AllByRecursion P (map (λ t. t.name) (with_device ts))
@@ -69,8 +69,8 @@ of_devices P (t ∷ ts) h =
 -- of all nodes
 pub of_nodes : (P : List ℕ → Type 0) (case : Lists) → AllByRecursion P (names_of case) → AllByRecursion P (node_names case)
 of_nodes P case h =
-    all_append P (map (λ s. s.name) case.substations) (map (λ b. b.name) case.buses ++ map (λ t. t.name) (with_device case.transformers)) (of_substations P case h)
-    (all_append P (map (λ b. b.name) case.buses) (map (λ t. t.name) (with_device case.transformers)) (of_buses P case h)
+    all_joined P (map (λ s. s.name) case.substations) (map (λ b. b.name) case.buses ++ map (λ t. t.name) (with_device case.transformers)) (of_substations P case h)
+    (all_joined P (map (λ b. b.name) case.buses) (map (λ t. t.name) (with_device case.transformers)) (of_buses P case h)
     (of_devices P case.transformers (of_transformers P case h)))
 
 -- ---- words

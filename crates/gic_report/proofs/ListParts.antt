@@ -1,6 +1,7 @@
 -- Lists by what they begin with behind a place.
 use Rattle.std.proofs.Common.{◌≡◌, ◌∙◌, ℕ, ◌+◌, ◌<◌, zero, suc, List, [], ◌∷◌, ◌++◌, length, drop, get_or, refl, sym, ap, arith, add-one, append_assoc, length-append}
 use Rattle.std.specs.List.{AllByRecursion, enumerate_from, flat_map}
+use Rattle.gic_base.proofs.Each.{all_joined}
 
 -- what stands at a place, and what behind it
 pub drop_first : {A : Type 0} (xs : List A) (n : ℕ) (y : A) (ys : List A) → drop n xs ≡ y ∷ ys → (n < length xs) × ((d : A) → get_or xs n d ≡ y) × (drop (n + 1) xs ≡ ys)
@@ -25,20 +26,6 @@ drop_two xs ys zs m n h k =
     let size : m + n ≡ length (xs ++ ys) = omega (arith, length-append xs ys, h, k) in
     ap (λ i. drop i (xs ++ (ys ++ zs))) size ∙ ap (λ l. drop (length (xs ++ ys)) l) (sym (append_assoc xs ys zs)) ∙ drop_past (xs ++ ys) zs
 
--- what holds of all items of two lists holds of those of both together
-pub all_append : {A : Type 0} (P : A → Type 0) (xs ys : List A) → AllByRecursion P xs → AllByRecursion P ys → AllByRecursion P (xs ++ ys)
-all_append P [] ys h k = k
-all_append P (x ∷ xs) ys h k = (h.0, all_append P xs ys h.1 k)
-
--- what holds of all items of two lists together holds of those of each
-pub all_front : {A : Type 0} (P : A → Type 0) (xs ys : List A) → AllByRecursion P (xs ++ ys) → AllByRecursion P xs
-all_front P [] ys h = tt
-all_front P (x ∷ xs) ys h = (h.0, all_front P xs ys h.1)
-
-pub all_behind : {A : Type 0} (P : A → Type 0) (xs ys : List A) → AllByRecursion P (xs ++ ys) → AllByRecursion P ys
-all_behind P [] ys h = h
-all_behind P (x ∷ xs) ys h = all_behind P xs ys h.1
-
 -- what holds of the items of a list holds of the one at a place
 pub all_at : {A : Type 0} (P : A → Type 0) (xs : List A) (n : ℕ) (d : A) → n < length xs → AllByRecursion P xs → P (get_or xs n d)
 all_at P [] n d h k = absurd (omega (arith, h))
@@ -51,7 +38,7 @@ all_numbered_from : {A B : Type 0} (P : B → Type 0) (f : ℕ × A → List B) 
 all_numbered_from P f xs each n [] e = tt
 all_numbered_from P f xs each n (x ∷ rest) e =
     let first = drop_first xs n x rest e in
-    all_append P (f (n, x)) (flat_map f (enumerate_from (n + 1) rest)) (each n x first.0 first.1) (all_numbered_from P f xs each (n + 1) rest first.2)
+    all_joined P (f (n, x)) (flat_map f (enumerate_from (n + 1) rest)) (each n x first.0 first.1) (all_numbered_from P f xs each (n + 1) rest first.2)
 
 -- what holds of all that each numbered item gives
 pub all_numbered : {A B : Type 0} (P : B → Type 0) (f : ℕ × A → List B) (xs : List A)

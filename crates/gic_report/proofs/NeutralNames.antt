@@ -1,13 +1,13 @@
 -- The neutral nodes of a case are named as their transformers.
-use Rattle.std.proofs.Common.{◌≡◌, ℕ, ◌+◌, ◌<◌, ◌≤◌, true, false, List, [], ◌∷◌, length, map, drop, get_or, refl, ap, arith}
+use Rattle.std.proofs.Common.{◌≡◌, ℕ, ◌+◌, ◌<◌, ◌≤◌, true, false, List, [], ◌∷◌, length, map, drop, get_or, arith}
 use Rattle.std.specs.Prelude.{if◌then◌else◌, is_some}
 use Rattle.std.specs.List.{AllByRecursion}
 use Rattle.std.proofs.lemmas.List.{length-map}
 use Rattle.std.proofs.lemmas.List.Elements.{recursion_from_All}
-use Rattle.gic_case.specs.declared.item.Bus.{Bus}
 use Rattle.gic_case.specs.declared.item.Transformer.{Transformer}
 use Rattle.gic_case.specs.Lists.{Lists, node_names, with_device, grid_of, neutrals_from, neutrals_of, has_windings}
 use Rattle.gic_case.specs.Sound.{IsSound, IsSoundTransformer}
+use Rattle.gic_case.proofs.NeutralNodes.{transformers-neutrals_from}
 use Rattle.gic_winding.proofs.Grids.{grid_within}
 use Rattle.gic_report.proofs.ListParts.{drop_first, drop_two}
 
@@ -55,12 +55,6 @@ neutrals_named c sound =
     (all_at_grid c sound c.transformers (recursion_from_All (IsSoundTransformer c) c.transformers sound.transformers_sound))
     (names_of_neutrals c)
 
-transformers_from : (buses : List Bus) (node : ℕ) (ts : List Transformer) → map (λ p. p.1) (neutrals_from buses node ts) ≡ ts
-transformers_from buses node [] = refl
-transformers_from buses node (t ∷ ts) =
-    elim (is_some t.neutral) as (λ b. map (λ p. p.1) (if b then (node, t) ∷ neutrals_from buses (node + 1) ts else (grid_of buses t.kind, t) ∷ neutrals_from buses node ts) ≡ t ∷ ts)
-    [ true ↦ ap (λ l. t ∷ l) (transformers_from buses (node + 1) ts) | false ↦ ap (λ l. t ∷ l) (transformers_from buses node ts) ]
-
 -- the transformers of a case, each with its neutral, in their order
 pub transformers_of_neutrals : (c : Lists) → map (λ p. p.1) (neutrals_of c) ≡ c.transformers
-transformers_of_neutrals c = transformers_from c.buses (first_neutral c) c.transformers
+transformers_of_neutrals c = transformers-neutrals_from c.buses (first_neutral c) c.transformers

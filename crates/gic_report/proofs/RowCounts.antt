@@ -3,6 +3,7 @@ use Rattle.std.proofs.Common.{◌≡◌, ◌∙◌, ℕ, suc, Bool, true, false,
 use Rattle.std.proofs.lemmas.List.{length-map}
 use Rattle.std.specs.Prelude.{codes, if◌then◌else◌}
 use Rattle.std.specs.List.{AllByRecursion, filter}
+use Rattle.gic_base.proofs.Each.{all_joined}
 use Rattle.gic_text.specs.Words.{IsLine, IsWord}
 use Rattle.gic_text.proofs.Words.{word_from_test}
 use Rattle.gic_model.specs.declared.parts.Role.{Role}
@@ -22,7 +23,6 @@ use Rattle.gic_report.specs.RoleWord.{role_word}
 use Rattle.gic_report.specs.ItemText.{all_ground_rows, all_line_rows, all_neutral_rows, all_winding_rows, ground_rows, neutral_rows, row_words, rows_of, winding_rows}
 use Rattle.gic_report.specs.Places.{element_words}
 use Rattle.gic_report.proofs.CaseNames.{line_names, substation_names, transformer_names}
-use Rattle.gic_report.proofs.ListParts.{all_append}
 use Rattle.gic_report.proofs.RowHeads.{elements_named, heads}
 
 -- one more where the row isn't blocked
@@ -60,7 +60,7 @@ ground_named name (Some ohm) h = (two_words (codes "ground") name (word_from_tes
 
 grounds_named : (ss : List Substation) → AllByRecursion IsWord (map (λ s. s.name) ss) → AllByRecursion HasLine (all_ground_rows ss)
 grounds_named [] h = tt
-grounds_named (s ∷ ss) h = all_append HasLine (ground_rows s.name s.ground) (all_ground_rows ss) (ground_named s.name s.ground h.0) (grounds_named ss h.1)
+grounds_named (s ∷ ss) h = all_joined HasLine (ground_rows s.name s.ground) (all_ground_rows ss) (ground_named s.name s.ground h.0) (grounds_named ss h.1)
 
 lines_named : (ls : List Line) → AllByRecursion IsWord (map (λ l. l.name) ls) → AllByRecursion HasLine (all_line_rows ls)
 lines_named [] h = tt
@@ -86,7 +86,7 @@ winding_named name kinds.DeltaDelta h = tt
 
 windings_named : (ts : List Transformer) → AllByRecursion IsWord (map (λ t. t.name) ts) → AllByRecursion HasLine (all_winding_rows ts)
 windings_named [] h = tt
-windings_named (t ∷ ts) h = all_append HasLine (winding_rows t.name t.kind) (all_winding_rows ts) (winding_named t.name t.kind h.0) (windings_named ts h.1)
+windings_named (t ∷ ts) h = all_joined HasLine (winding_rows t.name t.kind) (all_winding_rows ts) (winding_named t.name t.kind h.0) (windings_named ts h.1)
 
 neutral_named : (name : List ℕ) (device : Option Neutral) → IsWord name → AllByRecursion HasLine (neutral_rows name device)
 neutral_named name None h = tt
@@ -95,11 +95,11 @@ neutral_named name (Some devices.Blocked) h = (two_words (codes "neutral") name 
 
 neutrals_named : (ts : List Transformer) → AllByRecursion IsWord (map (λ t. t.name) ts) → AllByRecursion HasLine (all_neutral_rows ts)
 neutrals_named [] h = tt
-neutrals_named (t ∷ ts) h = all_append HasLine (neutral_rows t.name t.neutral) (all_neutral_rows ts) (neutral_named t.name t.neutral h.0) (neutrals_named ts h.1)
+neutrals_named (t ∷ ts) h = all_joined HasLine (neutral_rows t.name t.neutral) (all_neutral_rows ts) (neutral_named t.name t.neutral h.0) (neutrals_named ts h.1)
 
 -- the rows of a case are named by words
 pub rows_named : (c : Lists) → HasNames c → AllByRecursion HasLine (rows_of c)
 rows_named c h =
-    all_append HasLine (all_ground_rows c.substations) (all_line_rows c.lines ++ (all_winding_rows c.transformers ++ all_neutral_rows c.transformers)) (grounds_named c.substations (substation_names c h))
-    (all_append HasLine (all_line_rows c.lines) (all_winding_rows c.transformers ++ all_neutral_rows c.transformers) (lines_named c.lines (line_names c h))
-    (all_append HasLine (all_winding_rows c.transformers) (all_neutral_rows c.transformers) (windings_named c.transformers (transformer_names c h)) (neutrals_named c.transformers (transformer_names c h))))
+    all_joined HasLine (all_ground_rows c.substations) (all_line_rows c.lines ++ (all_winding_rows c.transformers ++ all_neutral_rows c.transformers)) (grounds_named c.substations (substation_names c h))
+    (all_joined HasLine (all_line_rows c.lines) (all_winding_rows c.transformers ++ all_neutral_rows c.transformers) (lines_named c.lines (line_names c h))
+    (all_joined HasLine (all_winding_rows c.transformers) (all_neutral_rows c.transformers) (windings_named c.transformers (transformer_names c h)) (neutrals_named c.transformers (transformer_names c h))))

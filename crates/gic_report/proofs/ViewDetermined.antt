@@ -5,6 +5,7 @@ use Rattle.std.specs.Fmt.{signed_decimal}
 use Rattle.std.specs.Int.{w128, int_max}
 use Rattle.std.specs.List.{AllByRecursion}
 use lib.Signed.{mag}
+use Rattle.gic_base.proofs.Each.{all_joined}
 use Rattle.gic_fixed.specs.Rounding.{least_abs, greatest_abs}
 use Rattle.gic_fixed.specs.Ends.{Ends}
 use Rattle.gic_text.specs.Words.{IsWord, IsLine}
@@ -17,7 +18,6 @@ use Rattle.gic_report.specs.Fits.{AreInRange}
 use Rattle.gic_report.specs.ItemText.{cell_words, effective_line, effective_lines, left_behind, node_line, node_lines, row_lines, row_words, shown_words}
 use Rattle.gic_report.specs.VerdictText.{judged_line, transformer_lines, verdict_on}
 use Rattle.gic_view.specs.Absolute.{absolute_ends}
-use Rattle.gic_report.proofs.ListParts.{all_append}
 use Rattle.gic_report.proofs.RowCounts.{HasLine, shown, shows}
 use Rattle.gic_report.proofs.WordsDetermined.{same_128, verdict_is_word, word_of_128}
 
@@ -77,7 +77,7 @@ same_nodes (name ∷ names) (x ∷ xs) (y ∷ ys) rest others p q h k e =
 
 line_more : (head more : Words) → IsLine head → AllByRecursion IsWord more → IsLine (head ++ more)
 line_more [] more h k = absurd h
-line_more (w ∷ ws) more h k = (h.0, all_append IsWord ws more h.1 k)
+line_more (w ∷ ws) more h k = (h.0, all_joined IsWord ws more h.1 k)
 
 are_shown : (blocked : Bool) (cells : List (Option Ends)) → AllByRecursion CellInRange cells → AllByRecursion IsWord (shown_words blocked cells)
 are_shown true cells h = (word_from_test (codes "blocked") refl, tt)

@@ -39,13 +39,13 @@ pub same_128 : (y z : ℤ) → FitsSigned w128 y → FitsSigned w128 z → signe
 same_128 y z h k e = signed_decimal_injective_wide y z (omega (arith, h.sfits)) (omega (arith, k.sfits)) e
 
 -- numbers that aren't below 0, of 64, 32 and 16 bits
-pub word_of_natural : (n : ℕ) → n < 2 ^ 32 → IsWord (decimal n)
-word_of_natural n h = word_decimal n (omega (arith, h))
-
 pub same_long : (m n : ℕ) → m < 2 ^ 64 → n < 2 ^ 64 → decimal m ≡ decimal n → m ≡ n
 same_long m n h k e =
     let same : pos m ≡ pos n = signed_decimal_injective_wide (pos m) (pos n) (omega (arith, h)) (omega (arith, k)) e in
     ap (λ z. mag z) same
+
+pub word_of_natural : (n : ℕ) → n < 2 ^ 32 → IsWord (decimal n)
+word_of_natural n h = word_decimal n (omega (arith, h))
 
 pub same_natural : (m n : ℕ) → m < 2 ^ 32 → n < 2 ^ 32 → decimal m ≡ decimal n → m ≡ n
 same_natural m n h k e = same_long m n (omega (arith, h)) (omega (arith, k)) e

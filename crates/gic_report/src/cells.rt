@@ -11,10 +11,10 @@ use gic_view::StepView;
 use std::marker::Model;
 
 /// How many intervals there are.
-fn count(listed: Listed, source: &StepView) -> u16
-    ensures { result ≡ length (listed_cells listed source.now) }
+fn count(listed: Listed, view: &StepView) -> u16
+    ensures { result ≡ length (listed_cells listed view.now) }
 {
-    let (nodes, elements, _) = source.sizes();
+    let (nodes, elements, _) = view.sizes();
     match listed {
         Listed::Nodes => nodes,
         Listed::Elements => elements,
@@ -22,13 +22,13 @@ fn count(listed: Listed, source: &StepView) -> u16
 }
 
 /// The interval at a place.
-fn cell_at(listed: Listed, source: &StepView, place: u16) -> Option<Interval>
-    requires { place < length (listed_cells listed source.now) }
-    ensures { optional_ends result ≡ slice_index_or (listed_cells listed source.now) place None }
+fn cell_at(listed: Listed, view: &StepView, place: u16) -> Option<Interval>
+    requires { place < length (listed_cells listed view.now) }
+    ensures { optional_ends result ≡ slice_index_or (listed_cells listed view.now) place None }
 {
     match listed {
-        Listed::Nodes => source.node(NodeId(place)),
-        Listed::Elements => source.element(ElementId(place)),
+        Listed::Nodes => view.node(NodeId(place)),
+        Listed::Elements => view.element(ElementId(place)),
     }
 }
 

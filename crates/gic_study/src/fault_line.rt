@@ -211,7 +211,7 @@ fn column_word(field: StormField) -> &'static str
     }
 }
 
-/// Writes the line of what a row of the storm or of the switchings breaks, or a line of the certificate.
+/// Writes the line of what a row of a file breaks; the first word names the file.
 fn write_record<E: Sink>(file: &str, what: &str, row: u32, err: &mut E) -> Result<(), WriteFailed>
     ensures all { OnOk result (Appends (E.written err.old) (E.written err.new) (told_line (record_words file.now what.now row))) }
     ensures part { AppendsPart (E.written err.old) (E.written err.new) (told_line (record_words file.now what.now row)) }

@@ -5,7 +5,8 @@ use Rattle.std.specs.Int.{w128}
 use Rattle.std.proofs.lemmas.Int.{ints, clamps, fits_signed_from_abs}
 use Rattle.std.proofs.lemmas.List.{get_or-map, length-map}
 use Rattle.std.proofs.lemmas.List.Elements.{All-get_or, All-from_get_or, All-head, All-tail}
-use Rattle.gic_fixed.specs.Ends.{Ends, no_ends, IsAtMostWide}
+use Rattle.gic_report.proofs.Absolutes.{absolute_narrow}
+use Rattle.gic_fixed.specs.Ends.{Ends, no_ends}
 use Rattle.gic_case.specs.Lists.{Lists}
 use Rattle.gic_view.specs.View.{View, node_at, element_at, effective_at}
 use Rattle.gic_view.specs.Kept.{blank_view}
@@ -17,13 +18,9 @@ use Rattle.gic_peaks.specs.PeakLaws.{IsNoWiderThan, PeakIsNoWider, PeakIsNotNega
 use Rattle.gic_course.specs.Views.{AreNarrowViews, view_at}
 use Rattle.gic_study_mode.specs.PeakVerdicts.{AreNarrowPeaks}
 
--- the absolute values of the numbers between two ends are no further apart than the ends
-absolute_narrow : (width : ℕ) (e : Ends) → IsAtMostWide width e.low e.high → IsNoWiderThan width (absolute_ends e)
-absolute_narrow width e narrow = omega (arith, ints, clamps, narrow)
-
 cell_narrow : (width : ℕ) (cell : Option Ends) → IsNoWider width cell → IfSome cell (λ e. IsNoWiderThan width (absolute_ends e))
 cell_narrow width None narrow = tt
-cell_narrow width (Some e) narrow = absolute_narrow width e narrow
+cell_narrow width (Some e) narrow = absolute_narrow e.low e.high width narrow
 
 peak_no_wider : (width : ℕ) (peak : Option Ends) → IfSome peak (IsNoWiderThan width) → IsNoWider width peak
 peak_no_wider width None narrow = tt

@@ -2,7 +2,8 @@
 use Rattle.std.proofs.Common.{◌≡◌, ℕ, ◌+◌, ◌<◌, List, length, map, Bool, true, false, cond, Option, Some, None, option_map, refl, arith}
 use Rattle.std.specs.Prelude.{IfSome}
 use Rattle.std.proofs.lemmas.List.{length-map}
-use Rattle.gic_case.specs.Names.{place_in, or_else}
+use Rattle.std.specs.Option.{option_or}
+use Rattle.gic_case.specs.Names.{place_in}
 use Rattle.gic_case.specs.Lists.{Lists}
 use Rattle.gic_case.specs.declared.item.Line.{Line}
 use Rattle.gic_case.specs.declared.item.Substation.{Substation}
@@ -26,7 +27,7 @@ of_place : (P : ℕ → Type 0) (Q : Item → Type 0) (item : ℕ → Item) (o :
 of_place P Q item None leads h = tt
 of_place P Q item (Some p) leads h = leads p h
 
-of_either : (Q : Item → Type 0) (a b : Option Item) → IfSome a Q → IfSome b Q → IfSome (or_else a b) Q
+of_either : (Q : Item → Type 0) (a b : Option Item) → IfSome a Q → IfSome b Q → IfSome (option_or a b) Q
 of_either Q None b h k = k
 of_either Q (Some x) b h k = h
 
@@ -40,7 +41,7 @@ named_within case q =
     let line = of_place (λ p. p < 0 + length lines) (IsNamedOf case) (λ p. items.Line p) (place_in lines q) (λ p h. omega arith) (place_below 0 lines q) in
     let transformer = of_place (λ p. p < 0 + length transformers) (IsNamedOf case) (λ p. items.Transformer p) (place_in transformers q) (λ p h. omega arith) (place_below 0 transformers q) in
     let substation = of_place (λ p. p < 0 + length substations) (IsNamedOf case) (λ p. items.Ground p) (place_in substations q) (λ p h. tt) (place_below 0 substations q) in
-    of_either (IsNamedOf case) (option_map items.Line (place_in lines q)) (or_else (option_map items.Transformer (place_in transformers q)) (option_map items.Ground (place_in substations q)))
+    of_either (IsNamedOf case) (option_map items.Line (place_in lines q)) (option_or (option_map items.Transformer (place_in transformers q)) (option_map items.Ground (place_in substations q)))
     line (of_either (IsNamedOf case) (option_map items.Transformer (place_in transformers q)) (option_map items.Ground (place_in substations q)) transformer substation)
 
 if_true : (b : Bool) (item : Item) (P : Item → Type 0) → (b ≡ true → P item) → IfSome (cond b (Some item) None) P

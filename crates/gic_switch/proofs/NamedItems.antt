@@ -7,10 +7,11 @@ use Rattle.std.proofs.lemmas.Bool.{cases_Bool, false≢true}
 use Rattle.std.proofs.lemmas.Cmp.{nat_list_eq_equiv}
 use Rattle.std.proofs.lemmas.List.{take_more, map-append, length-map}
 use Rattle.std.proofs.lemmas.List.Elements.{recursion_from_All}
+use Rattle.std.specs.Option.{option_or}
 use Rattle.gic_base.specs.Name.{is_name}
 use Rattle.gic_base.proofs.Each.{both_parts}
 use Rattle.gic_case.specs.Keys.{same}
-use Rattle.gic_case.specs.Names.{place_from, place_in, or_else}
+use Rattle.gic_case.specs.Names.{place_from, place_in}
 use Rattle.gic_case.specs.Lists.{Lists}
 use Rattle.gic_case.specs.Sound.{IsSound}
 use Rattle.gic_case.proofs.Repeats.{place_last}
@@ -19,7 +20,7 @@ use Rattle.gic_switch.specs.Items.{named}
 
 -- what was found before, what is found among the names, and one more name
 joined : (item : ℕ → Item) (a : Option Item) (p : Option ℕ) (b : Bool) (i : ℕ)
-    → or_else (or_else a (option_map item p)) (cond b (Some (item i)) None) ≡ or_else a (option_map item (or_else p (cond b (Some i) None)))
+    → option_or (option_or a (option_map item p)) (cond b (Some (item i)) None) ≡ option_or a (option_map item (option_or p (cond b (Some i) None)))
 joined item (Some x) p b i = refl
 joined item None (Some n) b i = refl
 joined item None None true i = refl
@@ -27,9 +28,9 @@ joined item None None false i = refl
 
 -- what is found after the names of one more element, and what was found before
 pub entered : {X : Type 0} (name : X → List ℕ) (item : ℕ → Item) (before now after : List ℕ → Option Item) (xs : List X) (i : ℕ) (x : X) → i < length xs → x ≡ get_or xs i x
-    → ((q : List ℕ) → now q ≡ or_else (before q) (option_map item (place_in (map name (take i xs)) q)))
-    → ((q : List ℕ) → after q ≡ or_else (now q) (cond (same (name x) q) (Some (item i)) None))
-    → (q : List ℕ) → after q ≡ or_else (before q) (option_map item (place_in (map name (take (i + 1) xs)) q))
+    → ((q : List ℕ) → now q ≡ option_or (before q) (option_map item (place_in (map name (take i xs)) q)))
+    → ((q : List ℕ) → after q ≡ option_or (now q) (cond (same (name x) q) (Some (item i)) None))
+    → (q : List ℕ) → after q ≡ option_or (before q) (option_map item (place_in (map name (take (i + 1) xs)) q))
 entered name item before now after xs i x within at old new q =
     let count : length (map name (take i xs)) ≡ i = length-map (take i xs) name ∙ length-take-le i xs (omega arith) in
     let turned : same (name x) q ≡ same q (name x) = nat_list_eq_equiv.symm (name x) q in

@@ -1,7 +1,8 @@
 -- What the name in a row stands for, and the items that each action may have.
 use Rattle.std.specs.Prelude.{ℕ, List, map, slice_index_or, Bool, true, false, if◌then◌else◌, Option, Some, None, option_map, option_and_then, is_some}
+use Rattle.std.specs.Option.{option_or}
 use Rattle.gic_case.specs.Lists.{Lists}
-use Rattle.gic_case.specs.Names.{place_in, or_else}
+use Rattle.gic_case.specs.Names.{place_in}
 use Rattle.gic_case.specs.declared.item.Neutral.{Neutral}
 use Rattle.gic_case.specs.declared.item.Neutral.TheVariants as devices
 use Rattle.gic_model.specs.declared.parts.Item.{Item}
@@ -12,8 +13,8 @@ use Rattle.gic_switch.specs.declared.action.Action.TheVariants.{Open, Close, Blo
 -- what is named: a line, else a transformer, else a substation; names are unique in the whole case
 abbrev pub named : Lists → (name : List ℕ) → Option Item
 named case name =
-    or_else (option_map items.Line (place_in (map (λ l. l.name) case.lines) name))
-    (or_else (option_map items.Transformer (place_in (map (λ t. t.name) case.transformers) name))
+    option_or (option_map items.Line (place_in (map (λ l. l.name) case.lines) name))
+    (option_or (option_map items.Transformer (place_in (map (λ t. t.name) case.transformers) name))
     (option_map items.Ground (place_in (map (λ s. s.name) case.substations) name)))
 
 -- the substation at a place has a ground

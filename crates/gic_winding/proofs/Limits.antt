@@ -1,4 +1,4 @@
--- The elements of a case are within the limits.
+-- The elements of a case are within the limits, and it has a node for each name.
 use Rattle.std.proofs.Common.{◌≡◌, ◌*◌, count_by, ℕ, ◌+◌, ◌≤◌, true, Option, Some, None, List, [], ◌∷◌, ◌++◌, length, map, is_some, refl, ap, ◌∙◌, arith, inl, inr, flat_map, append_assoc, length-append}
 use Rattle.std.proofs.lemmas.Bool.{cases_Bool}
 use Rattle.std.proofs.lemmas.List.{length-map}

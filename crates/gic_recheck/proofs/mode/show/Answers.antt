@@ -17,7 +17,7 @@ use Rattle.gic_recheck.specs.RecheckText.{recheck_report}
 use Rattle.gic_recheck.proofs.Endings.{writing_served, writing_not_memory, fault_served, break_not_memory}
 use Rattle.gic_recheck.proofs.Holds.{shows_right}
 use Rattle.gic_recheck.proofs.Telling.{break_told}
-use Rattle.gic_recheck.proofs.Volts.{own_report}
+use Rattle.gic_recheck.proofs.OwnReport.{own_report}
 use Rattle.gic_recheck.proofs.mode.show.Goals as goal
 
 pub returns-in-Ok-clause-serves : goal.returns-in-Ok-clause-serves

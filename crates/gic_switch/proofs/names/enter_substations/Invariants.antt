@@ -1,11 +1,12 @@
 use Rattle.std.proofs.Common.{◌≡◌, ℕ, List, map, take, option_map}
 use Rattle.std.specs.HashMap.{get}
+use Rattle.std.specs.Option.{option_or}
 use Rattle.gic_case.specs.Keys.{same}
-use Rattle.gic_case.specs.Names.{place_in, or_else}
+use Rattle.gic_case.specs.Names.{place_in}
 use Rattle.gic_case.specs.declared.item.Substation.{Substation}
 use Rattle.gic_model.specs.declared.parts.Item.TheVariants as items
 use Rattle.gic_switch.proofs.names.enter_substations.Given as goal
 
 -- the substations so far are entered
 abbrev pub invariant-loop-place : goal.invariant-loop-place
-invariant-loop-place l = (q : List ℕ) → get same l.named q ≡ or_else (get same l.fn.named q) (option_map items.Ground (place_in (map (λ (x : Substation). x.name) (take l.place l.substations)) q))
+invariant-loop-place l = (q : List ℕ) → get same l.named q ≡ option_or (get same l.fn.named q) (option_map items.Ground (place_in (map (λ (x : Substation). x.name) (take l.place l.substations)) q))
