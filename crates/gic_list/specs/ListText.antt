@@ -5,7 +5,7 @@ use Rattle.gic_model.specs.declared.parts.End.TheVariants.{Node, Earth}
 use Rattle.gic_model.specs.declared.parts.Element.{Element}
 use Rattle.gic_case.specs.Lists.{Lists, node_names}
 use Rattle.gic_winding.specs.ElementList.{item_name}
-use Rattle.gic_report.specs.SharedLines.{Words, word_line}
+use Rattle.gic_report.specs.SharedLines.{Words, word_line, sizes_line}
 use Rattle.gic_report.specs.RoleWord.{role_word}
 
 -- the name of the node at a place in the node order
@@ -21,11 +21,7 @@ end_name case Earth = codes "*"
 unfoldable pub element_line : Lists → Element → Words
 element_line case e = codes "element" ∷ item_name case e.item ∷ role_word e.role ∷ node_name case e.from.0 ∷ end_name case e.to ∷ decimal e.times ∷ decimal e.micro_ohm ∷ []
 
--- the line of the numbers of nodes and elements
-abbrev pub counts_line : (nodes elements : ℕ) → Words
-counts_line nodes elements = codes "nodes" ∷ decimal nodes ∷ codes "elements" ∷ decimal elements ∷ []
-
 -- the lines of the report of the elements, in their order
 abbrev pub list_report : Lists → (nodes : ℕ) → List Element → List Words
 list_report case nodes elements =
-    word_line (codes "list") ∷ counts_line nodes (length elements) ∷ (map (element_line case) elements ++ word_line (codes "end") ∷ [])
+    word_line (codes "list") ∷ sizes_line nodes (length elements) ∷ (map (element_line case) elements ++ word_line (codes "end") ∷ [])

@@ -5,13 +5,13 @@ ghost use Rattle.gic_base.specs.Causes.{HasCause};
 ghost use Rattle.gic_base.specs.Pieces.{AppendsPart};
 ghost use Rattle.gic_text.specs.Lines.{line_text, lines_text, with_word};
 ghost use Rattle.gic_winding.specs.ElementList.{elements_of};
-ghost use Rattle.gic_list.specs.ListText.{end_name, element_line, counts_line, list_report};
+ghost use Rattle.gic_list.specs.ListText.{end_name, element_line, list_report};
 
 use crate::names::node_name;
 use gic_base::{Sink, WriteFailed, write_all};
 use gic_case::Case;
 use gic_model::{Element, End};
-use gic_report::{item_name, role_word, write_word};
+use gic_report::{item_name, role_word, write_sizes, write_word};
 use gic_text::LineBuilder;
 
 /// Adds the name of the end to which an element runs to the line.
@@ -53,28 +53,6 @@ fn write_element<S: Sink>(
     write_all(out, line.finish())
 }
 
-/// Writes the numbers of nodes and elements.
-#[tactic(auto, using(gic_text::proofs::Sizes::line_room))]
-fn write_counts<S: Sink>(
-    nodes: u16,
-    elements: usize,
-    line: &mut LineBuilder,
-    out: &mut S,
-) -> Result<(), WriteFailed>
-    ensures all { OnOk result (Appends (S.written out.old) (S.written out.new)
-        (line_text (counts_line nodes elements))) }
-    ensures part { AppendsPart (S.written out.old) (S.written out.new)
-        (line_text (counts_line nodes elements)) }
-    ensures cause { HasCause (S.faults out.old) (S.faults out.new) result }
-{
-    line.start();
-    line.word(b"nodes");
-    line.number(i128::from(nodes));
-    line.word(b"elements");
-    line.number(elements as i128);
-    write_all(out, line.finish())
-}
-
 /// Writes a line for each element.
 fn write_elements<S: Sink>(
     case: &Case,
@@ -111,7 +89,7 @@ pub(crate) fn write_list<S: Sink>(
     ensures cause { HasCause (S.faults out.old) (S.faults out.new) result }
 {
     write_word(b"list", line, out)?;
-    write_counts(nodes, elements.len(), line, out)?;
+    write_sizes(nodes, elements.len(), line, out)?;
     write_elements(case, elements, line, out)?;
     write_word(b"end", line, out)
 }

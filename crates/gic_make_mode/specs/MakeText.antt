@@ -2,16 +2,12 @@
 use Rattle.std.specs.Prelude.{ℕ, List, [], ◌∷◌, ◌++◌, codes, decimal}
 use Rattle.gic_text.specs.Lines.{lines_text}
 use Rattle.gic_report.specs.Counts.{counts_words}
-use Rattle.gic_report.specs.SharedLines.{Words, word_line}
+use Rattle.gic_report.specs.SharedLines.{Words, word_line, sizes_line}
 use Rattle.gic_make_mode.specs.declared.text.Summary.{Summary}
 
 -- the line of what is asked
 abbrev pub seed_line : (seed size : ℕ) → Words
 seed_line seed size = codes "seed" ∷ decimal seed ∷ codes "size" ∷ decimal size ∷ []
-
--- the line of the numbers of nodes and elements
-abbrev pub sizes_line : (nodes elements : ℕ) → Words
-sizes_line nodes elements = codes "nodes" ∷ decimal nodes ∷ codes "elements" ∷ decimal elements ∷ []
 
 -- the line of the greatest entry of the least capped vector
 abbrev pub walk_line : (walk : ℕ) → Words

@@ -5,10 +5,10 @@ ghost use Rattle.gic_base.specs.Causes.{HasCause};
 ghost use Rattle.gic_base.specs.Pieces.{AppendsPart};
 ghost use Rattle.gic_text.specs.Lines.{line_text, lines_text};
 ghost use Rattle.gic_report.specs.Counts.{counts_words};
-ghost use Rattle.gic_make_mode.specs.MakeText.{seed_line, sizes_line, walk_line, summary_lines, make_text};
+ghost use Rattle.gic_make_mode.specs.MakeText.{seed_line, walk_line, summary_lines, make_text};
 
 use gic_base::{Sink, WriteFailed, write_all};
-use gic_report::{Counts, add_counts, write_word};
+use gic_report::{Counts, add_counts, write_sizes, write_word};
 use gic_text::LineBuilder;
 
 /// What a made case shows in short: the numbers of its nodes and its elements, the greatest entry of its least capped
@@ -40,28 +40,6 @@ fn write_seed<S: Sink>(
     line.number(i128::from(seed));
     line.word(b"size");
     line.number(i128::from(size));
-    write_all(out, line.finish())
-}
-
-/// Writes the line of the numbers of nodes and elements.
-#[tactic(auto, using(gic_text::proofs::Sizes::line_room))]
-fn write_sizes<S: Sink>(
-    nodes: u16,
-    elements: u16,
-    line: &mut LineBuilder,
-    out: &mut S,
-) -> Result<(), WriteFailed>
-    ensures all { OnOk result (Appends (S.written out.old) (S.written out.new)
-        (line_text (sizes_line nodes elements))) }
-    ensures part { AppendsPart (S.written out.old) (S.written out.new)
-        (line_text (sizes_line nodes elements)) }
-    ensures cause { HasCause (S.faults out.old) (S.faults out.new) result }
-{
-    line.start();
-    line.word(b"nodes");
-    line.number(i128::from(nodes));
-    line.word(b"elements");
-    line.number(i128::from(elements));
     write_all(out, line.finish())
 }
 
@@ -110,7 +88,7 @@ fn write_summary<S: Sink>(
         (lines_text (summary_lines summary.now)) }
     ensures cause { HasCause (S.faults out.old) (S.faults out.new) result }
 {
-    write_sizes(summary.nodes, summary.elements, line, out)?;
+    write_sizes(summary.nodes, summary.elements as usize, line, out)?;
     write_walk(summary.walk, line, out)?;
     write_counts(&summary.counts, line, out)
 }

@@ -1,5 +1,5 @@
 -- Lines that several reports have.
-use Rattle.std.specs.Prelude.{ℤ, List, ℕ, [], ◌∷◌, codes}
+use Rattle.std.specs.Prelude.{ℤ, List, ℕ, [], ◌∷◌, codes, decimal}
 use Rattle.std.specs.Fmt.{signed_decimal}
 
 -- the words of a line
@@ -13,3 +13,7 @@ word_line word = word ∷ []
 -- the line of a uniform field
 abbrev pub field_line : ℤ → ℤ → Words
 field_line north east = codes "north" ∷ signed_decimal north ∷ codes "east" ∷ signed_decimal east ∷ []
+
+-- the line of how many nodes and elements there are
+abbrev pub sizes_line : (nodes elements : ℕ) → Words
+sizes_line nodes elements = codes "nodes" ∷ decimal nodes ∷ codes "elements" ∷ decimal elements ∷ []

@@ -4,7 +4,7 @@ ghost use Rattle.std.specs.Io.KnownBytes.{Appends};
 ghost use Rattle.gic_base.specs.Causes.{HasCause};
 ghost use Rattle.gic_base.specs.Pieces.{AppendsPart};
 ghost use Rattle.gic_text.specs.Lines.{line_text};
-ghost use Rattle.gic_report.specs.SharedLines.{word_line, field_line};
+ghost use Rattle.gic_report.specs.SharedLines.{word_line, field_line, sizes_line};
 
 use gic_base::{Sink, WriteFailed, write_all};
 use gic_text::LineBuilder;
@@ -46,5 +46,27 @@ pub fn write_field_line<S: Sink>(
     line.number(i128::from(north));
     line.word(b"east");
     line.number(i128::from(east));
+    write_all(out, line.finish())
+}
+
+/// Writes the line of the numbers of nodes and elements.
+#[tactic(auto, using(gic_text::proofs::Sizes::line_room))]
+pub fn write_sizes<S: Sink>(
+    nodes: u16,
+    elements: usize,
+    line: &mut LineBuilder,
+    out: &mut S,
+) -> Result<(), WriteFailed>
+    ensures all { OnOk result (Appends (S.written out.old) (S.written out.new)
+        (line_text (sizes_line nodes elements))) }
+    ensures part { AppendsPart (S.written out.old) (S.written out.new)
+        (line_text (sizes_line nodes elements)) }
+    ensures cause { HasCause (S.faults out.old) (S.faults out.new) result }
+{
+    line.start();
+    line.word(b"nodes");
+    line.number(i128::from(nodes));
+    line.word(b"elements");
+    line.number(elements as i128);
     write_all(out, line.finish())
 }

@@ -4,8 +4,9 @@ use Rattle.std.proofs.lemmas.Result.{on_ok_weaker}
 use Rattle.gic_text.specs.Lines.{line_text, lines_text}
 use Rattle.gic_report.specs.Counts.{counts_words}
 use Rattle.gic_report.proofs.Written.{Written, begins, goes_on, stops, ends}
+use Rattle.gic_report.specs.SharedLines.{sizes_line}
 use Rattle.gic_make_mode.specs.declared.text.Summary.{Summary}
-use Rattle.gic_make_mode.specs.MakeText.{sizes_line, walk_line, summary_lines}
+use Rattle.gic_make_mode.specs.MakeText.{walk_line, summary_lines}
 use Rattle.gic_make_mode.proofs.text.write_summary.Goals as goal
 
 -- the pieces in which the lines are written
