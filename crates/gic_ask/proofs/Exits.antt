@@ -119,18 +119,26 @@ fetch_failed A B o file before now (CannotRead found) h other is =
 inputs_with : Options → Lists → Option (List Switching) → Inputs
 inputs_with o case rows = record { case = case; switchings = rows; question = o.question }
 
--- a case that is not read
+-- a case that is not read, whatever comes after it
+case_not_read : {A : Type 0} (more : Contents → (A → Outcome) → Lists → Outcome) (files : Option Files) (before now : List (List ℕ)) (o : Options) (fault : InputFault)
+    → Steps {A = Lists} files o.case (reading_case o.case) (Err fault)
+    → HasFailedFetch {A = Lists} file.Case before now o.case (Err fault)
+    → Reads {A = A} files o (λ contents last. reading_case o.case (contents file.Case) (more contents last)) before now (Err fault)
+case_not_read {A} more files before now o fault s failed = record {
+  contents = of_each s.given Nothing Nothing;
+  handed = each_handed files o s.given Nothing Nothing s.may (none_given files o.storm) (none_given files o.switch);
+  passes = fails_first {B = A} (reading_case o.case s.given) (λ last case. more (of_each s.given Nothing Nothing) last case) fault s.passes;
+  failed = fetch_failed Lists A o file.Case before now fault failed;
+}
+
+-- for the inputs of a network mode
 pub case_fails : (files : Option Files) (before now : List (List ℕ)) (o : Options) (fault : InputFault)
     → Steps {A = Lists} files o.case (reading_case o.case) (Err fault)
     → HasFailedFetch {A = Lists} file.Case before now o.case (Err fault)
     → Reads {A = Inputs} files o (reading_inputs o) before now (Err fault)
 unfolding inputs_with
-case_fails files before now o fault s failed = record {
-  contents = of_each s.given Nothing Nothing;
-  handed = each_handed files o s.given Nothing Nothing s.may (none_given files o.storm) (none_given files o.switch);
-  passes = fails_first {B = Inputs} (reading_case o.case s.given) (λ last case. reading_switchings case o.switch Nothing (λ rows. last (inputs_with o case rows))) fault s.passes;
-  failed = fetch_failed Lists Inputs o file.Case before now fault failed;
-}
+case_fails files before now o fault =
+    case_not_read {A = Inputs} (λ contents last case. reading_switchings case o.switch (contents file.Switch) (λ rows. last (inputs_with o case rows))) files before now o fault
 
 -- switchings that are not read
 pub switchings_fail : (files later : Option Files) (before between now : List (List ℕ)) (o : Options) (case : Lists) (fault : InputFault)
@@ -263,12 +271,8 @@ pub study_case_fails : (files : Option Files) (before now : List (List ℕ)) (o 
     → Steps {A = Lists} files o.case (reading_case o.case) (Err fault)
     → HasFailedFetch {A = Lists} file.Case before now o.case (Err fault)
     → Reads {A = StormInputs} files o (reading_storm_inputs o) before now (Err fault)
-study_case_fails files before now o fault s failed = record {
-  contents = of_each s.given Nothing Nothing;
-  handed = each_handed files o s.given Nothing Nothing s.may (none_given files o.storm) (none_given files o.switch);
-  passes = fails_first {B = StormInputs} (reading_case o.case s.given) (λ last case. reading_over_case o case (of_each s.given Nothing Nothing) last) fault s.passes;
-  failed = fetch_failed Lists StormInputs o file.Case before now fault failed;
-}
+study_case_fails files before now o fault =
+    case_not_read {A = StormInputs} (λ contents last case. reading_over_case o case contents last) files before now o fault
 
 -- and one that is read, whatever comes after it
 pub study_case_read : (files later : Option Files) (before between now : List (List ℕ)) (o : Options) (case : Lists) (answer : Result StormInputs InputFault)
@@ -543,12 +547,8 @@ pub series_case_fails : (files : Option Files) (before now : List (List ℕ)) (o
     → HasFailedFetch {A = Lists} file.Case before now o.case (Err fault)
     → Reads {A = Asked} files o (reading_series o) before now (Err fault)
 unfolding after_case
-series_case_fails files before now o fault s failed = record {
-  contents = of_each s.given Nothing Nothing;
-  handed = each_handed files o s.given Nothing Nothing s.may (none_given files o.storm) (none_given files o.switch);
-  passes = fails_first {B = Asked} (reading_case o.case s.given) (λ last case. after_case o (of_each s.given Nothing Nothing) case last) fault s.passes;
-  failed = fetch_failed Lists Asked o file.Case before now fault failed;
-}
+series_case_fails files before now o fault =
+    case_not_read {A = Asked} (λ contents last case. after_case o contents case last) files before now o fault
 
 -- a transformer that is not found; no further file is asked for
 pub transformer_fails : (files : Option Files) (before now : List (List ℕ)) (o : Options) (case : Lists) (refusal : InputRefusal)

@@ -4,7 +4,7 @@ use Rattle.gic_base.specs.Causes.{Rose}
 use Rattle.gic_base.specs.Files.{Files}
 use Rattle.gic_words.specs.Options.{options_of}
 use Rattle.gic_ask.specs.Held.{held_for, AnswersOfFiles}
-use Rattle.gic_ask.specs.Outcome.{Outcome, Refuses, Lacks, Accepts, outcome}
+use Rattle.gic_ask.specs.Outcome.{Refuses, Lacks, Accepts, outcome}
 use Rattle.gic_ask.specs.declared.fault.File.{File}
 use Rattle.gic_ask.specs.declared.fault.InputFault.TheVariants as input
 use Rattle.gic_ask.specs.declared.fault.InputRefusal.{InputRefusal}
@@ -24,21 +24,11 @@ use Rattle.gic_study.specs.Laws.{RefusalsAreAnswered, LackedFilesAreWantOfMemory
 use Rattle.gic_study.specs.declared.fault.Fault.TheVariants.{Input, Report, Certificate}
 use Rattle.gic_study.proofs.MetNeeds.{unmet_or_met, same_kind}
 
-abbrev accepted_in : Outcome → Asked → Asked
-accepted_in (Accepts a) other = a
-accepted_in (Refuses r) other = other
-accepted_in (Lacks f) other = other
-
 same_asked : (a b : Asked) → Accepts a ≡ Accepts b → a ≡ b
-same_asked a b e = ap (λ (o : Outcome). accepted_in o a) e
-
-abbrev refused_in : Outcome → InputRefusal → InputRefusal
-refused_in (Accepts a) other = other
-refused_in (Refuses r) other = r
-refused_in (Lacks f) other = other
+same_asked a b e = grind (arith, e)
 
 same_refusal : (r other : InputRefusal) → Refuses r ≡ Refuses other → r ≡ other
-same_refusal r other e = ap (λ (o : Outcome). refused_in o r) e
+same_refusal r other e = grind (arith, e)
 
 refused_by : (law : AnswersOfFiles) (words : List (List ℕ)) (files : Files) (plans : Plans) (before now : Moment) (answer : Answer)
     → Explains words (Some files) plans before now answer → CanRead words before now
