@@ -55,7 +55,7 @@ narrow_peaks law is_peak case width views peaks narrow peaks_are lengths some =
             (narrow_peak law width (λ view. element_at view e) views (λ place inside. (each place inside).elements e within));
         effective = effective;
       };
-      shown = λ t within. absolute_narrow width (effective_at peaks t) (effective t within);
+      shown = λ t within. absolute_narrow (effective_at peaks t).low (effective_at peaks t).high width (effective t within);
     }
 
 -- a number that turns its sign within 128 bits
