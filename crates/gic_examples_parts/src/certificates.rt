@@ -107,15 +107,23 @@ fn tells_the_first_broken_rule(rt: HostRuntime) -> Result<(), Fail> {
     Ok(())
 }
 
+/// The vector with the entry 1 at the first node, for this many nodes.
+fn one_at_first(alloc: Global, nodes: u16) -> Result<BoundVector, Fail>
+    ensures { IfOk result (λ vector. length vector ≡ nodes) }
+{
+    let mut vector = BoundVector::new(alloc, nodes)?;
+    if 0 < nodes {
+        vector.set(NodeId(0), 1);
+    }
+    Ok(vector)
+}
+
 /// The certificate of the guess 0 at A and the vector of ones.
 fn made(alloc: Global, grounded: &Grounded) -> Result<Option<Cert>, Fail>
     ensures { IfOk result (λ cert. IfSome cert (λ cert. length cert.nodes ≡ grounded.now.net.network.nodes)) }
 {
     let nodes = grounded.net.nodes();
-    let mut vector = BoundVector::new(alloc, nodes)?;
-    if 0 < nodes {
-        vector.set(NodeId(0), 1);
-    }
+    let vector = one_at_first(alloc, nodes)?;
     let mut solver = Solver::new(alloc, nodes)?;
     if !rows_positive(&grounded.net, &vector) {
         return Ok(None);

@@ -1,6 +1,5 @@
 use Rattle.std.proofs.Common.{◌≡◌, ℕ, ◌≤◌, length, replicate, ℤ, pos, unsigned_abs, arith, ap, sym, subst, ◌∙◌, ⊎_elim}
 use Rattle.std.proofs.lemmas.Bool.{cases_lt}
-use Rattle.std.proofs.lemmas.Grind.{common_steps}
 use Rattle.std.proofs.lemmas.List.{length-replicate, get_or-replicate, get_or_past}
 use Rattle.gic_model.specs.Voltages.{number_at}
 use Rattle.gic_model.specs.Guess.{IsSettled}
@@ -23,7 +22,7 @@ from_solver-requires-clause-certifiable c =
     record {
       volt_count = grounded.volts_count;
       guess_count = ap length zeros ∙ length-replicate nodes (pos 0) ∙ c.nodes-nodes.ensures.value;
-      entry_count = grind (arith, common_steps);
+      entry_count = c.in_ok-vector.ensures ∙ c.nodes-nodes.ensures.value;
       bound = c.rows_positive.ensures.0 c.if-not-rows_positive.false;
       settled =
           subst (λ xs. IsSettled (standing grounded.net) (number_at grounded.volts) (number_at xs)) (sym same)
