@@ -1,4 +1,4 @@
--- A library that tells its files is answered by them.
+-- The answer over a library that tells its files is that of the files.
 use Rattle.std.proofs.Common.{◌≡◌, ℕ, ◌<◌, ◌≤◌, ◌⊎◌, inl, inr, List, Bool, true, false, length, nat_lt, Option, Some, None, Result, Ok, Err, refl, sym, ap, subst, ◌∙◌, arith}
 use Rattle.std.specs.Prelude.{IsSomeAnd, IfSome, IfOk}
 use Rattle.std.proofs.lemmas.Bool.{ltb-true, ltb-false}

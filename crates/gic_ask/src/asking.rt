@@ -253,7 +253,8 @@ fn made(options: &Options) -> Result<Asked, InputFault>
     }
 }
 
-/// Reads the words, and then the files that they name.
+/// Reads the words, and then the files that they name, each fetched and then read. The first fault is the answer;
+/// `Memory` comes for want of memory alone.
 pub fn ask<L: Library>(
     alloc: Global,
     words: &[String],

@@ -1,10 +1,11 @@
-//! What follows of how asking ends.
+//! What follows from how asking ends.
 ghost use Rattle.gic_ask.specs.Held.{AnswersOfFiles};
 ghost use Rattle.gic_ask.specs.WordsRefused.{UsageIsOfWords};
 
 use gic_words::laws::required_given_law;
 
-/// A library that tells its files, and of which no named file fails, is answered by its files, want of memory aside.
+/// Where a library tells its files and no fetch of a named one failed, the answer is that of the files, want of memory
+/// aside.
 pub fn answers_of_files_law()
     ensures { AnswersOfFiles }
 {}

@@ -1,4 +1,4 @@
--- What holds of each item of a list.
+-- What holds of each item of a list, or of lists that are joined, and lists of one item over and over.
 use Rattle.std.proofs.Common.{◌≡◌, ℕ, zero, suc, List, [], ◌∷◌, ◌++◌, map, replicate, refl, ap}
 use Rattle.std.specs.List.{AllByRecursion}
 

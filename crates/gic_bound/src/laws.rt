@@ -11,7 +11,8 @@ ghost use Rattle.gic_model.specs.WorkedLoop.{loop, loop_standing, loop_vector};
 ghost use Rattle.gic_bound.specs.ShareLaws.{IsEarthedEverywhere, IsEarthedThroughSubstations, EarthedEverywhereIsEarthed, Entries128AreBound, EarthedThroughSubstationsIsEarthed, ShareEntriesAreBound};
 
 /// There is a least capped vector. It has no entry `FULL_WALK` exactly where the network is earthed within
-/// `MOST_WALK`, and is then a bound vector; where it has an entry `FULL_WALK`, every bound vector is above `MOST_WALK`.
+/// `MOST_WALK`, and is then a bound vector; at a node where its entry is `FULL_WALK`, every bound vector is above
+/// `MOST_WALK`.
 pub fn least_capped_vector_law()
     ensures exists { LeastCappedVectorExists }
     ensures earthed { NoFullEntryIsEarthed }

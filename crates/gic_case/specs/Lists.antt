@@ -1,4 +1,4 @@
--- A case as contracts see it, and what every case keeps.
+-- A case as contracts see it: its lists, the names of its nodes, and the ends of its elements.
 use Rattle.std.specs.Prelude.{◌+◌, ◌==◌, ℕ, List, [], ◌∷◌, ◌++◌, length, map, flat_map, slice_index_or, Bool, true, false, if◌then◌else◌, Option, Some, None, is_some, count_by}
 use Rattle.std.specs.List.{enumerate_from, filter}
 use Rattle.gic_scale.specs.ZoneView.{ZoneView}

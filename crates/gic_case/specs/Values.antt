@@ -5,7 +5,7 @@ use Rattle.gic_base.specs.Name.{is_name}
 use Rattle.gic_case.specs.Keys.{key_of}
 use Rattle.gic_case.specs.declared.field.Field.{Field}
 
--- the number, where it is whole and within bounds
+-- the number, where it is not below 0 and within bounds
 abbrev pub whole_within : (low high : ℕ) → ℤ → Option ℕ
 whole_within low high (pos n) = if nat_le low n && nat_le n high then Some n else None
 whole_within low high (negsuc n) = None

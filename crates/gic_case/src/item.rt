@@ -2,7 +2,7 @@
 
 use gic_base::Name;
 
-/// A node with its earthing, if it has one, in micro-ohm from 1000 to 1000000000.
+/// A node with its earthing, if it has one, in micro-ohm from 1000 to 1000000000, for the three phases together.
 #[derive(Clone, Copy, Debug, PartialEq, Eq)]
 pub struct Substation {
     pub name: Name,
@@ -64,7 +64,8 @@ pub enum Kind {
 /// A device in a transformer's neutral.
 #[derive(Clone, Copy, Debug, PartialEq, Eq)]
 pub enum Neutral {
-    /// A resistor between the neutral and the ground grid, in micro-ohm from 1000 to 1000000000.
+    /// A resistor between the neutral and the ground grid, in micro-ohm from 1000 to 1000000000, for the three phases
+    /// together.
     Resistor(u32),
     /// A device that passes no direct current.
     Blocked,

@@ -1,4 +1,4 @@
--- The nodes by their names, and the refusals of lists that are joined.
+-- The nodes by their names, the refusals of lists that are joined, and that an accepted text has numbers at exactly the live nodes.
 use Rattle.std.proofs.Common.{◌≡◌, ℕ, suc, List, [], ◌∷◌, ◌++◌, length, map, refl, ap, sym, ◌∙◌, ◌+◌, Bool, true, false, not, if◌then◌else◌, None, Some}
 use Rattle.std.specs.Prelude.{Ok, Err, codes}
 use Rattle.std.specs.Option.{is_some}

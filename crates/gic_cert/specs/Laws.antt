@@ -1,4 +1,4 @@
--- What the law of certificates says.
+-- What the laws of certificates say.
 use Rattle.std.specs.Prelude.{ℕ, ◌≡◌, ◌^◌, ◌≤◌, Bool, ℤ, pos, ◌+ℤ◌, ◌-ℤ◌, ◌*ℤ◌}
 use Rattle.gic_fixed.specs.Encloses.{Encloses}
 use Rattle.gic_model.specs.declared.parts.Item.{Item}
@@ -25,12 +25,12 @@ abbrev pub SettledStepsAreSmall : Type 0
 SettledStepsAreSmall = (net : NetView) (volts x : ℕ → ℤ) → IsWithinLimits net.network → IsSettled (standing net) volts x →
     checked_step (standing net) volts x net.network.nodes ≤ most_reach (2 ^ 18)
 
--- and no rounded residual is above 2^47
+-- and no rounded residual at a live node is above 2^47
 abbrev pub SettledResidualsAreSmall : Type 0
 SettledResidualsAreSmall = (net : NetView) (volts x : ℕ → ℤ) (k : ℕ) → IsWithinLimits net.network → IsSettled (standing net) volts x → IsLive (standing net) k →
     most_residual (standing net) volts x k ≤ 2 ^ 47
 
--- guesses at dead nodes don't matter to it
+-- guesses at dead nodes don't matter to whether guesses are settled
 abbrev pub LiveGuessesAreEnough : Type 0
 LiveGuessesAreEnough = (net : NetView) (volts x y : ℕ → ℤ) → ((k : ℕ) → IsLive (standing net) k → x k ≡ y k) →
     IsSettled (standing net) volts x → IsSettled (standing net) volts y

@@ -19,7 +19,7 @@ struct NodeLine<'a> {
     left: &'a [u8],
 }
 
-/// Reads the line of a node at the begin of a text.
+/// Reads the line of a node at the beginning of a text.
 fn read_line<'a>(
     alloc: Global,
     text: &'a [u8],

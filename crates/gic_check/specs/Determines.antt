@@ -5,7 +5,7 @@ use Rattle.gic_text.specs.Lines.{lines_text}
 use Rattle.gic_report.specs.Fits.{HasNames}
 use Rattle.gic_check.specs.CheckText.{live_count, check_report}
 
--- what can be told of the nodes of a case: of each one, whether it is live, and their number is one of 64 bits
+-- what can be told of the nodes of a case: of each one, whether it is live, and the number of live ones is one of 64 bits
 pub record AreStatesOf (case : Lists) (live : List Bool) : Type 0 where
   pub count : length live ≡ length (node_names case)
   pub few : live_count live < 2 ^ 64

@@ -1,4 +1,4 @@
-//! Laws over the definitions, each the contract of a function that does nothing but to bring the laws that it joins.
+//! Laws over the definitions, each the contract of a function that does nothing but bring the laws that it joins.
 ghost use Rattle.gic_claims.specs.Claims.{AcceptedNetworksAreSolved, AcceptedSolutionsAgree, BoundNetworksAreEarthed, BoundNetworksAreSolved};
 
 use gic_case::laws::accepted_law;

@@ -9,7 +9,8 @@ pub fn sweeps_converge_law()
     ensures last { NearIsSettled }
 {}
 
-/// From any guesses, 802817 sweeps leave settled ones.
+/// In a network that is earthed within `MOST_WALK`, 802817 sweeps leave settled guesses, whatever guesses within their
+/// limit they begin with.
 pub fn sweeps_settle_law()
     ensures { SweepsSettle }
 {}

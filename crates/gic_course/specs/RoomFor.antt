@@ -20,7 +20,7 @@ pub record IsRoomFor (case : Lists) (room : Room) : Type 0 where
   pub together : BelongTogether (elements_of case) room.volts room.solver room.vector room.potentials
   pub fit : FitCase case (elements_of case) room.fields room.bases
 
--- the bases were settled for the net; the bound vector, the potentials and the room for reached nodes stay
+-- the bases were settled for the net; the bound vector, the start, the potentials and the room for reached nodes stay
 pub record IsPrepared (case : Lists) (net : NetView) (old new : Room) : Type 0 where
   pub settled : AreSettledBases (standing net) case net.network.list new.bases
   pub room : IsRoomFor case new

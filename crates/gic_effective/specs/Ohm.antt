@@ -4,7 +4,7 @@ use Rattle.gic_fixed.specs.Rounding.{floor_div, ceil_div}
 use Rattle.gic_model.specs.Standing.{value_at}
 use Rattle.gic_model.specs.Sums.{Placed}
 
--- R I = times 10^6 (P_from - P_to + volts), over the denominator
+-- R I = times 10^6 (P_from - P_to + volts), over the denominator: R in micro-ohm, I in nA, potentials and voltage in nV
 abbrev pub OhmsLaw : (times micro_ohm : ℕ) → (from to volts current : ℤ) → (denominator : ℕ) → Type 0
 OhmsLaw times micro_ohm from to volts current denominator =
     pos micro_ohm *ℤ current ≡ pos (times * 1000000) *ℤ (from -ℤ to +ℤ pos denominator *ℤ volts)

@@ -38,7 +38,8 @@ pub fn signed_effective(weights: &Weights, first: Interval, second: Interval) ->
         Encloses result.lo result.hi (weighted_sum weights.now one other) (3000000 * weights.now.high_volts * denominator) }
     ensures small { IsWithin (2 ^ 113) result.lo result.hi }
 
-    // From currents at most so many milliamperes wide it is at most as wide, from 3 on.
+    // From currents at most so many milliamperes wide it is at most as wide, from 3 on, where the weights add up to no
+    // more than twice the voltage of the high side.
     ensures narrow { (width : ℕ) → 3 ≤ width →
         weight_in weights.now.first + weight_in weights.now.second ≤ 2 * weights.now.high_volts →
         IsAtMostWide width (floor_div first.lo (pos 1000000)) (ceil_div first.hi (pos 1000000)) →

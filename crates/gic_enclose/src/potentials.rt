@@ -52,7 +52,7 @@ impl Potentials {
         })
     }
 
-    /// The interval at a node.
+    /// The interval at a node, in grains.
     pub fn get(&self, node: NodeId) -> Interval
         requires { node.0 < length self.now }
         ensures low { result.lo ≡ low_at self.now node.0 }

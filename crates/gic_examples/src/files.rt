@@ -1,7 +1,7 @@
 //! Files that are written line by line.
 use std::alloc::{AllocError, Global};
 
-/// A file of a case or of switchings, as the lines of a script have written it so far.
+/// A file that runs may fetch, as the lines of a script have written it so far.
 #[derive(Drop)]
 pub struct TextFile {
     pub name: String,

@@ -60,8 +60,8 @@ fn far_guesses<L: Ledger>(solver: &mut Solver, blank: Blank)
     solver.fill(&far, &mut steps);
 }
 
-/// With 100 volts in the line the certificate holds at no guesses, and the solve settles from no guesses and from guesses
-/// at both limits, long before its budget is used up.
+/// With 100 volts in the line the interval at A holds the potential there from no guesses, and after a solve from no
+/// guesses and after one from guesses at both limits.
 #[test]
 fn loop_enclosed_and_solved_from_any_guesses(rt: HostRuntime) -> Result<(), Fail> {
     let elements = worked_loop(rt.alloc())?;

@@ -1,7 +1,7 @@
 //! The text of a case.
 
-/// A network of eight substations, whose numbers belong to no real one: a switching station without a ground, five autotransformers, a wye-wye unit, a delta-delta unit, and a
-/// line with a series capacitor.
+/// A network of eight substations, whose numbers belong to no real one: a switching station without a ground, four
+/// delta-wye units, five autotransformers, a wye-wye unit, a delta-delta unit, and a line with a series capacitor.
 pub(crate) const REALISTIC_CASE: &str = "format = 1
 zone = [
   { name = \"upper\", latitude = 5720, beta = 100 },

@@ -15,7 +15,7 @@ use gic_worked::CASE_P;
 use std::alloc::{AllocError, Global};
 use std::test::Fail;
 
-/// Case PS: twenty loops of 100 ohm, of which none has an end in another.
+/// Case PS: twenty loops of 100 ohm, no two of which have a node in common.
 fn case_ps(alloc: Global) -> Result<String, AllocError> {
     let mut text = String::from_str(
         alloc,
@@ -104,7 +104,7 @@ fn finds_the_least_bound_vectors(rt: HostRuntime) -> Result<(), Fail> {
     Ok(())
 }
 
-/// Of case P, with every entry, one entry less than the least, and all entries 1; and of the realistic case, with all
+/// Of case P, with its least entries, with one of them less by 1, and with all entries 1; and of the realistic case, with all
 /// elements standing and with L3 open, the third line of the case.
 #[test]
 fn tells_bound_vectors(rt: HostRuntime) -> Result<(), Fail> {

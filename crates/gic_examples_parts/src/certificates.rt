@@ -107,7 +107,7 @@ fn tells_the_first_broken_rule(rt: HostRuntime) -> Result<(), Fail> {
     Ok(())
 }
 
-/// The vector with the entry 1 at the first node, for this many nodes.
+/// The vector with the entry 1 at the first node and 0 at the others, for this many nodes.
 fn one_at_first(alloc: Global, nodes: u16) -> Result<BoundVector, Fail>
     ensures { IfOk result (λ vector. length vector ≡ nodes) }
 {
@@ -118,7 +118,8 @@ fn one_at_first(alloc: Global, nodes: u16) -> Result<BoundVector, Fail>
     Ok(vector)
 }
 
-/// The certificate of the guess 0 at A and the vector of ones.
+/// The certificate of no guesses and the vector of `one_at_first`; none where that is no bound vector or the guesses are
+/// not settled.
 fn made(alloc: Global, grounded: &Grounded) -> Result<Option<Cert>, Fail>
     ensures { IfOk result (λ cert. IfSome cert (λ cert. length cert.nodes ≡ grounded.now.net.network.nodes)) }
 {

@@ -10,7 +10,7 @@ use std::test::Fail;
 /// The units TA and TB, of 345 kV and of 138.9 kV.
 const UNITS: &[(&[u8], u32)] = &[(b"TA", 345000), (b"TB", 138900)];
 
-/// A view with this number, in which TA has from -2000 to -1000 and TB from 500 to 700.
+/// A view with this number, in which TA has from -2000 to -1000 mA per phase and TB from 500 to 700.
 fn view_of(alloc: Global, number: u32) -> Result<StepView, OutOfMemory> {
     let mut view = StepView::new(alloc, 0, 0, 2)?;
     view.set_number(number);

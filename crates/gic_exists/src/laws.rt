@@ -30,14 +30,14 @@ pub fn agreement_law()
     ensures { SolutionsAgree }
 {}
 
-/// A network worked by hand, a loop of two grounded substations, meets the premise; its solution is that of the hand.
+/// A network worked by hand, a loop of two grounded substations, meets the premise; its solution is the worked one.
 pub fn worked_loop_law()
     ensures limits { IsWithinLimits loop }
     ensures earthed { AreEarthed (standing_without loop []) }
     ensures solution { IsTheSolution (standing_without loop []) loop_volts loop_solution }
 {}
 
-/// So it does with the ground of A open: one ground is enough.
+/// So does the loop with the ground of A open: one ground is enough.
 pub fn worked_one_ground_law()
     ensures earthed { AreEarthed (standing_without loop (Ground 0 ∷ [])) }
     ensures solution { IsTheSolution (standing_without loop (Ground 0 ∷ [])) loop_volts one_ground_solution }

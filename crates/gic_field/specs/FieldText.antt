@@ -7,7 +7,7 @@ use Rattle.gic_report.specs.SharedLines.{Words, word_line}
 use Rattle.gic_report.specs.ItemText.{signed_lines}
 use Rattle.gic_report.specs.VerdictText.{transformer_lines}
 
--- the line of what is asked: the field's parts in mV/km, the width, and the threshold in mA
+-- the line of what is asked: the field's parts in mV/km, the width in mV and mA, and the threshold in mA per phase
 abbrev pub setting_line : (north east : ℤ) → (width threshold : ℕ) → Words
 setting_line north east width threshold =
     codes "north" ∷ signed_decimal north ∷ codes "east" ∷ signed_decimal east ∷ codes "width" ∷ decimal width ∷ codes "threshold" ∷ decimal threshold ∷ []

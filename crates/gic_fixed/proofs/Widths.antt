@@ -3,13 +3,13 @@ use Rattle.std.proofs.Common.{ℕ, ◌*◌, ◌≤◌, ℤ, pos, ◌-ℤ◌, ◌
 use Rattle.gic_fixed.specs.Ends.{IsAtMostWide}
 use Rattle.gic_fixed.proofs.Integers.{linear, *ℤ-≤ℤ, *ℤ--ℤ}
 
--- a product is as much wider
+-- c times an interval is at most c times as wide
 pub times_width : (lo hi : ℤ) (c w : ℕ) → IsAtMostWide w lo hi → IsAtMostWide (c * w) (pos c *ℤ lo) (pos c *ℤ hi)
 times_width lo hi c w h =
     let parts = *ℤ--ℤ (pos c) hi lo in
     let times : (pos c *ℤ (hi -ℤ lo)) ≤ℤ pos (c * w) = *ℤ-≤ℤ c _ (pos w) h in
     omega (arith, linear)
 
--- what is at most so wide is at most wider
+-- an interval that is at most so wide is at most as wide as anything greater
 pub wider : (lo hi : ℤ) (a b : ℕ) → a ≤ b → IsAtMostWide a lo hi → IsAtMostWide b lo hi
 wider lo hi a b h k = omega (arith, linear)

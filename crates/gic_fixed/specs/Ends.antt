@@ -1,4 +1,4 @@
--- An interval as its two ends.
+-- An interval as its two ends, and how wide it is.
 use Rattle.std.specs.Prelude.{ℕ, ℤ, pos, ◌-ℤ◌, ◌≤ℤ◌}
 use Rattle.gic_fixed.specs.declared.interval.Interval.{Interval}
 

@@ -73,7 +73,7 @@ impl Interval {
         }
     }
 
-    /// The quotients by `d`, the low end rounded down and the high end rounded up.
+    /// The quotients by `d`, which is above 0, the low end rounded down and the high end rounded up.
     pub fn div_out(self, d: i128) -> Interval
         requires { pos 0 <ℤ d }
         ensures low { result.lo ≡ floor_div self.lo d }

@@ -6,8 +6,10 @@ use Rattle.gic_winding.specs.ElementList.{elements_of}
 use Rattle.gic_list.specs.ListText.{list_report}
 use Rattle.gic_stand.specs.declared.inputs.Inputs.{Inputs}
 
+-- the text of the report
 abbrev pub list_text : Lists → List ℕ
 list_text case = lines_text (list_report case (elements_of case).nodes (elements_of case).list)
 
+-- the text is that of the case
 abbrev pub IsRightList : Inputs → List ℕ → Type 0
 IsRightList inputs text = text ≡ list_text inputs.case

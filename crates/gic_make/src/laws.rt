@@ -1,4 +1,4 @@
-//! The laws over made cases, each the contract of a function that does nothing but to bring the laws that it rests on.
+//! The laws over made cases, each the contract of a function that does nothing but bring the laws that it rests on.
 ghost use Rattle.std.specs.Prelude.{◌≡◌, [], ◌∷◌};
 ghost use Rattle.gic_make.specs.Generator.{states_after};
 ghost use Rattle.gic_make.specs.Accepted.{MadeCasesAreSound, MadeCasesHaveTheirSize, MadeNodesAreEarthed, MadeCasesAreNearEarth};

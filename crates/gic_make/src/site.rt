@@ -110,7 +110,7 @@ pub fn transformer(states: &[u32], site: u16) -> Transformer
     }
 }
 
-/// A part of a line's span, in hundreds of metres.
+/// A part of a line's span in metres: a whole number of hundreds, from -100000 to 100000.
 fn span(states: &[u32], place: usize) -> i32
     requires { place < length states.now }
     ensures { result ≡ span (draw states.now place 2001) }

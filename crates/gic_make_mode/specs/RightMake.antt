@@ -61,7 +61,7 @@ is_under case s limit t = is_judged case t && nat_lt (unsigned_abs (effective_nu
 abbrev pub is_at_least : Lists → Solution → (limit t : ℕ) → Bool
 is_at_least case s limit t = is_judged case t && nat_le (limit * effective_denominator case t s) (unsigned_abs (effective_numerator case s t))
 
--- the counts tell of a solution which transformers are on either side of the threshold, but for those within one width of it
+-- the counts tell of a solution how many transformers are on either side of the threshold, but for those within one width of it
 pub record TellOf (case : Lists) (s : Solution) (counts : Counts) : Type 0 where
   pub below_most : counts.below ≤ transformers_with case (is_under case s benchmark_threshold)
   pub below_least : transformers_with case (is_under case s surely_below) ≤ counts.below

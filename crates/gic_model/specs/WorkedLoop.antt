@@ -1,4 +1,4 @@
--- A network worked by hand: the substations A and B with a grounding resistance of 1 ohm each, the buses a and b with a winding of 0.1 ohm in three phases each to their substation, and a line from a to b of 3 ohm in each of three phases, with 100 volts in it. The loop has 3.2 ohm, and 31.25 amperes flow round it.
+-- A network worked by hand: the substations A and B with a grounding resistance of 1 ohm each, the buses a and b with a winding of 0.3 ohm per phase each to their substation, and a line from a to b of 3 ohm per phase, with 100 volts in it. With its three phases in parallel the loop has 3.2 ohm, and 31.25 amperes flow round it.
 use Rattle.std.specs.Prelude.{ℕ, ◌^◌, ◌*ℤ◌, ◌==◌, Bool, true, List, [], ◌∷◌, if◌then◌else◌, ℤ, pos, neg_ℤ, slice_index, slice_index_or}
 use Rattle.gic_base.specs.declared.id.NodeId.{NodeId}
 use Rattle.gic_model.specs.declared.parts.End.TheVariants.{Node, Earth}

@@ -43,7 +43,7 @@ impl Volts {
         let _ = &self.list;
     }
 
-    /// The voltage of an element.
+    /// The voltage of an element, in nanovolts.
     pub fn get(&self, element: ElementId) -> i64
         requires { element.0 < length self.now }
         ensures value { result ≡ number_at self.now element.0 }

@@ -143,7 +143,7 @@ impl Net {
         self.conductors[element.0 as usize]
     }
 
-    /// The resistance of an element, to divide by.
+    /// The resistance of an element in micro-ohm, to divide by.
     pub fn divisor(&self, element: ElementId) -> Divisor
         requires { element.0 < length self.now.network.list }
         ensures { result ≡ (element_of self.now.network element.0).micro_ohm }

@@ -1,4 +1,4 @@
-//! The law of orientations, the contract of a function that does nothing but to bring the laws that it joins.
+//! The law of orientations, the contract of a function that does nothing but bring the laws that it joins.
 ghost use Rattle.gic_orientation.specs.Orientation.{NoFieldGivesMore, AlignedFieldGivesAsMuch};
 
 use gic_exists::laws::agreement_law;
@@ -8,8 +8,8 @@ use gic_screen::laws::greatest_over_all_orientations_law;
 use gic_winding::laws::limits_law;
 
 /// Let a and b be a transformer's signed effective currents in a uniform field of one strength to the north and to the
-/// east. No uniform field of at most that strength gives a current whose square is above a² + b², and one that goes as
-/// a and b do gives as much.
+/// east. No uniform field of at most that strength gives a current whose square is above a² + b², and one of just that
+/// strength that goes as a and b do gives as much.
 pub fn worst_orientation_law()
     ensures most { NoFieldGivesMore }
     ensures reached { AlignedFieldGivesAsMuch }

@@ -26,7 +26,7 @@ use Rattle.gic_outage_mode.specs.declared.outcome.Outcome.TheVariants.{Idle, Une
 use Rattle.gic_outage_mode.specs.Outages.{Outage, standing_without, item_at, outage_at, worst_at, worsts_of, greatest_of}
 use Rattle.gic_outage_mode.specs.OutageText.{outage_text}
 
--- the voltages of the field of the event that is asked for, to the north and to the east
+-- the voltages in nanovolts of the field of the event that is asked for, to the north and to the east
 abbrev pub north_volts : Inputs → ℕ → ℤ
 north_volts inputs = uniform_volts inputs.case (field_of inputs.question.event) (pos 0)
 
@@ -85,12 +85,12 @@ pub record IsTrueOverOutages (inputs : Inputs) (threshold t : ℕ) (greatest : E
 abbrev pub squared_end : Lists → (end : ℤ) → (t : ℕ) → (one other : Solution) → ℕ
 squared_end case end t one other = square_of (end *ℤ pos (effective_denominator case t one * effective_denominator case t other))
 
--- the transformer's current for the worst orientation is at most a high end, which is not below 0, in every two solutions
+-- the transformer's current for the worst orientation is at most a high end in mA per phase, which is not below 0, in every two solutions
 abbrev pub IsWorstUpTo : Lists → List Placed → (north east : ℕ → ℤ) → (high : ℤ) → (t : ℕ) → Type 0
 IsWorstUpTo case standing north east high t =
     (one other : Solution) → AreSolutionsOf standing north east one other → (pos 0 ≤ℤ high) × (squared_worst case t one other ≤ squared_end case high t one other)
 
--- it is at least a low end, which is not below 0, in every two solutions
+-- it is at least a low end in mA per phase, which is not below 0, in every two solutions
 abbrev pub IsWorstFrom : Lists → List Placed → (north east : ℕ → ℤ) → (low : ℤ) → (t : ℕ) → Type 0
 IsWorstFrom case standing north east low t =
     (one other : Solution) → AreSolutionsOf standing north east one other → (pos 0 ≤ℤ low) × (squared_end case low t one other ≤ squared_worst case t one other)

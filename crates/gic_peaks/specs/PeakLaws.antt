@@ -1,4 +1,4 @@
--- What a peak says of numbers, one for each view, of which views show intervals.
+-- What a peak says of the numbers, one for each view, that the intervals of views enclose.
 use Rattle.std.specs.Prelude.{◌≡◌, ℕ, ◌*◌, ◌<◌, ◌≤◌, List, length, slice_index_or, All, Option, None, Some, IfSome, IsNone, IsSome, MatchOption, ℤ, pos, ◌*ℤ◌, ◌<ℤ◌, ◌≤ℤ◌, unsigned_abs}
 use Rattle.gic_fixed.specs.Encloses.{Encloses}
 use Rattle.gic_fixed.specs.Ends.{Ends, IsAtMostWide}

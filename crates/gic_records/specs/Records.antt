@@ -1,4 +1,4 @@
--- The records of a text, and those that a reader has left.
+-- The records of a text.
 use Rattle.std.specs.Prelude.{ℕ, List}
 use Rattle.csv.specs.Reading.{default_config, strip_bom, records}
 

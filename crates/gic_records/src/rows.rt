@@ -18,15 +18,16 @@ pub trait RowReader {
     // The row that a record is, after a record of the time before, or the first rule that it breaks.
     ghost reads: { Self → ℕ → Option ℕ → List (List ℕ) → Result Self.Row Self.Refusal };
 
-    // The time of a row.
+    // The time of a row, in seconds.
     ghost time_of: { Self.Row → ℕ };
 
     // What each row keeps.
     ghost keeps: { Self → Self.Row → Type 0 };
 
-    // How more rows are refused than there may be, and how want of memory.
+    // How more rows are refused than there may be.
     ghost late: { Self.Refusal };
 
+    // How want of memory is refused.
     ghost memory: { Self.Refusal };
 
     /// The row that a record is, after a record of the time before.
@@ -53,7 +54,8 @@ pub trait RowReader {
         ensures { result ≡ memory };
 }
 
-/// The rows of the records that are left, at most so many. Their times do not fall.
+/// The rows of the records that are left, at most so many. Their times do not fall. The first record that is no row is
+/// refused, and so is one behind the most rows; want of memory may be the answer in place of any other.
 pub fn read_rows<R: RowReader>(
     alloc: Global,
     reader: &R,

@@ -1,4 +1,4 @@
--- Lists by what they begin with behind a place.
+-- Lists that begin with a given list behind a place, and what holds of all numbered items of one.
 use Rattle.std.proofs.Common.{◌≡◌, ◌∙◌, ℕ, ◌+◌, ◌<◌, zero, suc, List, [], ◌∷◌, ◌++◌, length, drop, get_or, refl, sym, ap, arith, add-one, append_assoc, length-append}
 use Rattle.std.specs.List.{AllByRecursion, enumerate_from, flat_map}
 use Rattle.gic_base.proofs.Each.{all_joined}

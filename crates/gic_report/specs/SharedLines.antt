@@ -10,7 +10,7 @@ Words = List (List ℕ)
 abbrev pub word_line : List ℕ → Words
 word_line word = word ∷ []
 
--- the line of a uniform field
+-- the line of a uniform field, in mV/km
 abbrev pub field_line : ℤ → ℤ → Words
 field_line north east = codes "north" ∷ signed_decimal north ∷ codes "east" ∷ signed_decimal east ∷ []
 

@@ -14,7 +14,7 @@ use Rattle.gic_screen.specs.Verdict.{verdict_of}
 use Rattle.gic_report.specs.SharedLines.{Words}
 use Rattle.gic_report.specs.ItemText.{per_transformer}
 
--- the high side is earthed through its winding: only a delta-delta unit has none
+-- the high side is earthed through its winding, as NERC TPL-007 asks: only a delta-delta unit has no such winding
 abbrev pub earthed_high : Kind → Bool
 earthed_high kind = has_windings kind
 

@@ -1,4 +1,5 @@
-//! The intervals of a view, one after another. Past the last there is none.
+//! The intervals of a view, one after another. Past the last there is none, and of the transformers one that holds 0
+//! alone.
 ghost use Rattle.std.specs.Prelude.{◌≡◌, ◌<◌, None, drop, length, slice_index_or};
 ghost use Rattle.gic_fixed.specs.Ends.{ends_of};
 ghost use Rattle.gic_view.specs.Kept.{optional_ends};

@@ -111,7 +111,7 @@ fn write_row<S: Sink>(
     write_all(out, line.finish())
 }
 
-/// Writes a line for each node.
+/// Writes a line for each node: its interval in mV, or `dead`.
 pub fn write_nodes<S: Sink>(
     case: &Case,
     view: &StepView,
@@ -152,7 +152,8 @@ fn write_node<S: Sink>(
     write_all(out, line.finish())
 }
 
-/// Writes the rows of the items of a case: grounds, lines, windings and neutral devices.
+/// Writes the rows of the items of a case: grounds, lines, windings and neutral devices, each with its interval in mA,
+/// `open` or `blocked`.
 pub fn write_rows<S: Sink>(
     case: &Case,
     view: &StepView,

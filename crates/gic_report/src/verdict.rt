@@ -17,7 +17,7 @@ use gic_screen::{Verdict, verdict};
 use gic_text::LineBuilder;
 use gic_view::StepView;
 
-/// Whether the high side of a unit is earthed through its winding.
+/// Whether the high side of a unit is earthed through its winding, as NERC TPL-007 asks of one that is assessed.
 pub fn earthed_high(kind: Kind) -> bool
     ensures { result ≡ earthed_high kind }
 {
@@ -94,7 +94,8 @@ fn write_transformer<S: Sink>(
     write_judged(&transformer.name, current, said, line, out)
 }
 
-/// Writes a line for each transformer.
+/// Writes a line for each transformer: its absolute effective interval and the verdict on it against a threshold, both in
+/// mA per phase.
 pub fn write_transformers<S: Sink>(
     transformers: &[Transformer],
     view: &StepView,

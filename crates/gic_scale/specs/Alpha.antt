@@ -1,7 +1,7 @@
 -- The scaling of a field by geomagnetic latitude.
 use Rattle.std.specs.Prelude.{ℕ, nat_le, List, [], ◌∷◌, Option, Some, None, find}
 
--- latitudes in hundredths of a degree, each with the scaling in tenths
+-- latitudes in hundredths of a degree, each with the scaling in tenths; the rows are set after attachment 1 of NERC TPL-007 and are this project's own
 abbrev pub latitude_table : List (ℕ × ℕ)
 latitude_table =
     (4000, 1) ∷ (4500, 2) ∷ (5000, 3) ∷ (5400, 5) ∷ (5600, 6) ∷ (5700, 7) ∷ (5800, 8) ∷ (5900, 9) ∷ (6000, 10) ∷ []

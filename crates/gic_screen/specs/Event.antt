@@ -1,4 +1,4 @@
--- The table of events.
+-- The table of events: the benchmark event of NERC TPL-007, and a supplemental one that is set after that standard's and is this project's own.
 use Rattle.std.specs.Prelude.{ℕ, ℤ, pos}
 use Rattle.gic_screen.specs.declared.event.Event.{Event}
 use Rattle.gic_screen.specs.declared.event.Event.TheVariants.{Benchmark, Supplemental}

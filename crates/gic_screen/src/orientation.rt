@@ -38,7 +38,7 @@ fn ceil_length(a: i128, b: i128) -> i128
 
 /// The absolute current for the worst orientation of a uniform field, from the signed currents for the field to the
 /// north and for the same field to the east: the root of the sum of their squares, rounded outward. It is in the unit
-/// of the two.
+/// of the two, no end of which is beyond 2^62 either way.
 pub fn worst(north: Interval, east: Interval) -> Interval
     requires north { IsWithin (2 ^ 62) north.lo north.hi }
     requires east { IsWithin (2 ^ 62) east.lo east.hi }

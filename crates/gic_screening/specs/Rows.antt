@@ -22,7 +22,7 @@ no_row = record { north = no_ends; east = no_ends; worst = no_ends }
 abbrev pub row_at : List Row → ℕ → Row
 row_at rows place = slice_index_or rows place no_row
 
--- the row of two signed intervals: the third one encloses the worst current of whatever fractions the two enclose, and is at most twice as wide
+-- the row of two signed intervals: the third one encloses the worst current of whatever fractions the two enclose, and where neither is wider than a width from 2 on, it is at most twice that width
 pub record IsRowOf (north_ends east_ends : Ends) (row : Row) : Type 0 where
   pub north_is : row.north ≡ north_ends
   pub east_is : row.east ≡ east_ends

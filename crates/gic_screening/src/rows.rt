@@ -83,7 +83,7 @@ impl ScreenRows {
     }
 }
 
-/// Sets all rows, by the effective currents of two views that are as long as they.
+/// Sets all rows, by the effective currents of two views that are as long as they are.
 pub(crate) fn fill_rows(north: &StepView, east: &StepView, rows: &mut ScreenRows)
     requires north_count { length rows.old ≡ length north.now.effective }
     requires east_count { length rows.old ≡ length east.now.effective }

@@ -4,7 +4,7 @@ use Rattle.gic_report.specs.SharedLines.{Words, word_line}
 use Rattle.gic_report.specs.ItemText.{ends_words}
 use Rattle.gic_series.specs.Rows.{Row}
 
--- the line of what is asked: the width, the transformer's name, and how many steps the storm has
+-- the line of what is asked: the width in mA, the transformer's name, and how many steps the storm has
 abbrev pub setting_line : (width : ℕ) → (name : List ℕ) → (steps : ℕ) → Words
 setting_line width name steps = codes "width" ∷ decimal width ∷ codes "transformer" ∷ name ∷ codes "steps" ∷ decimal steps ∷ []
 

@@ -56,7 +56,8 @@ pub fn standing_net(
     Ok(net)
 }
 
-/// Whether each live node is earthed at the step of this number. Takes no memory.
+/// Whether each live node is earthed at the step of this number, counted from 1; a refusal names the first that isn't.
+/// Takes no memory.
 pub fn expect_earthed(
     case: &Case,
     net: &Net,

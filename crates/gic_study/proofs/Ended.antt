@@ -1,4 +1,4 @@
--- What follows of how a call ended.
+-- What follows from how a call ended.
 use Rattle.std.proofs.Common.{◌≡◌, ℕ, ◌⊎◌, inl, inr, List, Some, Ok, Err, refl, sym, ap, subst, ◌∙◌, arith}
 use Rattle.gic_base.specs.Causes.{Rose}
 use Rattle.gic_base.specs.Files.{Files}

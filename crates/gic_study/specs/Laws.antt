@@ -1,4 +1,4 @@
--- What follows of how a call ended. No reader of the headline needs these.
+-- What follows from how a call ended. No reader of the headline needs these.
 use Rattle.std.specs.Prelude.{◌≡◌, ◌≢◌, ℕ, List, Some, Ok, Err, ◌⊎◌}
 use Rattle.std.specs.declared.option.Option.{Option}
 use Rattle.std.specs.Io.KnownBytes.{Keeps}
@@ -49,7 +49,7 @@ LackedFilesAreWantOfMemory = (words : List (List ℕ)) (files : Files) (plans : 
     Ends words (Some files) plans before now told told' status → CanRead words before now →
     (file : File) → outcome words (held_for files (options_of words)) ≡ Lacks file → status ≡ 11
 
--- a refusal of the network of what is accepted is answered
+-- a refusal of the network of what is accepted is answered, where no named file failed, want of memory aside
 abbrev pub UnmetNeedsAreAnswered : Type 0
 UnmetNeedsAreAnswered = (words : List (List ℕ)) (files : Files) (plans : Plans) (before now : Moment) (told told' : Shown) (status : ℕ) →
     Ends words (Some files) plans before now told told' status → CanRead words before now →
@@ -57,14 +57,14 @@ UnmetNeedsAreAnswered = (words : List (List ℕ)) (files : Files) (plans : Plans
     (refusal : NetworkRefusal) → IsUnmet (need_of asked) (case_asked asked) (steps_asked asked) refusal →
     (status ≡ status_of_fault (Report (report.Refused refusal))) ⊎ (status ≡ 11)
 
--- a refusal of the certificate that is asked to be checked is answered
+-- a refusal of the certificate that is asked to be checked is answered, where no named file failed, want of memory aside
 abbrev pub RefusedCertificatesAreAnswered : Type 0
 RefusedCertificatesAreAnswered = (words : List (List ℕ)) (files : Files) (plans : Plans) (before now : Moment) (told told' : Shown) (status : ℕ) →
     Ends words (Some files) plans before now told told' status → CanRead words before now →
     (asked : Asked) → outcome words (held_for files (options_of words)) ≡ Accepts asked →
     (refusal : CertificateRefusal) → RefusesCertificate asked refusal → (status ≡ 13) ⊎ (status ≡ 11)
 
--- what is accepted is reported, its certificate too where it is given one, where moreover its need is met and no write failed
+-- what is accepted is reported, its certificate too where it is given one, where moreover its need is met, and no named file and no write failed, want of memory aside
 abbrev pub AcceptedIsReported : Type 0
 AcceptedIsReported = (words : List (List ℕ)) (files : Files) (plans : Plans) (before now : Moment) (told told' : Shown) (status : ℕ) →
     Ends words (Some files) plans before now told told' status → CanRead words before now →

@@ -1,10 +1,10 @@
-//! What follows of how a call ended.
+//! What follows from how a call ended.
 ghost use Rattle.gic_study.specs.Laws.{RefusalsAreAnswered, LackedFilesAreWantOfMemory, UnmetNeedsAreAnswered, RefusedCertificatesAreAnswered, AcceptedIsReported, StatusesSay, TextsTellModes, CertifiedIsAccepted};
 
 use gic_ask::laws::answers_of_files_law;
 use gic_recheck::laws::{accepted_is_not_refused_law, passing_text_is_accepted_law};
 
-/// A refusal by the words and the files is answered.
+/// Where no fetch of a named file failed, a refusal by the words and the files is answered, want of memory aside.
 pub fn refusals_are_answered_law()
     ensures { RefusalsAreAnswered }
 {
@@ -18,14 +18,15 @@ pub fn lacked_files_law()
     answers_of_files_law();
 }
 
-/// A network that doesn't meet the need of its mode is refused.
+/// Where no fetch of a named file failed, a network that doesn't meet the need of its mode is refused, want of memory
+/// aside.
 pub fn unmet_needs_are_answered_law()
     ensures { UnmetNeedsAreAnswered }
 {
     answers_of_files_law();
 }
 
-/// A certificate that is refused is told so.
+/// Where no fetch of a named file failed, a certificate that is refused is told so, want of memory aside.
 pub fn refused_certificates_are_answered_law()
     ensures { RefusedCertificatesAreAnswered }
 {
@@ -33,7 +34,8 @@ pub fn refused_certificates_are_answered_law()
     accepted_is_not_refused_law();
 }
 
-/// What is accepted is reported.
+/// Where no fetch of a named file and no write failed, what is accepted and has its need met is reported, a certificate
+/// that is given being accepted too, want of memory aside.
 pub fn accepted_is_reported_law()
     ensures { AcceptedIsReported }
 {
@@ -51,7 +53,7 @@ pub fn texts_tell_modes_law()
     ensures { TextsTellModes }
 {}
 
-/// What `certify` writes, `recheck` accepts.
+/// What `certify` writes, `recheck` accepts, over the same case and the same switchings.
 pub fn certified_is_accepted_law()
     ensures { CertifiedIsAccepted }
 {

@@ -1,4 +1,4 @@
--- What the writer is given. For the contracts of this crate.
+-- What the writer is given. For contracts.
 use Rattle.std.specs.Prelude.{◌≡◌, length, Option, None, Some, IfSome}
 use Rattle.gic_case.specs.Lists.{Lists}
 use Rattle.gic_study_text.specs.StudyText.{DetailView}

@@ -14,7 +14,7 @@ pub record DetailView : Type 0 where
   pub fields : List (ℤ × ℤ)
   pub view : View
 
--- the line of what is asked: the width, the threshold in mA, and how many steps the storm has
+-- the line of what is asked: the width in mV and mA, the threshold in mA per phase, and how many steps the storm has
 abbrev pub setting_line : (width threshold steps : ℕ) → Words
 setting_line width threshold steps = codes "width" ∷ decimal width ∷ codes "threshold" ∷ decimal threshold ∷ codes "steps" ∷ decimal steps ∷ []
 
@@ -22,7 +22,7 @@ setting_line width threshold steps = codes "width" ∷ decimal width ∷ codes "
 abbrev pub step_line : (number time : ℕ) → Words
 step_line number time = codes "step" ∷ decimal number ∷ codes "time" ∷ decimal time ∷ []
 
--- the line of a zone, with its field
+-- the line of a zone, with its field in mV/km
 abbrev pub zone_line : List ℕ → ℤ × ℤ → Words
 zone_line name field = codes "zone" ∷ name ∷ codes "north" ∷ signed_decimal field.0 ∷ codes "east" ∷ signed_decimal field.1 ∷ []
 

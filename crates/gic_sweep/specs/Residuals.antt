@@ -8,6 +8,6 @@ use Rattle.gic_model.specs.Voltages.{number_at}
 abbrev pub HoldResiduals : List Placed → (ℕ → ℤ) → (ℕ → ℤ) → List ℤ → List ℤ → Type 0
 HoldResiduals standing volts x low high = (k : ℕ) → HoldsResidual standing volts x k (number_at low k) (number_at high k)
 
--- how much the rounding of residuals and conductances adds to t grains within which guesses are settled: a 1048th and 5 grains more
+-- t grains within which guesses are settled, and what the rounding of residuals and conductances adds to them at most: a 1048th and 5 grains
 abbrev pub most_reach : ℕ → ℕ
 most_reach t = t + t / 1048 + 5

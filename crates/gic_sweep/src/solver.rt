@@ -84,7 +84,7 @@ impl Solver {
         let _ = self.guesses.as_slice();
     }
 
-    /// The guess at a node.
+    /// The guess at a node, in grains.
     pub fn guess(&self, node: NodeId) -> i128
         requires { node.0 < length self.now }
         ensures value { result ≡ number_at self.now node.0 }

@@ -1,4 +1,4 @@
--- What lies between the nodes of a network.
+-- Lists in which each number of a node is that of one of so many nodes.
 use Rattle.std.specs.Prelude.{ℕ, ◌<◌, List}
 use Rattle.std.specs.List.{All}
 use Rattle.gic_model.specs.Limits.{IsEndWithin}
@@ -8,7 +8,7 @@ use Rattle.gic_thin.specs.declared.parts.Arm.{Arm}
 use Rattle.gic_thin.specs.declared.parts.Step.{Step}
 use Rattle.gic_thin.specs.declared.parts.Entry.{Entry}
 
--- the number of a node, of so many
+-- each is the number of one of so many nodes
 abbrev pub AreNodes : ℕ → List ℕ → Type 0
 AreNodes nodes list = All (λ k. k < nodes) list
 

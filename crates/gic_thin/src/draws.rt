@@ -1,7 +1,7 @@
-//! Draws.
+//! Draws of numbers, by which an elimination is thinned.
 ghost use Rattle.std.specs.Prelude.{◌≤◌};
 
-/// A congruential generator.
+/// A linear congruential generator.
 #[derive(Clone, Copy, Drop)]
 pub struct Draws {
     state: u32,
@@ -17,7 +17,7 @@ impl Draws {
         Draws { state: 1 }
     }
 
-    /// A number from 0 to before the limit.
+    /// A number below the limit; 0 where the limit is 0.
     pub(crate) fn below(&mut self, limit: u64) -> u64 {
         self.state = self.state.wrapping_mul(MULTIPLIER).wrapping_add(INCREMENT);
         let product = limit as u128 * self.state as u128;

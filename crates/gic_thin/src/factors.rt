@@ -1,4 +1,4 @@
-//! The factors.
+//! The factors that an elimination makes.
 use crate::dividing::Whole;
 use crate::parts::{Arm, Entry, MOST_ENTRIES, Step};
 use gic_base::OutOfMemory;

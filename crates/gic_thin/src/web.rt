@@ -148,7 +148,7 @@ impl Web {
         self.knots[node as usize].place = place;
     }
 
-    /// The first half of a node's list.
+    /// The number of the first half in a node's list, [`NO_HALF`] where there is none.
     pub(crate) fn first(&self, node: u16) -> u16
         requires { node < self.now }
     {

@@ -8,12 +8,14 @@ use Rattle.gic_volts.specs.VoltsText.{volts_report}
 use Rattle.gic_question.specs.declared.asked.Question.{Question}
 use Rattle.gic_stand.specs.declared.inputs.Inputs.{Inputs}
 
--- the voltage of each line, blocked ones too, in one field for all zones
+-- the voltage of each line in nanovolts, blocked ones too, in one field for all zones
 abbrev pub line_volts : Lists → ℤ → ℤ → List ℤ
 line_volts case north east = map (λ l. line_nanovolts l (zone_among case.zones l.zone) north east) case.lines
 
+-- the text of the report
 abbrev pub volts_text : Lists → Question → List ℕ
 volts_text case q = lines_text (volts_report case.lines q.north q.east (line_volts case q.north q.east))
 
+-- the text is that of the case and the question
 abbrev pub IsRightVolts : Inputs → List ℕ → Type 0
 IsRightVolts inputs text = text ≡ volts_text inputs.case inputs.question

@@ -44,7 +44,7 @@ fn write_lines<S: Sink>(
     )
 }
 
-/// Writes the voltage of each line, in the field that is asked for.
+/// Writes the voltage of each line in nanovolts, in the field that is asked for.
 pub fn volts<S: Sink>(alloc: Global, inputs: &Inputs, out: &mut S) -> Result<(), ReportFault>
     requires { IsWithinRanges inputs.now.question }
     ensures { Serves Nothing inputs.now.case (steps_of inputs.now) (IsRightVolts inputs.now)

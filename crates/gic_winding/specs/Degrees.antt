@@ -1,4 +1,4 @@
--- What the law says of the elements that end at a node.
+-- What the laws say of the elements of sound cases: how many end at a node, and that they are within the limits.
 use Rattle.std.specs.Prelude.{◌≡◌, ℕ, count_by}
 use Rattle.gic_case.specs.Lists.{Lists, ends_of, degree_of}
 use Rattle.gic_case.specs.Sound.{IsSound}

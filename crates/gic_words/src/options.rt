@@ -1,4 +1,4 @@
-//! The options of the modes.
+//! The words, read as a mode with its options.
 ghost use Rattle.std.specs.Prelude.{◌≡◌, ◌≤◌, IfOk, IfSome, map, string_bytes, unsigned_abs};
 ghost use Rattle.clap.specs.Words.{rows_of, found_of};
 ghost use Rattle.gic_base.specs.declared.limits.TheConstants.{MOST_FIELD};
