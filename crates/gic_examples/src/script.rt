@@ -49,7 +49,10 @@ impl Script {
             "example" => self.open(rt, rest)?,
             "failing" => self.fail(rest)?,
             "monitors" => self.surroundings.monitors = String::from_str(self.alloc, rest)?,
-            "width" => self.width = rest.parse::<i64>().unwrap_or(0),
+            "width" => match rest.parse::<i64>() {
+                Ok(width) => self.width = width,
+                Err(_) => self.complain(line)?,
+            },
             "run" => {
                 self.ended = run(self.alloc, rest, self.files.as_slice(), &self.surroundings)?;
             }
@@ -86,6 +89,9 @@ impl Script {
         if self.name.is_empty() {
             return Ok(());
         }
+        if str::from_utf8(self.ended.out.as_slice()).is_err() {
+            self.complain("what was written is no text")?;
+        }
         if self.next_line().is_some() || !self.ended.err.is_empty() {
             self.complain("something more was written")?;
         }
@@ -120,14 +126,17 @@ impl Script {
         Ok(())
     }
 
-    /// Has a call fail: `fetch N`, `write N` or `telling N`.
+    /// Has a call fail: `fetch N`, `write N` or `telling N`. An example with any other call doesn't come out.
     fn fail(&mut self, call: &str) -> Result<(), AllocError> {
         let (kind, number) = call.split_once(' ').unwrap_or((call, ""));
-        let number = number.parse::<u64>().unwrap_or(0);
+        let Ok(number) = number.parse::<u64>() else {
+            return self.complain(call);
+        };
         match kind {
             "fetch" => self.surroundings.fetches.push(number)?,
             "write" => self.surroundings.writes.push(number)?,
-            _ => self.surroundings.tellings.push(number)?,
+            "telling" => self.surroundings.tellings.push(number)?,
+            _ => self.complain(call)?,
         }
         Ok(())
     }
