@@ -1,4 +1,4 @@
--- What a library that tells its files has of the files that words name, and that the answer is that of these.
+-- What a library that tells its files has of the files that words name, and that the answer is that of the files.
 use Rattle.std.specs.Prelude.{ℕ, List, Result, Ok, Err, None, Some, Bool, true, false, length, nat_lt}
 use Rattle.std.specs.declared.option.Option.{Option}
 use Rattle.std.specs.FinMap.{get}

@@ -118,6 +118,6 @@ asking mode.Make o contents = reading_numbers o.seed o.size
 asking mode.Recheck o contents = reading_recheck o contents (λ asked. Accepts asked)
 asking mode.Series o contents = reading_series o contents (λ asked. Accepts asked)
 
--- the words, and then the files that they name, each fetched and then read
+-- the words, and then the files that they name, one after another
 abbrev pub outcome : List (List ℕ) → Contents → Outcome
 outcome words contents = reading (options_of words) Usage (λ o. asking o.mode o contents)

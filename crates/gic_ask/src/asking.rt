@@ -253,8 +253,8 @@ fn made(options: &Options) -> Result<Asked, InputFault>
     }
 }
 
-/// Reads the words, and then the files that they name, each fetched and then read. The first fault is the answer;
-/// `Memory` comes for want of memory alone.
+/// Reads the words, and then fetches and reads the files that they name, one after another; a certificate is fetched
+/// alone. The first fault is the answer. Want of memory may come in place of any answer.
 pub fn ask<L: Library>(
     alloc: Global,
     words: &[String],

@@ -1,6 +1,6 @@
-//! The limits that several crates share, each once, with where it comes from.
+//! The limits of lists, inputs, walks and fields, each once, with where it comes from.
 
-/// The longest file that is read, in bytes, by each of the file formats: 16 MiB.
+/// The longest file that is read, in bytes: 16 MiB, whatever the file is.
 pub const LIMIT: usize = 16777216;
 
 /// The zones of a case, by the case format.
@@ -9,7 +9,7 @@ pub const MOST_ZONES: usize = 256;
 /// The substations of a case, by the case format.
 pub const MOST_SUBSTATIONS: usize = 1024;
 
-/// The buses of a case, by the case format: three for each of the most substations, however they are shared out.
+/// The buses of a case, by the case format: three times the most substations, however they are shared out.
 pub const MOST_BUSES: usize = 3072;
 
 /// The lines of a case, by the case format.

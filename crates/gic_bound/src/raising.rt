@@ -22,8 +22,8 @@ pub struct Unresolved {
     pub node: NodeId,
 }
 
-/// Makes the vector the least capped vector of the net, whatever it was before, and refuses exactly where the network is
-/// not earthed within [`MOST_WALK`]. The vector is for as many nodes as the net has.
+/// Makes the vector the least capped vector of the net, whatever it was before, and refuses exactly where the network
+/// is not earthed within [`MOST_WALK`]. The vector is for as many nodes as the net has.
 pub fn bound(net: &Net, out: &mut BoundVector) -> Result<(), Unresolved>
     requires { length out.old ≡ net.now.network.nodes }
     ensures least { IsLeastCappedVector (standing net.now) (slice_index out.new) }

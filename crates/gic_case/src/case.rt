@@ -96,10 +96,10 @@ impl Case {
         self.network.transformers.as_slice()
     }
 
-    /// The case of these lists, in which places stand for names and which keep all rules: limits and ranges, places within
-    /// the lists, no name twice, two buses for each line and each transformer with two sides, those of a transformer in one
-    /// substation, no low voltage above the high one, no neutral device at a delta-delta unit, and at most 256 elements at
-    /// each node.
+    /// The case of these lists, in which places stand for names and which keep all rules: limits and ranges, places
+    /// within the lists, no name twice, two buses for each line and each transformer with two sides, those of a
+    /// transformer in one substation, no low voltage above the high one, no neutral device at a delta-delta unit, and
+    /// at most 256 elements at each node.
     pub fn from_parts(
         zones: Vec<Zone>,
         substations: Vec<Substation>,

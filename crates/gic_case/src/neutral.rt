@@ -10,8 +10,8 @@ use gic_base::limits::MOST_TRANSFORMERS;
 use gic_base::{NodeId, OutOfMemory};
 use std::alloc::{AllocError, Global};
 
-/// The ground grid of a transformer of a case: the node of the substation of its high bus. A delta-delta unit, which has
-/// no bus, counts as at the first node.
+/// The ground grid of a transformer of a case: the node of the substation of its high bus. A delta-delta unit, which
+/// has no bus, counts as at the first node.
 pub fn ground_grid(case: &Case, transformer: &Transformer) -> NodeId
     ensures { result.0 ≡ grid_of case.now.buses transformer.now.kind }
 {

@@ -116,9 +116,9 @@ impl Course {
     }
 
     /// Fills the view of a step, counted from 1: its number, its time, and intervals that are no wider than `width`, in
-    /// millivolts and milliamperes, with no effective current beyond 2^52 mA per phase. Where the step before was not of the
-    /// same epoch, the epoch is prepared first, so each is prepared once where steps are shown in order. No interval begins
-    /// at -2^127, which has no absolute value of 128 bits. Takes no memory.
+    /// millivolts and milliamperes, with no effective current beyond 2^52 mA per phase. Where the step before was not
+    /// of the same epoch, the epoch is prepared first, so each is prepared once where steps are shown in order. No
+    /// interval begins at -2^127, which has no absolute value of 128 bits. Takes no memory.
     pub fn show(&mut self, inputs: &StormInputs, number: u32, width: u32, view: &mut StepView)
         requires shows { CanShow inputs.now self.old }
         requires step { IsStepOf inputs.now number }

@@ -1,4 +1,4 @@
-//! The walk over the epochs of a storm, which tries whether the network can be solved in each.
+//! The walk over the epochs of a storm, which tells whether the network can be solved in each.
 ghost use Rattle.std.specs.Prelude.{ℕ, ◌≡◌, OnOk, IfErr};
 ghost use Rattle.gic_epoch.specs.Epochs.{AreEpochs};
 ghost use Rattle.gic_net.specs.Net.{standing};

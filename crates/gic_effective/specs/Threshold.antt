@@ -8,6 +8,6 @@ use Rattle.gic_effective.specs.Weighted.{effective_numerator, effective_denomina
 abbrev pub IsUnder : Lists → (threshold t : ℕ) → Solution → Type 0
 IsUnder case threshold t s = unsigned_abs (effective_numerator case s t) < threshold * effective_denominator case t s
 
--- it is the threshold or more, as NERC TPL-007 counts its criterion
+-- it is the threshold or more, as in the criterion of NERC TPL-007
 abbrev pub IsAtLeast : Lists → (threshold t : ℕ) → Solution → Type 0
 IsAtLeast case threshold t s = threshold * effective_denominator case t s ≤ unsigned_abs (effective_numerator case s t)

@@ -29,8 +29,8 @@ fn run_files(rt: &HostRuntime) -> io::Result<u32> {
     Ok(wrong)
 }
 
-/// Ends with status 0 where each example came out, with 1 where one didn't, and with 2 where a file could not be read, a
-/// line could not be printed or memory was wanting.
+/// Ends with status 0 where each example came out, with 1 where one didn't, and with 2 where a file could not be read,
+/// a line could not be printed or memory was wanting.
 fn main(rt: HostRuntime) -> ExitCode {
     match run_files(&rt) {
         Ok(0) => ExitCode::SUCCESS,

@@ -17,7 +17,7 @@ pub struct Script {
     ended: Ended,
     /// How many lines of the output have been compared.
     compared: usize,
-    /// The first line of the example that didn't come out, empty where all did.
+    /// The first line or call of the example that didn't come out, empty where all did.
     complaint: String,
     /// How many examples were closed, and how many of them went wrong.
     pub examples: u32,
@@ -217,12 +217,13 @@ impl Script {
                 self.compared = self.compared.saturating_add(1);
                 is_line
             }
-            "skip" => {
-                self.compared = self
-                    .compared
-                    .saturating_add(rest.parse::<usize>().unwrap_or(0));
-                self.next_line().is_some()
-            }
+            "skip" => match rest.parse::<usize>() {
+                Ok(count) => {
+                    self.compared = self.compared.saturating_add(count);
+                    self.next_line().is_some()
+                }
+                Err(_) => false,
+            },
             _ => false,
         }
     }

@@ -104,8 +104,8 @@ fn finds_the_least_bound_vectors(rt: HostRuntime) -> Result<(), Fail> {
     Ok(())
 }
 
-/// Of case P, with its least entries, with one of them less by 1, and with all entries 1; and of the realistic case, with all
-/// elements standing and with L3 open, the third line of the case.
+/// Of case P, with its least entries, with one of them less by 1, and with all entries 1; and of the realistic case,
+/// with all elements standing and with L3 open, the third line of the case.
 #[test]
 fn tells_bound_vectors(rt: HostRuntime) -> Result<(), Fail> {
     let realistic: [u16; 20] = [

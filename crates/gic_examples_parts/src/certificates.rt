@@ -118,8 +118,8 @@ fn one_at_first(alloc: Global, nodes: u16) -> Result<BoundVector, Fail>
     Ok(vector)
 }
 
-/// The certificate of no guesses and the vector of `one_at_first`; none where that is no bound vector or the guesses are
-/// not settled.
+/// The certificate of no guesses and the vector of `one_at_first`; none where that is no bound vector or the guesses
+/// are not settled.
 fn made(alloc: Global, grounded: &Grounded) -> Result<Option<Cert>, Fail>
     ensures { IfOk result (λ cert. IfSome cert (λ cert. length cert.nodes ≡ grounded.now.net.network.nodes)) }
 {

@@ -10,6 +10,6 @@ times_width lo hi c w h =
     let times : (pos c *ℤ (hi -ℤ lo)) ≤ℤ pos (c * w) = *ℤ-≤ℤ c _ (pos w) h in
     omega (arith, linear)
 
--- an interval that is at most so wide is at most as wide as anything greater
+-- an interval that is at most a wide is at most b wide, where b is a or more
 pub wider : (lo hi : ℤ) (a b : ℕ) → a ≤ b → IsAtMostWide a lo hi → IsAtMostWide b lo hi
 wider lo hi a b h k = omega (arith, linear)

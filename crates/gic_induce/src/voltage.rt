@@ -54,8 +54,8 @@ pub fn line_nanovolts(line: &Line, zone: &Zone, north: i32, east: i32) -> i64
     )
 }
 
-/// The voltage of a line in nanovolts, in this field of its zone, in mV/km. The zone stands among the zones at the line's
-/// place for it.
+/// The voltage of a line in nanovolts, in this field of its zone, in mV/km. The zone stands among the zones at the
+/// line's place for it.
 pub fn volts_in_zone(zones: &[Zone], line: &Line, north: i32, east: i32) -> i64
     requires zone { line.now.zone < length zones.now }
     requires north { IsFieldWithin north }

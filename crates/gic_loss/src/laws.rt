@@ -6,9 +6,9 @@ ghost use Rattle.gic_loss.specs.declared.table_loss.NamedFactor.{NamedFactor};
 ghost use Rattle.gic_loss.specs.LossText.{volt_factors, volt_text, table_factors, table_text};
 ghost use Rattle.gic_loss.specs.Bounds.{LossesAreBounded};
 
-/// Losses are bounded: over one view or more that enclose the effective currents of the units, with no end beyond 2^70 mA
-/// per phase either way, the exact total of factor times absolute current is at most the high end that the monitor prints
-/// at every view, and at least the low end at one of them.
+/// Losses are bounded: over one view or more that enclose the effective currents of the units, with no end beyond 2^70
+/// mA per phase either way, the exact total of factor times absolute current is at most the high end that the monitor
+/// prints at every view, and at least the low end at one of them.
 pub fn losses_are_bounded_law()
     ensures by_volts { (scale : ℕ) (roster : RosterView) →
         LossesAreBounded (codes "loss") (volt_factors scale roster) (volt_text scale roster) }

@@ -4,7 +4,7 @@ ghost use Rattle.std.specs.Prelude.{◌≡◌};
 use gic_base::{ElementId, Name};
 use std::marker::Model;
 
-/// An earthing: the name of its substation, and its place among the elements.
+/// An earthing: the name of its substation, and its own place among the elements.
 #[derive(Clone, Copy, Debug)]
 pub struct Seat {
     pub name: Name,

@@ -46,7 +46,7 @@ pub record AreGatheredFor (list : List Element) (opened : List Bool) (number bef
   pub each : (k : ℕ) → k < length old →
       (row_in new k ≡ gathered list opened (row_in old k)) ⊎ ((row_in new k ≡ row_in old k) × NoneEndsAt list number before k)
 
--- what a net keeps: the index of its items, for each number of an item a mark whether it is open, and for each node its elements with the standing ones gathered by the marks
+-- what a net keeps: the index of its items, for each number of an item a mark that says whether that item is open, and for each node its elements with the standing ones gathered by the marks
 pub record IsStored (network : Network) (opened : List Bool) (first next : List ℕ) (rows : List NodeRow) : Type 0 where
   pub limits : IsWithinLimits network
   pub index : IsItemIndex network.list first next

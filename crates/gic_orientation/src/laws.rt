@@ -7,9 +7,9 @@ use gic_model::laws::superposition_law;
 use gic_screen::laws::greatest_over_all_orientations_law;
 use gic_winding::laws::limits_law;
 
-/// Let a and b be a transformer's signed effective currents in a uniform field of one strength to the north and to the
-/// east. No uniform field of at most that strength gives a current whose square is above a² + b², and one of just that
-/// strength that goes as a and b do gives as much.
+/// In a sound case whose live nodes are earthed, let a and b be a transformer's signed effective currents in a uniform
+/// field of one strength to the north and to the east. No uniform field of at most that strength gives a current whose
+/// square is above a² + b², and one of just that strength that goes as a and b do gives as much.
 pub fn worst_orientation_law()
     ensures most { NoFieldGivesMore }
     ensures reached { AlignedFieldGivesAsMuch }

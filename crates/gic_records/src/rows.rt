@@ -24,7 +24,7 @@ pub trait RowReader {
     // What each row keeps.
     ghost keeps: { Self → Self.Row → Type 0 };
 
-    // How more rows are refused than there may be.
+    // How more rows than there may be are refused.
     ghost late: { Self.Refusal };
 
     // How want of memory is refused.
@@ -55,7 +55,7 @@ pub trait RowReader {
 }
 
 /// The rows of the records that are left, at most so many. Their times do not fall. The first record that is no row is
-/// refused, and so is one behind the most rows; want of memory may be the answer in place of any other.
+/// refused, and so is one behind the last that there may be; want of memory may be the answer in place of any other.
 pub fn read_rows<R: RowReader>(
     alloc: Global,
     reader: &R,

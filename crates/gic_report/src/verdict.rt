@@ -94,8 +94,8 @@ fn write_transformer<S: Sink>(
     write_judged(&transformer.name, current, said, line, out)
 }
 
-/// Writes a line for each transformer: its absolute effective interval and the verdict on it against a threshold, both in
-/// mA per phase.
+/// Writes a line for each transformer: its absolute effective interval and the verdict on it against a threshold, both
+/// in mA per phase.
 pub fn write_transformers<S: Sink>(
     transformers: &[Transformer],
     view: &StepView,

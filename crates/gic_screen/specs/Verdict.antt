@@ -3,7 +3,7 @@ use Rattle.std.specs.Prelude.{ℕ, Bool, ◌&&◌, if◌then◌else◌, nat_lt, 
 use Rattle.gic_screen.specs.declared.criterion.Verdict.{Verdict}
 use Rattle.gic_screen.specs.declared.criterion.Verdict.TheVariants.{Below, Reaches, Undecided, Outside}
 
--- a transformer is assessed, as by NERC TPL-007, if its high side is earthed through its winding and has more than 200 kV
+-- a transformer is assessed, as in NERC TPL-007, if its high side is earthed through its winding and has more than 200 kV
 abbrev pub is_assessed : (high_volts : ℕ) → (earthed_high : Bool) → Bool
 is_assessed high_volts earthed_high = nat_lt 200000 high_volts && earthed_high
 

@@ -53,8 +53,8 @@ fn solved_width(width: u32) -> u32
     width / 2
 }
 
-/// Fills the rows of the transformers of a case, in intervals no wider than `width` mA, where its network can be solved;
-/// a refusal names the step 1. Takes no memory.
+/// Fills the rows of the transformers of a case, in intervals no wider than `width` mA, where its network can be
+/// solved; a refusal names the step 1. Takes no memory.
 pub fn screen_net(
     case: &Case,
     net: &Net,

@@ -64,7 +64,7 @@ RefusedCertificatesAreAnswered = (words : List (List ℕ)) (files : Files) (plan
     (asked : Asked) → outcome words (held_for files (options_of words)) ≡ Accepts asked →
     (refusal : CertificateRefusal) → RefusesCertificate asked refusal → (status ≡ 13) ⊎ (status ≡ 11)
 
--- what is accepted is reported, its certificate too where it is given one, where moreover its need is met, and no named file and no write failed, want of memory aside
+-- what is accepted is reported where its need is met, a certificate that it is given is accepted too, and no named file and no write failed, want of memory aside
 abbrev pub AcceptedIsReported : Type 0
 AcceptedIsReported = (words : List (List ℕ)) (files : Files) (plans : Plans) (before now : Moment) (told told' : Shown) (status : ℕ) →
     Ends words (Some files) plans before now told told' status → CanRead words before now →

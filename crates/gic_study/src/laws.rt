@@ -26,7 +26,7 @@ pub fn unmet_needs_are_answered_law()
     answers_of_files_law();
 }
 
-/// Where no fetch of a named file failed, a certificate that is refused is told so, want of memory aside.
+/// Where no fetch of a named file failed, a certificate that is refused is told as refused, want of memory aside.
 pub fn refused_certificates_are_answered_law()
     ensures { RefusedCertificatesAreAnswered }
 {
@@ -34,8 +34,8 @@ pub fn refused_certificates_are_answered_law()
     accepted_is_not_refused_law();
 }
 
-/// Where no fetch of a named file and no write failed, what is accepted and has its need met is reported, a certificate
-/// that is given being accepted too, want of memory aside.
+/// Where no fetch of a named file and no write failed, what is accepted is reported if its need is met and a
+/// certificate that it is given is accepted too, want of memory aside.
 pub fn accepted_is_reported_law()
     ensures { AcceptedIsReported }
 {

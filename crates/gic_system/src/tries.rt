@@ -10,8 +10,8 @@ use std::io::{Error, ErrorKind, Read, Result, Write};
 /// How often a call is made that a signal interrupts each time, before it counts as failed.
 pub const MOST_TRIES: u32 = 10000;
 
-/// One read into a buffer, which is made again where a signal interrupts it, [`MOST_TRIES`] times in all; then the error
-/// is of the kind `TimedOut`.
+/// One read into a buffer, which is made again where a signal interrupts it, [`MOST_TRIES`] times in all; then the
+/// error is of the kind `TimedOut`.
 pub fn read_some<R: Read>(reader: &mut R, buffer: &mut [u8]) -> Result<usize>
     ensures count { ReadsAtMost result buffer.new }
     ensures bytes { ReadConsumes (R.remaining reader.old) (R.remaining reader.new) result buffer.new }
@@ -31,8 +31,8 @@ pub fn read_some<R: Read>(reader: &mut R, buffer: &mut [u8]) -> Result<usize>
     Err(Error::from(ErrorKind::TimedOut))
 }
 
-/// One write of a front of the bytes, which is made again where a signal interrupts it, [`MOST_TRIES`] times in all; then
-/// the error is of the kind `TimedOut`.
+/// One write of a front of the bytes, which is made again where a signal interrupts it, [`MOST_TRIES`] times in all;
+/// then the error is of the kind `TimedOut`.
 pub fn write_some<W: Write>(writer: &mut W, bytes: &[u8]) -> Result<usize>
     ensures count { WritesAtMost result bytes.now }
     ensures bytes { WriteAppends (W.contents writer.old) (W.contents writer.new) result bytes.now }

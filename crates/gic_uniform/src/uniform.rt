@@ -26,8 +26,8 @@ fn uniform_field(alloc: Global, case: &Case, north: i32, east: i32) -> Result<Fi
     Ok(fields)
 }
 
-/// The voltages in nanovolts of the elements of a case in one field for all zones, which is given in mV/km, to the north
-/// and to the east.
+/// The voltages in nanovolts of the elements of a case in one field for all zones, which is given in mV/km, to the
+/// north and to the east.
 pub fn uniform_volts(
     alloc: Global,
     case: &Case,

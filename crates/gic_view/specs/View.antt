@@ -2,7 +2,7 @@
 use Rattle.std.specs.Prelude.{ℕ, List, Option, None, slice_index_or}
 use Rattle.gic_fixed.specs.Ends.{Ends, no_ends}
 
--- a step's number and time in seconds, an interval for each node in mV where it is live, for each element in mA where it stands,
+-- a step's number, its time in seconds, an interval for each node in mV where it is live, for each element in mA where it stands,
 -- and for each transformer, signed, in mA per phase
 pub record View : Type 0 where
   pub number : ℕ
