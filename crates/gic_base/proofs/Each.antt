@@ -17,6 +17,11 @@ pub anything : {X : Type 0} (xs : List X) → AllByRecursion (λ x. Unit {0}) xs
 anything [] = tt
 anything (x ∷ xs) = (tt, anything xs)
 
+-- a fact of each item that leads to another
+pub weaker : {X : Type 0} (P Q : X → Type 0) → ((x : X) → P x → Q x) → (xs : List X) → AllByRecursion P xs → AllByRecursion Q xs
+weaker P Q leads [] h = tt
+weaker P Q leads (x ∷ xs) h = (leads x h.0, weaker P Q leads xs h.1)
+
 -- what is made of each of the same items is the same
 pub map-replicate : {X Y : Type 0} (f : X → Y) (n : ℕ) (x : X) → map f (replicate n x) ≡ replicate n (f x)
 map-replicate f zero x = refl

@@ -10,6 +10,7 @@ use Rattle.gic_model.specs.declared.parts.Element.{Element}
 use Rattle.gic_model.specs.Standing.{elements_at, value_at, leaving}
 use Rattle.gic_model.specs.Sums.{Placed}
 use Rattle.gic_model.specs.Guess.{residual, conductance, guessed_current}
+use Rattle.gic_model.proofs.EndValues.{value_sum, value_times}
 use Rattle.gic_model.proofs.SumLaws.{sum_over_ohms-same, sum_over_ohms-+ℤ, sum_over_ohms-*ℤ}
 use Rattle.gic_model.proofs.Row.{weight}
 use Rattle.gic_model.proofs.Pushes.{product_within, leaving_within, carried_within}
@@ -18,19 +19,10 @@ use Rattle.gic_model.proofs.Pushes.{product_within, leaving_within, carried_with
 abbrev pub no_volts : ℕ → ℤ
 no_volts place = pos 0
 
--- a value at an end
-at_sum : (x y : ℕ → ℤ) (t : End) → value_at (λ m. x m +ℤ y m) t ≡ value_at x t +ℤ value_at y t
-at_sum x y (Node m) = refl
-at_sum x y Earth = refl
-
-at_times : (a : ℤ) (x : ℕ → ℤ) (t : End) → value_at (λ m. a *ℤ x m) t ≡ a *ℤ value_at x t
-at_times a x (Node m) = refl
-at_times a x Earth = sym (*ℤ-zero a)
-
 -- a guessed current
 current_sum : (u v x y : ℕ → ℤ) (p : Placed) → guessed_current (λ i. u i +ℤ v i) (λ m. x m +ℤ y m) p ≡ guessed_current u x p +ℤ guessed_current v y p
 current_sum u v x y p =
-    let there = at_sum x y p.1.to in
+    let there = value_sum x y p.1.to in
     let push = *ℤ-+ℤ (pos (2 ^ 36)) (u p.0) (v p.0) in
     let one = x p.1.from.0 -ℤ value_at x p.1.to +ℤ pos (2 ^ 36) *ℤ u p.0 in
     let other = y p.1.from.0 -ℤ value_at y p.1.to +ℤ pos (2 ^ 36) *ℤ v p.0 in
@@ -39,7 +31,7 @@ current_sum u v x y p =
 
 current_times : (a : ℤ) (u x : ℕ → ℤ) (p : Placed) → guessed_current (λ i. a *ℤ u i) (λ m. a *ℤ x m) p ≡ a *ℤ guessed_current u x p
 current_times a u x p =
-    let there = at_times a x p.1.to in
+    let there = value_times a x p.1.to in
     let push = *ℤ_left_comm (pos (2 ^ 36)) a (u p.0) in
     let drop = *ℤ--ℤ a (x p.1.from.0) (value_at x p.1.to) in
     let whole = *ℤ-+ℤ a (x p.1.from.0 -ℤ value_at x p.1.to) (pos (2 ^ 36) *ℤ u p.0) in

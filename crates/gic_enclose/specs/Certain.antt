@@ -1,11 +1,11 @@
 -- What intervals say of every solution, and how narrow they are.
-use Rattle.std.specs.Prelude.{ℕ, ◌≡◌, ◌^◌, List, IsFalse, ℤ, pos, ◌-ℤ◌, ◌*ℤ◌, ◌≤ℤ◌}
+use Rattle.std.specs.Prelude.{ℕ, ◌≡◌, ◌^◌, List, IsFalse, ℤ, pos, ◌*ℤ◌}
 use Rattle.gic_model.specs.Standing.{IsLive, is_live}
 use Rattle.gic_model.specs.Solution.{Solution, IsSolution}
 use Rattle.gic_fixed.specs.Encloses.{Encloses}
 use Rattle.gic_model.specs.Sums.{Placed}
 use Rattle.gic_enclose.specs.Ends.{ends_at}
-use Rattle.gic_fixed.specs.Ends.{Ends, no_ends}
+use Rattle.gic_fixed.specs.Ends.{Ends, no_ends, IsAtMostWide}
 
 -- the interval holds the potential of the node k in every solution, where k is live, and is the point 0 where it is dead
 pub record IsCertainAt (standing : List Placed) (volts : ℕ → ℤ) (k : ℕ) (ends : Ends) : Type 0 where
@@ -18,4 +18,4 @@ AreCertain standing volts potentials = (k : ℕ) → IsCertainAt standing volts 
 
 -- at most 2^43 grains wide
 abbrev pub IsNarrow : Ends → Type 0
-IsNarrow ends = (ends.high -ℤ ends.low) ≤ℤ pos (2 ^ 43)
+IsNarrow ends = IsAtMostWide (2 ^ 43) ends.low ends.high

@@ -3,8 +3,7 @@ use Rattle.std.proofs.Common.{◌≡◌, ℕ, ◌*◌, ◌<◌, ◌==◌, Bool, 
 use lib.IntN.{*ℤ-zero}
 use Rattle.std.specs.List.{AllByRecursion}
 use Rattle.std.proofs.lemmas.List.Elements.{All-from_recursion}
-use Rattle.gic_model.specs.declared.parts.End.{End}
-use Rattle.gic_model.specs.declared.parts.End.TheVariants.{Node, Earth}
+use Rattle.gic_base.proofs.Each.{weaker}
 use Rattle.gic_model.specs.declared.parts.Element.{Element}
 use Rattle.gic_model.specs.Network.{ends_at}
 use Rattle.gic_model.specs.Standing.{IsLive, elements_at, value_at, leaving}
@@ -13,9 +12,10 @@ use Rattle.gic_model.specs.Ohms.{product_of_ohms, sum_over_ohms}
 use Rattle.gic_model.specs.Solution.{Solution, IsOhm, IsSolution}
 use Rattle.gic_fixed.proofs.Divisions.{positive_product}
 use Rattle.gic_fixed.proofs.Integers.{linear, nothing_from, *ℤ_assoc, *ℤ-+ℤ, *ℤ--ℤ, *ℤ-neg_ℤ, *ℤ_left_comm}
+use Rattle.gic_model.proofs.EndValues.{value_times}
 use Rattle.gic_model.proofs.SumLaws.{HasOhms, product_positive, sum_over_ohms-same, sum_over_ohms-*ℤ, sum_over_ohms-whole}
 use Rattle.gic_model.proofs.Row.{weight}
-use Rattle.gic_model.proofs.Members.{kept, weaker, both}
+use Rattle.gic_model.proofs.Members.{kept, both}
 use Rattle.gic_exists.proofs.Places.{found_at, IsApart, none_found, others, shared}
 
 -- what Ohm's law gives over x / d, times R and d
@@ -43,10 +43,6 @@ abbrev IsFoundWithShare : List Placed → (ℕ → ℤ) → (ℕ → ℤ) → �
 IsFoundWithShare standing volts x d p =
     (p.1.micro_ohm * others standing p ≡ product_of_ohms standing) × (found_at (whole_current standing volts x d) standing p.0 ≡ whole_current standing volts x d p)
 
-value-scaled : (c : ℤ) (x : ℕ → ℤ) (t : End) → value_at (λ m. c *ℤ x m) t ≡ c *ℤ value_at x t
-value-scaled c x (Node m) = refl
-value-scaled c x Earth = sym (*ℤ-zero c)
-
 -- a factor over plain numbers
 scaled : (c w a b d u : ℤ) → c *ℤ (w *ℤ (a -ℤ b +ℤ d *ℤ u)) ≡ w *ℤ (c *ℤ a -ℤ c *ℤ b +ℤ (c *ℤ d) *ℤ u)
 scaled c w a b d u =
@@ -71,7 +67,7 @@ ohm_of standing volts x d p h =
     let total = pos (product_of_ohms standing) in
     current_of standing volts x d p h ∙
     scaled total (weight p) (x p.1.from.0) (value_at x p.1.to) (pos d) (volts p.0) ∙
-    ap (λ z. weight p *ℤ (total *ℤ x p.1.from.0 -ℤ z +ℤ pos (product_of_ohms standing * d) *ℤ volts p.0)) (sym (value-scaled total x p.1.to))
+    ap (λ z. weight p *ℤ (total *ℤ x p.1.from.0 -ℤ z +ℤ pos (product_of_ohms standing * d) *ℤ volts p.0)) (sym (value_times total x p.1.to))
 
 -- what leaves k through one element
 leaves : (k : ℕ) (e : Element) (r c z f : ℤ) → r *ℤ f ≡ c *ℤ z → r *ℤ leaving k e f ≡ c *ℤ leaving k e z

@@ -3,6 +3,7 @@ use Rattle.std.proofs.Common.{◌≡◌, ℕ, ◌<◌, ◌==◌, Bool, true, fal
 use lib.IntN.{*ℤ-zero}
 use Rattle.std.specs.List.{AllByRecursion}
 use Rattle.std.proofs.lemmas.List.Elements.{recursion_from_All}
+use Rattle.gic_base.proofs.Each.{weaker}
 use Rattle.gic_model.specs.declared.parts.End.{End}
 use Rattle.gic_model.specs.declared.parts.End.TheVariants.{Node, Earth}
 use Rattle.gic_model.specs.Network.{ends_at}
@@ -14,7 +15,7 @@ use Rattle.gic_model.specs.Solution.{Solution, IsOhm, IsSolution}
 use Rattle.gic_model.specs.SolutionLaws.{combined}
 use Rattle.gic_fixed.proofs.Integers.{linear, nothing_from}
 use Rattle.gic_model.proofs.Row.{weight}
-use Rattle.gic_model.proofs.Members.{weaker, both, by_any}
+use Rattle.gic_model.proofs.Members.{both, by_any}
 use Rattle.gic_model.proofs.Superposition.{superposition}
 use Rattle.gic_model.proofs.Ends.{IsLiveEnd, end_own, from_own, ends_live}
 use Rattle.gic_model.proofs.Agreement.{no_potential, same_less, crosswise, potentials_agree}

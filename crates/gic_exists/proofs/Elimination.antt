@@ -2,7 +2,7 @@
 use Rattle.std.proofs.Common.{◌≡◌, ◌⊎◌, ℕ, zero, suc, ◌≤◌, ◌==◌, cond, List, [], ◌∷◌, length, ℤ, pos, negsuc, ◌+ℤ◌, ◌*ℤ◌, neg_ℤ, arith, refl, ap, sym, subst, ◌∙◌, inl, inr, ⊎_elim, eq-eqb}
 use Rattle.std.specs.List.{AllByRecursion}
 use Rattle.std.proofs.lemmas.Bool.{ne_eqb}
-use Rattle.gic_model.proofs.Members.{weaker}
+use Rattle.gic_base.proofs.Each.{weaker}
 use Rattle.gic_exists.specs.Linear.{mix, Equation, IsSolvedBy, IsZeroAt, Solved, Vanishing}
 use Rattle.gic_exists.proofs.Mixing.{none_or_some, mix_swap, pivot_row, other_row, pivot_none, other_none, mix_nothing, mix_first, product_not_0, turned}
 

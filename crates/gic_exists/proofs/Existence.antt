@@ -2,6 +2,7 @@
 use Rattle.std.proofs.Common.{◌≡◌, ◌⊎◌, ℕ, ◌==◌, Bool, true, false, cond, List, [], ◌∷◌, ℤ, pos, ◌*ℤ◌, neg_ℤ, arith, refl, ap, sym, ◌∙◌, inl, inr}
 use lib.IntN.{*ℤ_comm, *ℤ-zero}
 use Rattle.std.specs.List.{AllByRecursion}
+use Rattle.gic_base.proofs.Each.{weaker}
 use Rattle.gic_model.specs.Limits.{IsElementWithin}
 use Rattle.gic_model.specs.Standing.{is_live, IsLive, elements_at, leaving}
 use Rattle.gic_model.specs.Earthing.{IsEarthed}
@@ -9,7 +10,6 @@ use Rattle.gic_model.specs.Sums.{Placed}
 use Rattle.gic_model.specs.Ohms.{product_of_ohms, sum_over_ohms}
 use Rattle.gic_fixed.proofs.Integers.{linear, nothing_from}
 use Rattle.gic_model.proofs.Row.{weight}
-use Rattle.gic_model.proofs.Members.{weaker}
 use Rattle.gic_model.proofs.SumLaws.{HasOhms, product_positive}
 use Rattle.gic_model.proofs.Ends.{live_within}
 use Rattle.gic_model.proofs.Agreement.{no_potential}

@@ -3,12 +3,13 @@ use Rattle.std.proofs.Common.{◌≡◌, ℕ, ◌+◌, ◌*◌, ◌/◌, ◌<◌
 use Rattle.std.specs.List.{AllByRecursion, filter, enumerate_from}
 use Rattle.std.proofs.Math.Nat.{mul-div_cancel_left}
 use Rattle.std.proofs.lemmas.Bool.{ne_eqb}
+use Rattle.gic_base.proofs.Each.{weaker}
 use Rattle.gic_model.specs.declared.parts.Element.{Element}
 use Rattle.gic_model.specs.Standing.{is_standing}
 use Rattle.gic_model.specs.Sums.{Placed}
 use Rattle.gic_model.specs.Ohms.{product_of_ohms}
 use Rattle.gic_model.proofs.SumLaws.{HasOhms}
-use Rattle.gic_model.proofs.Members.{kept, weaker, both}
+use Rattle.gic_model.proofs.Members.{kept, both}
 
 -- g of the first element at the place, 0 where there is none
 abbrev pub found_at : (Placed → ℤ) → List Placed → ℕ → ℤ

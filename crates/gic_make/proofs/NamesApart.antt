@@ -5,8 +5,7 @@ use Rattle.std.proofs.lemmas.Fmt.{decimal_injective}
 use Rattle.std.proofs.lemmas.List.Elements.{All-from_recursion}
 use Rattle.std.proofs.lemmas.List.Kept.{AllPairs-cons}
 use Rattle.std.specs.List.{AllByRecursion, range_with_len}
-use Rattle.gic_base.proofs.Each.{all_joined}
-use Rattle.gic_model.proofs.Members.{weaker}
+use Rattle.gic_base.proofs.Each.{all_joined, weaker}
 use Rattle.gic_make.specs.Made.{numbered}
 use Rattle.gic_make.proofs.Sites.{each_site}
 

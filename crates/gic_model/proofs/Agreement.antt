@@ -5,6 +5,7 @@ use Rattle.std.specs.List.{AllByRecursion}
 use Rattle.std.proofs.Math.Bool.{or-true}
 use Rattle.std.proofs.lemmas.Int.{ints}
 use Rattle.std.proofs.lemmas.List.Elements.{recursion_from_All}
+use Rattle.gic_base.proofs.Each.{weaker}
 use Rattle.gic_model.specs.declared.parts.End.{End}
 use Rattle.gic_model.specs.declared.parts.End.TheVariants.{Node, Earth}
 use Rattle.gic_model.specs.declared.parts.Element.{Element}
@@ -20,7 +21,7 @@ use Rattle.gic_fixed.proofs.Integers.{linear, nothing_from, *ℤ-≤ℤ, *ℤ-ne
 use Rattle.gic_model.proofs.SumLaws.{sum_over_ohms-same, sum_over_ohms-whole, each_nothing}
 use Rattle.gic_model.proofs.Row.{weight, fall, carried, signed}
 use Rattle.gic_model.proofs.Residual.{fall-from, fall-to, value-node}
-use Rattle.gic_model.proofs.Members.{kept, weaker, both, opened, any_of_each, by_any, or_cases, and_first, and_second}
+use Rattle.gic_model.proofs.Members.{kept, both, opened, any_of_each, by_any, or_cases, and_first, and_second}
 use Rattle.gic_model.proofs.Ends.{within_at, ohms_at_node, some_times}
 use Rattle.gic_model.proofs.Superposition.{superposition}
 use Rattle.gic_model.proofs.Greatest.{IsGreatestAt, HasShares, greatest_live, has_shares}

@@ -2,6 +2,7 @@
 use Rattle.std.proofs.Common.{◌≡◌, ℕ, suc, ◌*◌, ◌≤◌, Bool, true, List, [], ◌∷◌, ℤ, pos, negsuc, ◌-ℤ◌, ◌*ℤ◌, neg_ℤ, ◌≤ℤ◌, unsigned_abs, arith, refl, ap, sym, ◌∙◌, ⊎_elim}
 use lib.IntN.{*ℤ-zero}
 use Rattle.std.specs.List.{AllByRecursion}
+use Rattle.gic_base.proofs.Each.{weaker}
 use Rattle.gic_model.specs.declared.parts.End.{End}
 use Rattle.gic_model.specs.declared.parts.End.TheVariants.{Node, Earth}
 use Rattle.gic_model.specs.Limits.{IsElementWithin}
@@ -9,7 +10,6 @@ use Rattle.gic_model.specs.Standing.{is_live, IsLive, elements_at, other_end, va
 use Rattle.gic_model.specs.Sums.{Placed}
 use Rattle.gic_fixed.proofs.Integers.{linear, abs-parts, abs-neg_ℤ, *ℤ-≤ℤ, *ℤ--ℤ, *ℤ-neg_ℤ, *ℤ_left_comm, *ℤ_turn}
 use Rattle.gic_model.proofs.SumLaws.{sum_over_ohms-same, sum_over_ohms-neg_ℤ}
-use Rattle.gic_model.proofs.Members.{weaker}
 use Rattle.gic_model.proofs.Ends.{IsLiveEnd, others_live, live_within}
 use Rattle.gic_model.proofs.Ratios.{greatest_ratio}
 use Rattle.gic_model.proofs.Row.{weight, fall, carried, signed}

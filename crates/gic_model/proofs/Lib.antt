@@ -1,4 +1,5 @@
 pub mod Members
+pub mod EndValues
 pub mod SumLaws
 pub mod Ends
 pub mod Ratios

@@ -1,6 +1,7 @@
 -- What holds of each item of a list, of those that a test keeps, and of the one that passes it.
 use Rattle.std.proofs.Common.{◌≡◌, ◌⊎◌, ℕ, ◌+◌, Bool, true, false, cond, ◌&&◌, ◌||◌, List, [], ◌∷◌, refl, ap, sym, ◌∙◌, inl, inr, ◌<◌, length, arith}
 use Rattle.std.specs.List.{AllByRecursion, filter, list_any, enumerate_from}
+use Rattle.gic_base.proofs.Each.{weaker}
 use Rattle.gic_model.specs.declared.parts.Element.{Element}
 
 -- what holds of each element and the test's answer lead to a fact of those that the test keeps
@@ -17,11 +18,6 @@ kept test P Q leads (x ∷ xs) h = by (kept test P Q leads xs h.1) (test x) refl
 pub placed : (P : Element → Type 0) (i : ℕ) (es : List Element) → AllByRecursion P es → AllByRecursion (λ p. P p.1) (enumerate_from i es)
 placed P i [] h = tt
 placed P i (e ∷ es) h = (h.0, placed P (i + 1) es h.1)
-
--- a fact of each element that leads to another
-pub weaker : {X : Type 0} (P Q : X → Type 0) → ((x : X) → P x → Q x) → (xs : List X) → AllByRecursion P xs → AllByRecursion Q xs
-weaker P Q leads [] h = tt
-weaker P Q leads (x ∷ xs) h = (leads x h.0, weaker P Q leads xs h.1)
 
 -- two facts of each element
 pub both : {X : Type 0} (P Q : X → Type 0) (xs : List X) → AllByRecursion P xs → AllByRecursion Q xs → AllByRecursion (λ x. P x × Q x) xs

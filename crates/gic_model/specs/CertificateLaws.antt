@@ -8,6 +8,7 @@ use Rattle.gic_model.specs.Solution.{Solution, IsSolution}
 use Rattle.gic_model.specs.Bound.{IsBoundVector}
 use Rattle.gic_model.specs.Guess.{ohms_at, conductance, IsSettledWithin, IsSettledAt, HoldsResidual, least_conductance, diagonal, residual_down, residual_up}
 use Rattle.gic_fixed.specs.Encloses.{Encloses}
+use Rattle.gic_fixed.specs.Ends.{IsAtMostWide}
 
 -- where guesses are settled within t grains, each live node's potential in each solution lies within v_k t grains of its guess, for each bound vector v
 abbrev pub GuessesHoldPotentials : Type 0
@@ -37,7 +38,7 @@ abbrev pub RoundedResidualsAreNarrow : Type 0
 RoundedResidualsAreNarrow = (network : Network) (stands : Item → Bool) (volts x : ℕ → ℤ) (k : ℕ) →
     let standing = standing_elements network stands in
     IsWithinLimits network →
-    (residual_up standing volts x k -ℤ residual_down standing volts x k) ≤ℤ pos (length (elements_at standing k))
+    IsAtMostWide (length (elements_at standing k)) (residual_down standing volts x k) (residual_up standing volts x k)
 
 -- the diagonal is at least the conductance
 abbrev pub DiagonalIsEnough : Type 0

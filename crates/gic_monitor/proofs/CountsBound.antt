@@ -4,6 +4,7 @@ use Rattle.std.specs.List.{AllByRecursion, count_by}
 use Rattle.std.proofs.lemmas.Grind.{common_steps}
 use Rattle.std.proofs.lemmas.Bool.Decides.{nat_tests}
 use Rattle.std.proofs.lemmas.List.Sums.{sum_by-cons}
+use Rattle.gic_base.proofs.Each.{weaker}
 use Rattle.gic_fixed.proofs.Integers.{linear, ≤ℤ-from_*ℤ}
 use Rattle.gic_fixed.proofs.Enclosures.{≤ℤ-times}
 use Rattle.gic_view.specs.View.{View, effective_at}
@@ -61,11 +62,6 @@ count_by-le p q (x ∷ xs) h =
     let left = sum_by-cons (λ x. cond (p x) 1 0) x xs in
     let right = sum_by-cons (λ x. cond (q x) 1 0) x xs in
     omega arith
-
--- a fact of each element that follows from another
-weaker : {X : Type 0} (P Q : X → Type 0) → ((x : X) → P x → Q x) → (xs : List X) → AllByRecursion P xs → AllByRecursion Q xs
-weaker P Q f [] h = tt
-weaker P Q f (x ∷ xs) h = (f x h.0, weaker P Q f xs h.1)
 
 -- the certain count is at most the exact one
 pub certain_at_most : (threshold unit : ℕ) (steps : List (View × Current)) → AllByRecursion (λ step. ShowsUnit unit step.0 step.1) steps →

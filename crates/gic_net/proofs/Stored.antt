@@ -7,13 +7,14 @@ use Rattle.std.specs.List.{filter, list_any}
 use Rattle.std.proofs.lemmas.Bool.{ne_eqb}
 use Rattle.std.proofs.lemmas.Bool.Decides.{nat_tests}
 use Rattle.std.specs.FinSet.{insert, remove}
+use Rattle.gic_base.proofs.Each.{weaker}
 use Rattle.gic_model.specs.declared.parts.Element.{Element}
 use Rattle.gic_model.specs.declared.parts.Item.{Item}
 use Rattle.gic_model.specs.Network.{Network}
 use Rattle.gic_model.specs.Limits.{IsWithinLimits}
 use Rattle.gic_model.specs.Standing.{item_number}
 use Rattle.gic_net.specs.Switched.{Items, has_element, switched}
-use Rattle.gic_model.proofs.Members.{weaker, filter_same}
+use Rattle.gic_model.proofs.Members.{filter_same}
 use Rattle.gic_net.specs.Net.{NetView, no_element, closed_net}
 use Rattle.gic_net.specs.Row.{NodeRow, item_number_at, stands_by, AreMarked, gathered}
 use Rattle.gic_net.specs.ItemIndex.{IsNextOf, IsItemIndex}

@@ -7,12 +7,13 @@ use Rattle.std.specs.FinSet.{contains, insert, remove, empty, contains-insert, c
 use Rattle.std.specs.Cmp.{nat_cmp_total, unsigned_tied, nat_eq_equiv}
 use Rattle.std.proofs.lemmas.List.Folds.{find-append}
 use mathlib.Core.List.{reverse-cons}
+use Rattle.gic_base.proofs.Each.{weaker}
 use Rattle.gic_model.specs.declared.parts.Item.{Item}
 use Rattle.gic_model.specs.declared.parts.Switching.{Switching}
 use Rattle.gic_model.specs.Network.{Network}
 use Rattle.gic_model.specs.Standing.{item_number, is_item, stands_after, standing_elements}
 use Rattle.gic_net.specs.Switched.{Items, has_element, stands_without, switched, switched_by}
-use Rattle.gic_model.proofs.Members.{filter_same, placed, any_of_each, weaker, for_each}
+use Rattle.gic_model.proofs.Members.{filter_same, placed, any_of_each, for_each}
 
 -- tests that agree on the items that have an element let the same elements stand
 pub standing-same : (network : Network) (f g : Item → Bool) → ((item : Item) → has_element network item ≡ true → f item ≡ g item) → standing_elements network f ≡ standing_elements network g

@@ -4,6 +4,7 @@ use Rattle.std.specs.List.{filter, list_any, enumerate_from, AllByRecursion}
 use Rattle.std.proofs.lemmas.List.Folds.{list_any_at}
 use Rattle.std.specs.FinSet.{contains, insert, remove, contains-insert, contains-remove, same_set, nat_cmp-IsAntisymmetric}
 use Rattle.std.specs.Cmp.{nat_cmp_total, unsigned_tied, nat_eq_equiv}
+use Rattle.gic_base.proofs.Each.{weaker}
 use Rattle.gic_model.specs.declared.parts.Element.{Element}
 use Rattle.gic_model.specs.declared.parts.Item.{Item}
 use Rattle.gic_model.specs.declared.parts.Switching.{Switching}
@@ -11,7 +12,7 @@ use Rattle.gic_model.specs.Network.{Network}
 use Rattle.gic_model.specs.Standing.{item_number, is_item, standing_elements, stands_after}
 use Rattle.gic_model.specs.Sums.{Placed}
 use Rattle.gic_model.proofs.LastRow.{last_row}
-use Rattle.gic_model.proofs.Members.{placed, any_of_each, weaker, for_each}
+use Rattle.gic_model.proofs.Members.{placed, any_of_each, for_each}
 use Rattle.gic_net.specs.Switched.{Items, has_element}
 use Rattle.gic_net.specs.Net.{NetView, stands, standing, element_of, no_element, switched_net}
 use Rattle.gic_net.proofs.Switched.{one_row}

@@ -1,5 +1,6 @@
 //! The greatest current over all orientations of a uniform field.
-ghost use Rattle.std.specs.Prelude.{◌≡◌, ℕ, ◌+◌, ◌*◌, ◌^◌, ◌<◌, ◌≤◌, ℤ, pos, ◌-ℤ◌, ◌≤ℤ◌, unsigned_abs};
+ghost use Rattle.std.specs.Prelude.{◌≡◌, ℕ, ◌+◌, ◌*◌, ◌^◌, ◌<◌, ◌≤◌, ℤ, pos, ◌≤ℤ◌, unsigned_abs};
+ghost use Rattle.gic_fixed.specs.Ends.{IsAtMostWide};
 ghost use Rattle.gic_fixed.specs.Rounding.{least_abs, greatest_abs};
 ghost use Rattle.gic_fixed.specs.Encloses.{Encloses, IsWithin};
 ghost use Rattle.gic_fixed.specs.Roots.{IsFloorRoot, IsCeilRoot};
@@ -57,8 +58,8 @@ pub fn worst(north: Interval, east: Interval) -> Interval
 
     // From a width of 2 on, the result is at most twice as wide as the wider of the two.
     ensures narrow { (width : ℕ) → 2 ≤ width →
-        (north.hi -ℤ north.lo) ≤ℤ pos width → (east.hi -ℤ east.lo) ≤ℤ pos width →
-        (result.hi -ℤ result.lo) ≤ℤ pos (2 * width) }
+        IsAtMostWide width north.lo north.hi → IsAtMostWide width east.lo east.hi →
+        IsAtMostWide (2 * width) result.lo result.hi }
 {
     let a = north.abs();
     let b = east.abs();

@@ -4,13 +4,13 @@ use Rattle.std.specs.List.{AllByRecursion, sum_by}
 use Rattle.std.proofs.lemmas.Nat.{le-div}
 use Rattle.std.proofs.lemmas.List.Sums.{sum_by-cons, sum_by-le}
 use Rattle.std.proofs.lemmas.List.Elements.{All-from_recursion}
+use Rattle.gic_base.proofs.Each.{weaker}
 use Rattle.gic_model.specs.Conductance.{conductance_down}
 use Rattle.gic_model.specs.Limits.{IsWithinLimits, IsElementWithin}
 use Rattle.gic_model.specs.Sums.{Placed}
 use Rattle.gic_model.specs.Ohms.{product_of_ohms}
 use Rattle.gic_model.specs.Standing.{IsLive}
 use Rattle.gic_model.specs.Guess.{least_conductance}
-use Rattle.gic_model.proofs.Members.{weaker}
 use Rattle.gic_model.proofs.SumLaws.{product_positive}
 use Rattle.gic_model.proofs.Ends.{standing_within, within_at, ohms_at_node}
 use Rattle.gic_net.specs.Net.{NetView, row_at, standing, stands}

@@ -7,6 +7,7 @@ use Rattle.std.proofs.lemmas.Int.{ints, fits_signed_from_abs}
 use Rattle.std.proofs.lemmas.List.{take_more}
 use Rattle.std.proofs.lemmas.List.Sums.{sum_by_more, sum_by_more_le, sum_by-le}
 use Rattle.std.proofs.lemmas.List.Elements.{All-from_recursion}
+use Rattle.gic_base.proofs.Each.{weaker}
 use Rattle.gic_fixed.proofs.Sums.{sum_of-++}
 use Rattle.gic_model.specs.declared.parts.Element.{Element}
 use Rattle.gic_model.specs.Network.{ends_at}
@@ -14,7 +15,6 @@ use Rattle.gic_model.specs.Limits.{IsWithinLimits, IsElementWithin}
 use Rattle.gic_model.specs.Sums.{Placed, sum_of}
 use Rattle.gic_model.specs.Standing.{IsLive}
 use Rattle.gic_model.specs.Guess.{diagonal}
-use Rattle.gic_model.proofs.Members.{weaker}
 use Rattle.gic_model.proofs.Ends.{standing_within, within_at}
 use Rattle.gic_net.specs.Net.{NetView, row_at, placed_at, no_element, standing, stands}
 use Rattle.gic_net.proofs.Places.{few_at, placed_is, some_any}

@@ -1,5 +1,6 @@
 //! How far guesses are from being settled, as their residuals show.
-ghost use Rattle.std.specs.Prelude.{◌≡◌, ℕ, ℤ, ◌+◌, ◌*◌, ◌/◌, ◌^◌, ◌<◌, ◌≤◌, ◌⊎◌, length, pos, ◌-ℤ◌, ◌≤ℤ◌, unsigned_abs};
+ghost use Rattle.std.specs.Prelude.{◌≡◌, ℕ, ℤ, ◌+◌, ◌*◌, ◌/◌, ◌^◌, ◌<◌, ◌≤◌, ◌⊎◌, length, unsigned_abs};
+ghost use Rattle.gic_fixed.specs.Ends.{IsAtMostWide};
 ghost use Rattle.gic_fixed.specs.Encloses.{IsWithin};
 ghost use Rattle.gic_model.specs.Standing.{IsLive};
 ghost use Rattle.gic_model.specs.Voltages.{number_at};
@@ -44,7 +45,7 @@ fn reach_at(net: &Net, low: &[i128], high: &[i128], node: NodeId) -> u128
     requires high_count { length high.now ≡ net.now.network.nodes }
     requires node { node.0 < net.now.network.nodes }
     requires live { IsLive (standing net.now) node.0 }
-    requires narrow { (number_at high.now node.0 -ℤ number_at low.now node.0) ≤ℤ pos (length (row_at net.now node.0)) }
+    requires narrow { IsAtMostWide (length (row_at net.now node.0)) (number_at low.now node.0) (number_at high.now node.0) }
     requires ends { IsWithin (diagonal (standing net.now) node.0 * 2 ^ 86) (number_at low.now node.0) (number_at high.now node.0) }
     ensures settled { (volts x : ℕ → ℤ) →
         HoldsResidual (standing net.now) volts x node.0 (number_at low.now node.0) (number_at high.now node.0) →
@@ -66,7 +67,7 @@ fn greater_reach(net: &Net, low: &[i128], high: &[i128], node: NodeId, most: u12
     requires low_count { length low.now ≡ net.now.network.nodes }
     requires high_count { length high.now ≡ net.now.network.nodes }
     requires node { node.0 < net.now.network.nodes }
-    requires narrow { (number_at high.now node.0 -ℤ number_at low.now node.0) ≤ℤ pos (length (row_at net.now node.0)) }
+    requires narrow { IsAtMostWide (length (row_at net.now node.0)) (number_at low.now node.0) (number_at high.now node.0) }
     requires ends { IsWithin (diagonal (standing net.now) node.0 * 2 ^ 86) (number_at low.now node.0) (number_at high.now node.0) }
     requires small { most ≤ 2 ^ 99 }
     ensures grows { most ≤ result }
@@ -90,7 +91,7 @@ fn greater_reach(net: &Net, low: &[i128], high: &[i128], node: NodeId, most: u12
 pub fn reach_between(net: &Net, low: &[i128], high: &[i128]) -> u128
     requires low_count { length low.now ≡ net.now.network.nodes }
     requires high_count { length high.now ≡ net.now.network.nodes }
-    requires narrow { (k : ℕ) → (number_at high.now k -ℤ number_at low.now k) ≤ℤ pos (length (row_at net.now k)) }
+    requires narrow { (k : ℕ) → IsAtMostWide (length (row_at net.now k)) (number_at low.now k) (number_at high.now k) }
     requires ends { (k : ℕ) → IsWithin (diagonal (standing net.now) k * 2 ^ 86) (number_at low.now k) (number_at high.now k) }
     ensures settled { (volts x : ℕ → ℤ) → HoldResiduals (standing net.now) volts x low.now high.now →
         IsSettledWithin (standing net.now) volts x result }

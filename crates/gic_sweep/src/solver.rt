@@ -40,9 +40,10 @@ impl Model for Solver {
     ghost invariant = { λ s. IsRoomFor s.guesses s.before.items s.low.items s.high.items s.thinning };
 }
 
-ghost use Rattle.std.specs.Prelude.{◌≡◌, ℕ, ℤ, ◌+◌, ◌^◌, ◌<◌, ◌≤◌, ◌*◌, length, IfOk, replicate, pos, ◌-ℤ◌, ◌≤ℤ◌, unsigned_abs, IsTrue, IfSome, IfNone};
+ghost use Rattle.std.specs.Prelude.{◌≡◌, ℕ, ℤ, ◌+◌, ◌^◌, ◌<◌, ◌≤◌, ◌*◌, length, IfOk, replicate, pos, unsigned_abs, IsTrue, IfSome, IfNone};
 ghost use Rattle.gic_base.specs.declared.id.NodeId.{NodeId};
 ghost use Rattle.gic_fixed.specs.Encloses.{IsWithin};
+ghost use Rattle.gic_fixed.specs.Ends.{IsAtMostWide};
 ghost use Rattle.gic_model.specs.Guess.{most_guess, HoldsResidual, IsSettled, IsSettledWithin, diagonal};
 ghost use Rattle.gic_model.specs.Voltages.{number_at};
 ghost use Rattle.gic_net.specs.Net.{standing, row_at};
@@ -269,7 +270,7 @@ pub fn residual(net: &Net, volts: &Volts, solver: &Solver, node: NodeId) -> Inte
     requires nodes { length solver.now ≡ net.now.network.nodes }
     requires node { node.0 < net.now.network.nodes }
     ensures holds { HoldsResidual (standing net.now) (number_at volts.now) (number_at solver.now) node.0 result.lo result.hi }
-    ensures narrow { (result.hi -ℤ result.lo) ≤ℤ pos (length (row_at net.now node.0)) }
+    ensures narrow { IsAtMostWide (length (row_at net.now node.0)) result.lo result.hi }
     ensures small { IsWithin (diagonal (standing net.now) node.0 * 2 ^ 86) result.lo result.hi }
 {
     rounded_residual_law();
@@ -285,7 +286,7 @@ pub fn residuals(net: &Net, volts: &Volts, solver: &Solver, low: &mut [i128], hi
     requires low_count { length low.old ≡ net.now.network.nodes }
     requires high_count { length high.old ≡ net.now.network.nodes }
     ensures holds { HoldResiduals (standing net.now) (number_at volts.now) (number_at solver.now) low.new high.new }
-    ensures narrow { (k : ℕ) → (number_at high.new k -ℤ number_at low.new k) ≤ℤ pos (length (row_at net.now k)) }
+    ensures narrow { (k : ℕ) → IsAtMostWide (length (row_at net.now k)) (number_at low.new k) (number_at high.new k) }
     ensures small { (k : ℕ) → IsWithin (diagonal (standing net.now) k * 2 ^ 86) (number_at low.new k) (number_at high.new k) }
     ensures low_count { length low.new ≡ net.now.network.nodes }
     ensures high_count { length high.new ≡ net.now.network.nodes }

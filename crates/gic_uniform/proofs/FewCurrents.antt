@@ -7,6 +7,7 @@ use Rattle.std.proofs.lemmas.List.Elements.{recursion_from_All}
 use Rattle.std.proofs.lemmas.List.{get_or_default}
 use Rattle.std.proofs.Math.Nat.{mul-le-mul, mul-le-mul_left, mul-le-mul_right}
 use Rattle.gic_base.specs.declared.id.ElementId.{ElementId}
+use Rattle.gic_base.proofs.Each.{weaker}
 use Rattle.gic_case.specs.Lists.{Lists}
 use Rattle.gic_case.specs.declared.item.Kind.{Kind}
 use Rattle.gic_case.specs.declared.item.Kind.TheVariants as kinds
@@ -20,7 +21,7 @@ use Rattle.gic_model.specs.Solution.{Solution, IsOhm, IsSolution}
 use Rattle.gic_model.specs.Standing.{is_live, IsLive, is_standing, value_at}
 use Rattle.gic_model.specs.Sums.{Placed}
 use Rattle.gic_model.proofs.Ends.{IsLiveEnd, end_own, from_own, ends_live}
-use Rattle.gic_model.proofs.Members.{weaker, both, by_any}
+use Rattle.gic_model.proofs.Members.{both, by_any}
 use Rattle.gic_winding.specs.ElementList.{elements_of}
 use Rattle.gic_winding.specs.Order.{weighted_from}
 use Rattle.gic_winding.specs.Weights.{low_volts_of, transformer_at, no_transformer, weighted_windings, windings_at}

@@ -3,7 +3,7 @@ use Rattle.std.proofs.Common.{◌≡◌, ℕ, ◌+◌, ◌<◌, ◌≤◌, true,
 use Rattle.std.proofs.lemmas.List.{get_or_default}
 use Rattle.std.specs.List.{AllByRecursion, enumerate_from, filter}
 use Rattle.gic_base.specs.declared.id.ElementId.{ElementId}
-use Rattle.gic_base.proofs.Each.{all_joined}
+use Rattle.gic_base.proofs.Each.{all_joined, weaker}
 use Rattle.gic_case.specs.declared.item.Kind.{Kind}
 use Rattle.gic_case.specs.declared.item.Kind.TheVariants as kinds
 use Rattle.gic_case.specs.declared.item.Transformer.{Transformer}
@@ -11,7 +11,6 @@ use Rattle.gic_case.specs.Lists.{Lists, neutrals_of}
 use Rattle.gic_model.specs.declared.parts.Role.{Role}
 use Rattle.gic_model.specs.declared.parts.Element.{Element}
 use Rattle.gic_model.specs.Network.{Network}
-use Rattle.gic_model.proofs.Members.{weaker}
 use Rattle.gic_winding.specs.ElementList.{windings_of, elements_of}
 use Rattle.gic_winding.specs.declared.weights.Weights.{Weights}
 use Rattle.std.specs.Prelude.{slice_get}

@@ -1,6 +1,6 @@
+use Rattle.gic_base.proofs.Each.{weaker}
 use Rattle.gic_model.specs.Standing.{standing_elements, elements_at}
 use Rattle.gic_model.specs.Limits.{IsElementWithin}
-use Rattle.gic_model.proofs.Members.{weaker}
 use Rattle.gic_model.proofs.Ends.{standing_within, within_at, ohms_at_node}
 use Rattle.gic_model.proofs.Settled.{rounded_up, rounded_twice, IsSmall, small-within}
 use Rattle.gic_model.proofs.laws.diagonal_law.Goals as goal
