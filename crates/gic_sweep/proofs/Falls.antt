@@ -1,5 +1,5 @@
 -- A quotient in two parts.
-use Rattle.std.proofs.Common.{◌≡◌, ℕ, ◌+◌, ◌*◌, ◌/◌, ◌<◌, ◌≤◌, ℤ, pos, ◌+ℤ◌, ◌*ℤ◌, ◌-ℤ◌, ◌≤ℤ◌, unsigned_abs, arith, ap, mul-le-mul_left, div-add-mod', mod-lt}
+use Rattle.std.proofs.Common.{◌≡◌, ℕ, ◌+◌, ◌*◌, ◌/◌, ◌<◌, ◌≤◌, ℤ, pos, ◌+ℤ◌, ◌*ℤ◌, ◌-ℤ◌, ◌≤ℤ◌, ◌<ℤ◌, unsigned_abs, arith, ap, mul-le-mul_left, div-add-mod', mod-lt}
 use Rattle.std.proofs.lemmas.Int.{ints}
 use borrow.Author.Differences.{up, down, sum_is_lem}
 use Rattle.gic_fixed.proofs.Signs.{times_pos, abs_in}
@@ -14,7 +14,7 @@ module _ (d rest : ℕ) (low whole m : ℤ) (p : 0 < d) (le : low ≡ pos d *ℤ
   pub fall_below : (pos d *ℤ m) ≤ℤ (pos 4096 *ℤ low)
   fall_below = omega (arith, ints, parts, times_pos d m, times_pos 4096 low, div-add-mod' (4096 * rest) d)
 
-  pub fall_above : (pos 4096 *ℤ low) ≤ℤ ((pos d *ℤ m) +ℤ pos d)
+  pub fall_above : (pos 4096 *ℤ low) <ℤ ((pos d *ℤ m) +ℤ pos d)
   fall_above = omega (arith, ints, parts, times_pos d m, times_pos 4096 low, div-add-mod' (4096 * rest) d, mod-lt (4096 * rest) p)
 
 -- a guess that falls by m is as near to the exact one as rounding leaves it
@@ -29,7 +29,7 @@ target_up d den h g' g m' m r r' low low' t t' below above rl rh e =
     (omega (arith, mul-le-mul_left den below, mul-le-mul_left den above, rl, rh, ap (λ n. d * den * n) e), omega (arith, mul-le-mul_left den below, mul-le-mul_left den above, rl, rh, ap (λ n. d * den * n) e))
 
 pub target_is : (d den h : ℕ) (low m g t r : ℤ) →
-    (pos d *ℤ m) ≤ℤ (pos 4096 *ℤ low) → (pos 4096 *ℤ low) ≤ℤ ((pos d *ℤ m) +ℤ pos d) →
+    (pos d *ℤ m) ≤ℤ (pos 4096 *ℤ low) → (pos 4096 *ℤ low) <ℤ ((pos d *ℤ m) +ℤ pos d) →
     (pos (4096 * den) *ℤ low) ≤ℤ r → r ≤ℤ (pos (4096 * den) *ℤ (low +ℤ pos h)) → t ≡ g -ℤ m →
     unsigned_abs ((pos (d * den) *ℤ (t -ℤ g)) +ℤ r) ≤ den * (2 * d + 4096 * h)
 target_is d den h low m g t r below above rl rh e =

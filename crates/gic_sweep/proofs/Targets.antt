@@ -1,12 +1,12 @@
 -- Where a sweep moves a guess to.
-use Rattle.std.proofs.Common.{◌≡◌, ℕ, ◌+◌, ◌*◌, ◌^◌, ◌≤◌, ℤ, pos, ◌+ℤ◌, ◌-ℤ◌, ◌*ℤ◌, ◌≤ℤ◌, unsigned_abs, arith, ap, sym}
+use Rattle.std.proofs.Common.{◌≡◌, ℕ, ◌+◌, ◌*◌, ◌^◌, ◌≤◌, ℤ, pos, ◌+ℤ◌, ◌-ℤ◌, ◌*ℤ◌, ◌≤ℤ◌, ◌<ℤ◌, unsigned_abs, arith, ap, sym}
 use lib.IntN.{*ℤ_comm}
 use Rattle.gic_fixed.proofs.Integers.{linear, *ℤ-≤ℤ, *ℤ_assoc}
 use Rattle.gic_sweep.proofs.Falls.{target_is}
 
 -- d is the diagonal, den the product of the resistances and res the residual over it, which the rounded residuals low and high hold; the guess g falls by m to t
 module _ (d den h : ℕ) (low high m g t res : ℤ)
-    (below : (pos d *ℤ m) ≤ℤ (pos 4096 *ℤ low)) (above : (pos 4096 *ℤ low) ≤ℤ ((pos d *ℤ m) +ℤ pos d))
+    (below : (pos d *ℤ m) ≤ℤ (pos 4096 *ℤ low)) (above : (pos 4096 *ℤ low) <ℤ ((pos d *ℤ m) +ℤ pos d))
     (above_lo : (low *ℤ pos den) ≤ℤ (pos 256 *ℤ res)) (below_hi : (pos 256 *ℤ res) ≤ℤ (high *ℤ pos den))
     (narrow : (high -ℤ low) ≤ℤ pos h) (te : t ≡ g -ℤ m) where
   scaled : pos 4096 *ℤ (pos 256 *ℤ res) ≡ pos (2 ^ 20) *ℤ res

@@ -51,7 +51,7 @@ pub fn fall(low: i128, d: u64) -> i128
     requires most { d ≤ 2 ^ 40 }
     requires low { unsigned_abs low ≤ d * 2 ^ 86 }
     ensures below { (pos d *ℤ result) ≤ℤ (pos 4096 *ℤ low) }
-    ensures above { (pos 4096 *ℤ low) ≤ℤ ((pos d *ℤ result) +ℤ pos d) }
+    ensures above { (pos 4096 *ℤ low) <ℤ ((pos d *ℤ result) +ℤ pos d) }
     ensures small { unsigned_abs result ≤ 2 ^ 99 }
 {
     let whole = quotient(low, d);

@@ -1,4 +1,4 @@
-use Rattle.std.proofs.Common.{◌≡◌, ℕ, ℤ, pos, ◌+ℤ◌, ◌-ℤ◌, ◌*ℤ◌, ◌≤ℤ◌, arith, rules, length, subst, to_z, of_z}
+use Rattle.std.proofs.Common.{◌≡◌, ℕ, ℤ, pos, ◌+ℤ◌, ◌-ℤ◌, ◌*ℤ◌, ◌≤ℤ◌, ◌<ℤ◌, arith, rules, length, subst, to_z, of_z}
 use Rattle.std.proofs.lemmas.Int.{ints, to_z-of_z, fits_signed_from_abs}
 use mir.Syntax.{w128}
 use Rattle.gic_model.specs.Guess.{diagonal, ohms_at, residual, residual_down, residual_up}
@@ -27,9 +27,9 @@ returns-clause-value c =
     let g = x k in
     let t = to_z w128 (of_z w128 (to_z w128 (of_z w128 g) -ℤ to_z w128 (of_z w128 m))) in
     let below : (pos c.diagonal.result *ℤ m) ≤ℤ (pos 4096 *ℤ lo) = search (rules, same, c.fall-down.ensures.below) in
-    let above : (pos 4096 *ℤ lo) ≤ℤ ((pos c.diagonal.result *ℤ m) +ℤ pos c.diagonal.result) = search (rules, same, c.fall-down.ensures.above) in
+    let above : (pos 4096 *ℤ lo) <ℤ ((pos c.diagonal.result *ℤ m) +ℤ pos c.diagonal.result) = search (rules, same, c.fall-down.ensures.above) in
     let below' : (pos d *ℤ m) ≤ℤ (pos 4096 *ℤ low) = subst (λ (n : ℕ). (pos n *ℤ m) ≤ℤ (pos 4096 *ℤ low)) de (subst (λ (z : ℤ). (pos c.diagonal.result *ℤ m) ≤ℤ (pos 4096 *ℤ z)) le below) in
-    let above' : (pos 4096 *ℤ low) ≤ℤ ((pos d *ℤ m) +ℤ pos d) = subst (λ (n : ℕ). (pos 4096 *ℤ low) ≤ℤ ((pos n *ℤ m) +ℤ pos n)) de (subst (λ (z : ℤ). (pos 4096 *ℤ z) ≤ℤ ((pos c.diagonal.result *ℤ m) +ℤ pos c.diagonal.result)) le above) in
+    let above' : (pos 4096 *ℤ low) <ℤ ((pos d *ℤ m) +ℤ pos d) = subst (λ (n : ℕ). (pos 4096 *ℤ low) <ℤ ((pos n *ℤ m) +ℤ pos n)) de (subst (λ (z : ℤ). (pos 4096 *ℤ z) <ℤ ((pos c.diagonal.result *ℤ m) +ℤ pos c.diagonal.result)) le above) in
     let te : t ≡ g -ℤ m = omega (arith, ints, c.requires.guesses k, c.fall-down.ensures.small) in
     let holds = c.rounded_residual_law.ensures.holds net.network (stands net) v x k c.within_limits.ensures in
     let narrow = c.rounded_residual_law.ensures.narrow net.network (stands net) v x k c.within_limits.ensures in
