@@ -1,18 +1,23 @@
 //! Potentials of any field from the guesses for two base fields.
-ghost use Rattle.std.specs.Prelude.{◌≡◌, ◌<◌, IfOk, length};
+ghost use Rattle.std.specs.Prelude.{◌≡◌, ◌<◌, IfOk, length, slice_index};
+ghost use Rattle.gic_base.specs.declared.limits.TheConstants.{MOST_WALK};
+ghost use Rattle.gic_bound.specs.Entries.{IsBoundWithin};
 ghost use Rattle.gic_effective.specs.Holds.{AreOfNetwork};
 ghost use Rattle.gic_induce.specs.Voltage.{IsFieldWithin};
+ghost use Rattle.gic_net.specs.Net.{standing};
+ghost use Rattle.gic_winding.specs.ElementList.{elements_of};
 
 use crate::vectors::least_bound;
 use gic_base::{ElementId, OutOfMemory};
 use gic_bases::{Bases, prepare, step_from_bases};
-use gic_case::read_case;
+use gic_bound::BoundVector;
+use gic_case::{Case, read_case};
 use gic_effective::laws::line_items_law;
 use gic_effective::{current_na, milli};
 use gic_enclose::Potentials;
 use gic_fixed::Interval;
 use gic_induce::Fields;
-use gic_model::Volts;
+use gic_model::{Elements, Volts};
 use gic_net::Net;
 use gic_sweep::{Solver, Steps};
 use gic_winding::elements;
@@ -51,6 +56,61 @@ fn current_ma(
     }
 }
 
+/// The current of the third element of a case's network in a field in mV/km, for the width 10.
+fn current_in_field<L: Ledger>(
+    alloc: Global,
+    case: &Case,
+    list: &Elements,
+    net: &Net,
+    vector: &BoundVector,
+    north: i32,
+    east: i32,
+    blank: Blank,
+) -> Result<Option<Interval>, Fail>
+    requires name { blank.name ≡ L.name }
+    requires parts { blank.parts ≡ L.parts }
+    requires some { 0 < blank.parts }
+    requires elements { list.now ≡ elements_of case.now }
+    requires network { net.now.network ≡ list.now }
+    requires entries { length vector.now ≡ net.now.network.nodes }
+    requires bound { IsBoundWithin (standing net.now) MOST_WALK (slice_index vector.now) }
+    requires north { IsFieldWithin north }
+    requires east { IsFieldWithin east }
+{
+    let mut steps: Steps<L> = Steps::new(blank);
+    let zones = case.zones().len() as u16;
+    let mut volts = Volts::new(alloc, list)?;
+    let mut solver = Solver::new(alloc, net.nodes())?;
+    let mut bases = Bases::new(alloc, net.nodes(), zones)?;
+    let mut base_fields = uniform_fields(alloc, zones, 0, 0)?;
+    let fields = uniform_fields(alloc, zones, north, east)?;
+    let mut potentials = Potentials::new(alloc, net.nodes())?;
+    line_items_law();
+    prepare(
+        case,
+        net,
+        vector,
+        &mut base_fields,
+        &mut volts,
+        &mut solver,
+        &mut bases,
+        &mut steps,
+    );
+    step_from_bases(
+        case,
+        net,
+        &fields,
+        vector,
+        10,
+        &bases,
+        &mut volts,
+        &mut solver,
+        &mut potentials,
+        &mut steps,
+    );
+    Ok(current_ma(net, &volts, &potentials, ElementId(2)))
+}
+
 /// The current in the line of case P in a field in mV/km, for the width 10.
 fn line_current<L: Ledger>(
     alloc: Global,
@@ -64,42 +124,11 @@ fn line_current<L: Ledger>(
     requires north { IsFieldWithin north }
     requires east { IsFieldWithin east }
 {
-    let mut steps: Steps<L> = Steps::new(blank);
     let case = read_case(alloc, CASE_P.as_bytes())?;
     let list = elements(alloc, &case)?;
     let net = Net::build(alloc, &list)?;
     let vector = least_bound(alloc, &net)?;
-    let mut volts = Volts::new(alloc, &list)?;
-    let mut solver = Solver::new(alloc, net.nodes())?;
-    let zones = case.zones().len() as u16;
-    let mut bases = Bases::new(alloc, net.nodes(), zones)?;
-    let mut base_fields = uniform_fields(alloc, zones, 0, 0)?;
-    line_items_law();
-    prepare(
-        &case,
-        &net,
-        &vector,
-        &mut base_fields,
-        &mut volts,
-        &mut solver,
-        &mut bases,
-        &mut steps,
-    );
-    let fields = uniform_fields(alloc, zones, north, east)?;
-    let mut potentials = Potentials::new(alloc, net.nodes())?;
-    step_from_bases(
-        &case,
-        &net,
-        &fields,
-        &vector,
-        10,
-        &bases,
-        &mut volts,
-        &mut solver,
-        &mut potentials,
-        &mut steps,
-    );
-    Ok(current_ma(&net, &volts, &potentials, ElementId(2)))
+    current_in_field::<L>(alloc, &case, &list, &net, &vector, north, east, blank)
 }
 
 /// Whether an interval holds a number, and is at most 10 wide.

@@ -5,8 +5,6 @@
 #[cfg(test)]
 mod bases;
 #[cfg(test)]
-mod certificate;
-#[cfg(test)]
 mod effective;
 #[cfg(test)]
 mod sweeps;

@@ -63,11 +63,16 @@ fn entries_of(alloc: Global, vector: &BoundVector, nodes: u16) -> Result<Vec<u16
     Ok(list)
 }
 
-/// The entries of a case's least bound vector, and their walk.
-fn bounded(alloc: Global, text: &str) -> Result<(Vec<u16>, u16), Fail> {
+/// The network of a case, in which all elements stand.
+fn net_of(alloc: Global, text: &str) -> Result<Net, Fail> {
     let case = read_case(alloc, text.as_bytes())?;
     let list = elements(alloc, &case)?;
-    let net = Net::build(alloc, &list)?;
+    Ok(Net::build(alloc, &list)?)
+}
+
+/// The entries of a case's least bound vector, and their walk.
+fn bounded(alloc: Global, text: &str) -> Result<(Vec<u16>, u16), Fail> {
+    let net = net_of(alloc, text)?;
     let vector = least_bound(alloc, &net)?;
     let entries = entries_of(alloc, &vector, net.nodes())?;
     Ok((entries, vector.walk()))
@@ -81,9 +86,7 @@ fn is_bound_vector(
     item: Item,
     opens: bool,
 ) -> Result<bool, Fail> {
-    let case = read_case(alloc, text.as_bytes())?;
-    let list = elements(alloc, &case)?;
-    let mut net = Net::build(alloc, &list)?;
+    let mut net = net_of(alloc, text)?;
     net.switch(item, opens);
     let vector = vector_of(alloc, net.nodes(), entries)?;
     Ok(rows_positive(&net, &vector))
@@ -128,9 +131,7 @@ fn tells_bound_vectors(rt: HostRuntime) -> Result<(), Fail> {
 
 /// The entries of the least bound vector of a case, which has one, and of some bound vector, both from these entries.
 fn found_from(alloc: Global, text: &str, entries: &[u16]) -> Result<(Vec<u16>, Vec<u16>), Fail> {
-    let case = read_case(alloc, text.as_bytes())?;
-    let list = elements(alloc, &case)?;
-    let net = Net::build(alloc, &list)?;
+    let net = net_of(alloc, text)?;
     let nodes = net.nodes();
     let mut room = Room::new(alloc, nodes)?;
     let mut least = vector_of(alloc, nodes, entries)?;
@@ -162,9 +163,7 @@ fn finds_bound_vectors_from_proposals(rt: HostRuntime) -> Result<(), Fail> {
 
 /// Whether what is found from nothing is a bound vector of a case, and what is found from that one with an item open.
 fn are_found(alloc: Global, text: &str, item: Item) -> Result<(bool, bool), Fail> {
-    let case = read_case(alloc, text.as_bytes())?;
-    let list = elements(alloc, &case)?;
-    let mut net = Net::build(alloc, &list)?;
+    let mut net = net_of(alloc, text)?;
     let mut vector = BoundVector::new(alloc, net.nodes())?;
     let mut start = Start::new(alloc, net.nodes())?;
     find_bound(&net, &mut vector, &mut start)?;
