@@ -56,7 +56,8 @@ fn current_ma(
     }
 }
 
-/// The current of the third element of a case's network in a field in mV/km, for the width 10.
+/// The current of the third element of a case's network in milliamperes, where it stands, in a field in mV/km, for the
+/// width 10. The elements and the net are those of the case.
 fn current_in_field<L: Ledger>(
     alloc: Global,
     case: &Case,
@@ -111,7 +112,7 @@ fn current_in_field<L: Ledger>(
     Ok(current_ma(net, &volts, &potentials, ElementId(2)))
 }
 
-/// The current in the line of case P in a field in mV/km, for the width 10.
+/// The current in the line of case P in milliamperes, in a field in mV/km, for the width 10.
 fn line_current<L: Ledger>(
     alloc: Global,
     north: i32,

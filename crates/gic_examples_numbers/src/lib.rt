@@ -7,6 +7,8 @@ mod bases;
 #[cfg(test)]
 mod effective;
 #[cfg(test)]
+mod solving;
+#[cfg(test)]
 mod sweeps;
 #[cfg(test)]
 mod texts;

@@ -1,5 +1,6 @@
 //! Bound vectors, from the text of a case.
 ghost use Rattle.std.specs.Prelude.{◌≡◌, IfOk, length, slice_index};
+ghost use Rattle.gic_base.specs.declared.limits.TheConstants.{MOST_WALK};
 ghost use Rattle.gic_bound.specs.Entries.{IsBoundWithin};
 ghost use Rattle.gic_net.specs.Net.{standing};
 
@@ -33,7 +34,7 @@ fn case_ps(alloc: Global) -> Result<String, AllocError> {
 /// The least bound vector of a net, which has one.
 pub(crate) fn least_bound(alloc: Global, net: &Net) -> Result<BoundVector, Fail>
     ensures entries { IfOk result (λ vector. length vector ≡ net.now.network.nodes) }
-    ensures bound { IfOk result (λ vector. IsBoundWithin (standing net.now) 4096 (slice_index vector)) }
+    ensures bound { IfOk result (λ vector. IsBoundWithin (standing net.now) MOST_WALK (slice_index vector)) }
 {
     let mut vector = BoundVector::new(alloc, net.nodes())?;
     bound(net, &mut vector)?;
@@ -63,7 +64,7 @@ fn entries_of(alloc: Global, vector: &BoundVector, nodes: u16) -> Result<Vec<u16
     Ok(list)
 }
 
-/// The network of a case, in which all elements stand.
+/// The network of the case in a text, with all elements standing.
 fn net_of(alloc: Global, text: &str) -> Result<Net, Fail> {
     let case = read_case(alloc, text.as_bytes())?;
     let list = elements(alloc, &case)?;

@@ -1,4 +1,4 @@
-use Rattle.std.proofs.Common.{◌≡◌, All, rules, sym, subst, ◌∙◌}
+use Rattle.std.proofs.Common.{All, rules, sym, subst, ◌∙◌}
 use Rattle.gic_model.specs.declared.parts.Element.{Element}
 use Rattle.gic_model.specs.Network.{Network}
 use Rattle.gic_induce.specs.LineVolts.{IsLineWithin}
