@@ -1,5 +1,5 @@
 //! Long division by a number of at most 32 bits, in three digits.
-ghost use Rattle.std.specs.Prelude.{◌≡◌, ◌+◌, ◌*◌, ◌/◌, ◌%◌, ◌^◌, ◌<◌, ◌≤◌, ◌≤ℤ◌, pos};
+ghost use Rattle.std.specs.Prelude.{◌≡◌, ℕ, ◌+◌, ◌*◌, ◌/◌, ◌%◌, ◌^◌, ◌<◌, ◌≤◌, ◌≤ℤ◌, pos, negsuc};
 ghost use Rattle.gic_fixed.specs.Rounding.{floor_div, ceil_div};
 
 /// One digit of a long quotient, rounded down, and what is left.
@@ -66,6 +66,36 @@ fn divided(number: u128, divisor: u64, reciprocal: u64) -> Quotient
     }
 }
 
+/// How far a number is from 0, and one below 0 from -1. Where the highest bit is set, all bits are turned.
+#[inline(always)]
+fn depth(number: i128) -> u128
+    ensures above { (n : ℕ) → number ≡ pos n → result ≡ n }
+    ensures below { (n : ℕ) → number ≡ negsuc n → result ≡ n }
+    ensures small { result < 2 ^ 127 }
+{
+    (number ^ (number >> 127)) as u128
+}
+
+/// The number of a depth on the other number's side: so far above 0, or so far below -1 where the other is below 0.
+#[inline(always)]
+fn on_side_of(far: u128, other: i128) -> i128
+    requires { far < 2 ^ 127 }
+    ensures above { (n : ℕ) → other ≡ pos n → result ≡ pos far }
+    ensures below { (n : ℕ) → other ≡ negsuc n → result ≡ negsuc far }
+{
+    far as i128 ^ (other >> 127)
+}
+
+/// What is left of the depth of a multiple of the divisor: nothing, or below 0 the most that can be left.
+#[inline(always)]
+fn rest_of_a_multiple(number: i128, divisor: u64) -> u64
+    requires { 0 < divisor }
+    ensures above { (n : ℕ) → number ≡ pos n → result ≡ 0 }
+    ensures below { (n : ℕ) → number ≡ negsuc n → result + 1 ≡ divisor }
+{
+    if number < 0 { divisor - 1 } else { 0 }
+}
+
 /// A quotient rounded down, also below 0.
 #[inline(always)]
 pub fn floor_of(number: i128, divisor: u64, reciprocal: u64) -> i128
@@ -74,11 +104,7 @@ pub fn floor_of(number: i128, divisor: u64, reciprocal: u64) -> i128
     requires below { reciprocal * divisor ≤ 2 ^ 64 }
     ensures { result ≡ floor_div number (pos divisor) }
 {
-    if number < 0 {
-        -1 - divided((-1 - number) as u128, divisor, reciprocal).whole as i128
-    } else {
-        divided(number as u128, divisor, reciprocal).whole as i128
-    }
+    on_side_of(divided(depth(number), divisor, reciprocal).whole, number)
 }
 
 /// A quotient rounded down, and rounded up.
@@ -98,19 +124,12 @@ pub fn ends_of(number: i128, divisor: u64, reciprocal: u64) -> Ends
     ensures high { result.high ≡ ceil_div number (pos divisor) }
     ensures ordered { result.low ≤ℤ result.high }
 {
-    if number < 0 {
-        let parts = divided((-1 - number) as u128, divisor, reciprocal);
-        let low = -1 - parts.whole as i128;
-        let high = if parts.rest + 1 == divisor {
-            low
-        } else {
-            low + 1
-        };
-        Ends { low, high }
+    let parts = divided(depth(number), divisor, reciprocal);
+    let low = on_side_of(parts.whole, number);
+    let high = if parts.rest == rest_of_a_multiple(number, divisor) {
+        low
     } else {
-        let parts = divided(number as u128, divisor, reciprocal);
-        let low = parts.whole as i128;
-        let high = if parts.rest == 0 { low } else { low + 1 };
-        Ends { low, high }
-    }
+        low + 1
+    };
+    Ends { low, high }
 }

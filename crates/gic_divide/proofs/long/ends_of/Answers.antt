@@ -1,24 +1,26 @@
-use Rattle.std.proofs.Common.{arith}
-use Rattle.std.proofs.lemmas.Int.{ints}
-use Rattle.gic_divide.proofs.Ceilings.{for_below_same, for_below_more, for_same, for_more, room_above}
+use Rattle.std.proofs.Common.{arith, ap, ◌∙◌, pos, ◌+ℤ◌, to_z, of_z}
+use Rattle.std.specs.Int.{w128}
+use Rattle.std.proofs.lemmas.Int.{to_z-of_z}
+use Rattle.gic_divide.proofs.Ceilings.{is_divided, for_multiple, for_others, for_room}
 use Rattle.gic_divide.proofs.long.ends_of.Goals as goal
 
-pub returns-then-parts-divisor-clause-high : goal.returns-then-parts-divisor-clause-high
-returns-then-parts-divisor-clause-high c =
-    let h = c.divided-parts.ensures in
-    for_below_same c.args.number _ c.args.divisor _ _ (omega arith) h.whole h.rest c.if-parts-divisor.true (omega (arith, ints)) (omega (arith, ints))
+pub returns-then-parts-rest_of_a_multiple-clause-high : goal.returns-then-parts-rest_of_a_multiple-clause-high
+returns-then-parts-rest_of_a_multiple-clause-high c =
+    let deep = c.depth.ensures in
+    let parts = c.divided-parts.ensures in
+    let last = c.rest_of_a_multiple.ensures in
+    let low = c.on_side_of-low.ensures in
+    let is = is_divided c.args.number (to_z-of_z w128 c.args.number c.ranges.number) (omega arith) (parts.whole, parts.rest) (deep.above, deep.below) (last.above, last.below) (low.above, low.below) in
+    to_z-of_z w128 c.on_side_of-low.result (record { sfits = c.on_side_of-low.type_inv }) ∙ for_multiple _ _ _ _ _ _ is c.if-parts-rest_of_a_multiple.true
 
-pub returns-else-parts-divisor-clause-high : goal.returns-else-parts-divisor-clause-high
-returns-else-parts-divisor-clause-high c =
-    let h = c.divided-parts.ensures in
-    for_below_more c.args.number _ c.args.divisor _ _ (omega arith) h.whole h.rest c.if-parts-divisor.false (omega (arith, ints)) (omega (arith, ints))
-
-pub returns-then-parts-eq0-clause-high : goal.returns-then-parts-eq0-clause-high
-returns-then-parts-eq0-clause-high c =
-    let h = c.divided-parts-else-number-lt0.ensures in
-    for_same c.args.number _ c.args.divisor _ _ (omega arith) h.whole h.rest c.if-parts-eq0.true (omega (arith, ints)) (omega (arith, ints))
-
-pub returns-else-parts-eq0-clause-high : goal.returns-else-parts-eq0-clause-high
-returns-else-parts-eq0-clause-high c =
-    let h = c.divided-parts-else-number-lt0.ensures in
-    for_more c.args.number _ c.args.divisor _ _ (omega arith) h.whole h.rest c.if-parts-eq0.false (omega (arith, ints)) (omega (arith, ints, room_above c.args.divisor _ _ (omega arith) h.whole h.rest c.if-parts-eq0.false))
+pub returns-else-parts-rest_of_a_multiple-clause-high : goal.returns-else-parts-rest_of_a_multiple-clause-high
+returns-else-parts-rest_of_a_multiple-clause-high c =
+    let deep = c.depth.ensures in
+    let parts = c.divided-parts.ensures in
+    let last = c.rest_of_a_multiple.ensures in
+    let low = c.on_side_of-low.ensures in
+    let is = is_divided c.args.number (to_z-of_z w128 c.args.number c.ranges.number) (omega arith) (parts.whole, parts.rest) (deep.above, deep.below) (last.above, last.below) (low.above, low.below) in
+    let no = c.if-parts-rest_of_a_multiple.false in
+    let kept = to_z-of_z w128 c.on_side_of-low.result (record { sfits = c.on_side_of-low.type_inv }) in
+    let sum = to_z-of_z w128 _ (for_room _ _ _ _ _ _ is no c.ranges.number) in
+    for_others _ _ _ _ _ _ _ is no (ap (λ k. to_z w128 (of_z w128 (k +ℤ pos 1))) kept ∙ sum)
