@@ -1,0 +1,92 @@
+#!/usr/bin/env python3
+"""Compares the solvers of two trees by their own ratios.
+
+    python3 compare.py BEFORE AFTER FOLDER [RUNS] [CASE ..]
+
+BEFORE and AFTER are programs that bench/solver.sh has built, of two trees, and FOLDER has the cases that it wrote. Each
+case is run so often (60 where RUNS is not given), by the one program and the other in turn. For each ratio of a run's own
+times this prints the median over the runs of the one program and of the other, the quotient of the two medians, and the
+95 per cent interval of that quotient: its percentiles where the pairs of runs are drawn anew 2000 times. The verdict is
+`worse` where the whole interval is above 1.1, `no` where none of it is, and else `undecided`. Behind it stand the least
+times of all runs, which decide nothing. The machine should have nothing else to do.
+"""
+
+import random
+import statistics
+import subprocess
+import sys
+
+CASES = ("p", "realistic", "ps", "made-20", "made-200", "made-2000", "row", "chain", "limit", "far-small", "far")
+# The ratios that both programs print, and the time of a whole field, which other solvers' times are set beside.
+RATIOS = (
+    ("`solve` ÷ sweeps", "solve", "plain"),
+    ("reciprocal ÷ division", "pass", "slow_pass"),
+    ("`bound` ÷ by division", "bound", "slow_bound"),
+    ("whole field, ns", "field", None),
+)
+RUNS = 60
+WORSE = 1.1
+DRAWS = 2000
+
+
+def times(program, case):
+    words = subprocess.run([program, case], check=True, capture_output=True, text=True).stdout.split()
+    return {name: int(figure) for name, figure in zip(words[::2], words[1::2])}
+
+
+def ratio(run, part, whole):
+    return run[part] / (run[whole] if whole else 1)
+
+
+def quotient(pairs):
+    return statistics.median(after for _, after in pairs) / statistics.median(before for before, _ in pairs)
+
+
+def interval(pairs):
+    draw = random.Random(1)
+    quotients = sorted(quotient(draw.choices(pairs, k=len(pairs))) for _ in range(DRAWS))
+    return quotients[DRAWS // 40], quotients[-DRAWS // 40 - 1]
+
+
+def verdict(low, high):
+    if low > WORSE:
+        return "worse"
+    return "no" if high <= WORSE else "undecided"
+
+
+def row(case, name, runs, part, whole):
+    pairs = [(ratio(before, part, whole), ratio(after, part, whole)) for before, after in runs]
+    low, high = interval(pairs)
+    least = [min(run[side][part] for run in runs) for side in (0, 1)]
+    if whole:
+        least = [time / min(run[side][whole] for run in runs) for side, time in enumerate(least)]
+    before, after = (statistics.median(pair[side] for pair in pairs) for side in (0, 1))
+    cells = (
+        case,
+        name,
+        str(len(runs)),
+        f"{before:.4g}",
+        f"{after:.4g}",
+        f"{after / before:.3f}",
+        f"{low:.3f} to {high:.3f}",
+        verdict(low, high),
+        f"{least[1] / least[0]:.3f}",
+    )
+    print("| " + " | ".join(cells) + " |", flush=True)
+
+
+def main():
+    before, after, folder, *rest = sys.argv[1:]
+    count = int(rest[0]) if rest else RUNS
+    heads = ("case", "ratio", "runs", "before", "after", "quotient", "interval", "worse by a tenth", "by least times")
+    print("| " + " | ".join(heads) + " |")
+    print("|---" * len(heads) + "|")
+    for case in rest[1:] or CASES:
+        path = f"{folder}/{case}.toml"
+        runs = [(times(before, path), times(after, path)) for _ in range(count)]
+        for name, part, whole in RATIOS:
+            row(case, name, runs, part, whole)
+
+
+if __name__ == "__main__":
+    main()
