@@ -1,5 +1,5 @@
-//! Exact division by a fixed resistance, by a reciprocal that needs no trust: it only proposes digits, and what is left
-//! decides.
+//! Exact division by a fixed resistance, by a reciprocal: what is left decides each digit, and that the second digit is at
+//! most one too small is proved.
 #![tactic(auto)]
 
 mod divisor;
