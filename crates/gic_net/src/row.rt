@@ -98,12 +98,13 @@ fn push_place(places: &mut Vec<u16>, place: u16) -> Result<(), OutOfMemory>
 pub fn number_of(item: Item) -> u32
     ensures { result ≡ item_number item }
 {
-    match item {
-        Item::Ground(place) => 4 * place as u32,
-        Item::Line(place) => 4 * place as u32 + 1,
-        Item::Transformer(place) => 4 * place as u32 + 2,
-        Item::Neutral(place) => 4 * place as u32 + 3,
-    }
+    let (place, kind) = match item {
+        Item::Ground(place) => (place, 0),
+        Item::Line(place) => (place, 1),
+        Item::Transformer(place) => (place, 2),
+        Item::Neutral(place) => (place, 3),
+    };
+    4 * place as u32 + kind
 }
 
 /// Writes those of the places whose items aren't marked open to the front of the second list, and says how many.
