@@ -101,16 +101,25 @@ module _ (standing : List Placed) where
 
   -- ---- a cap of 4097
 
-  pub full_capped : (low cap v : ℕ → ℕ) → ((k : ℕ) → cap k ≡ entries_where_live standing (λ j. 4097) k) → IsInRange standing low → IsHeld standing low cap v → IsCappedVector standing v
-  full_capped low cap v is range held = record {
-    live_above_0 = λ k live. let a = range.live_above_0 k live in let b = held.from_low k in omega (arith, a, b);
-    capped = λ k. let a = held.to_cap k in let e = is k in ⊎_elim
+  pub full_range : (low cap v : ℕ → ℕ) → ((k : ℕ) → cap k ≡ entries_where_live standing (λ j. 4097) k) → IsInRange standing low → IsNotAbove low v → IsNotAbove v cap → IsInRange standing v
+  full_range low cap v is range from_low to_cap = record {
+    live_above_0 = λ k live. let a = range.live_above_0 k live in let b = from_low k in omega (arith, a, b);
+    capped = λ k. let a = to_cap k in let e = is k in ⊎_elim
         (λ live. let f = entry_live (λ j. 4097) k live in omega (arith, a, e, f))
         (λ dead. let f = entry_dead (λ j. 4097) k dead in omega (arith, a, e, f))
         (live_or_dead standing k);
-    dead_0 = λ k dead. let a = held.to_cap k in let e = is k in let f = entry_dead (λ j. 4097) k dead in omega (arith, a, e, f);
-    rows = λ k live room. let e = is k in let f = entry_live (λ j. 4097) k live in held.rows k live (omega (arith, e, f, room));
+    dead_0 = λ k dead. let a = to_cap k in let e = is k in let f = entry_dead (λ j. 4097) k dead in omega (arith, a, e, f);
   }
+
+  pub full_capped : (low cap v : ℕ → ℕ) → ((k : ℕ) → cap k ≡ entries_where_live standing (λ j. 4097) k) → IsInRange standing low → IsHeld standing low cap v → IsCappedVector standing v
+  full_capped low cap v is range held =
+      let in_range = full_range low cap v is range held.from_low held.to_cap in
+      record {
+        live_above_0 = in_range.live_above_0;
+        capped = in_range.capped;
+        dead_0 = in_range.dead_0;
+        rows = λ k live room. let e = is k in let f = entry_live (λ j. 4097) k live in held.rows k live (omega (arith, e, f, room));
+      }
 
   pub below_full : (v : ℕ → ℕ) → IsInRange standing v → IsNotAbove v (entries_where_live standing (λ j. 4097))
   below_full v range k = ⊎_elim

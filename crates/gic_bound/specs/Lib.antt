@@ -1,6 +1,6 @@
 pub mod Entries
 pub mod Raising
-pub mod Spans
+pub mod Estimates
 pub mod Shares
 pub mod ShareLaws
 pub mod WorkedShares

@@ -3,12 +3,12 @@
 
 mod cap;
 mod checking;
+mod estimate;
 pub mod laws;
 mod lifting;
 mod raising;
 mod room;
 mod row;
-mod span;
 mod starting;
 mod vector;
 

@@ -1,4 +1,5 @@
-//! Raising entries under a cap.
+//! Raising entries under a cap. Which nodes are looked at out of their order, and how many looks are left for that, saves
+//! passes and is promised nowhere.
 ghost use Rattle.std.specs.Prelude.{◌≡◌, ◌+◌, ◌<◌, ◌≤◌, ◌↔◌, length, slice_index, slice_set, sum, IsTrue, IsFalse};
 ghost use Rattle.gic_net.specs.Net.{standing};
 ghost use Rattle.gic_bound.specs.Caps.{cap_entry, IsCapFor};
@@ -18,9 +19,6 @@ use gic_net::Net;
 /// How many nodes a pass looks at out of their order, for each node that there is.
 const LOOKS: u32 = 8;
 
-/// How many passes a vector that is only proposed is given.
-const MOST_PASSES: u32 = 256;
-
 /// Raises entries that are too small until none below the cap is. Entries that are at the cap stay, whether they are too
 /// small or not. The neighbours of a raised node are looked at next, as far as there is room for those that wait: room
 /// for as many as there are nodes serves where little has to be raised, and no room where much has.
@@ -37,24 +35,8 @@ pub fn raise_under(net: &Net, cap: &Cap, out: &mut BoundVector, waiting: &mut [u
     while raise_all(net, cap, out, waiting) {}
 }
 
-/// Raises entries that are too small for at most [`MOST_PASSES`] passes, and answers whether none below the cap is left.
-pub fn raise_briefly(net: &Net, cap: &Cap, out: &mut BoundVector, waiting: &mut [u16]) -> bool
-    requires cap { IsCapFor net.now.network.nodes cap.now }
-    requires nodes { length out.old ≡ net.now.network.nodes }
-    requires below { IsNotAbove (slice_index out.old) (cap_entry (standing net.now) cap.now) }
-    ensures least { IsTrue result → IsLeastHeld (standing net.now) (slice_index out.old) (cap_entry (standing net.now) cap.now) (slice_index out.new) }
-    ensures same_length { length out.new ≡ length out.old }
-{
-    for _ in 0..MOST_PASSES {
-        if !raise_all(net, cap, out, waiting) {
-            return true;
-        }
-    }
-    false
-}
-
 /// Raises each entry that is too small, node by node, and answers whether there was one.
-fn raise_all(net: &Net, cap: &Cap, out: &mut BoundVector, waiting: &mut [u16]) -> bool
+pub fn raise_all(net: &Net, cap: &Cap, out: &mut BoundVector, waiting: &mut [u16]) -> bool
     requires cap { IsCapFor net.now.network.nodes cap.now }
     requires nodes { length out.old ≡ net.now.network.nodes }
     requires below { IsNotAbove (slice_index out.old) (cap_entry (standing net.now) cap.now) }
@@ -111,6 +93,7 @@ fn follow(
 }
 
 /// Raises the entry at a node by 1 if it is too small, and answers whether it was.
+#[inline(always)]
 fn raise_if_small(net: &Net, cap: &Cap, out: &mut BoundVector, node: NodeId) -> bool
     requires cap { IsCapFor net.now.network.nodes cap.now }
     requires nodes { length out.old ≡ net.now.network.nodes }
@@ -142,6 +125,7 @@ fn raise(vector: &mut BoundVector, node: NodeId)
 }
 
 /// Whether the entry at a node is too small.
+#[inline(always)]
 fn is_too_small(net: &Net, cap: &Cap, vector: &BoundVector, node: NodeId) -> bool
     requires cap { IsCapFor net.now.network.nodes cap.now }
     requires nodes { length vector.now ≡ net.now.network.nodes }

@@ -4,16 +4,26 @@ ghost use Rattle.gic_model.specs.Bound.{IsCappedVector, IsEarthedWithin, IsLeast
 ghost use Rattle.gic_net.specs.Net.{standing};
 ghost use Rattle.gic_bound.specs.Entries.{IsBoundWithin};
 ghost use Rattle.gic_bound.specs.Raising.{IsUnderCapped};
+ghost use Rattle.gic_bound.specs.Starting.{AreForNodes};
 
 use crate::cap::Cap;
 use crate::laws::least_capped_vector_law;
-use crate::lifting::{raise_briefly, raise_under};
+use crate::lifting::{raise_all, raise_under};
 use crate::room::Room;
-use crate::starting::{begin, lower, make_start, sink_briefly};
+use crate::starting::{begin, is_tight, lower, sinks_to_itself};
 use crate::vector::BoundVector;
 use gic_base::NodeId;
 use gic_base::limits::{FULL_WALK, MOST_WALK};
 use gic_net::Net;
+
+/// How many passes a vector that is only proposed is raised before it is given up.
+const MOST_PASSES: u32 = 256;
+
+/// How often a vector that is only proposed, or is capped, is sunk before that is given up.
+const MOST_SINKINGS: u32 = 32;
+
+/// The greatest step by which a capped vector is sunk.
+const MOST_STEP: u16 = 8;
 
 /// The first node, in node order, at which the least capped vector has the entry [`FULL_WALK`]: every bound vector is
 /// above [`MOST_WALK`] there.
@@ -41,8 +51,8 @@ pub fn bound(net: &Net, out: &mut BoundVector) -> Result<(), Unresolved>
 }
 
 /// As [`bound`], with what the vector was before as a proposal: the nearer that is to the least capped vector, the less
-/// there is to do. Where it doesn't serve, [`bound`] goes on. The vector and the room are for as many nodes as the net
-/// has.
+/// there is to do. Where it doesn't serve, raising begins at 1, as in [`bound`]. The vector and the room are for as many
+/// nodes as the net has.
 pub fn bound_from(net: &Net, out: &mut BoundVector, room: &mut Room) -> Result<(), Unresolved>
     requires nodes { length out.old ≡ net.now.network.nodes }
     requires room { room.old ≡ net.now.network.nodes }
@@ -57,16 +67,13 @@ pub fn bound_from(net: &Net, out: &mut BoundVector, room: &mut Room) -> Result<(
     ensures same_length { length out.new ≡ length out.old }
     ensures same_room { room.new ≡ room.old }
 {
-    if !make_start(net, out, &mut room.vector, room.waiting.as_mut_slice()) {
-        return bound(net, out);
-    }
-    raise_fully(net, out, room.waiting.as_mut_slice());
+    raise_proposed(net, out, &mut room.vector, room.waiting.as_mut_slice());
     told(net, out)
 }
 
 /// Makes the vector a bound vector of the net without an entry above [`MOST_WALK`], where there is one, by raising what
-/// it was; else the least capped vector. Where what it was doesn't serve, [`bound`] goes on; where it holds nothing of use,
-/// [`bound`] is the better call. The vector and the room are for as many nodes as the net has.
+/// it was; else the least capped vector. Where what it was doesn't serve, raising begins at 1, as in [`bound`], and where
+/// it holds nothing of use, [`bound`] is the better call. The vector and the room are for as many nodes as the net has.
 pub fn some_bound(net: &Net, out: &mut BoundVector, room: &mut Room) -> Result<(), Unresolved>
     requires nodes { length out.old ≡ net.now.network.nodes }
     requires room { room.old ≡ net.now.network.nodes }
@@ -81,27 +88,64 @@ pub fn some_bound(net: &Net, out: &mut BoundVector, room: &mut Room) -> Result<(
     ensures same_length { length out.new ≡ length out.old }
     ensures same_room { room.new ≡ room.old }
 {
-    if !raise_proposed(net, out, room.waiting.as_mut_slice()) {
-        return bound(net, out);
-    }
+    raise_to_capped(net, out, room.waiting.as_mut_slice());
     if is_below_full(net, out) {
         return Ok(());
     }
-    sink(net, out, room);
+    sink(net, out, &mut room.vector, room.waiting.as_mut_slice());
     told(net, out)
 }
 
-/// Makes a capped vector the least one. The vector and the room are for as many nodes as the net has.
-pub fn sink(net: &Net, out: &mut BoundVector, room: &mut Room)
-    requires nodes { length out.old ≡ net.now.network.nodes }
-    requires room { room.old ≡ net.now.network.nodes }
+/// Makes a capped vector the least one, by sinking it; where [`MOST_SINKINGS`] times don't get there, raising begins at 1.
+/// The other vector is room.
+fn sink(net: &Net, out: &mut BoundVector, other: &mut BoundVector, waiting: &mut [u16])
+    requires nodes { AreForNodes net.now.network.nodes out.old other.old }
     requires capped { IsCappedVector (standing net.now) (slice_index out.old) }
     ensures least { IsLeastCappedVector (standing net.now) (slice_index out.new) }
-    ensures same_length { length out.new ≡ length out.old }
-    ensures same_room { room.new ≡ room.old }
+    ensures nodes { AreForNodes net.now.network.nodes out.new other.new }
 {
-    if sink_briefly(net, out, &mut room.vector, room.waiting.as_mut_slice()) {
-        return;
+    net.within_limits();
+    let mut step = 1;
+    for _ in 0..MOST_SINKINGS {
+        if sinks_to_itself(net, step, out, other, waiting) {
+            return;
+        }
+        out.copy_from(other);
+        step = (2 * step).min(MOST_STEP);
+    }
+    raise_from_1(net, out);
+}
+
+/// Makes a vector of any entries the least capped one. As soon as it is one to start from it is raised, perhaps after it
+/// has sunk by 1; where [`MOST_SINKINGS`] times don't make it one, raising begins at 1. The other vector is room.
+fn raise_proposed(net: &Net, out: &mut BoundVector, other: &mut BoundVector, waiting: &mut [u16])
+    requires { AreForNodes net.now.network.nodes out.old other.old }
+    ensures least { IsLeastCappedVector (standing net.now) (slice_index out.new) }
+    ensures nodes { AreForNodes net.now.network.nodes out.new other.new }
+{
+    lower(net, 0, out);
+    for _ in 0..MOST_SINKINGS {
+        if is_tight(net, out, other, waiting) {
+            raise_fully(net, out, waiting);
+            return;
+        }
+        out.copy_from(other);
+    }
+    raise_from_1(net, out);
+}
+
+/// Makes a vector of any entries a capped one, by raising it; where [`MOST_PASSES`] passes don't get there, raising
+/// begins at 1.
+fn raise_to_capped(net: &Net, out: &mut BoundVector, waiting: &mut [u16])
+    requires { length out.old ≡ net.now.network.nodes }
+    ensures capped { IsCappedVector (standing net.now) (slice_index out.new) }
+    ensures same_length { length out.new ≡ length out.old }
+{
+    lower(net, 0, out);
+    for _ in 0..MOST_PASSES {
+        if !raise_all(net, &Cap::Full, out, waiting) {
+            return;
+        }
     }
     raise_from_1(net, out);
 }
@@ -124,16 +168,6 @@ fn raise_fully(net: &Net, out: &mut BoundVector, waiting: &mut [u16])
     ensures same_length { length out.new ≡ length out.old }
 {
     raise_under(net, &Cap::Full, out, waiting);
-}
-
-/// Raises a vector of any entries for a bounded number of passes, and answers whether it is a capped one then.
-fn raise_proposed(net: &Net, out: &mut BoundVector, waiting: &mut [u16]) -> bool
-    requires { length out.old ≡ net.now.network.nodes }
-    ensures capped { IsTrue result → IsCappedVector (standing net.now) (slice_index out.new) }
-    ensures same_length { length out.new ≡ length out.old }
-{
-    lower(net, 0, out);
-    raise_briefly(net, &Cap::Full, out, waiting)
 }
 
 /// What the least capped vector tells: whether the network is earthed within [`MOST_WALK`], and else where it is not.

@@ -14,12 +14,6 @@ use gic_base::NodeId;
 use gic_base::limits::FULL_WALK;
 use gic_net::Net;
 
-/// How often a vector that is only proposed, or is capped, is sunk before that is given up.
-const MOST_SINKINGS: u32 = 32;
-
-/// The greatest step by which a capped vector is sunk.
-const MOST_STEP: u16 = 8;
-
 /// Whether the vector is one to start from: whether raising from the vector less 1, with the vector as the cap, leads
 /// back to it. The room is for as many nodes as the net has.
 pub fn is_start(net: &Net, vector: &BoundVector, room: &mut Room) -> bool
@@ -40,7 +34,12 @@ pub fn is_start(net: &Net, vector: &BoundVector, room: &mut Room) -> bool
 }
 
 /// Whether the vector is tight. The other vector then has what the vector less 1 was raised to.
-fn is_tight(net: &Net, vector: &BoundVector, other: &mut BoundVector, waiting: &mut [u16]) -> bool
+pub fn is_tight(
+    net: &Net,
+    vector: &BoundVector,
+    other: &mut BoundVector,
+    waiting: &mut [u16],
+) -> bool
     requires nodes { AreForNodes net.now.network.nodes vector.now other.old }
     requires range { IsInRange (standing net.now) (slice_index vector.now) }
     ensures tight { IsTrue result ↔ IsTight (standing net.now) (slice_index vector.now) }
@@ -55,57 +54,9 @@ fn is_tight(net: &Net, vector: &BoundVector, other: &mut BoundVector, waiting: &
     sinks_to_itself(net, 1, vector, other, waiting)
 }
 
-/// Makes the vector one to start from, if it is one, perhaps after it has sunk by 1 at most
-/// [`MOST_SINKINGS`] times, and answers whether it is.
-pub fn make_start(
-    net: &Net,
-    out: &mut BoundVector,
-    other: &mut BoundVector,
-    waiting: &mut [u16],
-) -> bool
-    requires { AreForNodes net.now.network.nodes out.old other.old }
-    ensures under { IsTrue result → IsUnderCapped (standing net.now) (slice_index out.new) }
-    ensures same_length { length out.new ≡ length out.old }
-    ensures same_other { length other.new ≡ length other.old }
-{
-    lower(net, 0, out);
-    for _ in 0..MOST_SINKINGS {
-        if is_tight(net, out, other, waiting) {
-            return true;
-        }
-        out.copy_from(other);
-    }
-    false
-}
-
-/// Sinks a capped vector at most [`MOST_SINKINGS`] times, and answers whether it is the least one then.
-pub fn sink_briefly(
-    net: &Net,
-    out: &mut BoundVector,
-    other: &mut BoundVector,
-    waiting: &mut [u16],
-) -> bool
-    requires nodes { AreForNodes net.now.network.nodes out.old other.old }
-    requires capped { IsCappedVector (standing net.now) (slice_index out.old) }
-    ensures least { IsTrue result → IsLeastCappedVector (standing net.now) (slice_index out.new) }
-    ensures same_length { length out.new ≡ length out.old }
-    ensures same_other { length other.new ≡ length other.old }
-{
-    net.within_limits();
-    let mut step = 1;
-    for _ in 0..MOST_SINKINGS {
-        if sinks_to_itself(net, step, out, other, waiting) {
-            return true;
-        }
-        out.copy_from(other);
-        step = (2 * step).min(MOST_STEP);
-    }
-    false
-}
-
 /// Whether raising from the vector less a step, with the vector as the cap, leads back to it. The other vector then has
 /// what that leads to.
-fn sinks_to_itself(
+pub fn sinks_to_itself(
     net: &Net,
     step: u16,
     vector: &BoundVector,

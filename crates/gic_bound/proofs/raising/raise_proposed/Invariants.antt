@@ -1,7 +1,7 @@
 use Rattle.std.proofs.Common.{◌≡◌, length, slice_index}
 use Rattle.gic_net.specs.Net.{standing}
 use Rattle.gic_bound.specs.Starting.{IsInRange}
-use Rattle.gic_bound.proofs.starting.make_start.Given as goal
+use Rattle.gic_bound.proofs.raising.raise_proposed.Given as goal
 
 abbrev pub invariant-loop : goal.invariant-loop
 invariant-loop l = record {

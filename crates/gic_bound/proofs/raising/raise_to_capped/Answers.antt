@@ -1,15 +1,24 @@
-use Rattle.std.proofs.Common.{slice_index, ◌∙◌}
+use Rattle.std.proofs.Common.{slice_index, refl, ◌∙◌}
 use Rattle.gic_net.specs.Net.{standing}
 use Rattle.gic_bound.specs.Caps.{cap_entry}
-use Rattle.gic_bound.proofs.Held.{under_on, least_on}
-use Rattle.gic_bound.proofs.lifting.raise_briefly.Goals as goal
+use Rattle.gic_bound.specs.declared.cap.Cap.TheVariants.{Full}
+use Rattle.gic_bound.proofs.Held.{below_full, full_range, full_capped}
+use Rattle.gic_bound.proofs.raising.raise_to_capped.Goals as goal
+
+pub raise_all-requires-clause-below : goal.raise_all-requires-clause-below
+raise_all-requires-clause-below c = below_full (standing c.args.net.now) (slice_index c.loop.out) c.loop.invariant.range
 
 pub loop-preserved : goal.loop-preserved
-loop-preserved c = record {
-  count = c.raise_all.ensures.same_length ∙ c.loop.invariant.count;
-  under = under_on (standing c.args.net.now) (slice_index c.args.out.now) (cap_entry (standing c.args.net.now) c.args.cap.now) (slice_index c.loop.out) (slice_index c.raise_all.new.out) c.loop.invariant.under c.raise_all.ensures.under;
-}
+loop-preserved c =
+    let all = standing c.args.net.now in
+    let under = c.raise_all.ensures.under in
+    record {
+      count = c.raise_all.ensures.same_length ∙ c.loop.invariant.count;
+      range = full_range all (slice_index c.loop.out) (cap_entry all Full) (slice_index c.raise_all.new.out) (λ k. refl) c.loop.invariant.range under.from_low under.to_cap;
+    }
 
-pub returns-then-not-raise_all-clause-least : goal.returns-then-not-raise_all-clause-least
-returns-then-not-raise_all-clause-least c = λ _.
-    least_on (standing c.args.net.now) (slice_index c.args.out.now) (cap_entry (standing c.args.net.now) c.args.cap.now) (slice_index c.loop.out) (slice_index c.raise_all.new.out) c.loop.invariant.under (c.raise_all.ensures.least c.if-not-raise_all.true)
+pub returns-then-not-raise_all-clause-capped : goal.returns-then-not-raise_all-clause-capped
+returns-then-not-raise_all-clause-capped c =
+    let all = standing c.args.net.now in
+    let least = c.raise_all.ensures.least c.if-not-raise_all.true in
+    full_capped all (slice_index c.loop.out) (cap_entry all Full) (slice_index c.raise_all.new.out) (λ k. refl) c.loop.invariant.range least.itself

@@ -4,7 +4,7 @@ use Rattle.gic_model.proofs.Ends.{standing_within}
 use Rattle.gic_net.specs.Net.{standing, stands}
 use Rattle.gic_bound.specs.Starting.{IsSunk}
 use Rattle.gic_bound.proofs.Held.{sunk_capped, sunk_least}
-use Rattle.gic_bound.proofs.starting.sink_briefly.Goals as goal
+use Rattle.gic_bound.proofs.raising.sink.Goals as goal
 
 pub loop-preserved : goal.loop-preserved
 loop-preserved c =
@@ -19,7 +19,7 @@ loop-preserved c =
     }
 
 pub returns-then-sinks_to_itself-clause-least : goal.returns-then-sinks_to_itself-clause-least
-returns-then-sinks_to_itself-clause-least c = λ _.
+returns-then-sinks_to_itself-clause-least c =
     let net = c.args.net.now in
     let same = c.sinks_to_itself.ensures.same.0 c.if-sinks_to_itself.true in
     sunk_least net.network.nodes (standing net) (standing_within net.network (stands net) c.within_limits.ensures) c.loop.step (slice_index c.loop.out) c.loop.invariant.some c.loop.invariant.capped

@@ -1,7 +1,7 @@
 use Rattle.std.proofs.Common.{◌≡◌, ◌≤◌, length, slice_index}
 use Rattle.gic_model.specs.Bound.{IsCappedVector}
 use Rattle.gic_net.specs.Net.{standing}
-use Rattle.gic_bound.proofs.starting.sink_briefly.Given as goal
+use Rattle.gic_bound.proofs.raising.sink.Given as goal
 
 abbrev pub invariant-loop : goal.invariant-loop
 invariant-loop l = record {
