@@ -1,5 +1,6 @@
 //! Two monitors of a caller's own, which examples attach.
-ghost use Rattle.std.specs.Prelude.{[], ◌+◌, length};
+ghost use Rattle.std.specs.Prelude.{◌≡◌, List, [], ◌++◌, ◌+◌, length, IsOk, IsErr};
+ghost use Rattle.gic_view.specs.View.{View};
 ghost use Rattle.gic_examples.specs.CountText.{count_text};
 
 use gic_base::OutOfMemory;
@@ -27,7 +28,10 @@ impl Monitor for ViewCounter {
 
     ghost outlook = { λ m views. count_text (m.seen + length views) };
 
-    fn begin(&mut self, _roster: &Roster) -> Result<(), OutOfMemory> {
+    fn begin(&mut self, _roster: &Roster) -> Result<(), OutOfMemory>
+        ensures begun { IsOk result }
+        ensures plan { (views : List View) → count_text (self.new.seen + length views) ≡ count_text (length views) }
+    {
         self.seen = 0;
         Ok(())
     }
@@ -54,13 +58,18 @@ impl Monitor for NeverBegun {
 
     ghost outlook = { λ _ _. [] };
 
-    fn begin(&mut self, _roster: &Roster) -> Result<(), OutOfMemory> {
+    fn begin(&mut self, _roster: &Roster) -> Result<(), OutOfMemory>
+        ensures { IsErr result }
+    {
         Err(OutOfMemory)
     }
 
     fn see(&mut self, _view: &StepView) {}
 
-    fn print(&self, _into: &mut Vec<u8>) -> Result<(), OutOfMemory> {
+    fn print(&self, _into: &mut Vec<u8>) -> Result<(), OutOfMemory>
+        ensures added { IsOk result }
+        ensures nothing { _into.new.items ≡ _into.old.items ++ [] }
+    {
         Ok(())
     }
 }

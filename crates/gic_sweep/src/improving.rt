@@ -32,7 +32,7 @@ fn propose<L: Ledger>(
     guesses.fill(&proposed, steps);
 }
 
-/// Puts in the guesses that a thinning proposes, and ticks once. The guesses as they were go into `old`.
+/// Puts in the guesses that a thinning proposes, and ticks once. `old` is room for the guesses as they were.
 pub fn propose_all<L: Ledger>(
     thinning: &Thinning,
     guesses: &mut Guesses,

@@ -15,7 +15,7 @@ use gic_net::Net;
 const SETTLED: u128 = 1 << 18;
 
 /// Whether the residuals show that the guesses are settled, as they do where the guesses are settled within half of the
-/// grains. The residuals go into `low` and `high`.
+/// grains. `low` and `high` are room for the residuals.
 pub fn are_settled(
     net: &Net,
     volts: &Volts,

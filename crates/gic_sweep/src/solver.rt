@@ -139,8 +139,8 @@ impl Solver {
         self.thinning.arrange(net);
     }
 
-    /// Puts guesses in that are likely to be closer, which ticks once, and says how many passes of conjugate gradients
-    /// that took. Where the residuals are small already, it changes no guess and doesn't tick.
+    /// Puts guesses in that the thinning proposes, which ticks once, and hands on how many passes it tells of. Where it
+    /// proposes none, no guess is changed and nothing ticks.
     fn approach<L: Ledger>(&mut self, net: &Net, volts: &Volts, steps: &mut Steps<L>) -> Option<u32>
         requires volts { length volts.now ≡ length net.now.network.list }
         requires nodes { length self.old ≡ net.now.network.nodes }
@@ -210,7 +210,7 @@ pub const MOST_ROUNDS: u8 = 4;
 pub struct Improvement {
     /// How many corrections were made, each with one tick.
     pub rounds: u8,
-    /// How many passes of conjugate gradients all of them took.
+    /// The passes of conjugate gradients that the thinning tells of, for all of them: only the most is promised.
     pub passes: u32,
 }
 
@@ -298,7 +298,7 @@ pub fn residuals(net: &Net, volts: &Volts, solver: &Solver, low: &mut [i128], hi
 
 /// The grains within which the guesses are settled, as their residuals show: for each unit of a bound vector no
 /// solution is further from the guess at a node. They are hardly more than those within which the guesses are settled
-/// indeed. The residuals go into `low` and `high`.
+/// indeed. `low` and `high` are room for the residuals.
 pub fn reach(net: &Net, volts: &Volts, solver: &Solver, low: &mut [i128], high: &mut [i128]) -> u128
     requires volts { length volts.now ≡ length net.now.network.list }
     requires nodes { length solver.now ≡ net.now.network.nodes }

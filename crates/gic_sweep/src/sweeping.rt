@@ -92,8 +92,8 @@ fn sweep_from<L: Ledger>(
     guesses.fill(&moved, steps);
 }
 
-/// One sweep over the guesses, which ticks once. The guesses as they were go into `old`, and their residuals into `low`
-/// and `high`.
+/// One sweep over the guesses, which ticks once. `old` is room for the guesses as they were, and `low` and `high` for their
+/// residuals.
 pub fn sweep_over<L: Ledger>(
     net: &Net,
     volts: &Volts,

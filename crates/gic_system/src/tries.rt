@@ -11,7 +11,7 @@ use std::io::{Error, ErrorKind, Read, Result, Write};
 pub const MOST_TRIES: u32 = 10000;
 
 /// One read into a buffer, which is made again where a signal interrupts it, [`MOST_TRIES`] times in all; then the
-/// error is of the kind `TimedOut`.
+/// error is of the kind `TimedOut`. No clause counts the tries, since a reader tells of none: the tests below do.
 pub fn read_some<R: Read>(reader: &mut R, buffer: &mut [u8]) -> Result<usize>
     ensures count { ReadsAtMost result buffer.new }
     ensures bytes { ReadConsumes (R.remaining reader.old) (R.remaining reader.new) result buffer.new }
@@ -32,7 +32,7 @@ pub fn read_some<R: Read>(reader: &mut R, buffer: &mut [u8]) -> Result<usize>
 }
 
 /// One write of a front of the bytes, which is made again where a signal interrupts it, [`MOST_TRIES`] times in all;
-/// then the error is of the kind `TimedOut`.
+/// then the error is of the kind `TimedOut`. No clause counts the tries, since a writer tells of none: the tests below do.
 pub fn write_some<W: Write>(writer: &mut W, bytes: &[u8]) -> Result<usize>
     ensures count { WritesAtMost result bytes.now }
     ensures bytes { WriteAppends (W.contents writer.old) (W.contents writer.new) result bytes.now }

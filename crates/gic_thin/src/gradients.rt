@@ -48,8 +48,8 @@ fn is_over(distances: Distances, bits: u32) -> bool
         || distances.vain > MOST_VAIN
 }
 
-/// Finds potentials that balance the currents to about so many bits, `2 ^ lift` times too great, and says how many
-/// passes it took. The currents are changed.
+/// Looks for potentials that balance the currents to about so many bits, `2 ^ lift` times too great, and tells a number
+/// of passes, of which only the most is promised. The currents are changed.
 pub(crate) fn solve(system: &System, lift: u32, bits: u32, vectors: &mut Vectors) -> u32
     requires nodes { vectors.old ≡ system.now }
     requires lift { lift < 128 }

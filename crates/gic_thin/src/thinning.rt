@@ -76,8 +76,9 @@ impl Thinning {
         put_conductances(self.system.wires(), self.conductances.as_mut_slice());
     }
 
-    /// Finds potentials that make these currents leave the nodes, to about so many bits, and says how many passes it
-    /// took, at most [`MOST_PASSES`]. Currents of any size are allowed.
+    /// Looks for potentials that make these currents leave the nodes, to about so many bits, and tells a number of passes
+    /// that is at most [`MOST_PASSES`]. Nothing is promised of the potentials but their size. Currents of any size are
+    /// allowed.
     pub fn balance(&mut self, currents: &[i128], bits: u32) -> u32
         requires currents { length currents.now ≡ self.old }
         requires bits { bits < 64 }
@@ -89,7 +90,7 @@ impl Thinning {
         solve(&self.system, self.scale.lift, bits, &mut self.vectors)
     }
 
-    /// The potential at a node, as the last `balance` found it, in units of 2^-fraction of a unit of current over 2^-36
+    /// The potential at a node, as the last `balance` left it, in units of 2^-fraction of a unit of current over 2^-36
     /// siemens.
     pub fn potential(&self, node: NodeId, fraction: u32) -> i128
         requires node { node.0 < self.now }
@@ -100,9 +101,10 @@ impl Thinning {
         shifted(potential, self.scale.down + fraction, self.scale.lift)
     }
 
-    /// Finds corrections for these residuals, in units of 2^-44 nanoampere, one for each node, and says how many passes
-    /// it took, at most [`MOST_PASSES`]. Residuals of any size are allowed. Where no residual is more than its node's
-    /// conductance carries at three quarters of 2^18 grains, it finds none.
+    /// Looks for corrections for these residuals, in units of 2^-44 nanoampere, one for each node, and tells a number of
+    /// passes that is at most [`MOST_PASSES`]. It is meant to find none where no residual is more than its node's
+    /// conductance carries at three quarters of 2^18 grains, but neither that is promised nor that a correction is of use.
+    /// Residuals of any size are allowed.
     pub fn correct(&mut self, residuals: &[i128]) -> Option<u32>
         requires { length residuals.now ≡ self.old }
         ensures same_nodes { self.new ≡ self.old }
