@@ -3,12 +3,14 @@
 
     python3 compare.py BEFORE AFTER FOLDER [RUNS] [CASE ..]
 
-BEFORE and AFTER are programs that bench/solver.sh has built, of two trees, and FOLDER has the cases that it wrote. Each
-case is run so often (60 where RUNS is not given), by the one program and the other in turn. For each ratio of a run's own
-times this prints the median over the runs of the one program and of the other, the quotient of the two medians, and the
-95 per cent interval of that quotient: its percentiles where the pairs of runs are drawn anew 2000 times. The verdict is
-`worse` where the whole interval is above 1.1, `no` where none of it is, and else `undecided`. Behind it stand the least
-times of all runs, which decide nothing. The machine should have nothing else to do.
+BEFORE and AFTER are programs that bench/solver.sh has built, of two trees, each in a folder of its own, and FOLDER has the
+cases that it wrote. Each case, or each that is named, is run so often (60 where RUNS is not given), by the one program and
+the other in turn, each of them first in every second turn. For each ratio of a run's own times this prints the median over
+the runs of the one program and of the other, the quotient of the two medians, and the 95 per cent interval of that
+quotient: its percentiles where the pairs of runs are drawn anew 2000 times. The verdict is `worse` where the whole interval
+is above 1.1, `no` where none of it is, and else `undecided`. Behind it stand the least times of all runs, which decide
+nothing. The last row of a case is the time of a whole field, which isn't a ratio and moves with the machine. Where plain
+sweeps were given up, there is no ratio by them. The machine should have nothing else to do.
 """
 
 import random
@@ -16,10 +18,14 @@ import statistics
 import subprocess
 import sys
 
-CASES = ("p", "realistic", "ps", "made-20", "made-200", "made-2000", "row", "chain", "limit", "far-small", "far")
-# The ratios that both programs print, and the time of a whole field, which other solvers' times are set beside.
+CASES = (
+    *("p", "realistic", "ps", "made-20", "made-200", "made-2000", "row", "chain"),
+    *("grid", "grid-far", "grid-units", "limit", "far-small", "far"),
+)
+SWEEPS = "plain"
+# The ratios of a run's own times, and the time of a whole field, which other solvers' times are set beside.
 RATIOS = (
-    ("`solve` ÷ sweeps", "solve", "plain"),
+    ("`solve` ÷ sweeps", "solve", SWEEPS),
     ("reciprocal ÷ division", "pass", "slow_pass"),
     ("`bound` ÷ by division", "bound", "slow_bound"),
     ("whole field, ns", "field", None),
@@ -32,6 +38,13 @@ DRAWS = 2000
 def times(program, case):
     words = subprocess.run([program, case], check=True, capture_output=True, text=True).stdout.split()
     return {name: int(figure) for name, figure in zip(words[::2], words[1::2])}
+
+
+def turn_of(programs, path, turn):
+    """One run of each program, in this order and in the other by turns."""
+    order = (0, 1) if turn % 2 == 0 else (1, 0)
+    runs = {side: times(programs[side], path) for side in order}
+    return runs[0], runs[1]
 
 
 def ratio(run, part, whole):
@@ -83,9 +96,11 @@ def main():
     print("|---" * len(heads) + "|")
     for case in rest[1:] or CASES:
         path = f"{folder}/{case}.toml"
-        runs = [(times(before, path), times(after, path)) for _ in range(count)]
+        runs = [turn_of((before, after), path, turn) for turn in range(count)]
+        ended = all(run["ended"] for pair in runs for run in pair)
         for name, part, whole in RATIOS:
-            row(case, name, runs, part, whole)
+            if whole != SWEEPS or ended:
+                row(case, name, runs, part, whole)
 
 
 if __name__ == "__main__":
