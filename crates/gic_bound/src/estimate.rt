@@ -3,7 +3,7 @@ ghost use Rattle.std.specs.Prelude.{◌≡◌, ℕ, ◌+◌, ◌/◌, ◌^◌, �
 ghost use Rattle.gic_fixed.specs.Rounding.{floor_div};
 ghost use Rattle.gic_bound.specs.Estimates.{most_rise, IsNear, IsSmall};
 
-/// What a number is about, and how far it is off at most, in units of 2^-20 siemens.
+/// A rough value of a number, and how far the number is off it at most, in units of 2^-20 siemens.
 #[derive(Clone, Copy)]
 pub struct Estimate {
     pub about: i64,

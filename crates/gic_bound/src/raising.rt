@@ -116,8 +116,8 @@ fn sink(net: &Net, out: &mut BoundVector, other: &mut BoundVector, waiting: &mut
     raise_from_1(net, out);
 }
 
-/// Makes a vector of any entries the least capped one. As soon as it is one to start from it is raised, perhaps after it
-/// has sunk by 1; where [`MOST_SINKINGS`] times don't make it one, raising begins at 1. The other vector is room.
+/// Makes a vector of any entries the least capped one: it sinks by 1 until it is one to start from, and then it is raised.
+/// Where it isn't one in [`MOST_SINKINGS`] tests, raising begins at 1. The other vector is room.
 fn raise_proposed(net: &Net, out: &mut BoundVector, other: &mut BoundVector, waiting: &mut [u16])
     requires { AreForNodes net.now.network.nodes out.old other.old }
     ensures least { IsLeastCappedVector (standing net.now) (slice_index out.new) }

@@ -1,5 +1,5 @@
-//! Exact division by a fixed resistance, by a reciprocal: what is left decides each digit, and that the second digit is at
-//! most one too small is proved.
+//! Exact division by a fixed resistance, by a reciprocal: what is left decides each digit, and that the estimate of the
+//! second is at most one too small is proved.
 #![tactic(auto)]
 
 mod divisor;

@@ -46,8 +46,8 @@ fn one_more(digit: Digit, divisor: u64) -> Digit
     }
 }
 
-/// A digit, rounded down, of a number that is mostly far below 2^64, where it is hardly ever more than the estimate. More
-/// than one more it never is; that the third way is there keeps the ways apart, so that a processor guesses the first.
+/// A digit, rounded down, of a number that is mostly far below 2^64: then it is mostly the estimate. With a divisor's own
+/// reciprocal the third way is never taken; it keeps the other two apart, so that a processor guesses the first.
 #[inline(always)]
 fn next_digit(number: u64, by: Reciprocal) -> Digit
     requires some { 0 < by.divisor }
@@ -68,8 +68,8 @@ fn next_digit(number: u64, by: Reciprocal) -> Digit
     }
 }
 
-/// A digit, rounded down, of a number that may be near 2^64: the estimate or one more, since the slack keeps back less
-/// than the divisor. Often nobody can guess which, so there is no third way here.
+/// A digit, rounded down, of a number that may be near 2^64: the estimate or one more, since the slack is at most the
+/// divisor. Which of the two can't be guessed, so there is no third way here.
 #[inline(always)]
 fn last_digit(number: u64, by: Reciprocal) -> Digit
     requires some { 0 < by.divisor }
@@ -93,8 +93,8 @@ struct Taken {
     rest: u64,
 }
 
-/// What so many times 2^64 and a number of 64 bits come to: the product goes once into each 2^64, and for resistances of a
-/// case the slacks hardly ever make up one more.
+/// So many times 2^64 and a number of 64 bits, as so many products of estimate and divisor and what is left: one product
+/// for each 2^64, and for resistances of a case the slacks hardly ever make up one more.
 #[inline(always)]
 fn take_products(times: u64, low: u64, by: Reciprocal) -> Taken
     requires most { by.divisor < 2 ^ 32 }
