@@ -9,8 +9,8 @@ use Rattle.gic_words.specs.declared.mode.NetworkMode.{NetworkMode}
 use Rattle.gic_words.specs.declared.mode.Mode.{Mode}
 use Rattle.gic_words.specs.declared.mode.Mode.TheVariants as mode
 use Rattle.gic_words.specs.declared.options.Options.{Options}
-use Rattle.gic_stand.specs.declared.inputs.Inputs.{Inputs}
-use Rattle.gic_course.specs.declared.inputs.StormInputs.{StormInputs}
+use Rattle.gic_inputs.specs.declared.inputs.Inputs.{Inputs}
+use Rattle.gic_inputs.specs.declared.inputs.StormInputs.{StormInputs}
 use Rattle.gic_words.specs.declared.fault.Usage.{Usage}
 use Rattle.gic_ask.specs.Contents.{Given, Nothing, Whole, Contents, MayGive, MayHandOut, name_of_file}
 use Rattle.gic_ask.specs.Outcome.{Outcome, Accepts, reading, reading_case, reading_storm, reading_switchings, reading_certificate, reading_inputs, reading_over_case, reading_storm_inputs, reading_recheck, reading_series, reading_numbers, transformer_asked, asking, outcome}

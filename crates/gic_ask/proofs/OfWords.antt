@@ -16,7 +16,7 @@ use Rattle.gic_words.specs.declared.mode.Mode.{Mode}
 use Rattle.gic_words.specs.declared.mode.Mode.TheVariants as mode
 use Rattle.gic_words.specs.declared.options.Options.{Options}
 use Rattle.gic_words.specs.declared.fault.Usage.{Usage}
-use Rattle.gic_course.specs.declared.inputs.StormInputs.{StormInputs}
+use Rattle.gic_inputs.specs.declared.inputs.StormInputs.{StormInputs}
 use Rattle.gic_ask.specs.Contents.{Given, Nothing, Long, Whole, Contents}
 use Rattle.gic_ask.specs.Outcome.{Outcome, Refuses, Accepts, reading, reading_case, reading_storm, reading_switchings, reading_certificate, reading_over_case, reading_numbers, transformer_named, transformer_asked, asking}
 use Rattle.gic_ask.specs.WordsRefused.{UsageIsOfWords}

@@ -30,7 +30,7 @@ use Rattle.gic_ask.specs.declared.fault.InputFault.TheVariants.{Refused, CannotR
 use Rattle.gic_ask.specs.declared.fault.InputRefusal.TheVariants.{Usage as UsageRefusal, Case as CaseRefused, Storm as StormRefused, Switch as SwitchRefused}
 use Rattle.gic_ask.specs.declared.request.Asked.{Asked}
 use Rattle.gic_ask.specs.declared.request.Asked.TheVariants.{Network, Study, Recheck, Series}
-use Rattle.gic_course.specs.declared.inputs.StormInputs.{StormInputs}
+use Rattle.gic_inputs.specs.declared.inputs.StormInputs.{StormInputs}
 use Rattle.gic_ask.specs.declared.fault.InputRefusal.{InputRefusal}
 
 -- what may be given of a length is what is held

@@ -1,7 +1,7 @@
 -- The ranges of what is asked for.
 use Rattle.std.specs.Prelude.{◌<◌, length}
 use Rattle.gic_question.specs.Ranges.{IsWithinRanges}
-use Rattle.gic_course.specs.Steps.{IsStormOf}
+use Rattle.gic_inputs.specs.Inputs.{IsStormOf}
 use Rattle.gic_words.specs.Required.{IsSize}
 use Rattle.gic_ask.specs.declared.request.Asked.{Asked}
 use Rattle.gic_ask.specs.declared.request.Asked.TheVariants.{Network, Study, Make, Recheck, Series}

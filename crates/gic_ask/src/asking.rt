@@ -1,6 +1,6 @@
 //! The words, and then the files.
 ghost use Rattle.std.specs.Prelude.{◌≡◌, ◌≢◌, length, IfOk, IfErr, IfSome, OnOk, map, string_bytes};
-ghost use Rattle.gic_course.specs.Steps.{IsStormOf};
+ghost use Rattle.gic_inputs.specs.Inputs.{IsStormOf};
 ghost use Rattle.gic_words.specs.Required.{IsSize};
 ghost use Rattle.gic_words.specs.declared.fault.Usage.TheVariants as usage;
 ghost use Rattle.gic_ask.specs.declared.fault.InputFault.TheVariants as fault;
@@ -19,8 +19,7 @@ use crate::finding::transformer;
 use crate::request::Asked;
 use gic_base::{FetchRefusal, Library, read_whole};
 use gic_case::{Case, CaseRefusal, read_case};
-use gic_course::StormInputs;
-use gic_stand::Inputs;
+use gic_inputs::{Inputs, StormInputs};
 use gic_storm::{Storm, StormRefusal, read_storm};
 use gic_switch::{SwitchRefusal, Switchings, read_switchings};
 use gic_words::{FileName, Mode, Opt, Options, Usage, WordsRefusal, read_words};

@@ -8,7 +8,7 @@ use Rattle.gic_cert.specs.Step.{checked_step}
 use Rattle.gic_cert.specs.Passing.{IsPassing}
 use Rattle.gic_cert.specs.Text.{cert_text}
 use Rattle.gic_cert.specs.declared.limits.TheConstants.{MOST_MADE_RADIUS}
-use Rattle.gic_stand.specs.declared.inputs.Inputs.{Inputs}
+use Rattle.gic_inputs.specs.declared.inputs.Inputs.{Inputs}
 use Rattle.gic_stand.specs.Standing.{standing_of}
 use Rattle.gic_uniform.specs.Uniform.{uniform_volts}
 

@@ -6,7 +6,7 @@ use Rattle.gic_model.specs.Standing.{is_live}
 use Rattle.gic_model.specs.Sums.{Placed}
 use Rattle.gic_text.specs.Lines.{lines_text}
 use Rattle.gic_check.specs.CheckText.{check_report}
-use Rattle.gic_stand.specs.declared.inputs.Inputs.{Inputs}
+use Rattle.gic_inputs.specs.declared.inputs.Inputs.{Inputs}
 use Rattle.gic_stand.specs.Standing.{standing_of}
 
 -- whether each node of the case is live, in node order

@@ -4,7 +4,7 @@ use Rattle.std.specs.Prelude.{IsSomeAnd, IsErrAnd, IfErr}
 use Rattle.gic_epoch.specs.declared.epoch.Epoch.{Epoch}
 use Rattle.gic_net.specs.Net.{NetView}
 use Rattle.gic_stand.specs.declared.fault.NetworkRefusal.{NetworkRefusal}
-use Rattle.gic_course.specs.declared.inputs.StormInputs.{StormInputs}
+use Rattle.gic_inputs.specs.declared.inputs.StormInputs.{StormInputs}
 use Rattle.gic_course.specs.declared.room.Room.{Room}
 use Rattle.gic_course.specs.Epochs.{HasStep}
 use Rattle.gic_course.specs.Ready.{IsReadyAt, IsReady}

@@ -8,7 +8,7 @@ use Rattle.gic_storm.specs.Steps.{steps_in}
 use Rattle.gic_view.specs.View.{View}
 use Rattle.gic_view.specs.Kept.{blank_view}
 use Rattle.gic_effective.specs.Narrow.{IsNarrowView}
-use Rattle.gic_course.specs.declared.inputs.StormInputs.{StormInputs}
+use Rattle.gic_inputs.specs.declared.inputs.StormInputs.{StormInputs}
 use Rattle.gic_course.specs.Views.{IsRightStep, IsSolvedStep, AreRightSoFar, AreRightViews, AreNarrowViews, AreSmallViews}
 use Rattle.gic_uniform.specs.Solving.{IsSmallView}
 

@@ -8,9 +8,10 @@ use Rattle.gic_storm.specs.Steps.{steps_in}
 use Rattle.gic_epoch.specs.declared.epoch.Epoch.{Epoch}
 use Rattle.gic_epoch.specs.Epochs.{Cover, HoldsIn, AreEpochs}
 use Rattle.gic_stand.specs.Needs.{Solved, Fails, IsMet, IsUnmet}
-use Rattle.gic_stand.specs.Standing.{rows_in, IsSolvable}
+use Rattle.gic_inputs.specs.Inputs.{rows_in}
+use Rattle.gic_stand.specs.Standing.{IsSolvable}
 use Rattle.gic_stand.specs.declared.fault.NetworkRefusal.{NetworkRefusal}
-use Rattle.gic_course.specs.declared.inputs.StormInputs.{StormInputs}
+use Rattle.gic_inputs.specs.declared.inputs.StormInputs.{StormInputs}
 use Rattle.gic_course.specs.Epochs.{HasStep, IsEpochOf}
 use Rattle.gic_course.specs.Steps.{standing_at_step, storm_steps}
 use Rattle.gic_course.proofs.StepsStand.{steps-length, stands_at}

@@ -1,12 +1,12 @@
 -- When a course is that of the inputs.
 use Rattle.gic_epoch.specs.Epochs.{AreEpochs}
-use Rattle.gic_stand.specs.Standing.{rows_in}
+use Rattle.gic_inputs.specs.Inputs.{rows_in, IsStormOf}
 use Rattle.gic_stand.specs.Needs.{Solved, IsMet}
-use Rattle.gic_course.specs.declared.inputs.StormInputs.{StormInputs}
+use Rattle.gic_inputs.specs.declared.inputs.StormInputs.{StormInputs}
 use Rattle.gic_course.specs.declared.course.Course.{Course}
 use Rattle.gic_course.specs.RoomFor.{IsRoomFor}
 use Rattle.gic_course.specs.Ready.{IsSwitchedFor, IsReady}
-use Rattle.gic_course.specs.Steps.{IsStormOf, storm_steps}
+use Rattle.gic_course.specs.Steps.{storm_steps}
 
 -- its epochs are the storm's under the switchings, its net and its room are the case's, and what it has ready for an epoch is ready for each of its steps
 pub record IsCourseOf (inputs : StormInputs) (course : Course) : Type 0 where

@@ -3,8 +3,8 @@ use Rattle.std.specs.Prelude.{ℕ, ◌≤◌, length}
 use Rattle.gic_storm.specs.Steps.{steps_in}
 use Rattle.gic_epoch.specs.declared.epoch.Epoch.{Epoch}
 use Rattle.gic_epoch.specs.Epochs.{HoldsIn}
-use Rattle.gic_stand.specs.Standing.{rows_in}
-use Rattle.gic_course.specs.declared.inputs.StormInputs.{StormInputs}
+use Rattle.gic_inputs.specs.Inputs.{rows_in}
+use Rattle.gic_inputs.specs.declared.inputs.StormInputs.{StormInputs}
 
 -- the step lies in the epoch
 pub record HasStep (number : ℕ) (epoch : Epoch) : Type 0 where

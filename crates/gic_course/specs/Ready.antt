@@ -3,13 +3,13 @@ use Rattle.std.specs.Prelude.{ℕ, ◌≡◌, ⊤, Option, None, Some}
 use Rattle.gic_epoch.specs.declared.epoch.Epoch.{Epoch}
 use Rattle.gic_net.specs.Net.{NetView, standing}
 use Rattle.gic_winding.specs.ElementList.{elements_of}
-use Rattle.gic_stand.specs.Standing.{rows_in}
-use Rattle.gic_course.specs.declared.inputs.StormInputs.{StormInputs}
+use Rattle.gic_inputs.specs.Inputs.{rows_in, IsStormOf}
+use Rattle.gic_inputs.specs.declared.inputs.StormInputs.{StormInputs}
 use Rattle.gic_course.specs.declared.room.Room.{Room}
 use Rattle.gic_course.specs.declared.switched.SwitchedNet.{SwitchedNet}
 use Rattle.gic_course.specs.Epochs.{HasStep}
 use Rattle.gic_course.specs.RoomFor.{IsRoomFor, IsSettledIn}
-use Rattle.gic_course.specs.Steps.{IsStormOf, IsStepOf, standing_at_step}
+use Rattle.gic_course.specs.Steps.{IsStepOf, standing_at_step}
 use Rattle.gic_course.specs.Switched.{StandsThrough}
 
 -- the net is the case's, with the first rows of its switchings in force

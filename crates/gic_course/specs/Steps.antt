@@ -8,12 +8,8 @@ use Rattle.gic_storm.specs.Steps.{steps_in, step_at, first_time, time_of_step}
 use Rattle.gic_storm.specs.StepFields.{fields_at_step}
 use Rattle.gic_winding.specs.ElementList.{elements_of}
 use Rattle.gic_winding.specs.InForce.{standing_in}
-use Rattle.gic_stand.specs.Standing.{rows_in}
-use Rattle.gic_course.specs.declared.inputs.StormInputs.{StormInputs}
-
--- the storm was read with the case: it has as many zones
-abbrev pub IsStormOf : StormInputs → Type 0
-IsStormOf inputs = inputs.storm.zones ≡ length inputs.inputs.case.zones
+use Rattle.gic_inputs.specs.Inputs.{rows_in}
+use Rattle.gic_inputs.specs.declared.inputs.StormInputs.{StormInputs}
 
 -- steps are told by their numbers, from 1
 pub record IsStepOf (inputs : StormInputs) (number : ℕ) : Type 0 where

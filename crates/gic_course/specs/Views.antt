@@ -7,7 +7,7 @@ use Rattle.gic_view.specs.Kept.{blank_view}
 use Rattle.gic_effective.specs.RightView.{IsRightView}
 use Rattle.gic_effective.specs.Narrow.{IsNarrowView}
 use Rattle.gic_uniform.specs.Solving.{IsSmallView, IsSolvedView}
-use Rattle.gic_course.specs.declared.inputs.StormInputs.{StormInputs}
+use Rattle.gic_inputs.specs.declared.inputs.StormInputs.{StormInputs}
 use Rattle.gic_course.specs.Steps.{standing_at_step, storm_volts}
 
 -- the view tells the step's number and its time, and what it shows is right for the elements and the voltages of the step

@@ -1,7 +1,7 @@
 //! The epochs of a storm.
 ghost use Rattle.std.specs.Prelude.{◌≡◌, ◌↔◌, [], IfOk, IsTrue, Any, Contains};
 ghost use Rattle.gic_epoch.specs.Epochs.{AreEpochs};
-ghost use Rattle.gic_stand.specs.Standing.{rows_in};
+ghost use Rattle.gic_inputs.specs.Inputs.{rows_in};
 ghost use Rattle.gic_course.specs.Epochs.{HasStep};
 
 use gic_base::OutOfMemory;

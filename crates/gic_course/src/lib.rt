@@ -4,7 +4,6 @@
 
 mod course;
 mod epochs;
-mod inputs;
 mod preparing;
 mod room;
 mod showing;
@@ -12,4 +11,3 @@ mod switched;
 mod walking;
 
 pub use course::Course;
-pub use inputs::StormInputs;

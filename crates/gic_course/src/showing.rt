@@ -11,12 +11,12 @@ ghost use Rattle.gic_course.specs.RoomFor.{IsRoomFor, IsSettledIn, IsStepped};
 ghost use Rattle.gic_course.specs.Steps.{storm_volts};
 ghost use Rattle.gic_course.specs.Views.{IsRightStep};
 
-use crate::inputs::StormInputs;
 use crate::room::Room;
 use gic_bases::step_from_bases;
 use gic_case::Case;
 use gic_effective::fill_view;
 use gic_epoch::time_of_step;
+use gic_inputs::StormInputs;
 use gic_net::Net;
 use gic_storm::fill_fields;
 use gic_sweep::Steps;

@@ -4,17 +4,18 @@ ghost use Rattle.gic_epoch.specs.Epochs.{AreEpochs};
 ghost use Rattle.gic_net.specs.Net.{standing};
 ghost use Rattle.gic_winding.specs.ElementList.{elements_of};
 ghost use Rattle.gic_stand.specs.Needs.{Solved, Fails, IsMet, IsUnmet};
-ghost use Rattle.gic_stand.specs.Standing.{rows_in, IsSolvable};
+ghost use Rattle.gic_inputs.specs.Inputs.{rows_in};
+ghost use Rattle.gic_stand.specs.Standing.{IsSolvable};
 ghost use Rattle.gic_course.specs.Epochs.{HasStep, IsEpochOf};
 ghost use Rattle.gic_course.specs.Ready.{IsSwitchedFor};
 ghost use Rattle.gic_course.specs.RoomFor.{IsRoomFor};
 ghost use Rattle.gic_course.specs.Steps.{standing_at_step, storm_steps};
 
-use crate::inputs::StormInputs;
 use crate::room::Room;
 use crate::switched::SwitchedNet;
 use gic_case::Case;
 use gic_epoch::Epoch;
+use gic_inputs::StormInputs;
 use gic_net::Net;
 use gic_stand::{NetworkRefusal, expect_earthed, expect_resolved};
 

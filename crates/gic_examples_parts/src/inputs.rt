@@ -1,13 +1,12 @@
 //! What the modes over a storm are given: a storm of three steps over the case P.
 ghost use Rattle.std.specs.Prelude.{◌≤◌, IfOk};
 ghost use Rattle.gic_question.specs.Ranges.{IsWithinRanges};
-ghost use Rattle.gic_course.specs.Steps.{IsStormOf};
+ghost use Rattle.gic_inputs.specs.Inputs.{IsStormOf};
 
 use gic_case::read_case;
-use gic_course::StormInputs;
+use gic_inputs::{Inputs, StormInputs};
 use gic_question::Question;
 use gic_screen::Event;
-use gic_stand::Inputs;
 use gic_storm::read_storm;
 use gic_switch::read_switchings;
 use gic_worked::CASE_P;

@@ -17,7 +17,7 @@ use Rattle.gic_report.specs.VerdictText.{IsAcross, verdict_at}
 use Rattle.gic_view.specs.Absolute.{absolute_ends}
 use Rattle.gic_field.specs.FieldText.{field_report}
 use Rattle.gic_question.specs.declared.asked.Question.{Question}
-use Rattle.gic_stand.specs.declared.inputs.Inputs.{Inputs}
+use Rattle.gic_inputs.specs.declared.inputs.Inputs.{Inputs}
 use Rattle.gic_stand.specs.Standing.{standing_of}
 use Rattle.gic_uniform.specs.Uniform.{uniform_volts}
 

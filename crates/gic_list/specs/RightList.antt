@@ -4,7 +4,7 @@ use Rattle.gic_case.specs.Lists.{Lists}
 use Rattle.gic_text.specs.Lines.{lines_text}
 use Rattle.gic_winding.specs.ElementList.{elements_of}
 use Rattle.gic_list.specs.ListText.{list_report}
-use Rattle.gic_stand.specs.declared.inputs.Inputs.{Inputs}
+use Rattle.gic_inputs.specs.declared.inputs.Inputs.{Inputs}
 
 -- the text of the report
 abbrev pub list_text : Lists → List ℕ

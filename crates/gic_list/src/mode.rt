@@ -6,7 +6,8 @@ ghost use Rattle.gic_list.specs.RightList.{IsRightList};
 
 use crate::text::write_list;
 use gic_base::Sink;
-use gic_stand::{Inputs, ReportFault, ended};
+use gic_inputs::Inputs;
+use gic_stand::{ReportFault, ended};
 use gic_text::LineBuilder;
 use gic_winding::elements;
 use std::alloc::Global;

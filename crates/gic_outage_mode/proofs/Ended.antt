@@ -15,7 +15,7 @@ use Rattle.gic_screening.specs.Screening.{AreScreened}
 use Rattle.gic_screening.proofs.RightRows.{verdict_true}
 use Rattle.gic_stand.specs.declared.fault.NetworkRefusal.{NetworkRefusal}
 use Rattle.gic_stand.specs.declared.fault.NetworkRefusal.TheVariants.{Unearthed, Unresolved}
-use Rattle.gic_stand.specs.declared.inputs.Inputs.{Inputs}
+use Rattle.gic_inputs.specs.declared.inputs.Inputs.{Inputs}
 use Rattle.gic_stand.specs.Needs.{Solved as IsSolved, Fails}
 use Rattle.gic_stand.specs.Standing.{IsSolvable, IsNameOfUnearthed, IsNameOfUnresolved}
 use Rattle.gic_outage_mode.specs.declared.outcome.Outcome.{Outcome}

@@ -25,7 +25,7 @@ use Rattle.gic_screen.specs.declared.criterion.Verdict.TheVariants.{Below, Reach
 use Rattle.gic_screen.specs.Verdict.{verdict_of}
 use Rattle.gic_screen.specs.VerdictLaws.{UndecidedIsAcross}
 use Rattle.gic_screening.specs.RightRows.{IsRightWorst, IsTrueVerdict, IsWorstUnder, worst_verdict_at}
-use Rattle.gic_stand.specs.declared.inputs.Inputs.{Inputs}
+use Rattle.gic_inputs.specs.declared.inputs.Inputs.{Inputs}
 use Rattle.gic_stand.specs.Standing.{IsSolvable, IsNameOfUnearthed, IsNameOfUnresolved}
 use Rattle.gic_winding.specs.Weights.{transformer_at}
 use Rattle.gic_outage_mode.specs.declared.outcome.Outcome.{Outcome}

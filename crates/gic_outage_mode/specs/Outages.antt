@@ -9,8 +9,8 @@ use Rattle.gic_peaks.specs.Peaks.{greater}
 use Rattle.gic_winding.specs.InForce.{standing_in}
 use Rattle.gic_outage.specs.Plan.{plan_of}
 use Rattle.gic_outage.specs.Removing.{opening}
-use Rattle.gic_stand.specs.declared.inputs.Inputs.{Inputs}
-use Rattle.gic_stand.specs.Standing.{rows_in}
+use Rattle.gic_inputs.specs.declared.inputs.Inputs.{Inputs}
+use Rattle.gic_inputs.specs.Inputs.{rows_in}
 use Rattle.gic_outage_mode.specs.declared.outcome.Outcome.{Outcome}
 use Rattle.gic_outage_mode.specs.declared.outcome.Outcome.TheVariants.{Idle}
 

@@ -15,7 +15,7 @@ use Rattle.gic_outage.specs.Plan.{plan_of}
 use Rattle.gic_outage.specs.Removing.{is_idle}
 use Rattle.gic_report.specs.declared.counts.Counts.{Counts}
 use Rattle.gic_report.specs.Counts.{counts_of}
-use Rattle.gic_stand.specs.declared.inputs.Inputs.{Inputs}
+use Rattle.gic_inputs.specs.declared.inputs.Inputs.{Inputs}
 use Rattle.gic_stand.specs.Standing.{standing_of, IsSolvable, IsNameOfUnearthed, IsNameOfUnresolved}
 use Rattle.gic_effective.specs.Weighted.{effective_denominator}
 use Rattle.gic_uniform.specs.Uniform.{uniform_volts}

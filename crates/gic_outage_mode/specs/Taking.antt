@@ -7,7 +7,7 @@ use Rattle.gic_peaks.specs.Peaks.{greater}
 use Rattle.gic_winding.specs.ElementList.{elements_of}
 use Rattle.gic_stand.specs.declared.fault.NetworkRefusal.{NetworkRefusal}
 use Rattle.gic_stand.specs.declared.fault.NetworkRefusal.TheVariants as refusals
-use Rattle.gic_stand.specs.declared.inputs.Inputs.{Inputs}
+use Rattle.gic_inputs.specs.declared.inputs.Inputs.{Inputs}
 use Rattle.gic_stand.specs.Standing.{standing_of}
 use Rattle.gic_screening.specs.declared.fields.FieldVolts.{FieldVolts}
 use Rattle.gic_screening.specs.Rows.{Row}

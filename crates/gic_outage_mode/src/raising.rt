@@ -8,8 +8,8 @@ ghost use Rattle.gic_outage_mode.specs.Taking.{worsts_in, AreRaisedBy};
 
 use gic_base::OutOfMemory;
 use gic_fixed::Interval;
-use gic_screen::peak;
 use gic_screening::ScreenRow;
+use gic_view::peak;
 use std::alloc::Global;
 use std::marker::Model;
 

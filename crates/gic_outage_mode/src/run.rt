@@ -10,10 +10,10 @@ use crate::outcome::Outcome;
 use crate::raising::Greatest;
 use crate::taking::take_item;
 use gic_bound::BoundVector;
+use gic_inputs::Inputs;
 use gic_model::Item;
 use gic_net::Net;
 use gic_screening::{FieldVolts, ScreenRoom};
-use gic_stand::Inputs;
 
 /// Takes each item of the plan out in turn. The net is then as it was before. Takes no memory.
 pub(crate) fn take_items(

@@ -14,13 +14,14 @@ use crate::counting::count_verdicts;
 use crate::outcome::Outcome;
 use crate::raising::{Greatest, raise_all};
 use gic_bound::BoundVector;
+use gic_inputs::Inputs;
 use gic_model::Item;
 use gic_net::Net;
 use gic_outage::laws::outage_law;
 use gic_outage::{idle, restore, take_out};
 use gic_screen::laws::{verdict_law, worst_verdict_law};
 use gic_screening::{FieldVolts, ScreenRoom, screen_net};
-use gic_stand::{Inputs, NetworkRefusal};
+use gic_stand::NetworkRefusal;
 
 /// How an outage ends whose network is refused.
 fn outcome_of(refusal: &NetworkRefusal) -> Outcome

@@ -3,7 +3,6 @@ use Rattle.std.proofs.Common.{All, ◌≡◌, ℕ, zero, suc, ◌<◌, List, [],
 use Rattle.std.proofs.lemmas.Int.{ints, clamps}
 use Rattle.std.proofs.lemmas.List.Elements.{All-head, All-tail}
 use Rattle.std.specs.Int.{int_max}
-use Rattle.gic_screen.proofs.Worsts.{least_not_negative}
 use Rattle.gic_fixed.specs.Encloses.{EnclosesAbsolute}
 use Rattle.gic_fixed.specs.Ends.{Ends, no_ends}
 use Rattle.gic_fixed.specs.Rounding.{least_abs, greatest_abs}
@@ -107,7 +106,7 @@ greater_not_negative a (Some b) h = omega (arith, ints, clamps)
 pub peak_not_negative : (cells : List (Option Ends)) → IfSome (peak_of cells) (λ peak. pos 0 ≤ℤ peak.low)
 peak_not_negative [] = tt
 peak_not_negative (None ∷ cells) = peak_not_negative cells
-peak_not_negative (Some e ∷ cells) = greater_not_negative (absolute_ends e) (peak_of cells) (least_not_negative e.low e.high)
+peak_not_negative (Some e ∷ cells) = greater_not_negative (absolute_ends e) (peak_of cells) (omega (arith, ints, clamps))
 
 unwrapped_peak : (e peak : Ends) (rest : Option Ends) → peak ≡ unwrap_or (greater (Some e) rest) no_ends → greater (Some e) rest ≡ Some peak
 unwrapped_peak e peak None h = ap Some (sym h)

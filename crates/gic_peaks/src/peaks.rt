@@ -8,8 +8,7 @@ ghost use Rattle.gic_view.specs.Absolute.{absolute_ends, HasAbsolute};
 
 use gic_base::{ElementId, NodeId, OutOfMemory};
 use gic_fixed::Interval;
-use gic_screen::peak;
-use gic_view::StepView;
+use gic_view::{StepView, peak};
 use std::alloc::Global;
 use std::marker::Model;
 

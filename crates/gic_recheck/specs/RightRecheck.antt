@@ -13,7 +13,7 @@ use Rattle.gic_exists.specs.Exists.{HasSolution}
 use Rattle.gic_stand.specs.Needs.{Nothing}
 use Rattle.gic_stand.specs.Serves.{Shown, Serves}
 use Rattle.gic_stand.specs.Standing.{standing_of}
-use Rattle.gic_stand.specs.declared.inputs.Inputs.{Inputs}
+use Rattle.gic_inputs.specs.declared.inputs.Inputs.{Inputs}
 use Rattle.gic_text.specs.Lines.{lines_text}
 use Rattle.gic_uniform.specs.Uniform.{uniform_volts}
 use Rattle.gic_recheck.specs.Accepted.{IsAccepted, IsRefused}

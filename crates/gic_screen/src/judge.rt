@@ -1,6 +1,5 @@
-//! The verdict of an interval, and the greater ends of two.
-ghost use Rattle.std.specs.Prelude.{◌≡◌, ◌≤◌};
-ghost use Rattle.std.specs.Int.{int_max};
+//! The verdict of an interval.
+ghost use Rattle.std.specs.Prelude.{◌≡◌};
 ghost use Rattle.gic_screen.specs.Verdict.{verdict_of};
 
 use crate::criterion::Verdict;
@@ -22,12 +21,4 @@ pub fn verdict(peak: Interval, threshold: u32, high_volts: u32, earthed_high: bo
     } else {
         Verdict::Undecided
     }
-}
-
-/// The greater low end and the greater high end: the interval of the greater of two numbers.
-pub fn peak(a: Interval, b: Interval) -> Interval
-    ensures low { result.lo ≡ int_max a.lo b.lo }
-    ensures high { result.hi ≡ int_max a.hi b.hi }
-{
-    Interval::new(a.lo.max(b.lo), a.hi.max(b.hi))
 }

@@ -9,5 +9,5 @@ mod orientation;
 
 pub use criterion::Verdict;
 pub use event::Event;
-pub use judge::{peak, verdict};
+pub use judge::verdict;
 pub use orientation::worst;

@@ -17,13 +17,14 @@ ghost use Rattle.gic_screening.specs.Screening.{AreVoltsFor, IsScreenRoomFor};
 use crate::text::write_screen;
 use gic_base::{Sink, WriteFailed};
 use gic_case::Case;
+use gic_inputs::Inputs;
 use gic_net::Net;
 use gic_question::Question;
 use gic_screen::laws::{verdict_law, worst_verdict_law};
 use gic_screening::{
     FieldVolts, ScreenRoom, ScreenRows, field_volts, make_screen_room, screen_net, setting_of,
 };
-use gic_stand::{Inputs, ReportFault, ended, standing_net};
+use gic_stand::{ReportFault, ended, standing_net};
 use gic_text::LineBuilder;
 use gic_winding::elements;
 use std::alloc::Global;

@@ -6,7 +6,7 @@ use Rattle.gic_text.specs.Lines.{lines_text}
 use Rattle.gic_winding.specs.Weights.{transformer_at}
 use Rattle.gic_fixed.specs.Ends.{IsAtMostWide}
 use Rattle.gic_effective.specs.RightView.{IsRightEffective}
-use Rattle.gic_course.specs.declared.inputs.StormInputs.{StormInputs}
+use Rattle.gic_inputs.specs.declared.inputs.StormInputs.{StormInputs}
 use Rattle.gic_course.specs.Steps.{IsStepOf, standing_at_step, storm_volts}
 use Rattle.gic_series.specs.Rows.{Row, row_at}
 use Rattle.gic_series.specs.SeriesText.{series_report}

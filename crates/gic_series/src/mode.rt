@@ -8,7 +8,8 @@ ghost use Rattle.gic_stand.specs.declared.fault.ReportFault.TheVariants.{Memory}
 ghost use Rattle.gic_stand.specs.Needs.{Solved};
 ghost use Rattle.gic_stand.specs.Serves.{Serves, shown};
 ghost use Rattle.gic_storm.specs.Steps.{steps_in};
-ghost use Rattle.gic_course.specs.Steps.{IsStormOf, storm_steps};
+ghost use Rattle.gic_inputs.specs.Inputs.{IsStormOf};
+ghost use Rattle.gic_course.specs.Steps.{storm_steps};
 ghost use Rattle.gic_series.specs.Made.{IsMadeFor};
 ghost use Rattle.gic_series.specs.RightSeries.{series_text, IsRightSeries};
 
@@ -17,7 +18,7 @@ use crate::rows::SeriesRows;
 use crate::steps::fill_rows;
 use crate::text::write_series;
 use gic_base::{Sink, WriteFailed};
-use gic_course::StormInputs;
+use gic_inputs::StormInputs;
 use gic_stand::{ReportFault, ended};
 use gic_text::LineBuilder;
 use std::alloc::Global;

@@ -1,11 +1,12 @@
 //! What a series makes before it looks at any step.
 ghost use Rattle.std.specs.Prelude.{IfOk};
-ghost use Rattle.gic_course.specs.Steps.{IsStormOf};
+ghost use Rattle.gic_inputs.specs.Inputs.{IsStormOf};
 ghost use Rattle.gic_series.specs.Made.{IsMadeFor};
 
 use crate::rows::SeriesRows;
 use gic_base::OutOfMemory;
-use gic_course::{Course, StormInputs};
+use gic_course::Course;
+use gic_inputs::StormInputs;
 use gic_text::LineBuilder;
 use gic_view::StepView;
 use std::alloc::Global;

@@ -9,7 +9,8 @@ ghost use Rattle.gic_series.specs.Rows.{row_of};
 ghost use Rattle.gic_series.specs.RightSeries.{IsRightRow, AreRightRows};
 
 use crate::rows::{SeriesRow, SeriesRows, shown_row};
-use gic_course::{Course, StormInputs};
+use gic_course::Course;
+use gic_inputs::StormInputs;
 use gic_view::StepView;
 
 /// The row of a step, counted from 1, of the transformer at this place.

@@ -7,6 +7,7 @@ use Rattle.gic_base.specs.Pieces.{AppendsPart}
 use Rattle.gic_base.specs.declared.sink.WriteFailed.{WriteFailed}
 use Rattle.gic_base.proofs.Parts.{keeps-refl}
 use Rattle.gic_case.specs.Lists.{Lists}
+use Rattle.gic_inputs.proofs.Answered.{answered}
 use Rattle.gic_model.specs.Sums.{Placed}
 use Rattle.gic_stand.specs.Needs.{Need, Nothing, Meets, Fails, IsMet, IsUnmet}
 use Rattle.gic_stand.specs.Serves.{Shown, Serves, ended}
@@ -42,11 +43,6 @@ served need case steps IsRight text before now (Ok done) answer met right all pa
     subst (Serves need case steps IsRight before now) (sym is) (record { met = met; text = text; right = right; written = all })
 served need case steps IsRight text before now (Err e) answer met right all part cause is =
     subst (Serves need case steps IsRight before now) (sym is) (record { met = met; text = text; right = right; part = part; cause = cause.failed })
-
--- the answer is this fault
-pub answered : {A E : Type 0} (answer : Result A E) (fault : E) → IsErrAnd answer (λ e. e ≡ fault) → answer ≡ Err fault
-answered (Ok done) fault h = absurd h
-answered (Err e) fault h = ap Err h
 
 -- nothing was written, since the need is not met at the one step
 pub unserved_network : (need : Need) (case : Lists) (standing : List Placed) (IsRight : List ℕ → Type 0) (s : Shown) (refusal : NetworkRefusal) (answer : Result (Unit {0}) ReportFault)

@@ -8,7 +8,8 @@ use Rattle.gic_model.specs.Sums.{Placed}
 use Rattle.gic_winding.specs.ElementList.{elements_of}
 use Rattle.gic_stand.specs.Needs.{Need}
 use Rattle.gic_stand.specs.Serves.{Shown, Serves}
-use Rattle.gic_stand.specs.Standing.{rows_in, standing_of}
+use Rattle.gic_inputs.specs.Inputs.{rows_in}
+use Rattle.gic_stand.specs.Standing.{standing_of}
 use Rattle.gic_stand.specs.declared.fault.ReportFault.{ReportFault}
 
 -- what stands of the elements of a case stands of the case

@@ -1,17 +1,14 @@
 -- The network of a case that stands, and whether it is earthed and can be solved.
-use Rattle.std.specs.Prelude.{ℕ, ◌≡◌, ◌≢◌, ◌<◌, List, [], ◌∷◌, slice_index_or, unwrap_or, Option}
+use Rattle.std.specs.Prelude.{ℕ, ◌≡◌, ◌≢◌, ◌<◌, List, [], ◌∷◌, slice_index_or, Option}
 use Rattle.gic_base.specs.declared.limits.TheConstants.{MOST_WALK, FULL_WALK}
 use Rattle.gic_case.specs.Lists.{Lists, node_names}
 use Rattle.gic_model.specs.declared.parts.Switching.{Switching}
 use Rattle.gic_model.specs.Sums.{Placed}
 use Rattle.gic_model.specs.Earthing.{AreEarthed, IsFirstUnearthed}
 use Rattle.gic_model.specs.Bound.{IsEarthedWithin, IsLeastCappedVector}
+use Rattle.gic_inputs.specs.Inputs.{rows_in}
 use Rattle.gic_winding.specs.InForce.{standing_in}
-use Rattle.gic_stand.specs.declared.inputs.Inputs.{Inputs}
-
--- the rows of the switchings, none where there are no switchings
-abbrev pub rows_in : Option (List Switching) → List Switching
-rows_in switchings = unwrap_or switchings []
+use Rattle.gic_inputs.specs.declared.inputs.Inputs.{Inputs}
 
 -- the elements of a case that stand with all its switchings in force
 abbrev pub standing_of : Lists → Option (List Switching) → List Placed

@@ -7,7 +7,7 @@ ghost use Rattle.gic_model.specs.Standing.{standing_elements, stands_after};
 ghost use Rattle.gic_net.specs.Net.{standing, net_after};
 ghost use Rattle.gic_bound.specs.Entries.{IsBoundWithin};
 ghost use Rattle.gic_winding.specs.ElementList.{elements_of};
-ghost use Rattle.gic_stand.specs.Standing.{rows_in};
+ghost use Rattle.gic_inputs.specs.Inputs.{rows_in};
 ghost use Rattle.gic_stand.specs.Needs.{Earthed, Solved, Fails};
 
 use crate::fault::NetworkRefusal;

@@ -23,7 +23,7 @@ use Rattle.gic_ask.specs.declared.fault.InputRefusal.TheVariants.{Usage, TooLong
 use Rattle.gic_ask.specs.declared.request.Asked.{Asked}
 use Rattle.gic_stand.specs.Needs.{IsMet, IsUnmet}
 use Rattle.gic_stand.specs.Serves.{Shown}
-use Rattle.gic_stand.specs.declared.inputs.Inputs.{Inputs}
+use Rattle.gic_inputs.specs.declared.inputs.Inputs.{Inputs}
 use Rattle.gic_stand.specs.declared.fault.NetworkRefusal.{NetworkRefusal}
 use Rattle.gic_stand.specs.declared.fault.NetworkRefusal.TheVariants.{Unearthed, Unresolved}
 use Rattle.gic_stand.specs.declared.fault.ReportFault.TheVariants as report

@@ -6,7 +6,7 @@ use Rattle.gic_words.specs.declared.mode.NetworkMode.{NetworkMode}
 use Rattle.gic_words.specs.declared.mode.NetworkMode.TheVariants as network
 use Rattle.gic_words.specs.declared.mode.Mode.{Mode}
 use Rattle.gic_words.specs.declared.mode.Mode.TheVariants as mode
-use Rattle.gic_stand.specs.declared.inputs.Inputs.{Inputs}
+use Rattle.gic_inputs.specs.declared.inputs.Inputs.{Inputs}
 use Rattle.gic_stand.specs.Needs.{Need, Nothing, Earthed, Solved}
 use Rattle.gic_stand.specs.Standing.{standing_of, steps_of}
 use Rattle.gic_ask.specs.declared.request.Asked.{Asked}

@@ -14,7 +14,7 @@ use Rattle.gic_uniform.proofs.Denominators.{some_denominator}
 use Rattle.gic_monitor.specs.RosterView.{RosterView}
 use Rattle.gic_loss.specs.LossText.{most_current}
 use Rattle.gic_loss.specs.Bounds.{Currents, numerator_at, ShowsUnits}
-use Rattle.gic_course.specs.declared.inputs.StormInputs.{StormInputs}
+use Rattle.gic_inputs.specs.declared.inputs.StormInputs.{StormInputs}
 use Rattle.gic_course.specs.Steps.{standing_at_step, storm_volts}
 use Rattle.gic_course.specs.Views.{view_at}
 use Rattle.gic_uniform.specs.Solving.{IsSmallView}

@@ -7,7 +7,7 @@ use Rattle.gic_view.specs.View.{View}
 use Rattle.gic_effective.specs.Weighted.{effective_numerator, effective_denominator}
 use Rattle.gic_monitor.specs.RosterView.{RosterView}
 use Rattle.gic_loss.specs.Bounds.{Currents, numerator_at, ShowsUnits}
-use Rattle.gic_course.specs.declared.inputs.StormInputs.{StormInputs}
+use Rattle.gic_inputs.specs.declared.inputs.StormInputs.{StormInputs}
 use Rattle.gic_course.specs.Steps.{standing_at_step, storm_volts}
 use Rattle.gic_course.specs.Views.{view_at}
 use Rattle.gic_study_mode.specs.RightStudy.{IsRightStudy}

@@ -23,7 +23,7 @@ use Rattle.gic_effective.specs.Weighted.{effective_numerator, effective_denomina
 use Rattle.gic_peaks.specs.Peaks.{peak_of, shown_at_node, shown_at_element, shown_of_transformer, IsPeaksOf}
 use Rattle.gic_peaks.specs.PeakLaws.{cell_at, AreEnclosed, EnclosesGreatest, PeakEnclosesGreatest, TransformerPeakIsPeak}
 use Rattle.gic_view.specs.Absolute.{absolute_ends}
-use Rattle.gic_course.specs.declared.inputs.StormInputs.{StormInputs}
+use Rattle.gic_inputs.specs.declared.inputs.StormInputs.{StormInputs}
 use Rattle.gic_course.specs.Steps.{IsStepOf, standing_at_step, storm_volts}
 use Rattle.gic_course.specs.Views.{AreRightViews, view_at}
 use Rattle.gic_study_mode.specs.PeakEnclosure.{AreSolutions, EnclosesPeak, EnclosesPeakIfAny, EnclosesNodePeak, EnclosesElementPeak, EnclosesTransformerPeak, AreEnclosing}

@@ -19,14 +19,15 @@ use Rattle.gic_screen.specs.Event.{threshold_of}
 use Rattle.gic_screen.specs.VerdictLaws.{BelowIsUnder, ReachesIsAtLeast, UndecidedIsAcross}
 use Rattle.gic_stand.specs.Needs.{Need, Solved, IsMet, IsUnmet}
 use Rattle.gic_stand.specs.Serves.{Shown, Serves}
-use Rattle.gic_stand.specs.Standing.{rows_in, IsSolvable}
+use Rattle.gic_inputs.specs.Inputs.{rows_in, IsStormOf}
+use Rattle.gic_stand.specs.Standing.{IsSolvable}
 use Rattle.gic_stand.specs.declared.fault.ReportFault.{ReportFault}
 use Rattle.gic_stand.specs.declared.fault.ReportFault.TheVariants.{Refused, CannotWrite, Memory}
 use Rattle.gic_stand.specs.declared.fault.NetworkRefusal.{NetworkRefusal}
-use Rattle.gic_stand.proofs.Served.{answered}
+use Rattle.gic_inputs.proofs.Answered.{answered}
 use Rattle.gic_monitor.specs.RosterView.{RosterView}
-use Rattle.gic_course.specs.declared.inputs.StormInputs.{StormInputs}
-use Rattle.gic_course.specs.Steps.{IsStormOf, IsStepOf, standing_at_step, storm_volts, storm_fields, storm_steps}
+use Rattle.gic_inputs.specs.declared.inputs.StormInputs.{StormInputs}
+use Rattle.gic_course.specs.Steps.{IsStepOf, standing_at_step, storm_volts, storm_fields, storm_steps}
 use Rattle.gic_course.specs.Views.{IsRightStep, AreRightViews, view_at}
 use Rattle.gic_course.proofs.RightSoFar.{all_right}
 use Rattle.gic_course.proofs.StepsStand.{solvable_at}

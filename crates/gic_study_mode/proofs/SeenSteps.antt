@@ -9,7 +9,7 @@ use Rattle.gic_view.specs.View.{View}
 use Rattle.gic_view.specs.Kept.{blank_view}
 use Rattle.gic_effective.specs.Narrow.{IsNarrowView}
 use Rattle.gic_peaks.specs.Peaks.{HasAbsolutes, IsPeaksOf}
-use Rattle.gic_course.specs.declared.inputs.StormInputs.{StormInputs}
+use Rattle.gic_inputs.specs.declared.inputs.StormInputs.{StormInputs}
 use Rattle.gic_course.specs.Views.{IsRightStep, view_at}
 use Rattle.gic_uniform.specs.Solving.{IsSmallView}
 use Rattle.gic_course.proofs.RightSoFar.{right_step, none_so_far, one_more_right, one_more_narrow, one_more_small}

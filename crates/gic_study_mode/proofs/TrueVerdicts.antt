@@ -10,7 +10,7 @@ use Rattle.gic_screen.specs.VerdictLaws.{BelowIsUnder, ReachesIsAtLeast, Undecid
 use Rattle.gic_report.specs.VerdictText.{earthed_high}
 use Rattle.gic_view.specs.Absolute.{absolute_ends}
 use Rattle.gic_uniform.proofs.Denominators.{some_denominator}
-use Rattle.gic_course.specs.declared.inputs.StormInputs.{StormInputs}
+use Rattle.gic_inputs.specs.declared.inputs.StormInputs.{StormInputs}
 use Rattle.gic_study_mode.specs.PeakEnclosure.{AreSolutions, AreEnclosing}
 use Rattle.gic_study_mode.specs.PeakVerdicts.{AreTrueVerdicts}
 

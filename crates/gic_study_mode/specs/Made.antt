@@ -1,7 +1,7 @@
 -- What a study makes before it looks at any step. For the contracts of this crate.
 use Rattle.std.specs.Prelude.{◌≡◌, ℕ, [], Option, option_map}
 use Rattle.gic_peaks.specs.Peaks.{IsPeaksOf}
-use Rattle.gic_course.specs.declared.inputs.StormInputs.{StormInputs}
+use Rattle.gic_inputs.specs.declared.inputs.StormInputs.{StormInputs}
 use Rattle.gic_course.specs.CourseOf.{IsCourseOf}
 use Rattle.gic_course.specs.Steps.{storm_fields}
 use Rattle.gic_study_mode.specs.declared.room.Room.{Room}

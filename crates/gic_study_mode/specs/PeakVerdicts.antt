@@ -9,7 +9,7 @@ use Rattle.gic_effective.specs.Narrow.{IsNarrowView}
 use Rattle.gic_effective.specs.Threshold.{IsAtLeast, IsUnder}
 use Rattle.gic_report.specs.VerdictText.{IsAcross, verdict_at}
 use Rattle.gic_view.specs.Absolute.{absolute_ends}
-use Rattle.gic_course.specs.declared.inputs.StormInputs.{StormInputs}
+use Rattle.gic_inputs.specs.declared.inputs.StormInputs.{StormInputs}
 use Rattle.gic_course.specs.Steps.{IsStepOf}
 use Rattle.gic_study_mode.specs.PeakEnclosure.{AreSolutions}
 

@@ -7,7 +7,7 @@ use Rattle.gic_screen.specs.Event.{threshold_of}
 use Rattle.gic_peaks.specs.Peaks.{IsPeaksOf}
 use Rattle.gic_model.specs.Solution.{Solution}
 use Rattle.gic_monitor.specs.RosterView.{RosterView}
-use Rattle.gic_course.specs.declared.inputs.StormInputs.{StormInputs}
+use Rattle.gic_inputs.specs.declared.inputs.StormInputs.{StormInputs}
 use Rattle.gic_course.specs.Steps.{storm_fields}
 use Rattle.gic_course.specs.Views.{AreRightViews, AreNarrowViews, AreSmallViews, view_at}
 use Rattle.gic_study_text.specs.StudyText.{DetailView, study_text}

@@ -4,7 +4,7 @@ use Rattle.gic_case.specs.Lists.{Lists}
 use Rattle.gic_view.specs.View.{View}
 use Rattle.gic_effective.specs.ViewLengths.{HasViewLengths}
 use Rattle.gic_peaks.specs.Peaks.{HasAbsolutes, IsPeaksOf}
-use Rattle.gic_course.specs.declared.inputs.StormInputs.{StormInputs}
+use Rattle.gic_inputs.specs.declared.inputs.StormInputs.{StormInputs}
 use Rattle.gic_course.specs.Views.{IsSolvedStep, AreRightSoFar, AreNarrowViews, AreSmallViews, view_at}
 use Rattle.gic_study_text.specs.StudyText.{DetailView}
 use Rattle.gic_study_mode.specs.declared.views.Views.{Views}

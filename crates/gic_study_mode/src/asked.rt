@@ -1,11 +1,12 @@
 //! The step that is shown in full.
 ghost use Rattle.std.specs.Prelude.{◌≡◌, option_map, IfOk, IfSome};
-ghost use Rattle.gic_course.specs.Steps.{IsStormOf, IsStepOf, storm_fields};
+ghost use Rattle.gic_inputs.specs.Inputs.{IsStormOf};
+ghost use Rattle.gic_course.specs.Steps.{IsStepOf, storm_fields};
 ghost use Rattle.gic_study_mode.specs.Asked.{asked_step};
 
 use gic_base::OutOfMemory;
-use gic_course::StormInputs;
 use gic_induce::Fields;
+use gic_inputs::StormInputs;
 use gic_storm::fill_fields;
 use std::alloc::Global;
 

@@ -5,7 +5,8 @@ ghost use Rattle.gic_stand.specs.declared.fault.ReportFault.TheVariants.{Memory}
 ghost use Rattle.gic_stand.specs.Needs.{Solved, IsMet};
 ghost use Rattle.gic_stand.specs.Serves.{Serves, shown};
 ghost use Rattle.gic_monitor.specs.OnBoard.{monitors_of};
-ghost use Rattle.gic_course.specs.Steps.{IsStormOf, storm_steps};
+ghost use Rattle.gic_inputs.specs.Inputs.{IsStormOf};
+ghost use Rattle.gic_course.specs.Steps.{storm_steps};
 ghost use Rattle.gic_study_mode.specs.Made.{IsMadeFor};
 ghost use Rattle.gic_study_mode.specs.RightStudy.{IsRightStudy};
 
@@ -15,8 +16,8 @@ use crate::steps::see_steps;
 use crate::texts::texts_of;
 use crate::writing::write_seen;
 use gic_base::Sink;
-use gic_course::StormInputs;
 use gic_exists::laws::existence_law;
+use gic_inputs::StormInputs;
 use gic_monitor::{Board, Monitor};
 use gic_peaks::laws::{peak_is_absolute_law, peak_is_narrow_law, peaks_enclose_law};
 use gic_screen::laws::verdict_law;

@@ -1,14 +1,15 @@
 //! What a study makes before it looks at any step.
 ghost use Rattle.std.specs.Prelude.{IfOk};
-ghost use Rattle.gic_course.specs.Steps.{IsStormOf};
+ghost use Rattle.gic_inputs.specs.Inputs.{IsStormOf};
 ghost use Rattle.gic_study_mode.specs.Made.{IsMadeFor};
 
 use crate::asked::{asked_fields, asked_step};
 use crate::roster::roster_of;
 use crate::views::{Views, make_views};
 use gic_base::OutOfMemory;
-use gic_course::{Course, StormInputs};
+use gic_course::Course;
 use gic_induce::Fields;
+use gic_inputs::StormInputs;
 use gic_monitor::Roster;
 use gic_text::LineBuilder;
 use std::alloc::Global;

@@ -10,7 +10,8 @@ ghost use Rattle.gic_monitor.specs.OnBoard.{monitors_of};
 ghost use Rattle.gic_study_mode.specs.Seen.{IsRoomFor, IsViewOf, AreRaisedBy, AreShown, HasShown, HasSeen, is_asked};
 
 use crate::views::Views;
-use gic_course::{Course, StormInputs};
+use gic_course::Course;
+use gic_inputs::StormInputs;
 use gic_monitor::{Board, Monitor};
 use gic_peaks::Peaks;
 use gic_view::StepView;

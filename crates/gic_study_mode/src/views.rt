@@ -5,7 +5,8 @@ ghost use Rattle.gic_course.specs.CourseOf.{IsCourseOf};
 ghost use Rattle.gic_study_mode.specs.Seen.{IsRoomFor};
 
 use gic_base::OutOfMemory;
-use gic_course::{Course, StormInputs};
+use gic_course::Course;
+use gic_inputs::StormInputs;
 use gic_peaks::Peaks;
 use gic_view::StepView;
 use std::alloc::Global;

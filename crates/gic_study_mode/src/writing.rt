@@ -12,8 +12,8 @@ ghost use Rattle.gic_study_mode.specs.Seen.{with_view};
 
 use crate::views::Views;
 use gic_base::{Sink, WriteFailed};
-use gic_course::StormInputs;
 use gic_induce::Fields;
+use gic_inputs::StormInputs;
 use gic_study_text::{Detail, Setting, write_study};
 use gic_text::LineBuilder;
 use gic_view::StepView;

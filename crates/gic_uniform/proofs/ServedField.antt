@@ -11,7 +11,8 @@ use Rattle.gic_model.specs.Voltages.{number_at}
 use Rattle.gic_winding.specs.ElementList.{elements_of}
 use Rattle.gic_stand.specs.Needs.{Need}
 use Rattle.gic_stand.specs.Serves.{Shown, Serves}
-use Rattle.gic_stand.specs.Standing.{rows_in, standing_of}
+use Rattle.gic_inputs.specs.Inputs.{rows_in}
+use Rattle.gic_stand.specs.Standing.{standing_of}
 use Rattle.gic_stand.specs.declared.fault.ReportFault.{ReportFault}
 use Rattle.gic_stand.proofs.StandingOf.{serves_case}
 use Rattle.gic_uniform.specs.Uniform.{uniform_field, uniform_volts}

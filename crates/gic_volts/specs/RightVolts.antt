@@ -6,7 +6,7 @@ use Rattle.gic_induce.specs.Voltage.{line_nanovolts}
 use Rattle.gic_text.specs.Lines.{lines_text}
 use Rattle.gic_volts.specs.VoltsText.{volts_report}
 use Rattle.gic_question.specs.declared.asked.Question.{Question}
-use Rattle.gic_stand.specs.declared.inputs.Inputs.{Inputs}
+use Rattle.gic_inputs.specs.declared.inputs.Inputs.{Inputs}
 
 -- the voltage of each line in nanovolts, blocked ones too, in one field for all zones
 abbrev pub line_volts : Lists → ℤ → ℤ → List ℤ

@@ -15,8 +15,9 @@ use crate::lines::line_volts;
 use crate::text::write_volts;
 use gic_base::{Sink, WriteFailed};
 use gic_case::Case;
+use gic_inputs::Inputs;
 use gic_question::Question;
-use gic_stand::{Inputs, ReportFault, ended};
+use gic_stand::{ReportFault, ended};
 use gic_text::LineBuilder;
 use std::alloc::Global;
 

@@ -1,6 +1,6 @@
 use Rattle.std.proofs.Common.{sym, subst}
-use Rattle.gic_stand.specs.declared.inputs.Inputs.{Inputs}
-use Rattle.gic_stand.proofs.Served.{answered}
+use Rattle.gic_inputs.specs.declared.inputs.Inputs.{Inputs}
+use Rattle.gic_inputs.proofs.Answered.{answered}
 use Rattle.gic_ask.specs.Outcome.{reading_inputs}
 use Rattle.gic_ask.specs.Steps.{Reads}
 use Rattle.gic_ask.proofs.Exits.{case_fails, switchings_fail, all_read}

@@ -1,6 +1,6 @@
 use Rattle.std.proofs.Common.{sym, subst}
-use Rattle.gic_course.specs.declared.inputs.StormInputs.{StormInputs}
-use Rattle.gic_stand.proofs.Served.{answered}
+use Rattle.gic_inputs.specs.declared.inputs.StormInputs.{StormInputs}
+use Rattle.gic_inputs.proofs.Answered.{answered}
 use Rattle.gic_ask.specs.Outcome.{reading_over_case}
 use Rattle.gic_ask.specs.Steps.{Reads}
 use Rattle.gic_ask.proofs.Exits.{storm_fails, storm_switchings_fail, over_case_read}

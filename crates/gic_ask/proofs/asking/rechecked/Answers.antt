@@ -1,5 +1,5 @@
 use Rattle.std.proofs.Common.{sym, subst}
-use Rattle.gic_stand.proofs.Served.{answered}
+use Rattle.gic_inputs.proofs.Answered.{answered}
 use Rattle.gic_ask.specs.Outcome.{reading_recheck}
 use Rattle.gic_ask.specs.Steps.{Reads}
 use Rattle.gic_ask.specs.declared.request.Asked.{Asked}

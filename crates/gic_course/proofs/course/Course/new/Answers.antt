@@ -1,5 +1,5 @@
 use Rattle.std.proofs.Common.{◌∙◌}
-use Rattle.gic_stand.specs.Standing.{rows_in}
+use Rattle.gic_inputs.specs.Inputs.{rows_in}
 use Rattle.gic_course.proofs.course.Course.new.Goals as goal
 
 pub returns : goal.returns

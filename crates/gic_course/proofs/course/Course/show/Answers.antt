@@ -1,6 +1,6 @@
 use Rattle.gic_model.specs.Standing.{rows_in_force, stands_after}
 use Rattle.gic_storm.specs.Steps.{time_of_step}
-use Rattle.gic_stand.specs.Standing.{rows_in}
+use Rattle.gic_inputs.specs.Inputs.{rows_in}
 use Rattle.gic_winding.specs.ElementList.{elements_of}
 use Rattle.gic_course.specs.Steps.{storm_volts}
 use Rattle.gic_uniform.proofs.SmallEnds.{view_small}

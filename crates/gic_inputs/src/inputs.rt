@@ -1,7 +1,18 @@
-//! What a mode over a storm is given.
+//! What a mode is given, and what a mode over a storm is.
+use gic_case::Case;
 use gic_model::Switching;
-use gic_stand::Inputs;
+use gic_question::Question;
 use gic_storm::Storm;
+use gic_switch::Switchings;
+
+/// What a mode is given: the files that are named, read and accepted, and what is asked of the network.
+#[derive(Drop)]
+pub struct Inputs {
+    pub case: Case,
+    /// None where the words name no switchings.
+    pub switchings: Option<Switchings>,
+    pub question: Question,
+}
 
 /// What a mode over a storm is given: what every mode is, and a storm, read and accepted.
 #[derive(Drop)]
@@ -12,10 +23,10 @@ pub struct StormInputs {
 
 impl StormInputs {
     ghost use Rattle.std.specs.Prelude.{◌≡◌};
-    ghost use Rattle.gic_stand.specs.Standing.{rows_in};
+    ghost use Rattle.gic_inputs.specs.Inputs.{rows_in};
 
     /// The rows of the switchings, none where there are no switchings.
-    pub(crate) fn rows(&self) -> &[Switching]
+    pub fn rows(&self) -> &[Switching]
         ensures { result.now ≡ rows_in self.now.inputs.switchings }
     {
         match &self.inputs.switchings {

@@ -1,7 +1,7 @@
 use Rattle.std.proofs.Common.{◌≡◌, arith, rules}
 use Rattle.std.specs.Int.{int_max}
 use Rattle.std.proofs.lemmas.Int.{ints, clamps}
-use Rattle.gic_screen.proofs.judge.peak.Goals as goal
+use Rattle.gic_view.proofs.greater.peak.Goals as goal
 
 pub new-requires : goal.new-requires
 new-requires c =
