@@ -2,8 +2,8 @@
 use Rattle.std.proofs.Common.{◌≡◌, ℕ, List, Option, Some, None, Result, Ok, Err, ap, arith}
 use Rattle.std.specs.Prelude.{IfOk, IsSome, ok_or}
 use Rattle.gic_case.specs.Lists.{Lists}
-use Rattle.gic_case.specs.Rules.{case_of}
-use Rattle.gic_case.specs.declared.refusal.CaseRefusal.{CaseRefusal}
+use Rattle.gic_case_reader.specs.Rules.{case_of}
+use Rattle.gic_case_reader.specs.declared.refusal.CaseRefusal.{CaseRefusal}
 use Rattle.gic_model.specs.declared.parts.Switching.{Switching}
 use Rattle.gic_storm.specs.Rules.{storm_of}
 use Rattle.gic_storm.specs.StormView.{StormView, zone_names}

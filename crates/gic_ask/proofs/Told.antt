@@ -9,8 +9,8 @@ use Rattle.gic_case.specs.Lists.{Lists}
 use Rattle.gic_storm.specs.Rules.{storm_of}
 use Rattle.gic_storm.specs.StormView.{StormView, zone_names}
 use Rattle.gic_storm.specs.declared.refusal.StormRefusal.{StormRefusal}
-use Rattle.gic_case.specs.Rules.{case_of}
-use Rattle.gic_case.specs.declared.refusal.CaseRefusal.{CaseRefusal}
+use Rattle.gic_case_reader.specs.Rules.{case_of}
+use Rattle.gic_case_reader.specs.declared.refusal.CaseRefusal.{CaseRefusal}
 use Rattle.gic_model.specs.declared.parts.Switching.{Switching}
 use Rattle.gic_switch.specs.Rules.{switchings_of}
 use Rattle.gic_switch.specs.declared.refusal.SwitchRefusal.{SwitchRefusal}

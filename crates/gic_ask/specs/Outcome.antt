@@ -2,7 +2,7 @@
 use Rattle.std.specs.Prelude.{ℕ, List, Ok, Err, Result, None, Some, bytes_eq, ok_or, position}
 use Rattle.std.specs.declared.option.Option.{Option}
 use Rattle.gic_case.specs.Lists.{Lists}
-use Rattle.gic_case.specs.Rules.{case_of}
+use Rattle.gic_case_reader.specs.Rules.{case_of}
 use Rattle.gic_model.specs.declared.parts.Switching.{Switching}
 use Rattle.gic_storm.specs.Rules.{storm_of}
 use Rattle.gic_storm.specs.StormView.{StormView, zone_names}

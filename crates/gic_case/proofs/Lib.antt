@@ -1,11 +1,4 @@
-pub mod Degrees
-pub mod Documents
-pub mod FieldLaws
-pub mod PassLaws
-pub mod Passed
-pub mod Ranges
-pub mod Repeats
-pub mod Rows
-pub mod Sound
-pub mod Tables
+pub mod Earthings
 pub mod NeutralNodes
+pub mod Passed
+pub mod Places

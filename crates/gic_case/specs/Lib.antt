@@ -1,13 +1,4 @@
-pub mod Accepted
-pub mod Keys
 pub mod Lists
 pub mod Sound
 pub mod Names
 pub mod NodeNames
-pub mod OneByOne
-pub mod Pass
-pub mod Rows
-pub mod Rules
-pub mod Sides
-pub mod Transformers
-pub mod Values

@@ -1,7 +1,11 @@
--- Names that come twice, and the places of names.
-use Rattle.std.specs.Prelude.{ℕ, ◌+◌, List, [], ◌∷◌, take, slice_index_or, Bool, if◌then◌else◌, Option, Some, None}
+-- Names that are one, names that come twice, and the places of names.
+use Rattle.std.specs.Prelude.{ℕ, ◌+◌, List, [], ◌∷◌, take, slice_index_or, Bool, if◌then◌else◌, Option, Some, None, nat_eq}
+use Rattle.std.specs.Cmp.Lexicographic.{pointwise}
 use Rattle.std.specs.List.{list_any}
-use Rattle.gic_case.specs.Keys.{same}
+
+-- the two texts are one
+abbrev pub same : List ℕ → List ℕ → Bool
+same = pointwise nat_eq
 
 -- the name at the place stands before it too
 abbrev pub is_repeat : List (List ℕ) → ℕ → Bool

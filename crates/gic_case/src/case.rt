@@ -1,25 +1,10 @@
 //! Cases.
 ghost use Rattle.std.specs.Prelude.{◌≡◌};
-ghost use Rattle.toml.specs.View.{table_view};
-ghost use Rattle.gic_base.specs.Refusals.{Answers};
-ghost use Rattle.gic_case.specs.declared.refusal.CaseRefusal.TheVariants.{Memory};
-ghost use Rattle.gic_case.specs.Rules.{case_of};
-ghost use Rattle.gic_case.specs.Pass.{case_in};
 
-use crate::degree::few_ends;
-use crate::document::{Rows, document_of};
 use crate::item::{Bus, Line, Substation, Transformer};
 use crate::network::Network;
-use crate::refusal::CaseRefusal;
-use crate::side::{
-    lines_have_two_buses, stand_in_one_substation, transformers_have_two_buses,
-    voltages_are_ordered,
-};
-use crate::unique::unique;
 use gic_scale::Zone;
-use std::alloc::Global;
 use std::marker::Model;
-use toml::Table;
 
 /// The zones, substations, buses, lines and transformers of a network, which keep all rules.
 #[derive(Drop)]
@@ -96,6 +81,14 @@ impl Case {
         self.network.transformers.as_slice()
     }
 
+    /// The case of these lists, which keep all rules.
+    pub fn of(network: Network) -> Case
+        requires { IsSound network }
+        ensures { result ≡ network }
+    {
+        Case { network }
+    }
+
     /// The case of these lists, in which places stand for names and which keep all rules: limits and ranges, places
     /// within the lists, no name twice, two buses for each line and each transformer with two sides, those of a
     /// transformer in one substation, no low voltage above the high one, no neutral device at a delta-delta unit, and
@@ -120,34 +113,4 @@ impl Case {
             },
         }
     }
-}
-
-/// The case that a document is.
-#[tactic(auto, unfolding(crate::specs::Pass::case_in))]
-fn case_in(alloc: Global, table: &Table) -> Result<Case, CaseRefusal>
-    ensures { Answers Memory (λ c. c) result (case_in (table_view table.now)) }
-{
-    let rows = Rows::read(alloc, table)?;
-    unique(alloc, &rows)?;
-    let network = Network::resolve(alloc, rows)?;
-    lines_have_two_buses(network.lines.as_slice())?;
-    let transformers = network.transformers.as_slice();
-    transformers_have_two_buses(transformers)?;
-    stand_in_one_substation(network.buses.as_slice(), transformers)?;
-    voltages_are_ordered(transformers)?;
-    few_ends(alloc, &network)?;
-    Ok(Case { network })
-}
-
-/// Reads a case: a TOML document with a `format` of 1 or 2 and the lists `zone`, `substation`, `bus`, `line` and
-/// `transformer`; neutral devices are of format 2 alone. It is accepted exactly where it breaks no rule, and its lists are
-/// then the document's, with places in place of names. The first broken rule answers otherwise: the form of the document
-/// and of each row, unique names, references to rows that are there, lines and transformers with two buses, transformers in
-/// one substation, low voltages not above the high ones, and at most 256 elements at a node. Want of memory may come in
-/// place of any answer.
-pub fn read_case(alloc: Global, bytes: &[u8]) -> Result<Case, CaseRefusal>
-    ensures { Answers Memory (λ c. c) result (case_of bytes.now) }
-{
-    let table = document_of(alloc, bytes)?;
-    case_in(alloc, &table)
 }

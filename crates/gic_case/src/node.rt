@@ -39,7 +39,7 @@ fn device_count(transformers: &[Transformer]) -> usize
 
 impl Network {
     /// How many nodes there are.
-    pub(crate) fn node_count(&self) -> u16
+    pub fn node_count(&self) -> u16
         ensures { result ≡ length (node_names self.now) }
     {
         let devices = device_count(self.transformers.as_slice());
@@ -58,7 +58,7 @@ impl Network {
     }
 
     /// The name of a node.
-    pub(crate) fn node_name(&self, node: NodeId) -> Name
+    pub fn node_name(&self, node: NodeId) -> Name
         requires { node.0 < length (node_names self.now) }
         ensures { result ≡ slice_index_or (node_names self.now) node.0 [] }
     {

@@ -1,7 +1,7 @@
 -- What holds of the networks of accepted cases, and of any network that has a bound vector.
 use Rattle.std.specs.Prelude.{◌≡◌, ℕ, Bool, ℤ, List, Ok}
 use Rattle.gic_case.specs.Lists.{Lists}
-use Rattle.gic_case.specs.Rules.{case_of}
+use Rattle.gic_case_reader.specs.Rules.{case_of}
 use Rattle.gic_induce.specs.LineVolts.{volts_of}
 use Rattle.gic_model.specs.declared.parts.Item.{Item}
 use Rattle.gic_model.specs.declared.parts.Switching.{Switching}

@@ -1,7 +1,7 @@
 //! Laws over the definitions, each the contract of a function that does nothing but bring the laws that it joins.
 ghost use Rattle.gic_claims.specs.Claims.{AcceptedNetworksAreSolved, AcceptedSolutionsAgree, BoundNetworksAreEarthed, BoundNetworksAreSolved};
 
-use gic_case::laws::accepted_law;
+use gic_case_reader::laws::accepted_law;
 use gic_exists::laws::{agreement_law, existence_law};
 use gic_winding::laws::limits_law;
 

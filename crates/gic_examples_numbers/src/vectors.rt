@@ -7,7 +7,7 @@ ghost use Rattle.gic_net.specs.Net.{standing};
 use crate::texts::REALISTIC_CASE;
 use gic_base::{NodeId, OutOfMemory};
 use gic_bound::{BoundVector, Room, bound, bound_from, rows_positive, some_bound};
-use gic_case::read_case;
+use gic_case_reader::read_case;
 use gic_model::Item;
 use gic_net::Net;
 use gic_start::{Start, find_bound};

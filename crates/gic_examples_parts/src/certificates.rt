@@ -4,7 +4,8 @@ ghost use Rattle.gic_winding.specs.ElementList.{elements_of};
 
 use gic_base::{MemorySink, NodeId};
 use gic_bound::{BoundVector, rows_positive};
-use gic_case::{Case, read_case};
+use gic_case::Case;
+use gic_case_reader::read_case;
 use gic_cert::{Cert, CertRefusal, check, read_cert, write_cert};
 use gic_model::Volts;
 use gic_net::Net;

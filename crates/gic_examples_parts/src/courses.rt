@@ -1,6 +1,6 @@
 //! The epochs of a storm under switchings, and the views of its steps.
 use crate::inputs::{LINE_SWITCHED, TURNING_STORM, read_inputs};
-use gic_case::read_case;
+use gic_case_reader::read_case;
 use gic_course::Course;
 use gic_epoch::{Epoch, epochs};
 use gic_storm::read_storm;

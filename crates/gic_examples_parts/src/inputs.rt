@@ -3,7 +3,7 @@ ghost use Rattle.std.specs.Prelude.{◌≤◌, IfOk};
 ghost use Rattle.gic_question.specs.Ranges.{IsWithinRanges};
 ghost use Rattle.gic_inputs.specs.Inputs.{IsStormOf};
 
-use gic_case::read_case;
+use gic_case_reader::read_case;
 use gic_inputs::{Inputs, StormInputs};
 use gic_question::Question;
 use gic_screen::Event;

@@ -1,5 +1,5 @@
 //! Storms over two zones: rows that are refused, the most rows, and the fields of each step.
-use gic_case::read_case;
+use gic_case_reader::read_case;
 use gic_induce::Fields;
 use gic_storm::{StormField, StormRefusal, fill_fields, read_storm};
 use std::test::Fail;

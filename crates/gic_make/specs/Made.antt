@@ -7,8 +7,7 @@ use Rattle.gic_case.specs.declared.item.Bus.{Bus}
 use Rattle.gic_case.specs.declared.item.Line.{Line}
 use Rattle.gic_case.specs.declared.item.Kind.TheVariants.{DeltaWye}
 use Rattle.gic_case.specs.declared.item.Transformer.{Transformer}
-use Rattle.gic_case.specs.Lists.{Lists}
-use Rattle.gic_case.specs.Rows.{substation_with}
+use Rattle.gic_case.specs.Lists.{Lists, substation_with}
 use Rattle.gic_make.specs.Generator.{states_after, draw}
 
 -- how many draws come before those of a site: two for the first site, and six for each other

@@ -6,7 +6,7 @@ use Rattle.gic_base.specs.Causes.{Rose}
 use Rattle.gic_base.specs.Files.{Files}
 use Rattle.gic_ask.specs.declared.request.Asked.TheVariants.{Recheck}
 use Rattle.gic_case.specs.Sound.{IsSound}
-use Rattle.gic_case.specs.declared.refusal.CaseRefusal.{CaseRefusal}
+use Rattle.gic_case_reader.specs.declared.refusal.CaseRefusal.{CaseRefusal}
 use Rattle.gic_certify.specs.RightCertify.{IsRightCertify}
 use Rattle.gic_recheck.specs.declared.fault.CertificateRefusal.{CertificateRefusal}
 use Rattle.gic_storm.specs.declared.refusal.StormRefusal.{StormRefusal}

@@ -10,7 +10,7 @@ ghost use Rattle.gic_study.specs.Faults.{usage_words, case_words, column_word, r
 use crate::fault::Fault;
 use gic_ask::{File, InputFault, InputRefusal};
 use gic_base::{Name, Sink, WriteFailed, write_all};
-use gic_case::{CaseRefusal, Field, Part};
+use gic_case_reader::{CaseRefusal, Field, Part};
 use gic_recheck::CertificateRefusal;
 use gic_stand::{NetworkRefusal, ReportFault};
 use gic_storm::{StormField, StormRefusal};

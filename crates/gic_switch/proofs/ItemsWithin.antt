@@ -8,7 +8,7 @@ use Rattle.gic_case.specs.Lists.{Lists}
 use Rattle.gic_case.specs.declared.item.Line.{Line}
 use Rattle.gic_case.specs.declared.item.Substation.{Substation}
 use Rattle.gic_case.specs.declared.item.Transformer.{Transformer}
-use Rattle.gic_case.proofs.Sound.{place_below}
+use Rattle.gic_case.proofs.Places.{place_below}
 use Rattle.gic_model.specs.declared.parts.Item.{Item}
 use Rattle.gic_model.specs.declared.parts.Item.TheVariants as items
 use Rattle.gic_switch.specs.declared.action.Action.{Action}

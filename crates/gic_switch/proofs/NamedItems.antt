@@ -10,11 +10,10 @@ use Rattle.std.proofs.lemmas.List.Elements.{recursion_from_All}
 use Rattle.std.specs.Option.{option_or}
 use Rattle.gic_base.specs.Name.{is_name}
 use Rattle.gic_base.proofs.Each.{both_parts}
-use Rattle.gic_case.specs.Keys.{same}
-use Rattle.gic_case.specs.Names.{place_from, place_in}
+use Rattle.gic_case.specs.Names.{same, place_from, place_in}
 use Rattle.gic_case.specs.Lists.{Lists}
 use Rattle.gic_case.specs.Sound.{IsSound}
-use Rattle.gic_case.proofs.Repeats.{place_last}
+use Rattle.gic_case.proofs.Places.{place_last}
 use Rattle.gic_model.specs.declared.parts.Item.{Item}
 use Rattle.gic_switch.specs.Items.{named}
 

@@ -1,7 +1,7 @@
 //! The item that a row switches.
 ghost use Rattle.std.specs.Prelude.{◌≡◌, IfSome};
 ghost use Rattle.std.specs.HashMap.{get};
-ghost use Rattle.gic_case.specs.Keys.{same};
+ghost use Rattle.gic_case.specs.Names.{same};
 ghost use Rattle.gic_switch.specs.Items.{named, has_ground, has_resistor, is_resistor, plain_item, neutral_item, switched_item, item_in};
 ghost use Rattle.gic_switch.specs.ItemsOf.{FindsNamed, IsItemOf};
 

@@ -2,8 +2,7 @@
 ghost use Rattle.std.specs.Prelude.{◌≡◌, ◌≤◌, ℕ, List, map, length, IfOk, Some, None, option_map, if◌then◌else◌};
 ghost use Rattle.std.specs.HashMap.{get};
 ghost use Rattle.std.specs.Option.{option_or};
-ghost use Rattle.gic_case.specs.Keys.{same};
-ghost use Rattle.gic_case.specs.Names.{place_in};
+ghost use Rattle.gic_case.specs.Names.{same, place_in};
 ghost use Rattle.gic_model.specs.declared.parts.Item.TheVariants as items;
 ghost use Rattle.gic_switch.specs.ItemsOf.{FindsNamed};
 

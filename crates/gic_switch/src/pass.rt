@@ -4,7 +4,7 @@ ghost use Rattle.std.specs.List.Sorted.{IsNonDecreasingBy};
 ghost use Rattle.std.specs.HashMap.{get};
 ghost use Rattle.csv.specs.Records.{fields_of};
 ghost use Rattle.gic_base.specs.Refusals.{Answers};
-ghost use Rattle.gic_case.specs.Keys.{same};
+ghost use Rattle.gic_case.specs.Names.{same};
 ghost use Rattle.gic_switch.specs.declared.refusal.SwitchRefusal.TheVariants.{TooMany, Memory};
 ghost use Rattle.gic_switch.specs.ItemsOf.{FindsNamed, IsItemOf, AreItemsOf};
 ghost use Rattle.gic_switch.specs.Pass.{row_in, switching_rows};

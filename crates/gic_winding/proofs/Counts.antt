@@ -14,7 +14,7 @@ use Rattle.gic_case.specs.declared.item.Transformer.{Transformer}
 use Rattle.gic_case.specs.declared.item.Neutral.{Neutral}
 use Rattle.gic_case.specs.declared.item.Neutral.TheVariants as devices
 use Rattle.gic_case.specs.Lists.{Lists, degree_of, earthing_ends, line_ends, winding_ends, device_ends, ends_of, grid_of, neutrals_of}
-use Rattle.gic_case.specs.OneByOne.{earthing_ends_from}
+use Rattle.gic_case.proofs.Earthings.{earthing_ends_from}
 use Rattle.gic_model.specs.declared.parts.Element.{Element}
 use Rattle.gic_model.specs.Network.{is_node, ends_at}
 use Rattle.gic_winding.specs.ElementList.{earthing_of, line_of, windings_of, resistor_of, earthings_of, lines_of, all_windings_of, resistors_of, element_list}

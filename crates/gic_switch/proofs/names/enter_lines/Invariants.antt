@@ -1,8 +1,7 @@
 use Rattle.std.proofs.Common.{◌≡◌, ℕ, List, map, take, option_map}
 use Rattle.std.specs.HashMap.{get}
 use Rattle.std.specs.Option.{option_or}
-use Rattle.gic_case.specs.Keys.{same}
-use Rattle.gic_case.specs.Names.{place_in}
+use Rattle.gic_case.specs.Names.{same, place_in}
 use Rattle.gic_case.specs.declared.item.Line.{Line}
 use Rattle.gic_model.specs.declared.parts.Item.TheVariants as items
 use Rattle.gic_switch.proofs.names.enter_lines.Given as goal

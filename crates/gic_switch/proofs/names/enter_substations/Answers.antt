@@ -1,5 +1,5 @@
 use Rattle.std.specs.HashMap.{get}
-use Rattle.gic_case.specs.Keys.{same}
+use Rattle.gic_case.specs.Names.{same}
 use Rattle.gic_case.specs.declared.item.Substation.{Substation}
 use Rattle.gic_model.specs.declared.parts.Item.TheVariants as items
 use Rattle.gic_switch.proofs.NamedItems.{entered}

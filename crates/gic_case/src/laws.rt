@@ -1,8 +1,0 @@
-//! Laws over the definitions, each the contract of a function that does nothing.
-ghost use Rattle.gic_case.specs.Accepted.{AcceptedCasesAreSound};
-
-/// A case that breaks no rule keeps all that is said of sound lists: limits and ranges, places within the lists, unique
-/// names, two buses for each line, and degrees.
-pub fn accepted_law()
-    ensures { AcceptedCasesAreSound }
-{}

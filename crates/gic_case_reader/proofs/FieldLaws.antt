@@ -1,0 +1,148 @@
+-- One pass over a row answers the first refusal of the row's rules.
+use Rattle.std.proofs.Common.{◌≡◌, ℕ, List, [], ◌∷◌, ◌++◌, Bool, true, false, ◌&&◌, cond, Option, Some, None, option_and_then, unwrap_or, is_some, Result, Ok, pos, refl}
+use Rattle.toml.specs.Data.{Data, Members, no_members, get_member, as_table, as_bool}
+use Rattle.gic_base.specs.Refusals.{unless, settle}
+use Rattle.gic_base.specs.Passes.{◌>>=◌, or_refuse}
+use Rattle.gic_base.proofs.RefusalLaws.{then_law, last_law, value_law, test_law}
+use Rattle.gic_case_reader.specs.Keys.{key_of, has, fits}
+use Rattle.gic_case_reader.specs.Values.{natural_within, read_name, value_at}
+use Rattle.gic_case_reader.specs.Rows.{members_in, breaks_keys, breaks_value, breaks_present, breaks_optional, ohm_within, volts_within, metres_within, read_neutral, zone_fields, breaks_zone, zone_of, breaks_substation, substation_of, bus_fields, breaks_bus, bus_of, line_fields, breaks_line, line_of}
+use Rattle.gic_case_reader.specs.Transformers.{read_kind, kind_of, breaks_bus_name, breaks_ohm, breaks_volts, breaks_own, breaks_transformer, name_in, ohm_in, volts_in, own_of, transformer_of}
+use Rattle.gic_case_reader.specs.Pass.{required, optional_in, optional, row_table, zone_row, substation_row, bus_row, line_row, table_with, delta_wye_row, wye_wye_row, auto_row, kind_row, transformer_row}
+use Rattle.gic_case_reader.specs.declared.field.Field.{Field}
+use Rattle.gic_case_reader.specs.declared.field.Field.TheVariants as fields
+use Rattle.gic_case_reader.specs.declared.refusal.Part.{Part}
+use Rattle.gic_case_reader.specs.declared.refusal.Part.TheVariants as parts
+use Rattle.gic_case_reader.specs.declared.refusal.CaseRefusal.{CaseRefusal}
+use Rattle.gic_case_reader.specs.declared.refusal.CaseRefusal.TheVariants as refusals
+use Rattle.gic_case_reader.specs.declared.transformer.KindWord.{KindWord}
+use Rattle.gic_case_reader.specs.declared.transformer.KindWord.TheVariants as words
+
+-- a field
+pub required_law : {A : Type 0} (read : Data → Option A) (list : Part) (row : ℕ) (at : Field) (ms : Members) (d : A)
+    → required read list row at ms ≡ settle (breaks_value read list row at ms) (unwrap_or (value_at read at ms) d)
+unfolding required
+required_law read list row at ms d = value_law (value_at read at ms) (refusals.Value list row at) d
+
+present_value : {A : Type 0} (o : Option A) (e : CaseRefusal) → (or_refuse o e >>= (λ x. Ok (Some x))) ≡ settle (unless (is_some o) e) o
+present_value None e = refl
+present_value (Some x) e = refl
+
+present_law : {A : Type 0} (read : Data → Option A) (e : CaseRefusal) (o : Option Data) → optional_in read e o ≡ settle (breaks_present read e o) (option_and_then read o)
+present_law read e None = refl
+present_law read e (Some d) = present_value (read d) e
+
+-- a field that may be absent
+pub optional_law : {A : Type 0} (read : Data → Option A) (list : Part) (row : ℕ) (at : Field) (ms : Members)
+    → optional read list row at ms ≡ settle (breaks_optional read list row at ms) (value_at read at ms)
+unfolding optional
+optional_law read list row at ms = present_law read (refusals.Value list row at) (get_member (key_of at) ms)
+
+fit_law : {B : Type 0} (b : Bool) (ms : Members) (e : CaseRefusal) (f : Members → Result B CaseRefusal) (es : List CaseRefusal) (y : B)
+    → f ms ≡ settle es y → (or_refuse (cond b (Some ms) None) e >>= f) ≡ settle (unless b e ++ es) y
+fit_law true ms e f es y h = h
+fit_law false ms e f es y h = refl
+
+table_cases : {B : Type 0} (fit : Members → Bool) (e : CaseRefusal) (o : Option Members) (f : Members → Result B CaseRefusal) (es : List CaseRefusal) (y : B)
+    → f (unwrap_or o no_members) ≡ settle es y
+    → (or_refuse (option_and_then (λ ms. cond (fit ms) (Some ms) None) o) e >>= f) ≡ settle (unless (is_some o && fit (unwrap_or o no_members)) e ++ es) y
+table_cases fit e None f es y h = refl
+table_cases fit e (Some ms) f es y h = fit_law (fit ms) ms e f es y h
+
+-- a row's table, and its fields after it
+pub table_law : {B : Type 0} (list : Part) (needed others : List Field) (row : ℕ) (d : Data) (f : Members → Result B CaseRefusal) (es : List CaseRefusal) (y : B)
+    → f (members_in d) ≡ settle es y → (row_table list needed others row d >>= f) ≡ settle (breaks_keys list needed others row d ++ es) y
+unfolding row_table
+table_law list needed others row d f es y h = table_cases (fits needed others) (refusals.Key list row) (as_table d) f es y h
+
+-- the table of a transformer, which has a kind
+kinded_law : {B : Type 0} (row : ℕ) (d : Data) (f : Members → Result B CaseRefusal) (es : List CaseRefusal) (y : B)
+    → f (members_in d) ≡ settle es y
+    → (table_with parts.Transformer fields.Kind row d >>= f) ≡ settle (unless (is_some (as_table d) && has fields.Kind (members_in d)) (refusals.Key parts.Transformer row) ++ es) y
+unfolding table_with
+kinded_law row d f es y h = table_cases (has fields.Kind) (refusals.Key parts.Transformer row) (as_table d) f es y h
+
+name_law : (list : Part) (row : ℕ) (at : Field) (ms : Members) → required read_name list row at ms ≡ settle (breaks_value read_name list row at ms) (unwrap_or (value_at read_name at ms) [])
+name_law list row at ms = required_law read_name list row at ms []
+
+natural_law : (low high : ℕ) (list : Part) (row : ℕ) (at : Field) (ms : Members)
+    → required (natural_within low high) list row at ms ≡ settle (breaks_value (natural_within low high) list row at ms) (unwrap_or (value_at (natural_within low high) at ms) 0)
+natural_law low high list row at ms = required_law (natural_within low high) list row at ms 0
+
+pub zone_law : (row : ℕ) (d : Data) → zone_row row d ≡ settle (breaks_zone row d) (zone_of d)
+unfolding zone_row
+zone_law row d =
+    let ms = members_in d in
+    table_law parts.Zone zone_fields [] row d _ _ _
+    (then_law _ _ _ _ _ _ (name_law parts.Zone row fields.Name ms)
+    (then_law _ _ _ _ _ _ (natural_law 0 9000 parts.Zone row fields.Latitude ms)
+    (last_law _ _ _ _ (natural_law 1 150 parts.Zone row fields.Beta ms))))
+
+pub substation_law : (row : ℕ) (d : Data) → substation_row row d ≡ settle (breaks_substation row d) (substation_of d)
+unfolding substation_row
+substation_law row d =
+    let ms = members_in d in
+    table_law parts.Substation (fields.Name ∷ []) (fields.Ground ∷ []) row d _ _ _
+    (then_law _ _ _ _ _ _ (name_law parts.Substation row fields.Name ms)
+    (last_law _ _ _ _ (optional_law ohm_within parts.Substation row fields.Ground ms)))
+
+pub bus_law : (row : ℕ) (d : Data) → bus_row row d ≡ settle (breaks_bus row d) (bus_of d)
+unfolding bus_row
+bus_law row d =
+    let ms = members_in d in
+    table_law parts.Bus bus_fields [] row d _ _ _
+    (then_law _ _ _ _ _ _ (name_law parts.Bus row fields.Name ms)
+    (last_law _ _ _ _ (name_law parts.Bus row fields.Substation ms)))
+
+pub line_law : (row : ℕ) (d : Data) → line_row row d ≡ settle (breaks_line row d) (line_of d)
+unfolding line_row
+line_law row d =
+    let ms = members_in d in
+    table_law parts.Line line_fields (fields.Blocked ∷ []) row d _ _ _
+    (then_law _ _ _ _ _ _ (name_law parts.Line row fields.Name ms)
+    (then_law _ _ _ _ _ _ (name_law parts.Line row fields.From ms)
+    (then_law _ _ _ _ _ _ (name_law parts.Line row fields.To ms)
+    (then_law _ _ _ _ _ _ (name_law parts.Line row fields.Zone ms)
+    (then_law _ _ _ _ _ _ (natural_law 1000 1000000000 parts.Line row fields.Resistance ms)
+    (then_law _ _ _ _ _ _ (required_law metres_within parts.Line row fields.North ms (pos 0))
+    (then_law _ _ _ _ _ _ (required_law metres_within parts.Line row fields.East ms (pos 0))
+    (last_law _ _ _ _ (optional_law as_bool parts.Line row fields.Blocked ms)))))))))
+
+bus_name_law : (row : ℕ) (at : Field) (ms : Members) → required read_name parts.Transformer row at ms ≡ settle (breaks_bus_name row at ms) (name_in at ms)
+bus_name_law row at ms = name_law parts.Transformer row at ms
+
+ohm_law : (row : ℕ) (at : Field) (ms : Members) → required ohm_within parts.Transformer row at ms ≡ settle (breaks_ohm row at ms) (ohm_in at ms)
+ohm_law row at ms = natural_law 1000 1000000000 parts.Transformer row at ms
+
+volts_law : (row : ℕ) (at : Field) (ms : Members) → required volts_within parts.Transformer row at ms ≡ settle (breaks_volts row at ms) (volts_in at ms)
+volts_law row at ms = natural_law 1000 2000000 parts.Transformer row at ms
+
+-- the fields that are a kind's own
+own_law : (kind : KindWord) (row : ℕ) (ms : Members) → kind_row kind row ms ≡ settle (breaks_own kind row ms) (own_of kind ms)
+unfolding kind_row delta_wye_row wye_wye_row auto_row
+own_law words.DeltaWye row ms = then_law _ _ _ _ _ _ (bus_name_law row fields.High ms) (last_law _ _ _ _ (ohm_law row fields.HighResistance ms))
+own_law words.WyeWye row ms =
+    then_law _ _ _ _ _ _ (bus_name_law row fields.High ms)
+    (then_law _ _ _ _ _ _ (bus_name_law row fields.Low ms)
+    (then_law _ _ _ _ _ _ (volts_law row fields.LowVolts ms)
+    (then_law _ _ _ _ _ _ (ohm_law row fields.HighResistance ms)
+    (last_law _ _ _ _ (ohm_law row fields.LowResistance ms)))))
+own_law words.Auto row ms =
+    then_law _ _ _ _ _ _ (bus_name_law row fields.High ms)
+    (then_law _ _ _ _ _ _ (bus_name_law row fields.Low ms)
+    (then_law _ _ _ _ _ _ (volts_law row fields.LowVolts ms)
+    (then_law _ _ _ _ _ _ (ohm_law row fields.SeriesResistance ms)
+    (last_law _ _ _ _ (ohm_law row fields.CommonResistance ms)))))
+own_law words.DeltaDelta row ms = refl
+
+pub transformer_law : (devices : Bool) (row : ℕ) (d : Data) → transformer_row devices row d ≡ settle (breaks_transformer devices row d) (transformer_of d)
+unfolding transformer_row
+transformer_law devices row d =
+    let ms = members_in d in
+    kinded_law row d _ _ _
+    (then_law _ _ _ _ _ _ (required_law read_kind parts.Transformer row fields.Kind ms words.DeltaDelta)
+    (then_law _ _ _ _ _ _ (test_law _ _)
+    (then_law _ _ _ _ _ _ (bus_name_law row fields.Name ms)
+    (then_law _ _ _ _ _ _ (volts_law row fields.HighVolts ms)
+    (then_law _ _ _ _ _ _ (own_law (kind_of ms) row ms)
+    (last_law _ _ _ _ (optional_law read_neutral parts.Transformer row fields.Neutral ms)))))))

@@ -1,0 +1,9 @@
+pub mod Degrees
+pub mod Documents
+pub mod FieldLaws
+pub mod PassLaws
+pub mod Ranges
+pub mod Repeats
+pub mod Rows
+pub mod Sound
+pub mod Tables

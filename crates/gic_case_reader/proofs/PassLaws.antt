@@ -1,0 +1,180 @@
+-- One pass over a document answers the first refusal of all rules.
+use Rattle.std.proofs.Common.{◌≡◌, ℕ, zero, suc, ◌+◌, nat_le, nat_lt, List, [], ◌∷◌, ◌++◌, length, map, Bool, true, false, cond, not, Option, Some, None, option_map, unwrap_or, is_some, Result, Ok, Err, refl, ap, arith, inl, inr}
+use Rattle.std.proofs.lemmas.Bool.{cases_Bool}
+use Rattle.std.proofs.lemmas.Bool.Decides.{nat_tests}
+use Rattle.std.specs.List.{flat_map, enumerate_from, range_with_len}
+use Rattle.toml.specs.Data.{Data, Items, no_items, item, Members, get_member, as_array}
+use Rattle.gic_base.specs.Refusals.{unless, settle}
+use Rattle.gic_base.specs.Passes.{◌>>=◌, or_refuse}
+use Rattle.gic_base.proofs.RefusalLaws.{then_law, last_law, value_law, test_law}
+use Rattle.gic_case_reader.specs.Keys.{list_key}
+use Rattle.gic_case_reader.specs.Values.{natural_within}
+use Rattle.gic_case_reader.specs.Rows.{breaks_zone, zone_of, breaks_substation, substation_of, breaks_bus, bus_of, breaks_line, line_of}
+use Rattle.gic_case_reader.specs.Transformers.{breaks_transformer, transformer_of}
+use Rattle.gic_case.specs.Lists.{Lists}
+use Rattle.gic_case.specs.Names.{is_repeat}
+use Rattle.gic_case_reader.specs.OneByOne.{first_from, first_repeat}
+use Rattle.gic_case_reader.specs.Rules.{list_in, array_in, entries_of, is_array, breaks_list, allows_devices, breaks_form, Written, written_in, written_names, duplicate_at, breaks_once, substation_place, bus_place, zone_place, breaks_bus_reference, breaks_line_references, breaks_side_reference, breaks_kind_references, breaks_references, bus_with_place, line_with_places, side_place, kind_with_places, transformer_with_places, resolved, breaks_same_ends, breaks_same_sides, breaks_apart, breaks_voltage_order, breaks_degree, broken_in, document_of, broken, lists_of, case_of}
+use Rattle.gic_case_reader.specs.Pass.{items_or, items_at, count_of, rows_from, list_at, zone_row, substation_row, bus_row, line_row, transformer_row, rows_of, refuse_if, unique, each, side_at, bus_in, line_in, kind_in, transformer_in, resolve, case_in}
+use Rattle.gic_case_reader.specs.declared.field.Field.{Field}
+use Rattle.gic_case_reader.specs.declared.field.Field.TheVariants as fields
+use Rattle.gic_case_reader.specs.declared.refusal.Part.{Part}
+use Rattle.gic_case_reader.specs.declared.refusal.Part.TheVariants as parts
+use Rattle.gic_case_reader.specs.declared.refusal.CaseRefusal.{CaseRefusal}
+use Rattle.gic_case_reader.specs.declared.refusal.CaseRefusal.TheVariants as refusals
+use Rattle.gic_case_reader.specs.declared.row.BusRow.{BusRow}
+use Rattle.gic_case_reader.specs.declared.row.LineRow.{LineRow}
+use Rattle.gic_case_reader.specs.declared.row.KindRow.{KindRow}
+use Rattle.gic_case_reader.specs.declared.row.KindRow.TheVariants as rows
+use Rattle.gic_case_reader.specs.declared.row.TransformerRow.{TransformerRow}
+use Rattle.gic_case.specs.declared.item.Kind.TheVariants as kinds
+use Rattle.gic_case_reader.proofs.FieldLaws.{required_law, zone_law, substation_law, bus_law, line_law, transformer_law}
+
+-- rows, one after another
+rows_law : {A : Type 0} (read : ℕ → Data → Result A CaseRefusal) (breaks : ℕ → Data → List CaseRefusal) (of : Data → A)
+    → ((n : ℕ) (d : Data) → read n d ≡ settle (breaks n d) (of d))
+    → (n : ℕ) (ds : Items) → rows_from read n ds ≡ settle (flat_map (λ p. breaks p.0 p.1) (enumerate_from n (list_in ds))) (map of (list_in ds))
+rows_law read breaks of law n no_items = refl
+rows_law read breaks of law n (item d ds) =
+    then_law _ _ _ _ _ _ (law n d) (last_law _ _ _ (λ xs. of d ∷ xs) (rows_law read breaks of law (n + 1) ds))
+
+each_law : {A B : Type 0} (read : ℕ → A → Result B CaseRefusal) (breaks : ℕ → A → List CaseRefusal) (of : A → B)
+    → ((n : ℕ) (x : A) → read n x ≡ settle (breaks n x) (of x))
+    → (n : ℕ) (xs : List A) → each read n xs ≡ settle (flat_map (λ p. breaks p.0 p.1) (enumerate_from n xs)) (map of xs)
+each_law read breaks of law n [] = refl
+each_law read breaks of law n (x ∷ xs) =
+    then_law _ _ _ _ _ _ (law n x) (last_law _ _ _ (λ ys. of x ∷ ys) (each_law read breaks of law (n + 1) xs))
+
+count_list : (ds : Items) → count_of ds ≡ length (list_in ds)
+count_list no_items = refl
+count_list (item d ds) = ap (λ n. suc n) (count_list ds)
+
+lt_not_le : (n limit : ℕ) → nat_lt limit n ≡ not (nat_le n limit)
+lt_not_le n limit = grind (arith, nat_tests)
+
+few_law : {A : Type 0} (b : Bool) (e : CaseRefusal) (r : Result A CaseRefusal) (es : List CaseRefusal) (y : A)
+    → r ≡ settle es y → cond (not b) (Err e) r ≡ settle (unless b e ++ es) y
+few_law true e r es y h = h
+few_law false e r es y h = refl
+
+array_law : {A : Type 0} (o : Option Items) (e : CaseRefusal) (f : Items → Result A CaseRefusal) (es : List Data → List CaseRefusal) (y : List Data → A)
+    → ((ds : Items) → f ds ≡ settle (es (list_in ds)) (y (list_in ds)))
+    → (or_refuse o e >>= f) ≡ settle (unless (is_some o) e ++ es (list_in (unwrap_or o no_items))) (y (list_in (unwrap_or o no_items)))
+array_law None e f es y h = refl
+array_law (Some ds) e f es y h = h ds
+
+items_law : {A : Type 0} (o : Option Data) (e : CaseRefusal) (f : Items → Result A CaseRefusal) (es : List Data → List CaseRefusal) (y : List Data → A)
+    → ((ds : Items) → f ds ≡ settle (es (list_in ds)) (y (list_in ds)))
+    → (items_or e o >>= f) ≡ settle (unless (is_array o) e ++ es (array_in o)) (y (array_in o))
+items_law None e f es y h = h no_items
+items_law (Some d) e f es y h = array_law (as_array d) e f es y h
+
+-- a list of the document
+list_law : {A : Type 0} (list : Part) (limit : ℕ) (read : ℕ → Data → Result A CaseRefusal) (breaks : ℕ → Data → List CaseRefusal) (of : Data → A)
+    → ((n : ℕ) (d : Data) → read n d ≡ settle (breaks n d) (of d))
+    → (ms : Members) → list_at list limit read ms ≡ settle (breaks_list list limit breaks ms) (map of (entries_of list ms))
+unfolding list_at items_at
+list_law list limit read breaks of law ms =
+    items_law (get_member (list_key list) ms) (refusals.Key list 0) _ (λ ds. unless (nat_le (length ds) limit) (refusals.TooMany list) ++ flat_map (λ p. breaks p.0 p.1) (enumerate_from 1 ds)) (map of)
+    (λ ds. rw (count_list ds, lt_not_le (length (list_in ds)) limit) (few_law (nat_le (length (list_in ds)) limit) (refusals.TooMany list) _ _ _ (rows_law read breaks of law 1 ds)))
+
+-- the form of the document
+rows_of_law : (ms : Members) → rows_of ms ≡ settle (breaks_form ms) (written_in ms)
+unfolding rows_of breaks_form written_in
+rows_of_law ms =
+    let devices = allows_devices ms in
+    then_law _ _ _ _ _ _ (test_law _ _)
+    (then_law _ _ _ _ _ _ (required_law (natural_within 1 2) parts.Case 0 fields.Format ms 0)
+    (then_law _ _ _ _ _ _ (list_law parts.Zone 256 zone_row breaks_zone zone_of zone_law ms)
+    (then_law _ _ _ _ _ _ (list_law parts.Substation 1024 substation_row breaks_substation substation_of substation_law ms)
+    (then_law _ _ _ _ _ _ (list_law parts.Bus 3072 bus_row breaks_bus bus_of bus_law ms)
+    (then_law _ _ _ _ _ _ (list_law parts.Line 8192 line_row breaks_line line_of line_law ms)
+    (last_law _ _ _ _ (list_law parts.Transformer 3584 (transformer_row devices) (breaks_transformer devices) transformer_of (transformer_law devices) ms)))))))
+
+first_law : (test : ℕ → Bool) (refusal : ℕ → CaseRefusal) (n i : ℕ)
+    → refuse_if (option_map refusal (first_from test n i)) ≡ settle (flat_map (λ k. unless (not (test k)) (refusal k)) (range_with_len i n)) tt
+first_law test refusal zero i = refl
+first_law test refusal (suc n) i =
+    elim (cases_Bool (test i)) [
+      | inl here ↦ rw here
+      | inr other ↦ rw other (first_law test refusal n (i + 1))
+    ]
+
+-- names that come twice
+unique_law : (w : Written) → unique w ≡ settle (breaks_once w) tt
+unfolding unique breaks_once first_repeat
+unique_law w = first_law (is_repeat (written_names w)) (duplicate_at (length w.zones) (length w.substations) (length w.buses) (length w.lines)) (length (written_names w)) 0
+
+bus_in_law : (w : Written) (row : ℕ) (b : BusRow) → bus_in (substation_place w) row b ≡ settle (breaks_bus_reference w row b) (bus_with_place w b)
+unfolding bus_in
+bus_in_law w row b = last_law _ _ _ _ (value_law (substation_place w b.substation) (refusals.Unknown parts.Bus row fields.Substation) 0)
+
+line_in_law : (w : Written) (row : ℕ) (l : LineRow) → line_in (bus_place w) (zone_place w) row l ≡ settle (breaks_line_references w row l) (line_with_places w l)
+unfolding line_in
+line_in_law w row l =
+    then_law _ _ _ _ _ _ (value_law (bus_place w l.from) (refusals.Unknown parts.Line row fields.From) 0)
+    (then_law _ _ _ _ _ _ (value_law (bus_place w l.to) (refusals.Unknown parts.Line row fields.To) 0)
+    (last_law _ _ _ _ (value_law (zone_place w l.zone) (refusals.Unknown parts.Line row fields.Zone) 0)))
+
+side_law : (w : Written) (row : ℕ) (at : Field) (bus : List ℕ) → side_at (bus_place w) row at bus ≡ settle (breaks_side_reference w row at bus) (side_place w bus)
+side_law w row at bus = value_law (bus_place w bus) (refusals.Unknown parts.Transformer row at) 0
+
+kind_in_law : (w : Written) (row : ℕ) (k : KindRow) → kind_in (bus_place w) row k ≡ settle (breaks_kind_references w row k) (kind_with_places w k)
+unfolding kind_in
+kind_in_law w row (rows.DeltaWye high high_resistance) = last_law _ _ _ (λ h. kinds.DeltaWye h high_resistance) (side_law w row fields.High high)
+kind_in_law w row (rows.WyeWye high low low_volts high_resistance low_resistance) =
+    then_law _ _ _ _ _ _ (side_law w row fields.High high)
+    (last_law _ _ _ (λ l. kinds.WyeWye (side_place w high) l low_volts high_resistance low_resistance) (side_law w row fields.Low low))
+kind_in_law w row (rows.Auto high low low_volts series_resistance common_resistance) =
+    then_law _ _ _ _ _ _ (side_law w row fields.High high)
+    (last_law _ _ _ (λ l. kinds.Auto (side_place w high) l low_volts series_resistance common_resistance) (side_law w row fields.Low low))
+kind_in_law w row rows.DeltaDelta = refl
+
+transformer_in_law : (w : Written) (row : ℕ) (t : TransformerRow) → transformer_in (bus_place w) row t ≡ settle (breaks_kind_references w row t.kind) (transformer_with_places w t)
+unfolding transformer_in
+transformer_in_law w row t = last_law _ _ _ _ (kind_in_law w row t.kind)
+
+-- references
+resolve_law : (w : Written) → resolve w ≡ settle (breaks_references w) (resolved w)
+unfolding resolve breaks_references resolved
+resolve_law w =
+    then_law _ _ _ _ _ _ (each_law (bus_in (substation_place w)) (breaks_bus_reference w) (bus_with_place w) (bus_in_law w) 1 w.buses)
+    (then_law _ _ _ _ _ _ (each_law (line_in (bus_place w) (zone_place w)) (breaks_line_references w) (line_with_places w) (line_in_law w) 1 w.lines)
+    (last_law _ _ _ _ (each_law (transformer_in (bus_place w)) (λ row t. breaks_kind_references w row t.kind) (transformer_with_places w) (transformer_in_law w) 1 w.transformers)))
+
+-- a rule on lists that are read, and what comes after it
+rule_law : (es more : List CaseRefusal) (c : Lists) (r : Result Lists CaseRefusal) → r ≡ settle more c → (settle es (tt {0}) >>= (λ u. r)) ≡ settle (es ++ more) c
+rule_law [] more c r h = h
+rule_law (e ∷ es) more c r h = refl
+
+last_rule_law : (es : List CaseRefusal) (c : Lists) → (settle es (tt {0}) >>= (λ u. Ok c)) ≡ settle es c
+last_rule_law [] c = refl
+last_rule_law (e ∷ es) c = refl
+
+-- ends, sides and degrees
+ends_law : (c : Lists)
+    → (settle (breaks_same_ends c) (tt {0}) >>= (λ lines. settle (breaks_same_sides c) (tt {0}) >>= (λ sides. settle (breaks_apart c) (tt {0}) >>= (λ together.
+    settle (breaks_voltage_order c) (tt {0}) >>= (λ ordered. settle (breaks_degree c) (tt {0}) >>= (λ few. Ok c))))))
+    ≡ settle (breaks_same_ends c ++ (breaks_same_sides c ++ (breaks_apart c ++ (breaks_voltage_order c ++ breaks_degree c)))) c
+ends_law c =
+    rule_law (breaks_same_ends c) _ c _
+    (rule_law (breaks_same_sides c) _ c _
+    (rule_law (breaks_apart c) _ c _
+    (rule_law (breaks_voltage_order c) _ c _ (last_rule_law (breaks_degree c) c))))
+
+-- the case of a document
+pub case_in_law : (ms : Members) → case_in ms ≡ settle (broken_in ms) (resolved (written_in ms))
+unfolding case_in broken_in
+case_in_law ms =
+    then_law _ _ _ _ _ _ (rows_of_law ms)
+    (then_law _ _ _ _ _ _ (unique_law (written_in ms))
+    (then_law _ _ _ _ _ _ (resolve_law (written_in ms)) (ends_law (resolved (written_in ms)))))
+
+-- the case of bytes
+case_of_cases : (o : Option Members) → (or_refuse o refusals.NotToml >>= case_in) ≡ settle (broken o) (lists_of o)
+case_of_cases None = refl
+case_of_cases (Some ms) = case_in_law ms
+
+pub case_of_law : (bytes : List ℕ) → (or_refuse (document_of bytes) refusals.NotToml >>= case_in) ≡ case_of bytes
+unfolding case_of
+case_of_law bytes = case_of_cases (document_of bytes)

@@ -1,0 +1,271 @@
+-- The values of a row that breaks no rule lie within their ranges.
+use Rattle.std.proofs.Common.{◌≡◌, ℕ, ℤ, pos, negsuc, ◌≤◌, ◌&&◌, nat_le, List, [], ◌∷◌, ◌++◌, Bool, true, false, cond, Ordering, Less, Equal, Greater, nat_cmp, Option, Some, None, option_and_then, option_map, unwrap_or, is_some, IfSome, arith, refl, sym, ap, ◌∙◌}
+use Rattle.std.proofs.lemmas.Bool.{false≢true, and_parts}
+use Rattle.std.proofs.lemmas.Bool.Decides.{nat_tests}
+use Rattle.std.proofs.lemmas.Map.Lookups.{exact_bytes}
+use Rattle.std.specs.Cmp.Lexicographic.{slice_cmp}
+use Rattle.std.specs.Ordering.{match_ordering}
+use Rattle.std.specs.Prelude.{unsigned_abs, IsTrue, codes, ◌||◌}
+use Rattle.toml.specs.Data.{Data, Members, no_members, member, get_member, as_integer, as_bool, as_str, as_table}
+use Rattle.gic_base.specs.Refusals.{unless}
+use Rattle.gic_base.proofs.RefusalLaws.{none_of_both, unless_holds}
+use Rattle.gic_base.specs.Name.{is_name}
+use Rattle.gic_scale.specs.ZoneView.{IsZone}
+use Rattle.gic_case_reader.specs.declared.refusal.CaseRefusal.{CaseRefusal}
+use Rattle.gic_case_reader.specs.Keys.{key_of, is_among, has, has_only, has_all, fits}
+use Rattle.gic_case.specs.Names.{same}
+use Rattle.gic_case_reader.specs.Values.{whole_within, natural_within, near_nought, span_within, read_name, value_at}
+use Rattle.gic_case_reader.specs.Rows.{members_in, breaks_keys, breaks_value, breaks_optional, ohm_within, metres_within, device_in, read_neutral, zone_fields, breaks_zone, zone_of, breaks_substation, substation_of, bus_fields, breaks_bus, bus_of, line_fields, breaks_line, line_of}
+use Rattle.gic_case.specs.Sound.{IsOhm, IsRated, IsSoundDevice}
+use Rattle.gic_case_reader.specs.Transformers.{read_kind, fields_of, others_of, kind_of, breaks_bus_name, breaks_ohm, breaks_volts, breaks_own, breaks_transformer, ohm_in, volts_in, own_of, transformer_of}
+use Rattle.gic_case_reader.specs.declared.field.Field.{Field}
+use Rattle.gic_case_reader.specs.declared.field.Field.TheVariants as fields
+use Rattle.gic_case_reader.specs.declared.refusal.Part.{Part}
+use Rattle.gic_case_reader.specs.declared.refusal.Part.TheVariants as parts
+use Rattle.gic_case_reader.specs.declared.refusal.CaseRefusal.TheVariants as refusals
+use Rattle.gic_case.specs.declared.item.Neutral.{Neutral}
+use Rattle.gic_case.specs.declared.item.Neutral.TheVariants as devices
+use Rattle.gic_case_reader.specs.declared.row.LineRow.{LineRow}
+use Rattle.gic_case_reader.specs.declared.row.KindRow.{KindRow}
+use Rattle.gic_case_reader.specs.declared.row.KindRow.TheVariants as kinds
+use Rattle.gic_case_reader.specs.declared.row.TransformerRow.{TransformerRow}
+use Rattle.gic_case_reader.specs.declared.transformer.KindWord.{KindWord}
+use Rattle.gic_case_reader.specs.declared.transformer.KindWord.TheVariants as words
+
+pub few_of : (n limit : ℕ) → nat_le n limit ≡ true → n ≤ limit
+few_of n limit h = grind (arith, nat_tests, h)
+
+-- what holds of a value that is there holds of it where it is taken out
+pub taken_holds : {A : Type 0} (P : A → Type 0) (o : Option A) (d : A) → is_some o ≡ true → IfSome o P → P (unwrap_or o d)
+taken_holds P None d h all = absurd (false≢true h)
+taken_holds P (Some x) d h all = all
+
+if_within : (low high n : ℕ) (b : Bool) → (nat_le low n && nat_le n high) ≡ b → IfSome (cond b (Some n) None) (λ k. (low ≤ k) × (k ≤ high))
+if_within low high n false h = tt
+if_within low high n true h =
+    let (least, most) = and_parts (nat_le low n) (nat_le n high) h in
+    (few_of low n least, few_of n high most)
+
+whole_holds : (low high : ℕ) (z : ℤ) → IfSome (whole_within low high z) (λ k. (low ≤ k) × (k ≤ high))
+whole_holds low high (pos n) = if_within low high n (nat_le low n && nat_le n high) refl
+whole_holds low high (negsuc n) = tt
+
+then_holds : {A B : Type 0} (P : B → Type 0) (f : A → Option B) → ((x : A) → IfSome (f x) P) → (o : Option A) → IfSome (option_and_then f o) P
+then_holds P f law None = tt
+then_holds P f law (Some x) = law x
+
+-- a number is within its bounds
+pub natural_holds : (low high : ℕ) (at : Field) (ms : Members) → IfSome (value_at (natural_within low high) at ms) (λ k. (low ≤ k) × (k ≤ high))
+natural_holds low high at ms =
+    then_holds _ (natural_within low high) (λ d. then_holds _ (whole_within low high) (whole_holds low high) (as_integer d)) (get_member (key_of at) ms)
+
+if_near : (limit : ℕ) (z : ℤ) (b : Bool) → nat_le (unsigned_abs z) limit ≡ b → IfSome (cond b (Some z) None) (λ x. unsigned_abs x ≤ limit)
+if_near limit z false h = tt
+if_near limit z true h = few_of (unsigned_abs z) limit h
+
+-- and a span within its own
+span_holds : (limit : ℕ) (at : Field) (ms : Members) → IfSome (value_at (span_within limit) at ms) (λ x. unsigned_abs x ≤ limit)
+span_holds limit at ms =
+    then_holds _ (span_within limit) (λ d. then_holds _ (near_nought limit) (λ z. if_near limit z (nat_le (unsigned_abs z) limit) refl) (as_integer d)) (get_member (key_of at) ms)
+
+natural_taken : (low high : ℕ) (list : Part) (row : ℕ) (at : Field) (ms : Members) → breaks_value (natural_within low high) list row at ms ≡ []
+    → (low ≤ unwrap_or (value_at (natural_within low high) at ms) 0) × (unwrap_or (value_at (natural_within low high) at ms) 0 ≤ high)
+natural_taken low high list row at ms h =
+    taken_holds (λ k. (low ≤ k) × (k ≤ high)) (value_at (natural_within low high) at ms) 0 (unless_holds _ (refusals.Value list row at) h) (natural_holds low high at ms)
+
+span_taken : (limit : ℕ) (list : Part) (row : ℕ) (at : Field) (ms : Members) → breaks_value (span_within limit) list row at ms ≡ []
+    → unsigned_abs (unwrap_or (value_at (span_within limit) at ms) (pos 0)) ≤ limit
+span_taken limit list row at ms h =
+    taken_holds (λ x. unsigned_abs x ≤ limit) (value_at (span_within limit) at ms) (pos 0) (unless_holds _ (refusals.Value list row at) h) (span_holds limit at ms)
+
+if_name : (text : List ℕ) (b : Bool) → is_name text ≡ b → IfSome (cond b (Some text) None) (λ s. IsTrue (is_name s))
+if_name text false h = tt
+if_name text true h = h
+
+name_holds : (at : Field) (ms : Members) → IfSome (value_at read_name at ms) (λ s. IsTrue (is_name s))
+name_holds at ms =
+    then_holds _ read_name (λ d. then_holds _ (λ text. cond (is_name text) (Some text) None) (λ text. if_name text (is_name text) refl) (as_str d)) (get_member (key_of at) ms)
+
+name_taken : (list : Part) (row : ℕ) (at : Field) (ms : Members) → breaks_value read_name list row at ms ≡ [] → IsTrue (is_name (unwrap_or (value_at read_name at ms) []))
+name_taken list row at ms h = taken_holds (λ s. IsTrue (is_name s)) (value_at read_name at ms) [] (unless_holds _ (refusals.Value list row at) h) (name_holds at ms)
+
+-- the name of a row, which follows its keys
+first_name : (list : Part) (needed others : List Field) (row : ℕ) (d : Data) (rest : List CaseRefusal)
+    → breaks_keys list needed others row d ++ (breaks_value read_name list row fields.Name (members_in d) ++ rest) ≡ []
+    → IsTrue (is_name (unwrap_or (value_at read_name fields.Name (members_in d)) []))
+first_name list needed others row d rest h =
+    let name = breaks_value read_name list row fields.Name (members_in d) in
+    let keys = none_of_both (breaks_keys list needed others row d) (name ++ rest) h in
+    name_taken list row fields.Name (members_in d) (none_of_both name rest keys.1).0
+
+pub zone_named : (row : ℕ) (d : Data) → breaks_zone row d ≡ [] → IsTrue (is_name (zone_of d).name)
+zone_named row d h = first_name parts.Zone zone_fields [] row d _ h
+
+pub substation_named : (row : ℕ) (d : Data) → breaks_substation row d ≡ [] → IsTrue (is_name (substation_of d).name)
+substation_named row d h = first_name parts.Substation (fields.Name ∷ []) (fields.Ground ∷ []) row d _ h
+
+pub bus_named : (row : ℕ) (d : Data) → breaks_bus row d ≡ [] → IsTrue (is_name (bus_of d).name)
+bus_named row d h = first_name parts.Bus bus_fields [] row d _ h
+
+pub line_named : (row : ℕ) (d : Data) → breaks_line row d ≡ [] → IsTrue (is_name (line_of d).name)
+line_named row d h = first_name parts.Line line_fields (fields.Blocked ∷ []) row d _ h
+
+-- the ranges of a zone
+pub zone_measured : (row : ℕ) (d : Data) → breaks_zone row d ≡ [] → IsZone (zone_of d)
+zone_measured row d h =
+    let ms = members_in d in
+    let list = parts.Zone in
+    let keys = none_of_both (breaks_keys list zone_fields [] row d) _ h in
+    let name = none_of_both (breaks_value read_name list row fields.Name ms) _ keys.1 in
+    let numbers = none_of_both (breaks_value (natural_within 0 9000) list row fields.Latitude ms) (breaks_value (natural_within 1 150) list row fields.Beta ms) name.1 in
+    record {
+      latitude_most = (natural_taken 0 9000 list row fields.Latitude ms numbers.0).1;
+      beta_least = (natural_taken 1 150 list row fields.Beta ms numbers.1).0;
+      beta_most = (natural_taken 1 150 list row fields.Beta ms numbers.1).1;
+    }
+
+-- the ranges of a line
+pub record IsMeasured (l : LineRow) : Type 0 where
+  pub resistance : (1000 ≤ l.resistance) × (l.resistance ≤ 1000000000)
+  pub north : unsigned_abs l.north ≤ 1000000
+  pub east : unsigned_abs l.east ≤ 1000000
+
+pub line_measured : (row : ℕ) (d : Data) → breaks_line row d ≡ [] → IsMeasured (line_of d)
+line_measured row d h =
+    let ms = members_in d in
+    let list = parts.Line in
+    let keys = none_of_both (breaks_keys list line_fields (fields.Blocked ∷ []) row d) _ h in
+    let name = none_of_both (breaks_value read_name list row fields.Name ms) _ keys.1 in
+    let from = none_of_both (breaks_value read_name list row fields.From ms) _ name.1 in
+    let to = none_of_both (breaks_value read_name list row fields.To ms) _ from.1 in
+    let zone = none_of_both (breaks_value read_name list row fields.Zone ms) _ to.1 in
+    let resistance = none_of_both (breaks_value ohm_within list row fields.Resistance ms) _ zone.1 in
+    let north = none_of_both (breaks_value metres_within list row fields.North ms) _ resistance.1 in
+    let east = none_of_both (breaks_value metres_within list row fields.East ms) (breaks_optional as_bool list row fields.Blocked ms) north.1 in
+    record {
+      resistance = natural_taken 1000 1000000000 list row fields.Resistance ms resistance.0;
+      north = span_taken 1000000 list row fields.North ms north.0;
+      east = span_taken 1000000 list row fields.East ms east.0;
+    }
+
+-- the ranges of what a kind has of its own
+abbrev pub IsMeasuredKind : KindRow → Type 0
+IsMeasuredKind (kinds.DeltaWye high high_resistance) = IsOhm high_resistance
+IsMeasuredKind (kinds.WyeWye high low low_volts high_resistance low_resistance) = IsRated low_volts × (IsOhm high_resistance × IsOhm low_resistance)
+IsMeasuredKind (kinds.Auto high low low_volts series_resistance common_resistance) = IsRated low_volts × (IsOhm series_resistance × IsOhm common_resistance)
+IsMeasuredKind kinds.DeltaDelta = Unit {0}
+
+-- a delta-delta unit has no neutral device
+abbrev pub HasPlaceFor : KindRow → Option Neutral → Type 0
+HasPlaceFor (kinds.DeltaWye high high_resistance) neutral = Unit {0}
+HasPlaceFor (kinds.WyeWye high low low_volts high_resistance low_resistance) neutral = Unit {0}
+HasPlaceFor (kinds.Auto high low low_volts series_resistance common_resistance) neutral = Unit {0}
+HasPlaceFor kinds.DeltaDelta neutral = neutral ≡ None
+
+-- the ranges of a transformer
+pub record IsMeasuredTransformer (t : TransformerRow) : Type 0 where
+  pub rated : IsRated t.high_volts
+  pub kind : IsMeasuredKind t.kind
+  pub device : IfSome t.neutral IsSoundDevice
+  pub place : HasPlaceFor t.kind t.neutral
+
+ohm_taken : (row : ℕ) (at : Field) (ms : Members) → breaks_ohm row at ms ≡ [] → IsOhm (ohm_in at ms)
+ohm_taken row at ms h = natural_taken 1000 1000000000 parts.Transformer row at ms h
+
+volts_taken : (row : ℕ) (at : Field) (ms : Members) → breaks_volts row at ms ≡ [] → IsRated (volts_in at ms)
+volts_taken row at ms h = natural_taken 1000 2000000 parts.Transformer row at ms h
+
+own_measured : (word : KindWord) (row : ℕ) (ms : Members) → breaks_own word row ms ≡ [] → IsMeasuredKind (own_of word ms)
+own_measured words.DeltaWye row ms h = ohm_taken row fields.HighResistance ms (none_of_both (breaks_bus_name row fields.High ms) (breaks_ohm row fields.HighResistance ms) h).1
+own_measured words.WyeWye row ms h =
+    let high = none_of_both (breaks_bus_name row fields.High ms) _ h in
+    let low = none_of_both (breaks_bus_name row fields.Low ms) _ high.1 in
+    let volts = none_of_both (breaks_volts row fields.LowVolts ms) _ low.1 in
+    let ohms = none_of_both (breaks_ohm row fields.HighResistance ms) (breaks_ohm row fields.LowResistance ms) volts.1 in
+    (volts_taken row fields.LowVolts ms volts.0, (ohm_taken row fields.HighResistance ms ohms.0, ohm_taken row fields.LowResistance ms ohms.1))
+own_measured words.Auto row ms h =
+    let high = none_of_both (breaks_bus_name row fields.High ms) _ h in
+    let low = none_of_both (breaks_bus_name row fields.Low ms) _ high.1 in
+    let volts = none_of_both (breaks_volts row fields.LowVolts ms) _ low.1 in
+    let ohms = none_of_both (breaks_ohm row fields.SeriesResistance ms) (breaks_ohm row fields.CommonResistance ms) volts.1 in
+    (volts_taken row fields.LowVolts ms volts.0, (ohm_taken row fields.SeriesResistance ms ohms.0, ohm_taken row fields.CommonResistance ms ohms.1))
+own_measured words.DeltaDelta row ms h = tt
+
+if_blocked : (b : Bool) → IfSome (cond b (Some devices.Blocked) None) IsSoundDevice
+if_blocked true = tt
+if_blocked false = tt
+
+resistor_sound : (o : Option ℕ) → IfSome o IsOhm → IfSome (option_map devices.Resistor o) IsSoundDevice
+resistor_sound None h = tt
+resistor_sound (Some ohm) h = h
+
+device_in_sound : (text : Option (List ℕ)) (ohm : Option ℕ) → IfSome ohm IsOhm → IfSome (device_in text ohm) IsSoundDevice
+unfolding device_in
+device_in_sound None ohm h = resistor_sound ohm h
+device_in_sound (Some s) ohm h = if_blocked (same s (codes "blocked"))
+
+-- a neutral resistor is within its range
+device_sound : (ms : Members) → IfSome (value_at read_neutral fields.Neutral ms) IsSoundDevice
+device_sound ms =
+    then_holds _ read_neutral (λ d. device_in_sound (as_str d) (ohm_within d) (then_holds _ (whole_within 1000 1000000000) (whole_holds 1000 1000000000) (as_integer d))) (get_member (key_of fields.Neutral) ms)
+
+other_key : (allowed : List ℕ → Bool) (k l : List ℕ) (d : Data) (found : Option Data) (o : Ordering) → slice_cmp nat_cmp k l ≡ o
+    → allowed k ≡ false → allowed l ≡ true → found ≡ None → match_ordering o found (Some d) found ≡ None
+other_key allowed k l d found Less order out here none = none
+other_key allowed k l d found Equal order out here none = absurd (false≢true (sym out ∙ ap allowed (exact_bytes k l order) ∙ here))
+other_key allowed k l d found Greater order out here none = none
+
+-- a key that is not allowed is not there
+absent : (allowed : List ℕ → Bool) (k : List ℕ) (ms : Members) → allowed k ≡ false → has_only allowed ms ≡ true → get_member k ms ≡ None
+absent allowed k no_members out only = refl
+absent allowed k (member l d ms) out only =
+    let parts = and_parts (allowed l) (has_only allowed ms) only in
+    other_key allowed k l d (get_member k ms) (slice_cmp nat_cmp k l) refl out parts.0 (absent allowed k ms out parts.1)
+
+device_place : (devices : Bool) (word : KindWord) (ms : Members) → fits (fields_of word) (others_of devices word) ms ≡ true
+    → HasPlaceFor (own_of word ms) (value_at read_neutral fields.Neutral ms)
+unfolding is_among
+device_place devices words.DeltaWye ms h = tt
+device_place devices words.WyeWye ms h = tt
+device_place devices words.Auto ms h = tt
+device_place devices words.DeltaDelta ms h =
+    let required = fields_of words.DeltaDelta in
+    let only = and_parts (has_only (λ k. is_among required k || is_among [] k) ms) (has_all required ms) h in
+    ap (option_and_then read_neutral) (absent (λ k. is_among required k || is_among [] k) (key_of fields.Neutral) ms refl only.0)
+
+-- what each rule of a transformer that breaks none gives
+record IsKept (devices : Bool) (row : ℕ) (ms : Members) : Type 0 where
+  keys : fits (fields_of (kind_of ms)) (others_of devices (kind_of ms)) ms ≡ true
+  name : breaks_value read_name parts.Transformer row fields.Name ms ≡ []
+  volts : breaks_volts row fields.HighVolts ms ≡ []
+  own : breaks_own (kind_of ms) row ms ≡ []
+
+kept : (devices : Bool) (row : ℕ) (d : Data) → breaks_transformer devices row d ≡ [] → IsKept devices row (members_in d)
+kept devices row d h =
+    let ms = members_in d in
+    let table = none_of_both (unless (is_some (as_table d) && has fields.Kind ms) (refusals.Key parts.Transformer row)) _ h in
+    let word = none_of_both (breaks_value read_kind parts.Transformer row fields.Kind ms) _ table.1 in
+    let keys = none_of_both (unless (fits (fields_of (kind_of ms)) (others_of devices (kind_of ms)) ms) (refusals.Key parts.Transformer row)) _ word.1 in
+    let name = none_of_both (breaks_value read_name parts.Transformer row fields.Name ms) _ keys.1 in
+    let volts = none_of_both (breaks_volts row fields.HighVolts ms) _ name.1 in
+    let own = none_of_both (breaks_own (kind_of ms) row ms) (breaks_optional read_neutral parts.Transformer row fields.Neutral ms) volts.1 in
+    record {
+      keys = unless_holds _ (refusals.Key parts.Transformer row) keys.0;
+      name = name.0;
+      volts = volts.0;
+      own = own.0;
+    }
+
+pub transformer_named : (devices : Bool) (row : ℕ) (d : Data) → breaks_transformer devices row d ≡ [] → IsTrue (is_name (transformer_of d).name)
+transformer_named devices row d h = name_taken parts.Transformer row fields.Name (members_in d) (kept devices row d h).name
+
+pub transformer_measured : (devices : Bool) (row : ℕ) (d : Data) → breaks_transformer devices row d ≡ [] → IsMeasuredTransformer (transformer_of d)
+transformer_measured devices row d h =
+    let ms = members_in d in
+    let rules = kept devices row d h in
+    record {
+      rated = volts_taken row fields.HighVolts ms rules.volts;
+      kind = own_measured (kind_of ms) row ms rules.own;
+      device = device_sound ms;
+      place = device_place devices (kind_of ms) ms rules.keys;
+    }

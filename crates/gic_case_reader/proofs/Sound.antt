@@ -1,0 +1,376 @@
+-- The lists of a document that breaks no rule are sound.
+use Rattle.std.proofs.Common.{◌≡◌, ◌≢◌, ℕ, zero, suc, ◌+◌, ◌≤◌, ◌<◌, nat_le, List, [], ◌∷◌, ◌++◌, length, map, take, get_or, Bool, true, false, not, Option, Some, None, unwrap_or, is_some, IfSome, Ok, refl, sym, ap, ◌∙◌, arith, inl, inr, subst, zero-add, length-take-le}
+use Rattle.std.proofs.lemmas.Bool.{cases_Bool, cases_eq, false≢true}
+use Rattle.std.proofs.lemmas.Bool.Decides.{nat_tests}
+use Rattle.std.proofs.lemmas.Cmp.{nat_list_eq_equiv}
+use Rattle.std.proofs.lemmas.List.{length-map, get_or-map, get_or-take, get_or_default}
+use Rattle.std.proofs.lemmas.List.Elements.{All-nil, All-cons, All-map, All-append}
+use Rattle.std.proofs.lemmas.List.Folds.{list_any_at}
+use Rattle.std.proofs.lemmas.Simd.{map-map}
+use Rattle.std.specs.Prelude.{All, AllPairs, ◌==◌, unsigned_abs, IsTrue}
+use Rattle.std.specs.List.{flat_map, enumerate_from, range_with_len}
+use Rattle.toml.specs.Data.{Data, Members}
+use Rattle.gic_base.specs.Name.{is_name}
+use Rattle.gic_scale.specs.ZoneView.{IsZone}
+use Rattle.gic_base.specs.Refusals.{unless}
+use Rattle.gic_base.proofs.RefusalLaws.{none_of_both, none_settled, unless_holds}
+use Rattle.gic_case.proofs.Places.{place_below}
+use Rattle.gic_case.specs.Names.{same, is_repeat, place_from, place_in}
+use Rattle.gic_case.specs.Lists.{Lists, node_names, substation_at, ends_of, degree_of, has_windings}
+use Rattle.gic_case.specs.Sound.{names_of, IsRated, IsSoundSubstation, IsSoundLine, AreSides, IsSoundKind, IsSoundTransformer, IsSound}
+use Rattle.gic_case_reader.specs.Sides.{sides_of, sides_differ, are_together, are_ordered}
+use Rattle.gic_case_reader.specs.Transformers.{breaks_transformer, transformer_of}
+use Rattle.gic_case_reader.specs.Rows.{members_in, breaks_zone, zone_of, breaks_substation, substation_of, breaks_bus, bus_of, breaks_line, line_of}
+use Rattle.gic_case_reader.specs.Rules.{entries_of, breaks_list, allows_devices, breaks_form, Written, written_in, written_names, duplicate_at, breaks_once, breaks_bus_reference, breaks_line_references, breaks_side_reference, breaks_kind_references, breaks_references, bus_with_place, line_with_places, side_place, kind_with_places, transformer_with_places, resolved, breaks_same_ends, breaks_same_sides, breaks_apart, breaks_voltage_order, breaks_degree, broken_in, broken, lists_of, document_of, case_of}
+use Rattle.gic_case_reader.specs.OneByOne.{breaks_degree_from}
+use Rattle.gic_case_reader.specs.Pass.{case_in}
+use Rattle.gic_case_reader.specs.declared.field.Field.{Field}
+use Rattle.gic_case_reader.specs.declared.field.Field.TheVariants as fields
+use Rattle.gic_case_reader.specs.declared.refusal.Part.{Part}
+use Rattle.gic_case_reader.specs.declared.refusal.Part.TheVariants as parts
+use Rattle.gic_case_reader.specs.declared.refusal.CaseRefusal.{CaseRefusal}
+use Rattle.gic_case_reader.specs.declared.refusal.CaseRefusal.TheVariants as refusals
+use Rattle.gic_case.specs.declared.item.Line.{Line}
+use Rattle.gic_case.specs.declared.item.Bus.{Bus}
+use Rattle.gic_case.specs.declared.item.Kind.{Kind}
+use Rattle.gic_case.specs.declared.item.Kind.TheVariants as kinds
+use Rattle.gic_case.specs.declared.item.Neutral.{Neutral}
+use Rattle.gic_case.specs.declared.item.Transformer.{Transformer}
+use Rattle.gic_case_reader.specs.declared.row.LineRow.{LineRow}
+use Rattle.gic_case_reader.specs.declared.row.KindRow.{KindRow}
+use Rattle.gic_case_reader.specs.declared.row.KindRow.TheVariants as rows
+use Rattle.gic_case_reader.specs.declared.row.TransformerRow.{TransformerRow}
+use Rattle.gic_case_reader.proofs.Ranges.{zone_measured, zone_named, substation_named, bus_named, line_named, few_of, taken_holds, natural_holds, IsMeasured, line_measured, IsMeasuredKind, HasPlaceFor, IsMeasuredTransformer, transformer_named, transformer_measured}
+use Rattle.gic_case_reader.proofs.PassLaws.{case_in_law}
+
+-- what each row that breaks no rule has, all rows have
+all_kept : {A : Type 0} (f : ℕ → A → List CaseRefusal) (P : A → Type 0) → ((n : ℕ) (x : A) → f n x ≡ [] → P x)
+    → (n : ℕ) (xs : List A) → flat_map (λ p. f p.0 p.1) (enumerate_from n xs) ≡ [] → All P xs
+all_kept f P law n [] h = All-nil P
+all_kept f P law n (x ∷ xs) h =
+    let parts = none_of_both _ _ h in
+    All-cons P x xs (law n x parts.0) (all_kept f P law (n + 1) xs parts.1)
+
+-- what all mapped elements have, the elements' images have
+all_unmapped : {X Y : Type 0} (P : X → Type 0) (f : Y → X) (ys : List Y) → All P (map f ys) → All (λ y. P (f y)) ys
+all_unmapped P f ys all = λ k d lt. subst P (get_or-map f ys k d (f d) lt) (all k (f d) (rw (length-map ys f) lt))
+
+few_rows : (list : Part) (limit : ℕ) (breaks : ℕ → Data → List CaseRefusal) (ms : Members) → breaks_list list limit breaks ms ≡ [] → length (entries_of list ms) ≤ limit
+few_rows list limit breaks ms h = few_of (length (entries_of list ms)) limit (unless_holds _ _ (none_of_both _ _ (none_of_both _ _ h).1).0)
+
+rows_kept : (list : Part) (limit : ℕ) (breaks : ℕ → Data → List CaseRefusal) (ms : Members) → breaks_list list limit breaks ms ≡ []
+    → flat_map (λ p. breaks p.0 p.1) (enumerate_from 1 (entries_of list ms)) ≡ []
+rows_kept list limit breaks ms h = (none_of_both _ _ (none_of_both _ _ h).1).1
+
+-- a name that is there has its place in the list
+place_within : {A : Type 0} (name : A → List ℕ) (rows : List A) (q : List ℕ) → is_some (place_in (map name rows) q) ≡ true → unwrap_or (place_in (map name rows) q) 0 < length rows
+place_within name rows q there =
+    let many : 0 + length (map name rows) ≡ length rows = zero-add (length (map name rows)) ∙ length-map rows name in
+    taken_holds (λ p. p < length rows) (place_in (map name rows) q) 0 there (subst (λ n. IfSome (place_in (map name rows) q) (λ p. p < n)) many (place_below 0 (map name rows) q))
+
+-- where a line's references go
+record IsPlaced (buses zones : ℕ) (l : Line) : Type 0 where
+  pub from : l.from < buses
+  pub to : l.to < buses
+  pub zone : l.zone < zones
+
+line_placed : (w : Written) (row : ℕ) (l : LineRow) → breaks_line_references w row l ≡ [] → IsPlaced (length w.buses) (length w.zones) (line_with_places w l)
+line_placed w row l h =
+    let from = none_of_both _ _ h in
+    let to = none_of_both _ _ from.1 in
+    record {
+      from = place_within (λ b. b.name) w.buses l.from (unless_holds _ _ from.0);
+      to = place_within (λ b. b.name) w.buses l.to (unless_holds _ _ to.0);
+      zone = place_within (λ z. z.name) w.zones l.zone (unless_holds _ _ to.1);
+    }
+
+-- where a transformer's references go
+abbrev IsPlacedKind : (buses : ℕ) → Kind → Type 0
+IsPlacedKind buses (kinds.DeltaWye high high_resistance) = high < buses
+IsPlacedKind buses (kinds.WyeWye high low low_volts high_resistance low_resistance) = (high < buses) × (low < buses)
+IsPlacedKind buses (kinds.Auto high low low_volts series_resistance common_resistance) = (high < buses) × (low < buses)
+IsPlacedKind buses kinds.DeltaDelta = Unit {0}
+
+side_placed : (w : Written) (row : ℕ) (at : Field) (bus : List ℕ) → breaks_side_reference w row at bus ≡ [] → side_place w bus < length w.buses
+side_placed w row at bus h = place_within (λ b. b.name) w.buses bus (unless_holds _ (refusals.Unknown parts.Transformer row at) h)
+
+sides_placed : (w : Written) (row : ℕ) (high low : List ℕ) → breaks_side_reference w row fields.High high ++ breaks_side_reference w row fields.Low low ≡ []
+    → (side_place w high < length w.buses) × (side_place w low < length w.buses)
+sides_placed w row high low h =
+    let sides = none_of_both (breaks_side_reference w row fields.High high) (breaks_side_reference w row fields.Low low) h in
+    (side_placed w row fields.High high sides.0, side_placed w row fields.Low low sides.1)
+
+kind_placed : (w : Written) (row : ℕ) (k : KindRow) → breaks_kind_references w row k ≡ [] → IsPlacedKind (length w.buses) (kind_with_places w k)
+kind_placed w row (rows.DeltaWye high high_resistance) h = side_placed w row fields.High high h
+kind_placed w row (rows.WyeWye high low low_volts high_resistance low_resistance) h = sides_placed w row high low h
+kind_placed w row (rows.Auto high low low_volts series_resistance common_resistance) h = sides_placed w row high low h
+kind_placed w row rows.DeltaDelta h = tt
+
+no_not : (b : Bool) → not b ≡ true → b ≡ false
+no_not true h = absurd (false≢true h)
+no_not false h = refl
+
+-- what the rules on its two sides give of a transformer
+record AreRuled (buses : List Bus) (t : Transformer) : Type 0 where
+  pub differ : sides_differ (sides_of t.kind) ≡ true
+  pub together : are_together buses (sides_of t.kind) ≡ true
+  pub ordered : are_ordered t.high_volts (sides_of t.kind) ≡ true
+
+-- the two sides of a unit, from the rules on them
+sides_by : (c : Lists) (buses high low high_volts low_volts : ℕ) → length c.buses ≡ buses → high < buses → low < buses → IsRated low_volts
+    → not (high == low) ≡ true → (substation_at c.buses high == substation_at c.buses low) ≡ true → nat_le low_volts high_volts ≡ true
+    → AreSides c high low high_volts low_volts
+sides_by c buses high low high_volts low_volts many high_within low_within rated differ together ordered =
+    let apart : (high == low) ≡ false = no_not (high == low) differ in
+    record {
+      high_within = omega arith;
+      low_within = omega arith;
+      ends_differ = λ e. absurd (grind (arith, nat_tests, e, apart));
+      together = grind (arith, nat_tests, together);
+      low_rated = rated;
+      order = few_of low_volts high_volts ordered;
+    }
+
+kind_by : (c : Lists) (w : Written) (volts : ℕ) (k : KindRow) → length c.buses ≡ length w.buses → IsMeasuredKind k → IsPlacedKind (length w.buses) (kind_with_places w k)
+    → sides_differ (sides_of (kind_with_places w k)) ≡ true → are_together c.buses (sides_of (kind_with_places w k)) ≡ true → are_ordered volts (sides_of (kind_with_places w k)) ≡ true
+    → IsSoundKind c volts (kind_with_places w k)
+kind_by c w volts (rows.DeltaWye high high_resistance) many measured placed differ together ordered = (subst (λ n. side_place w high < n) (sym many) placed, measured)
+kind_by c w volts (rows.WyeWye high low low_volts high_resistance low_resistance) many measured placed differ together ordered =
+    (sides_by c (length w.buses) (side_place w high) (side_place w low) volts low_volts many placed.0 placed.1 measured.0 differ together ordered, measured.1)
+kind_by c w volts (rows.Auto high low low_volts series_resistance common_resistance) many measured placed differ together ordered =
+    (sides_by c (length w.buses) (side_place w high) (side_place w low) volts low_volts many placed.0 placed.1 measured.0 differ together ordered, measured.1)
+kind_by c w volts rows.DeltaDelta many measured placed differ together ordered = tt
+
+no_device_by : (w : Written) (k : KindRow) (neutral : Option Neutral) → HasPlaceFor k neutral → has_windings (kind_with_places w k) ≡ false → is_some neutral ≡ false
+no_device_by w (rows.DeltaWye high high_resistance) neutral place h = absurd (false≢true (sym h))
+no_device_by w (rows.WyeWye high low low_volts high_resistance low_resistance) neutral place h = absurd (false≢true (sym h))
+no_device_by w (rows.Auto high low low_volts series_resistance common_resistance) neutral place h = absurd (false≢true (sym h))
+no_device_by w rows.DeltaDelta neutral place h = ap is_some place
+
+-- a transformer of a document that breaks no rule
+transformer_by : (c : Lists) (w : Written) (t : TransformerRow) → length c.buses ≡ length w.buses → IsMeasuredTransformer t → IsPlacedKind (length w.buses) (kind_with_places w t.kind)
+    → AreRuled c.buses (transformer_with_places w t) → IsSoundTransformer c (transformer_with_places w t)
+transformer_by c w t many measured placed ruled = record {
+  rated = measured.rated;
+  kind_sound = kind_by c w t.high_volts t.kind many measured.kind placed ruled.differ ruled.together ruled.ordered;
+  device_sound = measured.device;
+  no_device = no_device_by w t.kind t.neutral measured.place;
+}
+
+differ : (row : ℕ) (l : Line) → unless (not (l.from == l.to)) (refusals.SameEnds parts.Line row) ≡ [] → l.from ≢ l.to
+differ row l h e =
+    let apart : (l.from == l.to) ≡ false = no_not (l.from == l.to) (unless_holds _ _ h) in
+    absurd (grind (arith, nat_tests, e, apart))
+
+none_repeated : (test : ℕ → Bool) (refusal : ℕ → CaseRefusal) (a n : ℕ) → flat_map (λ i. unless (not (test i)) (refusal i)) (range_with_len a n) ≡ []
+    → (k : ℕ) → a ≤ k → k < a + n → test k ≡ false
+none_repeated test refusal a zero h k low high = absurd (omega arith)
+none_repeated test refusal a (suc n) h k low high =
+    let parts = none_of_both (unless (not (test a)) (refusal a)) (flat_map (λ i. unless (not (test i)) (refusal i)) (range_with_len (a + 1) n)) h in
+    elim (cases_eq a k) [
+      | inl here ↦ ap test (sym here) ∙ no_not (test a) (unless_holds _ (refusal a) parts.0)
+      | inr apart ↦ none_repeated test refusal (a + 1) n parts.1 k (omega arith) (omega arith)
+    ]
+
+-- names of which none comes twice differ
+all_differ : (names : List (List ℕ)) → ((k : ℕ) → k < length names → is_repeat names k ≡ false) → AllPairs (λ x y. x ≢ y) names
+all_differ names none i j d before within e =
+    let earlier : List (List ℕ) = take j names in
+    let many : length earlier ≡ j = length-take-le j names (omega arith) in
+    let default : get_or names j d ≡ get_or names j [] = get_or_default names j d [] within in
+    let is_it : get_or earlier i d ≡ get_or names j [] = get_or-take j names i d before ∙ e ∙ default in
+    let hit : same (get_or names j []) (get_or earlier i d) ≡ true = ap (same (get_or names j [])) is_it ∙ nat_list_eq_equiv.refl (get_or names j []) in
+    absurd (false≢true (sym (none j within) ∙ list_any_at (same (get_or names j [])) earlier i d (omega arith) hit))
+
+few_from : (names : List (List ℕ)) (ends : List ℕ) (n : ℕ) → breaks_degree_from n names ends ≡ [] → (k : ℕ) → n ≤ k → k < n + length names → degree_of ends k ≤ 256
+few_from [] ends n h k low high = absurd (omega arith)
+few_from (x ∷ xs) ends n h k low high =
+    let parts = none_of_both (unless (nat_le (degree_of ends n) 256) (refusals.Degree x)) (breaks_degree_from (n + 1) xs ends) h in
+    elim (cases_eq n k) [
+      | inl here ↦ subst (λ m. degree_of ends m ≤ 256) here (few_of (degree_of ends n) 256 (unless_holds _ (refusals.Degree x) parts.0))
+      | inr apart ↦ few_from xs ends (n + 1) parts.1 k (omega arith) (omega arith)
+    ]
+
+names_stay : (w : Written) → names_of (resolved w) ≡ written_names w
+unfolding resolved
+names_stay w = simp map-map
+
+-- the names of a list's rows
+named : {A : Type 0} (list : Part) (limit : ℕ) (breaks : ℕ → Data → List CaseRefusal) (of : Data → A) (name : A → List ℕ)
+    → ((row : ℕ) (d : Data) → breaks row d ≡ [] → IsTrue (is_name (name (of d))))
+    → (ms : Members) → breaks_list list limit breaks ms ≡ [] → All (λ n. IsTrue (is_name n)) (map name (map of (entries_of list ms)))
+named list limit breaks of name law ms h =
+    All-map (λ n. IsTrue (is_name n)) name (map of (entries_of list ms)) (All-map (λ x. IsTrue (is_name (name x))) of (entries_of list ms)
+    (all_kept breaks (λ d. IsTrue (is_name (name (of d)))) law 1 (entries_of list ms) (rows_kept list limit breaks ms h)))
+
+-- what the form of the document gives
+record IsFormed (w : Written) : Type 0 where
+  pub few_zones : length w.zones ≤ 256
+  pub few_substations : length w.substations ≤ 1024
+  pub few_buses : length w.buses ≤ 3072
+  pub few_lines : length w.lines ≤ 8192
+  pub few_transformers : length w.transformers ≤ 3584
+  pub names : All (λ n. IsTrue (is_name n)) (written_names w)
+  pub zones : All IsZone w.zones
+  pub substations : All IsSoundSubstation w.substations
+  pub lines : All IsMeasured w.lines
+  pub transformers : All IsMeasuredTransformer w.transformers
+
+formed : (ms : Members) → breaks_form ms ≡ [] → IsFormed (written_in ms)
+unfolding breaks_form written_in
+formed ms h =
+    let keys = none_of_both _ _ h in
+    let format = none_of_both _ _ keys.1 in
+    let zones = none_of_both _ _ format.1 in
+    let substations = none_of_both _ _ zones.1 in
+    let buses = none_of_both _ _ substations.1 in
+    let lists = none_of_both _ _ buses.1 in
+    let z = few_rows parts.Zone 256 breaks_zone ms zones.0 in
+    let s = few_rows parts.Substation 1024 breaks_substation ms substations.0 in
+    let b = few_rows parts.Bus 3072 breaks_bus ms buses.0 in
+    let l = few_rows parts.Line 8192 breaks_line ms lists.0 in
+    let ruled = breaks_transformer (allows_devices ms) in
+    let t = few_rows parts.Transformer 3584 ruled ms lists.1 in
+    record {
+      few_zones = rw length-map z;
+      few_substations = rw length-map s;
+      few_buses = rw length-map b;
+      few_lines = rw length-map l;
+      few_transformers = rw length-map t;
+      names =
+          All-append (λ n. IsTrue (is_name n)) (map (λ z. z.name) (map zone_of (entries_of parts.Zone ms))) _ (named parts.Zone 256 breaks_zone zone_of (λ z. z.name) zone_named ms zones.0)
+          (All-append (λ n. IsTrue (is_name n)) (map (λ s. s.name) (map substation_of (entries_of parts.Substation ms))) _ (named parts.Substation 1024 breaks_substation substation_of (λ s. s.name) substation_named ms substations.0)
+          (All-append (λ n. IsTrue (is_name n)) (map (λ b. b.name) (map bus_of (entries_of parts.Bus ms))) _ (named parts.Bus 3072 breaks_bus bus_of (λ b. b.name) bus_named ms buses.0)
+          (All-append (λ n. IsTrue (is_name n)) (map (λ l. l.name) (map line_of (entries_of parts.Line ms))) (map (λ t. t.name) (map transformer_of (entries_of parts.Transformer ms)))
+          (named parts.Line 8192 breaks_line line_of (λ l. l.name) line_named ms lists.0) (named parts.Transformer 3584 ruled transformer_of (λ t. t.name) (transformer_named (allows_devices ms)) ms lists.1))));
+      zones = All-map IsZone zone_of (entries_of parts.Zone ms) (all_kept breaks_zone (λ d. IsZone (zone_of d)) zone_measured 1 (entries_of parts.Zone ms) (rows_kept parts.Zone 256 breaks_zone ms zones.0));
+      substations = All-map IsSoundSubstation substation_of (entries_of parts.Substation ms) (λ k d lt. natural_holds 1000 1000000000 fields.Ground (members_in (get_or (entries_of parts.Substation ms) k d)));
+      lines = All-map IsMeasured line_of (entries_of parts.Line ms) (all_kept breaks_line (λ d. IsMeasured (line_of d)) line_measured 1 (entries_of parts.Line ms) (rows_kept parts.Line 8192 breaks_line ms lists.0));
+      transformers = All-map IsMeasuredTransformer transformer_of (entries_of parts.Transformer ms) (all_kept ruled (λ d. IsMeasuredTransformer (transformer_of d)) (transformer_measured (allows_devices ms)) 1 (entries_of parts.Transformer ms) (rows_kept parts.Transformer 3584 ruled ms lists.1));
+    }
+
+buses_by : (w : Written) → flat_map (λ p. breaks_bus_reference w p.0 p.1) (enumerate_from 1 w.buses) ≡ [] → All (λ b. b.substation < length w.substations) (map (bus_with_place w) w.buses)
+buses_by w references =
+    All-map (λ b. b.substation < length w.substations) (bus_with_place w) w.buses
+    (all_kept (breaks_bus_reference w) (λ b. (bus_with_place w b).substation < length w.substations) (λ row b h. place_within (λ s. s.name) w.substations b.substation (unless_holds _ _ h)) 1 w.buses references)
+
+-- the lines of a document that breaks no rule
+lines_by : (w : Written) → All IsMeasured w.lines → flat_map (λ p. breaks_line_references w p.0 p.1) (enumerate_from 1 w.lines) ≡ []
+    → breaks_same_ends (resolved w) ≡ [] → All (IsSoundLine (resolved w)) (resolved w).lines
+unfolding resolved
+lines_by w measured references apart =
+    let lines : List Line = map (line_with_places w) w.lines in
+    let buses = length-map w.buses (bus_with_place w) in
+    let sizes = All-map (λ l. (1000 ≤ l.resistance) × (l.resistance ≤ 1000000000)) (line_with_places w) w.lines (λ k d lt. (measured k d lt).resistance) in
+    let norths = All-map (λ l. unsigned_abs l.north ≤ 1000000) (line_with_places w) w.lines (λ k d lt. (measured k d lt).north) in
+    let easts = All-map (λ l. unsigned_abs l.east ≤ 1000000) (line_with_places w) w.lines (λ k d lt. (measured k d lt).east) in
+    let IsHere : Line → Type 0 = IsPlaced (length w.buses) (length w.zones) in
+    let placed = All-map IsHere (line_with_places w) w.lines (all_kept (breaks_line_references w) (λ l. IsHere (line_with_places w l)) (line_placed w) 1 w.lines references) in
+    let two = all_kept (λ row l. unless (not (l.from == l.to)) (refusals.SameEnds parts.Line row)) (λ l. l.from ≢ l.to) differ 1 lines apart in
+    λ k d lt. record {
+      from_within = rw buses (placed k d lt).from;
+      to_within = rw buses (placed k d lt).to;
+      zone_within = (placed k d lt).zone;
+      ends_differ = two k d lt;
+      resistance_least = (sizes k d lt).0;
+      resistance_most = (sizes k d lt).1;
+      north_within = norths k d lt;
+      east_within = easts k d lt;
+    }
+
+-- the transformers of a document that breaks no rule
+transformers_by : (w : Written) → All IsMeasuredTransformer w.transformers → flat_map (λ p. breaks_kind_references w p.0 p.1.kind) (enumerate_from 1 w.transformers) ≡ []
+    → breaks_same_sides (resolved w) ≡ [] → breaks_apart (resolved w) ≡ [] → breaks_voltage_order (resolved w) ≡ [] → All (IsSoundTransformer (resolved w)) (resolved w).transformers
+unfolding resolved
+transformers_by w measured references differ apart order =
+    let c = resolved w in
+    let many = length-map w.buses (bus_with_place w) in
+    let placed = all_kept (λ row t. breaks_kind_references w row t.kind) (λ t. IsPlacedKind (length w.buses) (kind_with_places w t.kind)) (λ row t. kind_placed w row t.kind) 1 w.transformers references in
+    let read = transformer_with_places w in
+    let differs = all_kept (λ row t. unless (sides_differ (sides_of t.kind)) (refusals.SameEnds parts.Transformer row)) (λ t. sides_differ (sides_of t.kind) ≡ true) (λ row t. unless_holds _ _) 1 c.transformers differ in
+    let together = all_kept (λ row t. unless (are_together c.buses (sides_of t.kind)) (refusals.Apart row)) (λ t. are_together c.buses (sides_of t.kind) ≡ true) (λ row t. unless_holds _ _) 1 c.transformers apart in
+    let ordered = all_kept (λ row t. unless (are_ordered t.high_volts (sides_of t.kind)) (refusals.VoltageOrder row)) (λ t. are_ordered t.high_volts (sides_of t.kind) ≡ true) (λ row t. unless_holds _ _) 1 c.transformers order in
+    let differs_there = all_unmapped (λ t. sides_differ (sides_of t.kind) ≡ true) read w.transformers differs in
+    let together_there = all_unmapped (λ t. are_together c.buses (sides_of t.kind) ≡ true) read w.transformers together in
+    let ordered_there = all_unmapped (λ t. are_ordered t.high_volts (sides_of t.kind) ≡ true) read w.transformers ordered in
+    All-map (IsSoundTransformer c) read w.transformers (λ k d lt.
+    transformer_by c w (get_or w.transformers k d) many (measured k d lt) (placed k d lt) (record {
+      differ = differs_there k d lt;
+      together = together_there k d lt;
+      ordered = ordered_there k d lt;
+    }))
+
+names_by : (w : Written) → breaks_once w ≡ [] → AllPairs (λ x y. x ≢ y) (names_of (resolved w))
+unfolding breaks_once
+names_by w h =
+    let names = written_names w in
+    rw names_stay (all_differ names (λ k lt. none_repeated (is_repeat names) (duplicate_at (length w.zones) (length w.substations) (length w.buses) (length w.lines)) 0 (length names) h k (omega arith) (omega arith)))
+
+-- what the rules on the whole give
+record IsRuled (w : Written) : Type 0 where
+  pub once : breaks_once w ≡ []
+  pub references : breaks_references w ≡ []
+  pub ends : breaks_same_ends (resolved w) ≡ []
+  pub sides : breaks_same_sides (resolved w) ≡ []
+  pub together : breaks_apart (resolved w) ≡ []
+  pub ordered : breaks_voltage_order (resolved w) ≡ []
+  pub few : breaks_degree (resolved w) ≡ []
+
+resolved_sound : (w : Written) → IsFormed w → IsRuled w → IsSound (resolved w)
+unfolding resolved breaks_references
+resolved_sound w form ruled =
+    let buses = none_of_both _ _ ruled.references in
+    let places = none_of_both _ _ buses.1 in
+    record {
+      few_zones = form.few_zones;
+      few_substations = form.few_substations;
+      few_buses = rw (length-map w.buses (bus_with_place w)) form.few_buses;
+      few_lines = rw (length-map w.lines (line_with_places w)) form.few_lines;
+      few_transformers = rw (length-map w.transformers (transformer_with_places w)) form.few_transformers;
+      zones_sound = form.zones;
+      substations_sound = form.substations;
+      buses_within = buses_by w buses.0;
+      lines_sound = lines_by w form.lines places.0 ruled.ends;
+      transformers_sound = transformers_by w form.transformers places.1 ruled.sides ruled.together ruled.ordered;
+      names_sound = rw names_stay form.names;
+      names_differ = names_by w ruled.once;
+      few_ends = λ k lt. few_from (node_names (resolved w)) (ends_of (resolved w)) 0 ruled.few k (omega arith) (omega arith);
+    }
+
+sound_by : (ms : Members) → broken_in ms ≡ [] → IsSound (resolved (written_in ms))
+unfolding broken_in
+sound_by ms h =
+    let w = written_in ms in
+    let form = none_of_both (breaks_form ms) _ h in
+    let once = none_of_both (breaks_once w) _ form.1 in
+    let references = none_of_both (breaks_references w) _ once.1 in
+    let ends = none_of_both (breaks_same_ends (resolved w)) _ references.1 in
+    let sides = none_of_both (breaks_same_sides (resolved w)) _ ends.1 in
+    let together = none_of_both (breaks_apart (resolved w)) _ sides.1 in
+    let ordered = none_of_both (breaks_voltage_order (resolved w)) (breaks_degree (resolved w)) together.1 in
+    resolved_sound w (formed ms form.0) (record {
+      once = once.0;
+      references = references.0;
+      ends = ends.0;
+      sides = sides.0;
+      together = together.0;
+      ordered = ordered.0;
+      few = ordered.1;
+    })
+
+-- an accepted document's lists are sound
+pub sound_case : (ms : Members) (c : Lists) → case_in ms ≡ Ok c → IsSound c
+sound_case ms c h =
+    let parts = none_settled (broken_in ms) (resolved (written_in ms)) c (sym (case_in_law ms) ∙ h) in
+    subst IsSound parts.1 (sound_by ms parts.0)
+
+accepted_document : (d : Option Members) (c : Lists) → broken d ≡ [] → lists_of d ≡ c → IsSound c
+accepted_document None c none is = absurd (cc none)
+accepted_document (Some ms) c none is = subst IsSound is (sound_by ms none)
+
+-- an accepted case's lists are sound
+pub accepted_sound : (bytes : List ℕ) (c : Lists) → case_of bytes ≡ Ok c → IsSound c
+unfolding case_of
+accepted_sound bytes c h =
+    let parts = none_settled (broken (document_of bytes)) (lists_of (document_of bytes)) c h in
+    accepted_document (document_of bytes) c parts.0 parts.1

@@ -1,0 +1,8 @@
+use Rattle.std.proofs.Common.{◌≡◌, ◌+◌, drop}
+use Rattle.gic_base.specs.Refusals.{settle}
+use Rattle.gic_case_reader.specs.OneByOne.{breaks_voltage_order_from}
+use Rattle.gic_case_reader.proofs.side.voltages_are_ordered.Given as goal
+
+-- the transformers that are left decide
+abbrev pub invariant-loop-i : goal.invariant-loop-i
+invariant-loop-i l = settle (breaks_voltage_order_from (l.i + 1) (drop l.i l.transformers)) (tt {0}) ≡ settle (breaks_voltage_order_from 1 l.transformers) (tt {0})

@@ -1,0 +1,9 @@
+pub mod Accepted
+pub mod Keys
+pub mod OneByOne
+pub mod Pass
+pub mod Rows
+pub mod Rules
+pub mod Sides
+pub mod Transformers
+pub mod Values

@@ -1,0 +1,247 @@
+-- What one pass over the document reads, up to the first refusal. It serves the private functions of the reader alone: its contract speaks of rules.
+use Rattle.std.specs.Prelude.{ℕ, ◌+◌, ◌==◌, nat_lt, suc, List, [], ◌∷◌, length, Bool, false, if◌then◌else◌, Option, Some, None, option_and_then, option_map, unwrap_or, Result, Ok, Err}
+use Rattle.toml.specs.Data.{Data, Items, no_items, item, Members, get_member, as_array, as_bool, as_table}
+use Rattle.gic_base.specs.Refusals.{settle}
+use Rattle.gic_base.specs.declared.limits.TheConstants.{MOST_ZONES, MOST_SUBSTATIONS, MOST_BUSES, MOST_LINES, MOST_TRANSFORMERS}
+use Rattle.gic_base.specs.Passes.{◌>>=◌, or_refuse, test}
+use Rattle.gic_scale.specs.ZoneView.{ZoneView}
+use Rattle.gic_case_reader.specs.Keys.{key_of, has, fits, fits_document, list_key}
+use Rattle.gic_case_reader.specs.Values.{natural_within, read_name, value_at}
+use Rattle.gic_case_reader.specs.Rows.{ohm_within, volts_within, metres_within, read_neutral, zone_fields, bus_fields, line_fields}
+use Rattle.gic_case.specs.Lists.{substation_with, Lists}
+use Rattle.gic_case_reader.specs.Transformers.{read_kind, fields_of, others_of}
+use Rattle.gic_case_reader.specs.OneByOne.{first_repeat, breaks_same_ends_from, breaks_same_sides_from, breaks_apart_from, breaks_voltage_order_from}
+use Rattle.gic_case_reader.specs.Rules.{Written, written_names, duplicate_at, substation_place, bus_place, zone_place, breaks_degree}
+use Rattle.gic_case_reader.specs.declared.field.Field.{Field}
+use Rattle.gic_case_reader.specs.declared.field.Field.TheVariants as fields
+use Rattle.gic_case_reader.specs.declared.refusal.Part.{Part}
+use Rattle.gic_case_reader.specs.declared.refusal.Part.TheVariants as parts
+use Rattle.gic_case_reader.specs.declared.refusal.CaseRefusal.{CaseRefusal}
+use Rattle.gic_case_reader.specs.declared.refusal.CaseRefusal.TheVariants as refusals
+use Rattle.gic_case.specs.declared.item.Substation.{Substation}
+use Rattle.gic_case.specs.declared.item.Bus.{Bus}
+use Rattle.gic_case.specs.declared.item.Line.{Line}
+use Rattle.gic_case.specs.declared.item.Kind.{Kind}
+use Rattle.gic_case.specs.declared.item.Kind.TheVariants as kinds
+use Rattle.gic_case.specs.declared.item.Transformer.{Transformer}
+use Rattle.gic_case_reader.specs.declared.row.BusRow.{BusRow}
+use Rattle.gic_case_reader.specs.declared.row.LineRow.{LineRow}
+use Rattle.gic_case_reader.specs.declared.row.KindRow.{KindRow}
+use Rattle.gic_case_reader.specs.declared.row.KindRow.TheVariants as rows
+use Rattle.gic_case_reader.specs.declared.row.TransformerRow.{TransformerRow}
+use Rattle.gic_case_reader.specs.declared.transformer.KindWord.{KindWord}
+use Rattle.gic_case_reader.specs.declared.transformer.KindWord.TheVariants as words
+
+-- the value of a field
+unfoldable pub required : {A : Type 0} → (Data → Option A) → Part → ℕ → Field → Members → Result A CaseRefusal
+required read list row at ms = or_refuse (value_at read at ms) (refusals.Value list row at)
+
+-- what is there, as the test reads it
+abbrev pub optional_in : {A : Type 0} → (Data → Option A) → CaseRefusal → Option Data → Result (Option A) CaseRefusal
+optional_in read e None = Ok None
+optional_in read e (Some d) = or_refuse (read d) e >>= (λ x. Ok (Some x))
+
+-- the value of a field that may be absent
+unfoldable pub optional : {A : Type 0} → (Data → Option A) → Part → ℕ → Field → Members → Result (Option A) CaseRefusal
+optional read list row at ms = optional_in read (refusals.Value list row at) (get_member (key_of at) ms)
+
+-- a table with the keys that a row may and must have
+unfoldable pub row_table : Part → (required others : List Field) → ℕ → Data → Result Members CaseRefusal
+row_table list required others row d =
+    or_refuse (option_and_then (λ ms. if fits required others ms then Some ms else None) (as_table d)) (refusals.Key list row)
+
+-- a row of the zones
+unfoldable pub zone_row : ℕ → Data → Result ZoneView CaseRefusal
+zone_row row d = do
+  ms ← row_table parts.Zone zone_fields [] row d
+  name ← required read_name parts.Zone row fields.Name ms
+  latitude ← required (natural_within 0 9000) parts.Zone row fields.Latitude ms
+  beta ← required (natural_within 1 150) parts.Zone row fields.Beta ms
+  Ok (record { name = name; latitude = latitude; beta = beta })
+
+-- a row of the substations
+unfoldable pub substation_row : ℕ → Data → Result Substation CaseRefusal
+substation_row row d = do
+  ms ← row_table parts.Substation (fields.Name ∷ []) (fields.Ground ∷ []) row d
+  name ← required read_name parts.Substation row fields.Name ms
+  earthing ← optional ohm_within parts.Substation row fields.Ground ms
+  Ok (substation_with name earthing)
+
+-- a row of the buses
+unfoldable pub bus_row : ℕ → Data → Result BusRow CaseRefusal
+bus_row row d = do
+  ms ← row_table parts.Bus bus_fields [] row d
+  name ← required read_name parts.Bus row fields.Name ms
+  substation ← required read_name parts.Bus row fields.Substation ms
+  Ok (record { name = name; substation = substation })
+
+-- a row of the lines
+unfoldable pub line_row : ℕ → Data → Result LineRow CaseRefusal
+line_row row d = do
+  ms ← row_table parts.Line line_fields (fields.Blocked ∷ []) row d
+  name ← required read_name parts.Line row fields.Name ms
+  from ← required read_name parts.Line row fields.From ms
+  to ← required read_name parts.Line row fields.To ms
+  zone ← required read_name parts.Line row fields.Zone ms
+  resistance ← required ohm_within parts.Line row fields.Resistance ms
+  north ← required metres_within parts.Line row fields.North ms
+  east ← required metres_within parts.Line row fields.East ms
+  blocked ← optional as_bool parts.Line row fields.Blocked ms
+  Ok (record { name = name; from = from; to = to; zone = zone; resistance = resistance; north = north; east = east; blocked = unwrap_or blocked false })
+
+-- a table that has a field
+unfoldable pub table_with : Part → Field → ℕ → Data → Result Members CaseRefusal
+table_with list at row d = or_refuse (option_and_then (λ ms. if has at ms then Some ms else None) (as_table d)) (refusals.Key list row)
+
+-- what a delta-wye unit has of its own
+unfoldable pub delta_wye_row : ℕ → Members → Result KindRow CaseRefusal
+delta_wye_row row ms = do
+  high ← required read_name parts.Transformer row fields.High ms
+  high_resistance ← required ohm_within parts.Transformer row fields.HighResistance ms
+  Ok (rows.DeltaWye high high_resistance)
+
+-- what a wye-wye unit has of its own
+unfoldable pub wye_wye_row : ℕ → Members → Result KindRow CaseRefusal
+wye_wye_row row ms = do
+  high ← required read_name parts.Transformer row fields.High ms
+  low ← required read_name parts.Transformer row fields.Low ms
+  low_volts ← required volts_within parts.Transformer row fields.LowVolts ms
+  high_resistance ← required ohm_within parts.Transformer row fields.HighResistance ms
+  low_resistance ← required ohm_within parts.Transformer row fields.LowResistance ms
+  Ok (rows.WyeWye high low low_volts high_resistance low_resistance)
+
+-- what an autotransformer has of its own
+unfoldable pub auto_row : ℕ → Members → Result KindRow CaseRefusal
+auto_row row ms = do
+  high ← required read_name parts.Transformer row fields.High ms
+  low ← required read_name parts.Transformer row fields.Low ms
+  low_volts ← required volts_within parts.Transformer row fields.LowVolts ms
+  series_resistance ← required ohm_within parts.Transformer row fields.SeriesResistance ms
+  common_resistance ← required ohm_within parts.Transformer row fields.CommonResistance ms
+  Ok (rows.Auto high low low_volts series_resistance common_resistance)
+
+-- what a transformer of a kind has of its own
+unfoldable pub kind_row : KindWord → ℕ → Members → Result KindRow CaseRefusal
+kind_row words.DeltaWye row ms = delta_wye_row row ms
+kind_row words.WyeWye row ms = wye_wye_row row ms
+kind_row words.Auto row ms = auto_row row ms
+kind_row words.DeltaDelta row ms = Ok rows.DeltaDelta
+
+-- a row of the transformers
+unfoldable pub transformer_row : (devices : Bool) → ℕ → Data → Result TransformerRow CaseRefusal
+transformer_row devices row d = do
+  ms ← table_with parts.Transformer fields.Kind row d
+  word ← required read_kind parts.Transformer row fields.Kind ms
+  keys ← test (fits (fields_of word) (others_of devices word) ms) (refusals.Key parts.Transformer row)
+  name ← required read_name parts.Transformer row fields.Name ms
+  high_volts ← required volts_within parts.Transformer row fields.HighVolts ms
+  kind ← kind_row word row ms
+  neutral ← optional read_neutral parts.Transformer row fields.Neutral ms
+  Ok (record { name = name; high_volts = high_volts; kind = kind; neutral = neutral })
+
+-- the items of an array
+abbrev pub items_or : CaseRefusal → Option Data → Result Items CaseRefusal
+items_or e None = Ok no_items
+items_or e (Some d) = or_refuse (as_array d) e
+
+-- the items of a list of the document, none where it isn't there
+unfoldable pub items_at : Part → Members → Result Items CaseRefusal
+items_at list ms = items_or (refusals.Key list 0) (get_member (list_key list) ms)
+
+-- how many items there are
+abbrev pub count_of : Items → ℕ
+count_of no_items = 0
+count_of (item d ds) = suc (count_of ds)
+
+-- the rows of the items, numbered from here on
+abbrev pub rows_from : {A : Type 0} → (ℕ → Data → Result A CaseRefusal) → ℕ → Items → Result (List A) CaseRefusal
+rows_from read row no_items = Ok []
+rows_from read row (item d ds) = read row d >>= (λ x. rows_from read (row + 1) ds >>= (λ xs. Ok (x ∷ xs)))
+
+-- a list with at most so many rows
+unfoldable pub list_at : {A : Type 0} → Part → (limit : ℕ) → (ℕ → Data → Result A CaseRefusal) → Members → Result (List A) CaseRefusal
+list_at list limit read ms = items_at list ms >>= (λ ds. if nat_lt limit (count_of ds) then Err (refusals.TooMany list) else rows_from read 1 ds)
+
+-- the rows of all lists
+unfoldable pub rows_of : Members → Result Written CaseRefusal
+rows_of ms = do
+  keys ← test (fits_document ms) (refusals.Key parts.Case 0)
+  format ← required (natural_within 1 2) parts.Case 0 fields.Format ms
+  zones ← list_at parts.Zone MOST_ZONES zone_row ms
+  substations ← list_at parts.Substation MOST_SUBSTATIONS substation_row ms
+  buses ← list_at parts.Bus MOST_BUSES bus_row ms
+  lines ← list_at parts.Line MOST_LINES line_row ms
+  transformers ← list_at parts.Transformer MOST_TRANSFORMERS (transformer_row (format == 2)) ms
+  Ok (record { zones = zones; substations = substations; buses = buses; lines = lines; transformers = transformers })
+
+-- the refusal, if there is one
+abbrev pub refuse_if : Option CaseRefusal → Result (Unit {0}) CaseRefusal
+refuse_if None = Ok tt
+refuse_if (Some e) = Err e
+
+-- no name comes twice
+unfoldable pub unique : Written → Result (Unit {0}) CaseRefusal
+unique w = refuse_if (option_map (duplicate_at (length w.zones) (length w.substations) (length w.buses) (length w.lines)) (first_repeat (written_names w)))
+
+-- each element of a list, numbered from here on
+abbrev pub each : {A B : Type 0} → (ℕ → A → Result B CaseRefusal) → ℕ → List A → Result (List B) CaseRefusal
+each f row [] = Ok []
+each f row (x ∷ xs) = f row x >>= (λ y. each f (row + 1) xs >>= (λ ys. Ok (y ∷ ys)))
+
+-- the place of a name that a field refers to
+abbrev pub place_at : (List ℕ → Option ℕ) → Part → ℕ → Field → List ℕ → Result ℕ CaseRefusal
+place_at place list row at name = or_refuse (place name) (refusals.Unknown list row at)
+
+-- a bus, with the place of its substation
+unfoldable pub bus_in : (substation : List ℕ → Option ℕ) → ℕ → BusRow → Result Bus CaseRefusal
+bus_in substation row b = do
+  place ← place_at substation parts.Bus row fields.Substation b.substation
+  Ok (record { name = b.name; substation = place })
+
+-- a line, with the places of its buses and its zone
+unfoldable pub line_in : (bus zone : List ℕ → Option ℕ) → ℕ → LineRow → Result Line CaseRefusal
+line_in bus zone row l = do
+  from ← place_at bus parts.Line row fields.From l.from
+  to ← place_at bus parts.Line row fields.To l.to
+  place ← place_at zone parts.Line row fields.Zone l.zone
+  Ok (record { name = l.name; from = from; to = to; zone = place; resistance = l.resistance; north = l.north; east = l.east; blocked = l.blocked })
+
+-- the place of the bus of a side
+abbrev pub side_at : (bus : List ℕ → Option ℕ) → ℕ → Field → List ℕ → Result ℕ CaseRefusal
+side_at bus = place_at bus parts.Transformer
+
+-- a kind, with the places of its buses
+unfoldable pub kind_in : (bus : List ℕ → Option ℕ) → ℕ → KindRow → Result Kind CaseRefusal
+kind_in bus row (rows.DeltaWye high high_resistance) = side_at bus row fields.High high >>= (λ h. Ok (kinds.DeltaWye h high_resistance))
+kind_in bus row (rows.WyeWye high low low_volts high_resistance low_resistance) =
+    side_at bus row fields.High high >>= (λ h. side_at bus row fields.Low low >>= (λ l. Ok (kinds.WyeWye h l low_volts high_resistance low_resistance)))
+kind_in bus row (rows.Auto high low low_volts series_resistance common_resistance) =
+    side_at bus row fields.High high >>= (λ h. side_at bus row fields.Low low >>= (λ l. Ok (kinds.Auto h l low_volts series_resistance common_resistance)))
+kind_in bus row rows.DeltaDelta = Ok kinds.DeltaDelta
+
+-- a transformer, with the places of its buses
+unfoldable pub transformer_in : (bus : List ℕ → Option ℕ) → ℕ → TransformerRow → Result Transformer CaseRefusal
+transformer_in bus row t = do
+  kind ← kind_in bus row t.kind
+  Ok (record { name = t.name; high_volts = t.high_volts; kind = kind; neutral = t.neutral })
+
+-- the lists, with places in place of names
+unfoldable pub resolve : Written → Result Lists CaseRefusal
+resolve w = do
+  buses ← each (bus_in (substation_place w)) 1 w.buses
+  lines ← each (line_in (bus_place w) (zone_place w)) 1 w.lines
+  transformers ← each (transformer_in (bus_place w)) 1 w.transformers
+  Ok (record { zones = w.zones; substations = w.substations; buses = buses; lines = lines; transformers = transformers })
+
+-- the case that a document is, or the first broken rule
+unfoldable pub case_in : Members → Result Lists CaseRefusal
+case_in ms = do
+  w ← rows_of ms
+  once ← unique w
+  c ← resolve w
+  lines ← settle (breaks_same_ends_from 1 c.lines) (tt {0})
+  sides ← settle (breaks_same_sides_from 1 c.transformers) (tt {0})
+  together ← settle (breaks_apart_from c.buses 1 c.transformers) (tt {0})
+  ordered ← settle (breaks_voltage_order_from 1 c.transformers) (tt {0})
+  few ← settle (breaks_degree c) (tt {0})
+  Ok c

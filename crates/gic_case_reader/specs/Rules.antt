@@ -1,0 +1,250 @@
+-- The rules of a case, each read by itself: the refusals for all places where a document breaks it, in order. A document is accepted where no rule gives one, and the first of all answers otherwise.
+use Rattle.std.specs.Prelude.{ℕ, ◌+◌, ◌-◌, ◌==◌, nat_le, nat_lt, List, [], ◌∷◌, ◌++◌, length, map, flat_map, Bool, true, not, if◌then◌else◌, Option, Some, None, unwrap_or, is_some, Result}
+use Rattle.std.specs.List.{enumerate_from, range_with_len}
+use Rattle.std.specs.Str.{is_utf8}
+use Rattle.toml.specs.Data.{Data, Items, no_items, item, Members, get_member, as_array}
+use Rattle.toml.specs.Parse.{parse_document}
+use Rattle.gic_base.specs.Refusals.{unless, settle}
+use Rattle.gic_base.specs.declared.limits.TheConstants.{MOST_ZONES, MOST_SUBSTATIONS, MOST_BUSES, MOST_LINES, MOST_TRANSFORMERS, MOST_AT_A_NODE}
+use Rattle.gic_scale.specs.ZoneView.{ZoneView}
+use Rattle.gic_case_reader.specs.Keys.{fits_document, list_key}
+use Rattle.gic_case_reader.specs.Values.{natural_within, value_at}
+use Rattle.gic_case_reader.specs.Rows.{breaks_value, breaks_zone, zone_of, breaks_substation, substation_of, breaks_bus, bus_of, breaks_line, line_of}
+use Rattle.gic_case_reader.specs.Transformers.{breaks_transformer, transformer_of}
+use Rattle.gic_case.specs.Names.{is_repeat, place_in}
+use Rattle.gic_case.specs.Lists.{Lists, node_names, ends_of, degree_of}
+use Rattle.gic_case_reader.specs.Sides.{sides_of, sides_differ, are_together, are_ordered}
+use Rattle.gic_case_reader.specs.declared.field.Field.{Field}
+use Rattle.gic_case_reader.specs.declared.field.Field.TheVariants as fields
+use Rattle.gic_case_reader.specs.declared.refusal.Part.{Part}
+use Rattle.gic_case_reader.specs.declared.refusal.Part.TheVariants as parts
+use Rattle.gic_case_reader.specs.declared.refusal.CaseRefusal.{CaseRefusal}
+use Rattle.gic_case_reader.specs.declared.refusal.CaseRefusal.TheVariants as refusals
+use Rattle.gic_case.specs.declared.item.Substation.{Substation}
+use Rattle.gic_case.specs.declared.item.Bus.{Bus}
+use Rattle.gic_case.specs.declared.item.Line.{Line}
+use Rattle.gic_case.specs.declared.item.Kind.{Kind}
+use Rattle.gic_case.specs.declared.item.Kind.TheVariants as kinds
+use Rattle.gic_case.specs.declared.item.Transformer.{Transformer}
+use Rattle.gic_case_reader.specs.declared.row.BusRow.{BusRow}
+use Rattle.gic_case_reader.specs.declared.row.LineRow.{LineRow}
+use Rattle.gic_case_reader.specs.declared.row.KindRow.{KindRow}
+use Rattle.gic_case_reader.specs.declared.row.KindRow.TheVariants as rows
+use Rattle.gic_case_reader.specs.declared.row.TransformerRow.{TransformerRow}
+
+-- the entries of an array
+abbrev pub list_in : Items → List Data
+list_in no_items = []
+list_in (item d ds) = d ∷ list_in ds
+
+-- the entries of a list that is there, and none otherwise
+abbrev pub array_in : Option Data → List Data
+array_in None = []
+array_in (Some d) = list_in (unwrap_or (as_array d) no_items)
+
+-- the entries of a list of the document
+abbrev pub entries_of : Part → Members → List Data
+entries_of list ms = array_in (get_member (list_key list) ms)
+
+-- a list is an array where it is there
+abbrev pub is_array : Option Data → Bool
+is_array None = true
+is_array (Some d) = is_some (as_array d)
+
+-- a list is an array of so many rows at most, and each row keeps its rules
+abbrev pub breaks_list : Part → (limit : ℕ) → (ℕ → Data → List CaseRefusal) → Members → List CaseRefusal
+breaks_list list limit breaks ms =
+    unless (is_array (get_member (list_key list) ms)) (refusals.Key list 0)
+    ++ (unless (nat_le (length (entries_of list ms)) limit) (refusals.TooMany list)
+    ++ flat_map (λ p. breaks p.0 p.1) (enumerate_from 1 (entries_of list ms)))
+
+-- transformers may have neutral devices: the format is 2
+abbrev pub allows_devices : Members → Bool
+allows_devices ms = unwrap_or (value_at (natural_within 1 2) fields.Format ms) 0 == 2
+
+-- the document has its keys, a format of 1 or 2, and its lists
+unfoldable pub breaks_form : Members → List CaseRefusal
+breaks_form ms =
+    unless (fits_document ms) (refusals.Key parts.Case 0)
+    ++ (breaks_value (natural_within 1 2) parts.Case 0 fields.Format ms
+    ++ (breaks_list parts.Zone MOST_ZONES breaks_zone ms
+    ++ (breaks_list parts.Substation MOST_SUBSTATIONS breaks_substation ms
+    ++ (breaks_list parts.Bus MOST_BUSES breaks_bus ms
+    ++ (breaks_list parts.Line MOST_LINES breaks_line ms
+    ++ breaks_list parts.Transformer MOST_TRANSFORMERS (breaks_transformer (allows_devices ms)) ms)))))
+
+-- the rows as they are written, with names in place of references
+pub record Written : Type 0 where
+  pub zones : List ZoneView
+  pub substations : List Substation
+  pub buses : List BusRow
+  pub lines : List LineRow
+  pub transformers : List TransformerRow
+
+-- the rows of a document, each field that breaks its rule taken as nought
+unfoldable pub written_in : Members → Written
+written_in ms = record {
+  zones = map zone_of (entries_of parts.Zone ms);
+  substations = map substation_of (entries_of parts.Substation ms);
+  buses = map bus_of (entries_of parts.Bus ms);
+  lines = map line_of (entries_of parts.Line ms);
+  transformers = map transformer_of (entries_of parts.Transformer ms);
+}
+
+-- the names of all rows, list after list
+abbrev pub written_names : Written → List (List ℕ)
+written_names w = map (λ z. z.name) w.zones ++ (map (λ s. s.name) w.substations ++ (map (λ b. b.name) w.buses ++ (map (λ l. l.name) w.lines ++ map (λ t. t.name) w.transformers)))
+
+-- the refusal for a place in these names
+abbrev pub duplicate_at : (zones substations buses lines : ℕ) → ℕ → CaseRefusal
+duplicate_at zones substations buses lines i =
+    if nat_lt i zones then refusals.Duplicate parts.Zone (i + 1)
+    else if nat_lt i (zones + substations) then refusals.Duplicate parts.Substation (i - zones + 1)
+    else if nat_lt i (zones + substations + buses) then refusals.Duplicate parts.Bus (i - (zones + substations) + 1)
+    else if nat_lt i (zones + substations + buses + lines) then refusals.Duplicate parts.Line (i - (zones + substations + buses) + 1)
+    else refusals.Duplicate parts.Transformer (i - (zones + substations + buses + lines) + 1)
+
+-- a row's name is the name of no earlier row
+unfoldable pub breaks_once : Written → List CaseRefusal
+breaks_once w =
+    let names = written_names w in
+    flat_map (λ i. unless (not (is_repeat names i)) (duplicate_at (length w.zones) (length w.substations) (length w.buses) (length w.lines) i)) (range_with_len 0 (length names))
+
+-- where the substation of a name stands in its list, if there is one
+abbrev pub substation_place : Written → List ℕ → Option ℕ
+substation_place w = place_in (map (λ s. s.name) w.substations)
+
+-- the same for buses
+abbrev pub bus_place : Written → List ℕ → Option ℕ
+bus_place w = place_in (map (λ b. b.name) w.buses)
+
+-- the same for zones
+abbrev pub zone_place : Written → List ℕ → Option ℕ
+zone_place w = place_in (map (λ z. z.name) w.zones)
+
+-- a bus is in one of the substations
+abbrev pub breaks_bus_reference : Written → ℕ → BusRow → List CaseRefusal
+breaks_bus_reference w row b = unless (is_some (substation_place w b.substation)) (refusals.Unknown parts.Bus row fields.Substation)
+
+-- a line runs between two of the buses, in one of the zones
+abbrev pub breaks_line_references : Written → ℕ → LineRow → List CaseRefusal
+breaks_line_references w row l =
+    unless (is_some (bus_place w l.from)) (refusals.Unknown parts.Line row fields.From)
+    ++ (unless (is_some (bus_place w l.to)) (refusals.Unknown parts.Line row fields.To)
+    ++ unless (is_some (zone_place w l.zone)) (refusals.Unknown parts.Line row fields.Zone))
+
+-- a side of a transformer is at one of the buses
+abbrev pub breaks_side_reference : Written → ℕ → Field → (bus : List ℕ) → List CaseRefusal
+breaks_side_reference w row at bus = unless (is_some (bus_place w bus)) (refusals.Unknown parts.Transformer row at)
+
+-- the sides that a kind has are at buses: first the high one, then the low one
+abbrev pub breaks_kind_references : Written → ℕ → KindRow → List CaseRefusal
+breaks_kind_references w row (rows.DeltaWye high high_resistance) = breaks_side_reference w row fields.High high
+breaks_kind_references w row (rows.WyeWye high low low_volts high_resistance low_resistance) = breaks_side_reference w row fields.High high ++ breaks_side_reference w row fields.Low low
+breaks_kind_references w row (rows.Auto high low low_volts series_resistance common_resistance) = breaks_side_reference w row fields.High high ++ breaks_side_reference w row fields.Low low
+breaks_kind_references w row rows.DeltaDelta = []
+
+-- each reference is the name of a row of its list
+unfoldable pub breaks_references : Written → List CaseRefusal
+breaks_references w =
+    flat_map (λ p. breaks_bus_reference w p.0 p.1) (enumerate_from 1 w.buses)
+    ++ (flat_map (λ p. breaks_line_references w p.0 p.1) (enumerate_from 1 w.lines)
+    ++ flat_map (λ p. breaks_kind_references w p.0 p.1.kind) (enumerate_from 1 w.transformers))
+
+-- a bus, with the place of its substation
+abbrev pub bus_with_place : Written → BusRow → Bus
+bus_with_place w b = record { name = b.name; substation = unwrap_or (substation_place w b.substation) 0 }
+
+-- a line, with the places of its buses and its zone
+abbrev pub line_with_places : Written → LineRow → Line
+line_with_places w l = record {
+  name = l.name;
+  from = unwrap_or (bus_place w l.from) 0;
+  to = unwrap_or (bus_place w l.to) 0;
+  zone = unwrap_or (zone_place w l.zone) 0;
+  resistance = l.resistance;
+  north = l.north;
+  east = l.east;
+  blocked = l.blocked;
+}
+
+-- the place of a bus, and the first place for a name that is nowhere
+abbrev pub side_place : Written → (bus : List ℕ) → ℕ
+side_place w bus = unwrap_or (bus_place w bus) 0
+
+-- a kind, with the places of its buses
+abbrev pub kind_with_places : Written → KindRow → Kind
+kind_with_places w (rows.DeltaWye high high_resistance) = kinds.DeltaWye (side_place w high) high_resistance
+kind_with_places w (rows.WyeWye high low low_volts high_resistance low_resistance) = kinds.WyeWye (side_place w high) (side_place w low) low_volts high_resistance low_resistance
+kind_with_places w (rows.Auto high low low_volts series_resistance common_resistance) = kinds.Auto (side_place w high) (side_place w low) low_volts series_resistance common_resistance
+kind_with_places w rows.DeltaDelta = kinds.DeltaDelta
+
+-- a transformer, with the places of its buses
+abbrev pub transformer_with_places : Written → TransformerRow → Transformer
+transformer_with_places w t = record { name = t.name; high_volts = t.high_volts; kind = kind_with_places w t.kind; neutral = t.neutral }
+
+-- the lists, with places in place of names; a name that is nowhere stands for the first place
+unfoldable pub resolved : Written → Lists
+resolved w = record {
+  zones = w.zones;
+  substations = w.substations;
+  buses = map (bus_with_place w) w.buses;
+  lines = map (line_with_places w) w.lines;
+  transformers = map (transformer_with_places w) w.transformers;
+}
+
+-- each of the rows, numbered from 1, passes the test
+abbrev pub breaks_rows : {A : Type 0} → (A → Bool) → (ℕ → CaseRefusal) → List A → List CaseRefusal
+breaks_rows test refusal rows = flat_map (λ p. unless (test p.1) (refusal p.0)) (enumerate_from 1 rows)
+
+-- no line has one bus for two
+abbrev pub breaks_same_ends : Lists → List CaseRefusal
+breaks_same_ends c = breaks_rows (λ l. not (l.from == l.to)) (refusals.SameEnds parts.Line) c.lines
+
+-- no transformer has one bus for two
+abbrev pub breaks_same_sides : Lists → List CaseRefusal
+breaks_same_sides c = breaks_rows (λ t. sides_differ (sides_of t.kind)) (refusals.SameEnds parts.Transformer) c.transformers
+
+-- no transformer stands in two substations
+abbrev pub breaks_apart : Lists → List CaseRefusal
+breaks_apart c = breaks_rows (λ t. are_together c.buses (sides_of t.kind)) refusals.Apart c.transformers
+
+-- no transformer has a low voltage above its high voltage
+abbrev pub breaks_voltage_order : Lists → List CaseRefusal
+breaks_voltage_order c = breaks_rows (λ t. are_ordered t.high_volts (sides_of t.kind)) refusals.VoltageOrder c.transformers
+
+-- at most `MOST_AT_A_NODE` elements end at each node, which is refused by its name
+abbrev pub breaks_degree : Lists → List CaseRefusal
+breaks_degree c = flat_map (λ p. unless (nat_le (degree_of (ends_of c) p.0) MOST_AT_A_NODE) (refusals.Degree p.1)) (enumerate_from 0 (node_names c))
+
+-- all rules on a document, in their order
+unfoldable pub broken_in : Members → List CaseRefusal
+broken_in ms =
+    let w = written_in ms in
+    let c = resolved w in
+    breaks_form ms
+    ++ (breaks_once w
+    ++ (breaks_references w
+    ++ (breaks_same_ends c
+    ++ (breaks_same_sides c
+    ++ (breaks_apart c
+    ++ (breaks_voltage_order c
+    ++ breaks_degree c))))))
+
+-- all rules on bytes, as the document that they are
+abbrev pub broken : Option Members → List CaseRefusal
+broken None = refusals.NotToml ∷ []
+broken (Some ms) = broken_in ms
+
+-- the lists of a document, and none where there is no document
+abbrev pub lists_of : Option Members → Lists
+lists_of None = record { zones = []; substations = []; buses = []; lines = []; transformers = [] }
+lists_of (Some ms) = resolved (written_in ms)
+
+-- the document that the bytes are, if they are UTF-8 and TOML
+abbrev pub document_of : List ℕ → Option Members
+document_of bytes = if is_utf8 bytes then parse_document bytes else None
+
+-- the case that the bytes are, or the first rule that they break
+unfoldable pub case_of : List ℕ → Result Lists CaseRefusal
+case_of bytes = settle (broken (document_of bytes)) (lists_of (document_of bytes))

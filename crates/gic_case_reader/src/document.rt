@@ -1,0 +1,98 @@
+//! Documents, and the rows of their lists.
+ghost use Rattle.std.specs.Prelude.{◌≡◌, ◌≤◌, IfOk, length};
+ghost use Rattle.toml.specs.View.{table_view};
+ghost use Rattle.gic_base.specs.Refusals.{Answers};
+ghost use Rattle.gic_base.specs.Passes.{or_refuse, test};
+ghost use Rattle.gic_case_reader.specs.declared.refusal.CaseRefusal.TheVariants.{NotToml, Key, Memory};
+ghost use Rattle.gic_case_reader.specs.declared.refusal.Part.TheVariants as parts;
+ghost use Rattle.gic_case_reader.specs.Keys.{fits_document};
+ghost use Rattle.gic_case_reader.specs.Rules.{Written, document_of};
+ghost use Rattle.gic_case_reader.specs.Pass.{rows_of};
+
+use crate::field::Field;
+use crate::keys::fits_document;
+use crate::list::list_at;
+use crate::refusal::{CaseRefusal, Part};
+use crate::row::{BusRow, LineRow, TransformerRow};
+use crate::value::natural_at;
+use gic_base::limits::{MOST_BUSES, MOST_LINES, MOST_SUBSTATIONS, MOST_TRANSFORMERS, MOST_ZONES};
+use gic_case::Substation;
+use gic_scale::Zone;
+use std::alloc::Global;
+use std::marker::Model;
+use toml::Table;
+
+/// The document that bytes are.
+pub(crate) fn document_of(alloc: Global, bytes: &[u8]) -> Result<Table, CaseRefusal>
+    ensures { Answers Memory (λ t. table_view t) result (or_refuse (document_of bytes.now) NotToml) }
+{
+    match toml::table_from_slice(alloc, bytes) {
+        Ok(table) => Ok(table),
+        Err(e) => {
+            if e.is_memory() {
+                Err(CaseRefusal::Memory)
+            } else {
+                Err(CaseRefusal::NotToml)
+            }
+        }
+    }
+}
+
+/// Whether the document has the keys that it may and must have.
+fn document_keys(table: &Table) -> Result<(), CaseRefusal>
+    ensures { Answers Memory (λ u. u) result (test (fits_document (table_view table.now)) (Key parts.Case 0)) }
+{
+    if fits_document(table) {
+        Ok(())
+    } else {
+        Err(CaseRefusal::Key {
+            list: Part::Case,
+            row: 0,
+        })
+    }
+}
+
+/// The rows as they are written, with names in place of references.
+#[derive(Drop)]
+pub(crate) struct Rows {
+    pub(crate) zones: Vec<Zone>,
+    pub(crate) substations: Vec<Substation>,
+    pub(crate) buses: Vec<BusRow>,
+    pub(crate) lines: Vec<LineRow>,
+    pub(crate) transformers: Vec<TransformerRow>,
+}
+
+impl Model for Rows {
+    ghost use Rattle.std.specs.Prelude.{◌≤◌, length};
+    ghost use Rattle.gic_base.specs.declared.limits.TheConstants.{MOST_ZONES, MOST_SUBSTATIONS, MOST_BUSES, MOST_LINES, MOST_TRANSFORMERS};
+    ghost use Rattle.gic_case_reader.specs.Rules.{Written};
+
+    ghost Value = { Written };
+
+    ghost view = { λ r. record { zones = r.zones.items; substations = r.substations.items; buses = r.buses.items; lines = r.lines.items; transformers = r.transformers.items } };
+
+    ghost invariant = { λ r. (length r.zones.items ≤ MOST_ZONES) × (length r.substations.items ≤ MOST_SUBSTATIONS) × (length r.buses.items ≤ MOST_BUSES) × (length r.lines.items ≤ MOST_LINES) × (length r.transformers.items ≤ MOST_TRANSFORMERS) };
+}
+
+impl Rows {
+    /// The rows that a document has.
+    #[tactic(auto, unfolding(crate::specs::Pass::rows_of))]
+    pub(crate) fn read(alloc: Global, table: &Table) -> Result<Rows, CaseRefusal>
+        ensures { Answers Memory (λ r. r) result (rows_of (table_view table.now)) }
+    {
+        document_keys(table)?;
+        let devices = natural_at(Part::Case, 0, Field::Format, 1, 2, table)? == 2;
+        let zones = list_at(alloc, Part::Zone, MOST_ZONES, devices, table)?;
+        let substations = list_at(alloc, Part::Substation, MOST_SUBSTATIONS, devices, table)?;
+        let buses = list_at(alloc, Part::Bus, MOST_BUSES, devices, table)?;
+        let lines = list_at(alloc, Part::Line, MOST_LINES, devices, table)?;
+        let transformers = list_at(alloc, Part::Transformer, MOST_TRANSFORMERS, devices, table)?;
+        Ok(Rows {
+            zones,
+            substations,
+            buses,
+            lines,
+            transformers,
+        })
+    }
+}

@@ -1,0 +1,24 @@
+//! The reader of cases: from the bytes of a TOML document to the lists of a network that keeps all rules, or to the
+//! first rule that is broken.
+#![tactic(auto)]
+
+mod degree;
+mod document;
+mod ends;
+mod field;
+mod keys;
+pub mod laws;
+mod list;
+mod names;
+mod reading;
+mod reference;
+mod refusal;
+mod row;
+mod side;
+mod transformer;
+mod unique;
+mod value;
+
+pub use field::Field;
+pub use reading::read_case;
+pub use refusal::{CaseRefusal, Part};

@@ -1,0 +1,49 @@
+//! The case that bytes are.
+ghost use Rattle.toml.specs.View.{table_view};
+ghost use Rattle.gic_base.specs.Refusals.{Answers};
+ghost use Rattle.gic_case_reader.specs.declared.refusal.CaseRefusal.TheVariants.{Memory};
+ghost use Rattle.gic_case_reader.specs.Rules.{case_of};
+ghost use Rattle.gic_case_reader.specs.Pass.{case_in};
+
+use crate::degree::few_ends;
+use crate::document::{Rows, document_of};
+use crate::reference::resolve;
+use crate::refusal::CaseRefusal;
+use crate::side::{
+    lines_have_two_buses, stand_in_one_substation, transformers_have_two_buses,
+    voltages_are_ordered,
+};
+use crate::unique::unique;
+use gic_case::Case;
+use std::alloc::Global;
+use toml::Table;
+
+/// The case that a document is.
+#[tactic(auto, unfolding(crate::specs::Pass::case_in))]
+fn case_in(alloc: Global, table: &Table) -> Result<Case, CaseRefusal>
+    ensures { Answers Memory (λ c. c) result (case_in (table_view table.now)) }
+{
+    let rows = Rows::read(alloc, table)?;
+    unique(alloc, &rows)?;
+    let network = resolve(alloc, rows)?;
+    lines_have_two_buses(network.lines.as_slice())?;
+    let transformers = network.transformers.as_slice();
+    transformers_have_two_buses(transformers)?;
+    stand_in_one_substation(network.buses.as_slice(), transformers)?;
+    voltages_are_ordered(transformers)?;
+    few_ends(alloc, &network)?;
+    Ok(Case::of(network))
+}
+
+/// Reads a case: a TOML document with a `format` of 1 or 2 and the lists `zone`, `substation`, `bus`, `line` and
+/// `transformer`; neutral devices are of format 2 alone. It is accepted exactly where it breaks no rule, and its lists are
+/// then the document's, with places in place of names. The first broken rule answers otherwise: the form of the document
+/// and of each row, unique names, references to rows that are there, lines and transformers with two buses, transformers in
+/// one substation, low voltages not above the high ones, and at most 256 elements at a node. Want of memory may come in
+/// place of any answer.
+pub fn read_case(alloc: Global, bytes: &[u8]) -> Result<Case, CaseRefusal>
+    ensures { Answers Memory (λ c. c) result (case_of bytes.now) }
+{
+    let table = document_of(alloc, bytes)?;
+    case_in(alloc, &table)
+}

@@ -1,0 +1,233 @@
+//! Rows of transformers, whose fields are those of their kind.
+ghost use Rattle.std.specs.Prelude.{◌≡◌};
+ghost use Rattle.toml.specs.View.{view, table_view};
+ghost use Rattle.gic_base.specs.Refusals.{Answers};
+ghost use Rattle.gic_base.specs.Passes.{test};
+ghost use Rattle.gic_case_reader.specs.declared.refusal.CaseRefusal.TheVariants.{Key, Memory};
+ghost use Rattle.gic_case_reader.specs.declared.refusal.Part.TheVariants as parts;
+ghost use Rattle.gic_case_reader.specs.declared.field.Field.TheVariants as fields;
+ghost use Rattle.gic_case_reader.specs.Keys.{fits};
+ghost use Rattle.gic_case_reader.specs.Transformers.{kind_word, read_kind, fields_of, has_neutral, others_of};
+ghost use Rattle.gic_case_reader.specs.Pass.{required, table_with, delta_wye_row, wye_wye_row, auto_row, kind_row, transformer_row};
+
+use crate::field::Field;
+use crate::keys::{at_key, fits, has};
+use crate::refusal::{CaseRefusal, Part};
+use crate::row::{KindRow, TransformerRow};
+use crate::value::{name_at, ohm_at, optional_neutral_at, volts_at};
+use toml::{Table, Value};
+
+/// The list of these rows.
+const LIST: Part = Part::Transformer;
+
+/// The kind of a transformer, as its word tells it.
+#[derive(Clone, Copy)]
+pub(crate) enum KindWord {
+    DeltaWye,
+    WyeWye,
+    Auto,
+    DeltaDelta,
+}
+
+impl KindWord {
+    /// The kind that a word tells.
+    #[tactic(auto, unfolding(crate::specs::Transformers::kind_word))]
+    fn read(text: &str) -> Option<KindWord>
+        ensures { result ≡ kind_word text.now }
+    {
+        match text {
+            "delta-wye" => Some(KindWord::DeltaWye),
+            "wye-wye" => Some(KindWord::WyeWye),
+            "auto" => Some(KindWord::Auto),
+            "delta-delta" => Some(KindWord::DeltaDelta),
+            _ => None,
+        }
+    }
+
+    /// The fields that a transformer of the kind must have.
+    fn fields(self) -> &'static [Field]
+        ensures { result.now ≡ fields_of self }
+    {
+        match self {
+            KindWord::DeltaWye => &[
+                Field::Kind,
+                Field::Name,
+                Field::HighVolts,
+                Field::High,
+                Field::HighResistance,
+            ],
+            KindWord::WyeWye => &[
+                Field::Kind,
+                Field::Name,
+                Field::HighVolts,
+                Field::High,
+                Field::Low,
+                Field::LowVolts,
+                Field::HighResistance,
+                Field::LowResistance,
+            ],
+            KindWord::Auto => &[
+                Field::Kind,
+                Field::Name,
+                Field::HighVolts,
+                Field::High,
+                Field::Low,
+                Field::LowVolts,
+                Field::SeriesResistance,
+                Field::CommonResistance,
+            ],
+            KindWord::DeltaDelta => &[Field::Kind, Field::Name, Field::HighVolts],
+        }
+    }
+
+    /// Whether a unit of the kind has a neutral.
+    fn has_neutral(self) -> bool
+        ensures { result ≡ has_neutral self }
+    {
+        !matches!(self, KindWord::DeltaDelta)
+    }
+
+    /// The fields that it may have: its neutral device, where the case's format has such devices.
+    fn others(self, devices: bool) -> &'static [Field]
+        ensures { result.now ≡ others_of devices self }
+    {
+        if self.has_neutral() && devices {
+            &[Field::Neutral]
+        } else {
+            &[]
+        }
+    }
+}
+
+/// The table that a row is, if it has a kind.
+#[tactic(auto, unfolding(crate::specs::Pass::table_with))]
+fn kinded_table(row: u32, value: &Value) -> Result<&Table, CaseRefusal>
+    ensures { Answers Memory (λ t. table_view t.now) result (table_with parts.Transformer fields.Kind row (view value.now)) }
+{
+    match value.as_table() {
+        Some(table) if has(table, Field::Kind) => Ok(table),
+        _ => Err(CaseRefusal::Key { list: LIST, row }),
+    }
+}
+
+/// The kind that a value is, where it is the word of one.
+fn read_kind(value: &Value) -> Option<KindWord>
+    ensures { result ≡ read_kind (view value.now) }
+{
+    KindWord::read(value.as_str()?)
+}
+
+/// The kind of a row.
+#[tactic(auto, unfolding(crate::specs::Pass::required))]
+fn kind_at(row: u32, table: &Table) -> Result<KindWord, CaseRefusal>
+    ensures { Answers Memory (λ k. k) result (required read_kind parts.Transformer row fields.Kind (table_view table.now)) }
+{
+    let refusal = CaseRefusal::Value {
+        list: LIST,
+        row,
+        field: Field::Kind,
+    };
+    match at_key(table, Field::Kind.key()) {
+        Some(value) => read_kind(value).ok_or(refusal),
+        None => Err(refusal),
+    }
+}
+
+/// Whether a row has the keys of its kind.
+fn kind_keys(devices: bool, kind: KindWord, row: u32, table: &Table) -> Result<(), CaseRefusal>
+    ensures { Answers Memory (λ u. u) result (test (fits (fields_of kind) (others_of devices kind) (table_view table.now)) (Key parts.Transformer row)) }
+{
+    if fits(kind.fields(), kind.others(devices), table) {
+        Ok(())
+    } else {
+        Err(CaseRefusal::Key { list: LIST, row })
+    }
+}
+
+/// What a delta-wye unit has of its own.
+#[tactic(auto, unfolding(crate::specs::Pass::delta_wye_row))]
+fn delta_wye_row(row: u32, table: &Table) -> Result<KindRow, CaseRefusal>
+    ensures { Answers Memory (λ k. k) result (delta_wye_row row (table_view table.now)) }
+{
+    let high = name_at(LIST, row, Field::High, table)?;
+    let high_resistance = ohm_at(LIST, row, Field::HighResistance, table)?;
+    Ok(KindRow::DeltaWye {
+        high,
+        high_resistance,
+    })
+}
+
+/// What a wye-wye unit has of its own.
+#[tactic(auto, unfolding(crate::specs::Pass::wye_wye_row))]
+fn wye_wye_row(row: u32, table: &Table) -> Result<KindRow, CaseRefusal>
+    ensures { Answers Memory (λ k. k) result (wye_wye_row row (table_view table.now)) }
+{
+    let high = name_at(LIST, row, Field::High, table)?;
+    let low = name_at(LIST, row, Field::Low, table)?;
+    let low_volts = volts_at(LIST, row, Field::LowVolts, table)?;
+    let high_resistance = ohm_at(LIST, row, Field::HighResistance, table)?;
+    let low_resistance = ohm_at(LIST, row, Field::LowResistance, table)?;
+    Ok(KindRow::WyeWye {
+        high,
+        low,
+        low_volts,
+        high_resistance,
+        low_resistance,
+    })
+}
+
+/// What an autotransformer has of its own.
+#[tactic(auto, unfolding(crate::specs::Pass::auto_row))]
+fn auto_row(row: u32, table: &Table) -> Result<KindRow, CaseRefusal>
+    ensures { Answers Memory (λ k. k) result (auto_row row (table_view table.now)) }
+{
+    let high = name_at(LIST, row, Field::High, table)?;
+    let low = name_at(LIST, row, Field::Low, table)?;
+    let low_volts = volts_at(LIST, row, Field::LowVolts, table)?;
+    let series_resistance = ohm_at(LIST, row, Field::SeriesResistance, table)?;
+    let common_resistance = ohm_at(LIST, row, Field::CommonResistance, table)?;
+    Ok(KindRow::Auto {
+        high,
+        low,
+        low_volts,
+        series_resistance,
+        common_resistance,
+    })
+}
+
+/// What a transformer of a kind has of its own.
+#[tactic(auto, unfolding(crate::specs::Pass::kind_row))]
+fn kind_row(kind: KindWord, row: u32, table: &Table) -> Result<KindRow, CaseRefusal>
+    ensures { Answers Memory (λ k. k) result (kind_row kind row (table_view table.now)) }
+{
+    match kind {
+        KindWord::DeltaWye => delta_wye_row(row, table),
+        KindWord::WyeWye => wye_wye_row(row, table),
+        KindWord::Auto => auto_row(row, table),
+        KindWord::DeltaDelta => Ok(KindRow::DeltaDelta),
+    }
+}
+
+/// A row of the transformers, of a case whose format has neutral devices or hasn't.
+#[tactic(auto, unfolding(crate::specs::Pass::transformer_row))]
+pub(crate) fn transformer_row(
+    devices: bool,
+    row: u32,
+    value: &Value,
+) -> Result<TransformerRow, CaseRefusal>
+    ensures { Answers Memory (λ t. t) result (transformer_row devices row (view value.now)) }
+{
+    let table = kinded_table(row, value)?;
+    let word = kind_at(row, table)?;
+    kind_keys(devices, word, row, table)?;
+    let name = name_at(LIST, row, Field::Name, table)?;
+    let high_volts = volts_at(LIST, row, Field::HighVolts, table)?;
+    let kind = kind_row(word, row, table)?;
+    let neutral = optional_neutral_at(LIST, row, Field::Neutral, table)?;
+    Ok(TransformerRow {
+        name,
+        high_volts,
+        kind,
+        neutral,
+    })
+}
