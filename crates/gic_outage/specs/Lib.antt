@@ -1,5 +1,4 @@
 pub mod Plan
 pub mod Removing
 pub mod NetWithout
-pub mod State
 pub mod Laws
