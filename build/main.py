@@ -38,16 +38,25 @@ def record_of(top: Path) -> Path:
     return out_of(top, PROGRAM) / f"{PROGRAM}.sources"
 
 
-def difference(top: Path, sources: Sources) -> str | None:
-    """What differs from what the program was built of: a path, or None where all is the same."""
+def places_of(top: Path) -> Path:
+    return out_of(top, PROGRAM) / f"{PROGRAM}.places"
+
+
+def reason(top: Path, sources: Sources) -> str | None:
+    """Why the program has to be built, or None where it was built of these sources."""
     program, record = program_of(top), record_of(top)
-    if not os.access(program, os.X_OK) or not record.is_file():
-        return str(program.relative_to(top))
-    return first_difference(record.read_text(encoding="utf-8"), sources.record(program.read_bytes()))
+    if not os.access(program, os.X_OK):
+        return "the program isn't built yet"
+    if not record.is_file():
+        return "nothing tells of which sources the program was built"
+    differs = first_difference(record.read_text(encoding="utf-8"), sources.record(program.read_bytes()))
+    return None if differs is None else f"{differs} isn't as it was when the program was built"
 
 
-def date(top: Path, sources: Sources) -> None:
-    """Gives the record, and the program beside it, the time at which the sources were read."""
+def keep(top: Path, sources: Sources) -> None:
+    """Keeps beside the program what the script looks at: the places of its sources, and when they were read, which is the
+    time that the record and the program get."""
+    places_of(top).write_bytes(b"".join(it.encode() + b"\0" for it in sources.places(top)))
     for it in (program_of(top), record_of(top)):
         os.utime(it, (sources.read_at, sources.read_at))
 
@@ -80,19 +89,16 @@ def locked(folder: Path, teller: Teller, why: str) -> Iterator[bool]:
         os.close(held)
 
 
-def found_rt(top: Path, differs: str) -> str:
+def found_rt(top: Path, why: str) -> str:
     rt = shutil.which("rt")
-    if rt is not None:
-        return rt
-    if os.access(program_of(top), os.X_OK):
+    if rt is None:
+        program = program_of(top)
+        other = f", or run the program as it is, {program}" if os.access(program, os.X_OK) else ""
         raise Fault(
-            f"{differs} isn't what the program was built of, and the command rt, which builds it, isn't on the path: "
-            f"put the toolchain's folder bin on the path, or run {program_of(top)}, the program as it was built"
+            f"{why}, and the command rt, which builds it, isn't on the path: "
+            f"put the folder bin of the Rattle toolchain on the path{other}"
         )
-    raise Fault(
-        "the program isn't built yet, and the command rt, which builds it, isn't on the path: "
-        "put the toolchain's folder bin on the path (README, Two commands)"
-    )
+    return rt
 
 
 def make_folders(top: Path, sources: Sources) -> None:
@@ -107,18 +113,18 @@ def make_folders(top: Path, sources: Sources) -> None:
         raise Fault(f"the program has to be built, and {top} can't be written: {error.strerror}") from error
 
 
-def build(top: Path, teller: Teller, differs: str, sources: Sources) -> None:
+def build(top: Path, teller: Teller, why: str, sources: Sources) -> None:
     """Builds the program, unless another call has built it meanwhile."""
-    rt = found_rt(top, differs)
+    rt = found_rt(top, why)
     make_folders(top, sources)
     with ExitStack() as held:
         has_waited = held.enter_context(locked(top / "crates", teller, "waits for another build of this checkout to end"))
         for crate in sources.crates:
-            why = f"waits for rt, which works in crates/{crate.name}, to end"
-            held.enter_context(locked(top / "crates" / crate.name, teller, why))
+            waits = f"waits for rt, which works in crates/{crate.name}, to end"
+            held.enter_context(locked(top / "crates" / crate.name, teller, waits))
         sources = read_sources(top)
-        if has_waited and difference(top, sources) is None:
-            date(top, sources)
+        if has_waited and reason(top, sources) is None:
+            keep(top, sources)
             return
         teller.say("builds the program; what isn't proved yet is proved first")
         clear_rooms(top)
@@ -129,7 +135,7 @@ def build(top: Path, teller: Teller, differs: str, sources: Sources) -> None:
         builder = builder_for(top, rt, toolchain_of(rt), sources, teller)
         builder.build()
         record_of(top).write_text(sources.record(program_of(top).read_bytes()), encoding="utf-8")
-        date(top, sources)
+        keep(top, sources)
         teller.say(f"the program is built, {teller.minutes()}")
 
 
@@ -157,12 +163,12 @@ def main(words: list[str]) -> int:
     stop_on_signals()
     try:
         sources = read_sources(top)
-        differs = difference(top, sources)
-        if differs is None:
+        why = reason(top, sources)
+        if why is None:
             with suppress(OSError):
-                date(top, sources)
+                keep(top, sources)
         else:
-            build(top, teller, differs, sources)
+            build(top, teller, why, sources)
         become(program_of(top), words)
     except Fault as fault:
         teller.say(str(fault))

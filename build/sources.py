@@ -24,6 +24,11 @@ def files_of(place: Path) -> list[Path]:
     return [place] if place.is_file() else sorted(walked)
 
 
+def folders_of(place: Path) -> list[Path]:
+    """The folder and those below it."""
+    return sorted(Path(at) for at, _, _ in os.walk(place))
+
+
 @dataclass(frozen=True)
 class Sources:
     """The program's crates, the lowest first, and the contents of their files, as they were read at one time."""
@@ -55,6 +60,16 @@ class Sources:
             lines += [f"{sum_of(content)}  {path}" for path, content in self.of(crate.name).items()]
         lines.append(f"{sum_of(program)}  crates/{PROGRAM}/out/{PROGRAM}")
         return "".join(f"{line}\n" for line in lines)
+
+    def places(self, top: Path) -> list[str]:
+        """Each file that a change of the sources changes, and each folder: that of a file that is added or taken away."""
+        found = [LIST]
+        for crate in self.crates:
+            folder = top / "crates" / crate.name
+            parts = [it for part in PARTS for it in folders_of(folder / part)]
+            found += [str(it.relative_to(top)) for it in (folder, *parts)]
+            found += self.of(crate.name)
+        return found
 
 
 def read_sources(top: Path) -> Sources:
