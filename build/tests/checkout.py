@@ -1,0 +1,106 @@
+"""A small checkout with the script, the build and a toolchain that only looks like one."""
+
+import os
+import shutil
+import subprocess
+import tempfile
+import time
+from pathlib import Path
+
+TOP = Path(__file__).resolve().parent.parent.parent
+CRATES = {"low": "", "left": "low", "right": "low", "high": "left right", "other": "", "gicstudy": "high"}
+
+
+class Checkout:
+    """A repository of a few crates in a folder of its own."""
+
+    def __init__(self) -> None:
+        self.top = Path(tempfile.mkdtemp(prefix="gicstudy-test-"))
+        shutil.copy2(TOP / "gicstudy", self.top / "gicstudy")
+        shutil.copytree(TOP / "build", self.top / "build", ignore=shutil.ignore_patterns("tests", "__pycache__"))
+        for name, below in CRATES.items():
+            self.write(name, name)
+        lines = [f"{name}: {below}".strip() for name, below in CRATES.items()]
+        (self.top / "crates.txt").write_text("\n".join(["# crates", *lines, ""]), encoding="utf-8")
+        self.bin = self.top / "bin"
+        self.bin.mkdir()
+        shutil.copy2(TOP / "build/tests/fake_rt.py", self.bin / "rt")
+        self.log = self.top / "rt.log"
+        self.log.write_text("", encoding="utf-8")
+
+    def remove(self) -> None:
+        shutil.rmtree(self.top, ignore_errors=True)
+
+    def source(self, name: str) -> Path:
+        return self.top / "crates" / name / "src" / ("main.rt" if name == "gicstudy" else "lib.rt")
+
+    def write(self, name: str, text: str) -> None:
+        self.source(name).parent.mkdir(parents=True, exist_ok=True)
+        self.source(name).write_text(f"{text}\n", encoding="utf-8")
+
+    def environment(self, has_rt: bool = True) -> dict[str, str]:
+        path = "/usr/bin:/bin"
+        python = shutil.which("python3")
+        if python is not None:
+            path = f"{Path(python).parent}:{path}"
+        path = f"{self.bin}:{path}" if has_rt else path
+        return {"PATH": path, "FAKE_RT_LOG": str(self.log)}
+
+    def start(self, *words: str, has_rt: bool = True) -> subprocess.Popen[str]:
+        return subprocess.Popen(
+            [self.top / "gicstudy", *words],
+            cwd="/",
+            env=self.environment(has_rt),
+            stdin=subprocess.DEVNULL,
+            stdout=subprocess.PIPE,
+            stderr=subprocess.PIPE,
+            text=True,
+        )
+
+    def call(self, *words: str, has_rt: bool = True) -> tuple[int, str, str]:
+        """Status, output and what was said of a call that was waited for."""
+        started = self.start(*words, has_rt=has_rt)
+        out, said = started.communicate(timeout=60)
+        return started.returncode, out, said
+
+    def noted(self, verb: str = "begin") -> list[str]:
+        """The crates at which `rt` was called since the last look, or has ended, in their order."""
+        lines = [it.split() for it in self.log.read_text(encoding="utf-8").splitlines()]
+        return [it[1] for it in lines if it[0] == verb]
+
+    def forget(self) -> None:
+        self.log.write_text("", encoding="utf-8")
+
+    def wait_for(self, name: str) -> None:
+        """Waits until `rt` is called for a crate."""
+        for _ in range(200):
+            if name in self.noted():
+                return
+            time.sleep(0.05)
+        raise AssertionError(f"rt wasn't called for {name}")
+
+    def settle(self) -> None:
+        """Lets the second pass in which a file counts as changed, whichever came first, and has the record dated."""
+        time.sleep(1.1)
+        self.call()
+        self.forget()
+
+    def left(self) -> list[str]:
+        """What lies in the folders out/."""
+        found = [it for it in self.top.glob("crates/*/out/*")]
+        return sorted(str(it.relative_to(self.top / "crates")) for it in found)
+
+    def is_looked_at(self) -> bool:
+        """Whether the next call looks at the contents of the sources: there is no Python then."""
+        ran = subprocess.run(
+            [self.top / "gicstudy"], cwd="/", env={"PATH": self.path_without_python()}, capture_output=True, text=True
+        )
+        return "python3" in ran.stderr
+
+    def path_without_python(self) -> str:
+        tools = self.top / "tools"
+        if not tools.is_dir():
+            tools.mkdir()
+            for it in ("bash", "sh", "find", "readlink", "env"):
+                os.symlink(shutil.which(it) or f"/bin/{it}", tools / it)
+        return str(tools)

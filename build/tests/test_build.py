@@ -1,0 +1,194 @@
+"""Whole builds of a small checkout with a toolchain that only looks like one."""
+
+import os
+import signal
+import sys
+import time
+import unittest
+from pathlib import Path
+
+sys.path.insert(0, str(Path(__file__).resolve().parent))
+
+from checkout import Checkout
+
+PROVED = ["low", "left", "right", "high", "gicstudy"]
+
+
+class Builds(unittest.TestCase):
+    def setUp(self) -> None:
+        self.at = Checkout()
+        self.addCleanup(self.at.remove)
+
+    def build(self) -> None:
+        status, _, said = self.at.call()
+        self.assertEqual(status, 0, said)
+        self.at.settle()
+
+    def test_first_build_proves_each_crate_below_once_and_runs_the_program(self) -> None:
+        status, out, said = self.at.call("field", "--case=a b")
+        self.assertEqual((status, out), (0, "gicstudy: field --case=a b\n"), said)
+        noted = self.at.noted()
+        self.assertEqual(sorted(noted), sorted(PROVED))
+        self.assertEqual((noted[0], noted[-2:]), ("low", ["high", "gicstudy"]))
+        self.assertIn("gicstudy: 0 of 5 crates proved", said)
+
+    def test_nothing_is_left_behind(self) -> None:
+        self.build()
+        kept = [f"{name}/out/{it}" for name in PROVED[:-1] for it in ("incremental", "rlib")]
+        names = ("build.times", "gicstudy", "gicstudy.places", "gicstudy.sources", "incremental")
+        self.assertEqual(self.at.left(), sorted([*kept, *(f"gicstudy/out/{it}" for it in names)]))
+        self.assertEqual(list(self.at.top.glob("build/**/__pycache__")), [])
+
+    def test_a_built_program_starts_without_python(self) -> None:
+        self.build()
+        self.assertFalse(self.at.is_looked_at())
+
+    def test_a_saved_source_has_its_crate_and_those_above_built(self) -> None:
+        self.build()
+        self.at.write("right", "right again")
+        self.assertEqual(self.at.call()[0], 0)
+        self.assertEqual(self.at.noted(), ["right", "high", "gicstudy"])
+
+    def test_a_source_of_another_crate_changes_nothing(self) -> None:
+        self.build()
+        self.at.write("other", "other again")
+        self.assertEqual(self.at.call(has_rt=False)[0], 0)
+
+    def test_an_added_source_and_one_taken_away_are_seen(self) -> None:
+        self.build()
+        more = self.at.source("left").with_name("more.rt")
+        for change in (lambda: more.write_text("more\n", encoding="utf-8"), more.unlink):
+            change()
+            self.assertTrue(self.at.is_looked_at())
+            self.assertEqual(self.at.call()[0], 0)
+            self.assertEqual(self.at.noted(), ["left", "high", "gicstudy"])
+            self.at.settle()
+
+    def test_a_new_folder_of_sources_is_seen(self) -> None:
+        self.build()
+        folder = self.at.top / "crates/low/proofs"
+        folder.mkdir()
+        (folder / "Lib.antt").write_text("lemma\n", encoding="utf-8")
+        self.assertTrue(self.at.is_looked_at())
+        self.assertEqual(self.at.call()[0], 0)
+        self.assertEqual(sorted(self.at.noted()), sorted(PROVED))
+
+    def test_a_source_saved_with_an_old_time_is_seen(self) -> None:
+        self.build()
+        self.at.write("low", "low again")
+        os.utime(self.at.source("low"), (1, 1))
+        self.assertEqual(self.at.call()[0], 0)
+        self.assertEqual(sorted(self.at.noted()), sorted(PROVED))
+
+    def test_newer_times_alone_need_no_toolchain(self) -> None:
+        self.build()
+        for name in PROVED:
+            os.utime(self.at.source(name))
+        self.assertTrue(self.at.is_looked_at())
+        time.sleep(1.1)
+        self.assertEqual(self.at.call(has_rt=False)[0], 0)
+        self.assertFalse(self.at.is_looked_at())
+
+    def test_without_the_toolchain_it_says_how_to_go_on(self) -> None:
+        status, _, said = self.at.call(has_rt=False)
+        self.assertEqual(status, 1)
+        self.assertRegex(said, r"\Agicstudy: the program isn't built yet, .*rt.* isn't on the path: put .*\n\Z")
+        self.build()
+        self.at.write("low", "low again")
+        status, _, said = self.at.call(has_rt=False)
+        self.assertEqual(status, 1)
+        self.assertRegex(said, r"\Agicstudy: crates/low/src/lib.rt isn't as it was .*or run the program as it is, .*\n\Z")
+
+    def test_a_source_saved_while_it_builds_is_built_by_the_next_call(self) -> None:
+        self.at.write("high", "high SLOW")
+        started = self.at.start()
+        self.at.wait_for("high")
+        self.at.write("left", "left again")
+        self.assertEqual(started.communicate(timeout=60)[0], "gicstudy: \n")
+        self.at.forget()
+        self.assertEqual(self.at.call()[0], 0)
+        self.assertEqual(self.at.noted(), ["left", "high", "gicstudy"])
+
+    def test_a_program_that_others_put_there_is_built_again(self) -> None:
+        self.build()
+        program = self.at.top / "crates/gicstudy/out/gicstudy"
+        program.write_text("#!/bin/sh\necho other\n", encoding="utf-8")
+        self.assertEqual(self.at.call()[1], "gicstudy: \n")
+
+    def test_a_crate_that_fails_is_named_with_its_log(self) -> None:
+        self.at.write("left", "left FAILS")
+        self.at.write("right", "right SLOW")
+        status, _, said = self.at.call()
+        self.assertEqual(status, 1)
+        log = self.at.top / "crates/left/out/build.log"
+        self.assertIn(f"gicstudy: left isn't proved; the last lines of {log}:\n", said)
+        self.assertIn("gicstudy: | src/lib.rt:1:1: error: it isn't proved\n", said)
+        self.assertEqual(said.splitlines()[-1], f"gicstudy: the build failed; its log is {log}")
+        self.assertIn("error", log.read_text(encoding="utf-8"))
+        self.assertEqual(self.at.noted("end"), ["low", "right"])
+        self.at.write("left", "left")
+        self.at.forget()
+        self.assertEqual(self.at.call()[0], 0)
+        self.assertEqual(self.at.noted(), ["left", "high", "gicstudy"])
+
+    def test_a_killed_proof_is_tried_once_more_alone(self) -> None:
+        self.at.write("high", "high KILLED")
+        status, _, said = self.at.call()
+        if "was killed" in said:
+            self.assertEqual(self.at.noted(), [*sorted(PROVED[:3], key=self.at.noted().index), "high", "high", "gicstudy"])
+        self.assertEqual(status, 0, said)
+
+    def test_stopped_it_ends_its_runs_and_the_next_call_goes_on(self) -> None:
+        self.at.write("high", "high SLOW")
+        for number in (signal.SIGTERM, signal.SIGINT, signal.SIGHUP):
+            started = self.at.start()
+            self.at.wait_for("high")
+            started.send_signal(number)
+            said = started.communicate(timeout=2)[1]
+            self.assertEqual(started.returncode, -number)
+            self.assertIn("gicstudy: stopped; the next call goes on from here\n", said)
+            self.assertNotIn("gicstudy/out/rooms", self.at.left())
+            self.assertIn("high/out/incremental", self.at.left())
+            self.at.forget()
+        self.assertEqual(self.at.call()[0], 0)
+        self.assertEqual(self.at.noted(), ["high", "gicstudy"])
+
+    def test_what_a_killed_build_left_is_taken_up_and_removed(self) -> None:
+        self.at.write("high", "high SLOW")
+        started = self.at.start()
+        self.at.wait_for("high")
+        started.kill()
+        started.communicate(timeout=10)
+        self.assertIn("gicstudy/out/rooms", self.at.left())
+        self.at.forget()
+        self.assertEqual(self.at.call()[0], 0)
+        self.assertEqual(self.at.noted(), ["high", "gicstudy"])
+        self.assertNotIn("gicstudy/out/rooms", self.at.left())
+
+    def test_a_second_call_waits_for_the_first(self) -> None:
+        self.at.write("high", "high SLOW")
+        first = self.at.start("first")
+        self.at.wait_for("high")
+        status, out, said = self.at.call("second")
+        self.assertEqual((status, out), (0, "gicstudy: second\n"))
+        self.assertEqual(said, "gicstudy: waits for another build of this checkout to end\n")
+        self.assertEqual(first.communicate(timeout=60)[0], "gicstudy: first\n")
+        self.assertEqual(sorted(self.at.noted()), sorted(PROVED))
+
+    def test_messages_that_nobody_reads_end_nothing(self) -> None:
+        started = self.at.start()
+        assert started.stderr is not None and started.stdout is not None
+        started.stderr.close()
+        self.assertEqual(started.stdout.read(), "gicstudy: \n")
+        self.assertEqual(started.wait(60), 0)
+        started.stdout.close()
+
+    def test_a_checkout_that_cannot_be_written_is_told(self) -> None:
+        (self.at.top / "crates/low/out").write_text("", encoding="utf-8")
+        status, _, said = self.at.call()
+        self.assertEqual(status, 1)
+        self.assertIn(f"gicstudy: the program has to be built, and {self.at.top} can't be written: ", said)
+
+
+if __name__ == "__main__":
+    unittest.main()
