@@ -1,35 +1,77 @@
 //! The files of the system.
-ghost use Rattle.std.specs.Prelude.{◌≡◌, ◌<◌, ◌≤◌, [], length, None, OnOk, IsErrOf};
+ghost use Rattle.std.specs.Prelude.{◌≡◌, ℕ, ◌<◌, ◌≤◌, List, [], length, map, string_bytes, None, Some, IfSome, IsSomeAnd, IfOk, OnOk, IsErrOf};
+ghost use Rattle.std.specs.declared.option.Option.{Option};
+ghost use Rattle.std.specs.FinMap.{get};
+ghost use Rattle.std.specs.Io.{StartsWith};
+ghost use Rattle.gic_base.specs.Files.{Files};
 
 use crate::tries::read_some;
 use gic_base::{FetchRefusal, Library, failed_fetch};
-use std::fs;
+use std::alloc::Global;
+use std::fs::File;
 use std::io::Read;
-use std::marker::Model;
+use std::{fs, io};
 
-/// The files of the system, which tell nothing of what they hold. It keeps the names whose fetch failed, and is seen as
-/// these; where no memory is found for one, the answer is want of memory.
+/// Where files are opened by name.
+pub trait Opener {
+    /// What an opened file is read through.
+    type File: Read + Drop;
+
+    /// The files, where the opener tells of them.
+    ghost content: { Self → Option Files };
+
+    /// Opens the file of this name at its beginning. The content stays.
+    fn open(&mut self, name: &str) -> io::Result<Self::File>
+        ensures content { content self.new ≡ content self.old }
+        // What is opened is there, and is read whole.
+        ensures bytes { IfOk result (λ file. IfSome (content self.old) (λ files.
+            IsSomeAnd (get files name.now) (λ bytes. Self.File.Read.remaining file ≡ Some bytes))) };
+}
+
+/// The files of the system, which tell nothing of what they hold.
 #[derive(Drop)]
-pub struct FileLibrary {
+pub struct SystemFiles {
     rt: HostRuntime,
+}
+
+impl SystemFiles {
+    /// The files that a program with this handle reaches.
+    pub fn new(rt: HostRuntime) -> SystemFiles {
+        SystemFiles { rt }
+    }
+}
+
+impl Opener for SystemFiles {
+    type File = File;
+
+    ghost content = { λ _. None };
+
+    fn open(&mut self, name: &str) -> io::Result<File> {
+        fs::open(&self.rt, name)
+    }
+}
+
+/// The files that an opener opens. It keeps the names whose fetch failed; where no memory is found for one, the answer is
+/// want of memory.
+#[derive(Drop)]
+pub struct FileLibrary<O> {
+    alloc: Global,
+    opener: O,
     failures: Vec<String>,
 }
 
-impl Model for FileLibrary {
-    ghost use Rattle.std.specs.Prelude.{ℕ, List, map, string_bytes};
-
-    ghost Value = { List (List ℕ) };
-
-    ghost view = { λ s. map string_bytes s.failures.items };
-}
-
-impl FileLibrary {
-    /// A library without failures. Takes no memory.
-    pub fn new(rt: HostRuntime) -> FileLibrary
-        ensures { result ≡ [] }
+impl<O: Opener> FileLibrary<O> {
+    /// A library without failures. Takes no memory; the handle is kept for later growth.
+    pub fn new(alloc: Global, opener: O) -> FileLibrary<O>
+        ensures opener { result.opener ≡ opener }
+        ensures failures { result.failures.items ≡ [] }
     {
-        let failures = Vec::new(rt.alloc());
-        FileLibrary { rt, failures }
+        let failures = Vec::new(alloc);
+        FileLibrary {
+            alloc,
+            opener,
+            failures,
+        }
     }
 }
 
@@ -41,7 +83,10 @@ fn read_to_end<R: Read>(
 ) -> Result<(), FetchRefusal>
     requires { into.old.items ≡ [] }
     ensures limit { OnOk result (length into.new.items ≤ limit) }
+    ensures whole { OnOk result (IfSome (R.remaining reader.old) (λ bytes. bytes ≡ into.new.items)) }
     ensures too_long { IsErrOf result FetchRefusal.TooLong → limit < length into.new.items }
+    ensures front { IsErrOf result FetchRefusal.TooLong → IfSome (R.remaining reader.old) (λ bytes.
+        StartsWith bytes into.new.items) }
 {
     let mut buffer = [0u8; 4096];
     for _ in 0..u64::MAX {
@@ -61,18 +106,17 @@ fn read_to_end<R: Read>(
     Err(FetchRefusal::Failed)
 }
 
-impl Library for FileLibrary {
-    ghost content = { λ _. None };
+impl<O: Opener> Library for FileLibrary<O> {
+    ghost content = { λ s. O.content s.opener };
 
-    ghost failures = { λ s. s };
+    ghost failures = { λ s. map string_bytes s.failures.items };
 
     fn fetch(&mut self, name: &str, limit: usize, into: &mut Vec<u8>) -> Result<(), FetchRefusal> {
-        let alloc = self.rt.alloc();
-        let Ok(mut file) = fs::open(&self.rt, name) else {
-            return Err(failed_fetch(alloc, &mut self.failures, name));
+        let Ok(mut file) = self.opener.open(name) else {
+            return Err(failed_fetch(self.alloc, &mut self.failures, name));
         };
         match read_to_end(&mut file, limit, into) {
-            Err(FetchRefusal::Failed) => Err(failed_fetch(alloc, &mut self.failures, name)),
+            Err(FetchRefusal::Failed) => Err(failed_fetch(self.alloc, &mut self.failures, name)),
             answer => answer,
         }
     }
@@ -92,7 +136,7 @@ mod tests {
             kept.push((number % 251) as u8)?;
         }
         fs::write(&rt, "fetched", kept.as_slice())?;
-        let mut library = FileLibrary::new(rt);
+        let mut library = FileLibrary::new(alloc, SystemFiles::new(rt));
         let mut whole = Vec::new(alloc);
         let mut front = Vec::new(alloc);
         let mut none = Vec::new(alloc);

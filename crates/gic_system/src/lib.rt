@@ -5,6 +5,6 @@ mod files;
 mod streams;
 mod tries;
 
-pub use files::FileLibrary;
+pub use files::{FileLibrary, Opener, SystemFiles};
 pub use streams::StreamSink;
 pub use tries::{MOST_TRIES, read_some, write_some};

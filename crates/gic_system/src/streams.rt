@@ -1,40 +1,41 @@
 //! The streams of the system.
-ghost use Rattle.std.specs.Prelude.{◌≡◌, None};
+ghost use Rattle.std.specs.Prelude.{◌≡◌};
 
 use crate::tries::write_some;
 use gic_base::{Sink, WriteFailed};
 use std::io::Write;
-use std::marker::Model;
 
-/// A stream of the system, such as the standard output, which tells nothing. It counts its faults, and is seen as their
-/// number; a stream that takes nothing of a piece that isn't empty counts as failed.
+/// A stream, such as the standard output of the system. It tells of its bytes what the stream tells: that of the system
+/// tells nothing, and one that is kept in memory tells all. It counts its faults; a stream that takes nothing of a piece
+/// that isn't empty counts as failed.
 #[derive(Drop)]
 pub struct StreamSink<W> {
     stream: W,
     faults: u64,
 }
 
-impl<W> Model for StreamSink<W> {
-    ghost use Rattle.std.specs.Prelude.{ℕ};
-
-    ghost Value = { ℕ };
-
-    ghost view = { λ s. s.faults };
-}
-
 impl<W: Write> StreamSink<W> {
     /// A sink without faults. Takes no memory.
     pub fn new(stream: W) -> StreamSink<W>
-        ensures { result ≡ 0 }
+        ensures stream { result.stream ≡ stream }
+        ensures faults { result.faults ≡ 0 }
     {
         StreamSink { stream, faults: 0 }
+    }
+
+    /// The stream, with what was written to it.
+    pub fn into_stream(self) -> W
+        ensures { result ≡ self.stream }
+    {
+        let StreamSink { stream, faults: _ } = self;
+        stream
     }
 }
 
 impl<W: Write> Sink for StreamSink<W> {
-    ghost written = { λ _. None };
+    ghost written = { λ s. W.contents s.stream };
 
-    ghost faults = { λ s. s };
+    ghost faults = { λ s. s.faults };
 
     fn write(&mut self, piece: &[u8]) -> Result<usize, WriteFailed> {
         if piece.is_empty() {
