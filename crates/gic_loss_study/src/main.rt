@@ -8,7 +8,7 @@ use gic_base::Name;
 use gic_loss::{NamedFactor, TableLoss, VoltLoss};
 use gic_monitor::{DwellMonitor, EarthMonitor, Monitor};
 use gic_study::gicstudy;
-use gic_system::{FileLibrary, StreamSink};
+use gic_system::{FileLibrary, StreamSink, SystemFiles};
 use std::alloc::Global;
 use std::io::ErrorKind;
 use std::process::ExitCode;
@@ -67,7 +67,7 @@ fn study(rt: HostRuntime) -> io::Result<u8> {
     monitors.truncate(count);
     let mut out = StreamSink::new(rt.stdout());
     let mut err = StreamSink::new(rt.stderr());
-    let mut library = FileLibrary::new(rt);
+    let mut library = FileLibrary::new(alloc, SystemFiles::new(rt));
     Ok(gicstudy(alloc, words, &mut library, &mut out, &mut err, monitors))
 }
 

@@ -4,7 +4,7 @@
 use gic_loss::VoltLoss;
 use gic_monitor::{DwellMonitor, EarthMonitor, Monitor};
 use gic_study::gicstudy;
-use gic_system::{FileLibrary, StreamSink};
+use gic_system::{FileLibrary, StreamSink, SystemFiles};
 use std::alloc::Global;
 use std::io::ErrorKind;
 use std::process::ExitCode;
@@ -45,6 +45,6 @@ fn main(rt: HostRuntime) -> ExitCode {
     }
     let mut out = StreamSink::new(rt.stdout());
     let mut err = StreamSink::new(rt.stderr());
-    let mut library = FileLibrary::new(rt);
+    let mut library = FileLibrary::new(alloc, SystemFiles::new(rt));
     ExitCode::from(gicstudy(alloc, &words, &mut library, &mut out, &mut err, monitors))
 }
