@@ -547,6 +547,9 @@ def of_examples(setting: Setting, path: str) -> Tally:
 
 
 def main() -> None:
+    if len(sys.argv) < 2 or sys.argv[1] in ("--help", "-h"):
+        print(__doc__.strip())
+        sys.exit(0 if len(sys.argv) > 1 else 2)
     plain = [word for word in sys.argv[1:] if not word.startswith("--")]
     named = dict(word[2:].split("=", 1) for word in sys.argv[1:] if word.startswith("--"))
     count, mutated, seed = [int(word) for word in plain[1:]] + [100, 1000, 1][len(plain) - 1 :]

@@ -73,6 +73,7 @@ class Quantity:
 
 
 OHM = Quantity("ohm", "0.001", "1000", 10**6, "is it in micro-ohm, or per unit?")
+MILLI_OHM = "is it in milli-ohm, or per unit?"
 KILOVOLT = Quantity("kV", "1", "2000", 10**3, "is it in volts?")
 KILOMETRE = Quantity("km", "-1000", "1000", 10**3, "is it in metres?")
 LATITUDE = Quantity("degrees", "-90", "90", 10**6, "is it in hundredths?")
@@ -130,7 +131,7 @@ class Row:
         """A resistance in micro-ohm, with a warning where few of its kind have it."""
         micro_ohm = self.whole(column, OHM)
         if not usual[0] <= micro_ohm / OHM.scale <= usual[1]:
-            self.warn(f"{column} is {self.text(column)} ohm, which few {what} have: {OHM.guess}")
+            self.warn(f"{column} is {self.text(column)} ohm, which few {what} have: {MILLI_OHM}")
         return micro_ohm
 
     def refer(self, column: str, table: Table) -> Row:
