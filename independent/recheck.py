@@ -28,8 +28,6 @@ GRAIN = 2**36  # grains in a nanovolt
 MILLIVOLT = 10**6 * GRAIN  # grains in a millivolt
 # Latitudes in hundredths of a degree, each with the scaling alpha, in tenths, of a zone up to there.
 ALPHA = [(4000, 1), (4500, 2), (5000, 3), (5400, 5), (5600, 6), (5700, 7), (5800, 8), (5900, 9), (6000, 10)]
-
-
 MOST_ENDS = 256  # elements that may end at one node
 CANNOT_WRITE, REFUSED = 4, 13  # statuses; the others stand in rules.py
 
@@ -261,7 +259,7 @@ def report_of(words: list[str]) -> str:
     files = options.parse_args(words)
     case = read_case(file_bytes(files.case, "case"))
     check_degrees(case)
-    switchings = read_switchings(file_bytes(files.switch, "switch"), case) if files.switch else []
+    switchings = read_switchings(file_bytes(files.switch, "switch"), case) if files.switch is not None else []
     return recheck(case, switchings, file_bytes(files.cert, "cert"))
 
 
