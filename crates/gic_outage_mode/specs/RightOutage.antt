@@ -19,7 +19,7 @@ use Rattle.gic_stand.specs.declared.inputs.Inputs.{Inputs}
 use Rattle.gic_stand.specs.Standing.{standing_of, IsSolvable, IsNameOfUnearthed, IsNameOfUnresolved}
 use Rattle.gic_effective.specs.Weighted.{effective_denominator}
 use Rattle.gic_uniform.specs.Uniform.{uniform_volts}
-use Rattle.gic_screening.specs.RightRows.{AreSolutionsOf, IsRightWorst, IsTrueVerdict, IsWorstUnder, IsWorstAtLeast, squared_worst, worst_verdict_at}
+use Rattle.gic_screening.specs.RightRows.{AreSolutionsOf, IsThirdOfRight, IsTrueVerdict, IsWorstUnder, IsWorstAtLeast, squared_worst, worst_verdict_at}
 use Rattle.gic_report.specs.VerdictText.{IsAcross}
 use Rattle.gic_outage_mode.specs.declared.outcome.Outcome.{Outcome}
 use Rattle.gic_outage_mode.specs.declared.outcome.Outcome.TheVariants.{Idle, Unearthed, Unresolved, Solved}
@@ -45,12 +45,12 @@ IsTakenOut inputs item = IsFalse (is_idle (standing_of inputs.case inputs.switch
 abbrev pub worst_verdicts : Lists → (threshold : ℕ) → List Ends → List Verdict
 worst_verdicts case threshold worsts = map (λ t. worst_verdict_at case threshold t (worst_at worsts t)) (range_with_len 0 (length case.transformers))
 
--- the network without the item can be solved, each worst interval there is right, each verdict on it is true, and the counts are those of these verdicts
+-- the network without the item can be solved, each worst interval there is the third of a right row, each verdict on it is true, and the counts are those of these verdicts
 pub record AreRightWorsts (inputs : Inputs) (item : Item) (worsts : List Ends) (counts : Counts) : Type 0 where
   pub solvable : IsSolvable (standing_without inputs item)
   pub count : length worsts ≡ length inputs.case.transformers
   pub right : (t : ℕ) → t < length inputs.case.transformers →
-      IsRightWorst inputs.case (standing_without inputs item) (north_volts inputs) (east_volts inputs) inputs.question.width t (worst_at worsts t)
+      IsThirdOfRight inputs.case (standing_without inputs item) (north_volts inputs) (east_volts inputs) inputs.question.width t (worst_at worsts t)
   pub verdicts : (t : ℕ) → t < length inputs.case.transformers →
       IsTrueVerdict inputs.case (standing_without inputs item) (north_volts inputs) (east_volts inputs) (threshold_asked inputs) t (worst_at worsts t)
   pub counted : counts ≡ counts_of (worst_verdicts inputs.case (threshold_asked inputs) worsts)
