@@ -23,6 +23,7 @@ use Rattle.gic_outage_mode.specs.declared.outcome.Outcome.TheVariants.{Solved}
 use Rattle.gic_outage_mode.specs.Outages.{standing_without, worst_at}
 use Rattle.gic_outage_mode.specs.RightOutage.{north_volts, east_volts, threshold_asked, IsTakenOut, worst_verdicts}
 use Rattle.gic_outage_mode.specs.Taking.{worsts_in, AreRaisedBy, HasEnded, outcome_of}
+use Rattle.gic_outage_mode.proofs.CountedNear.{few_undecided}
 use Rattle.gic_outage_mode.proofs.Taken.{not_raised}
 
 -- the network is refused
@@ -68,6 +69,8 @@ solved_ended across under at_least inputs item standing north east rows counts o
           verdicts = λ t inside. verdict_true across under at_least case (standing_without inputs item) (north_volts inputs) (east_volts inputs) (threshold_asked inputs) width t (worst_at worsts t) sound inside
               (third_right case (standing_without inputs item) (north_volts inputs) (east_volts inputs) width t (worst_at worsts t) (right t inside));
           counted = counted;
+          undecided_most = λ one other solve. few_undecided case (standing_without inputs item) (north_volts inputs) (east_volts inputs) (threshold_asked inputs) width worsts sound
+              (λ t inside. third_right case (standing_without inputs item) (north_volts inputs) (east_volts inputs) width t (worst_at worsts t) (right t inside)) one other solve counts counted;
         },
       );
       raised = raised;
