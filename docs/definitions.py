@@ -9,7 +9,8 @@ the others, crate by crate. Behind each stand the first sentence of its head, an
 (`specs/`) and in contracts (`src/`); proofs aren't counted.
 
 Without --write it compares docs/INDEX.md with what it makes. It also looks whether each file begins with a remark,
-whether each is cited, and whether docs/DEFINITIONS.md names none that isn't there. The last line is `N definitions, M
+whether each is cited, whether docs/DEFINITIONS.md names none that isn't there, and whether each crate of crates.txt
+stands once in the first column of the table of crates in docs/MAP.md, and no other. The last line is `N definitions, M
 faults`, and the status is 0 only where M is 0.
 """
 
@@ -23,6 +24,7 @@ from pathlib import Path
 TOP = Path(__file__).resolve().parent.parent
 INDEX = "docs/INDEX.md"
 WORDS = "docs/DEFINITIONS.md"
+MAP = "docs/MAP.md"
 HEADLINE = "crates/gic_study/src/study.rt"
 CITED = re.compile(r"Rattle\.(gic_\w+)\.specs\.([A-Z]\w*)")
 NAMED = re.compile(r"`(\w+\.antt)`")
@@ -139,6 +141,15 @@ def index_of(found: dict[str, Definition], parts: list[list[str]]) -> str:
     return "\n".join(lines)
 
 
+def odd_crates(text: str, crates: list[str]) -> list[str]:
+    """The crates that don't stand once in the table of crates, and those that stand there and aren't any."""
+    table = text.partition("\n## Crates\n")[2].partition("\n## ")[0]
+    rows = [line.split("|")[1] for line in table.splitlines() if line.startswith("|")]
+    named = [name for row in rows for name in re.findall(r"`(gic\w+)`", row)]
+    odd = [name for name in dict.fromkeys(crates + named) if name not in crates or named.count(name) != 1]
+    return [f"{MAP} has {name} {named.count(name)} times in its table of crates" for name in odd]
+
+
 def faults_of(found: dict[str, Definition], index: str, shown: str, words: str) -> list[str]:
     """What is wrong with the definitions, the index that is shown, and the document of words."""
     files = {name.partition("/")[2] + ".antt" for name in found}
@@ -162,6 +173,7 @@ def main(words: list[str]) -> int:
             (TOP / INDEX).write_text(index)
         shown = (TOP / INDEX).read_text() if (TOP / INDEX).exists() else ""
         faults = faults_of(found, index, shown, (TOP / WORDS).read_text())
+        faults += odd_crates((TOP / MAP).read_text(), crates)
     except (OSError, UnicodeDecodeError) as error:
         print(f"definitions.py: {error}", file=sys.stderr)
         return 1

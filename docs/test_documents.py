@@ -67,6 +67,17 @@ class Definitions(unittest.TestCase):
             ],
         )
 
+    def test_each_crate_stands_once_in_the_map(self) -> None:
+        text = "## Flow\n| `gic_low` |\n\n## Crates\n\n| `gic_low` | a |\n| `gic_low`, `gic_old` | b |\n\n## More\n| `gic_study` |\n"
+        self.assertEqual(
+            definitions.odd_crates("\n" + text, self.crates),
+            [
+                "docs/MAP.md has gic_low 2 times in its table of crates",
+                "docs/MAP.md has gic_study 0 times in its table of crates",
+                "docs/MAP.md has gic_old 1 times in its table of crates",
+            ],
+        )
+
 
 class Links(unittest.TestCase):
     def test_dead_links_and_names(self) -> None:
