@@ -30,8 +30,8 @@ CITED = re.compile(r"Rattle\.(gic_\w+)\.specs\.([A-Z]\w*)")
 NAMED = re.compile(r"`(\w+\.antt)`")
 HEAD = """# Index of the definitions
 
-Made by `python3 docs/definitions.py --write`, which without `--write` checks it. [DEFINITIONS.md](DEFINITIONS.md) says \
-how to read them. A file `gic_x/Y` is `crates/gic_x/specs/Y.antt`.
+Made by `python3 docs/definitions.py --write`, which without `--write` checks it.
+[DEFINITIONS.md](DEFINITIONS.md) says how to read them. A file `gic_x/Y` is `crates/gic_x/specs/Y.antt`.
 """
 PARTS = (
     "What the headline leads to, in reading order",

@@ -6,8 +6,8 @@
 Each file `*.md` of the repository is read. A link to a file must lead to one that is there, and a link to a part of a
 document to one of its headings. A file that is named between backticks with its ending (`.antt`, `.rt`, `.edit`, `.py`,
 `.sh`, `.md`, `.c`, `.m`, `.h`) must be there under that name, in some folder; only the parts of a path that are named
-are compared. Names with `NAME`, `CRATE`, `FILE` or `gic_x` in them, and fenced blocks, aren't looked at. The last line is `N links and names, M dead`, and the status
-is 0 only where M is 0.
+are compared. Names with `NAME`, `CRATE`, `FILE` or `gic_x` in them, and fenced blocks, aren't looked at. The last line
+is `N links and names, M dead`, and the status is 0 only where M is 0.
 """
 
 from __future__ import annotations
