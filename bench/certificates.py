@@ -10,14 +10,19 @@ byte: status, standard output and fault line. The certificates are
   each run of `certify` or `field`, in the field and under the switchings of that run;
 - one of each of NETWORKS random networks (100), made by the program, of networks as in `random_cases.py`, the same ones
   for the same SEED (1); one in eight has all its resistances at the ends of their range;
-- MUTATED changed ones of these networks (1000), each with one to three changes (`CHANGES` below).
+- MUTATED changed ones of these networks (1000), each with one to three changes (`CHANGES` below);
+- the certificate of each network beside a case or switchings that were changed, MUTATED times too (`CASE_CHANGES` and
+  `SWITCHING_CHANGES`): with a byte order mark, with names twice, with rows that switchings can't have.
+
+One difference is counted by itself and is none of those below, since independent/README.md names it: both refuse the
+case, and one of them says that it is no TOML.
 
 With --oracle a second program is asked too, with the same words, and has to answer the same. A name that ends in `.py`
 is run by Python. N networks are looked at side by side, one a processor where no N is given.
 
-The last lines tell how many certificates were accepted, how many were refused by which rule, and how many answers
-differ; the exit status is 1 where any does. The first twenty differences are printed, with a folder that keeps the
-files of the first one of each network.
+The last lines tell how many runs were accepted, how many certificates were refused by which rule, how many runs ended
+with another status, how often only one of the two found no TOML, and how many answers differ; the exit status is 1 where
+any does. The first twenty differences are printed, with a folder that keeps the files of the first one of each network.
 """
 
 import collections
@@ -58,6 +63,14 @@ class Answer(NamedTuple):
             return self.told.decode().split()[2]
         return "accepted" if self.status == 0 else f"status {self.status}"
 
+    def is_no_toml(self) -> bool:
+        return self.told == b"gicstudy: case: not toml\n"
+
+
+def is_named(one: Answer, other: Answer) -> bool:
+    """Whether two answers differ in no more than independent/README.md says."""
+    return one.status == other.status == 5 and (one.is_no_toml() or other.is_no_toml())
+
 
 class Setting(NamedTuple):
     """What is compared with the checker, and over how much."""
@@ -72,10 +85,12 @@ class Tally:
 
     def __init__(self) -> None:
         self.kinds: collections.Counter[str] = collections.Counter()
+        self.named = 0  # differences that independent/README.md names
         self.differing: list[str] = []
 
     def add(self, other: "Tally") -> None:
         self.kinds += other.kinds
+        self.named += other.named
         self.differing += other.differing
 
     def compare(self, programs: list[str], folder: str, words: list[str], label: str) -> None:
@@ -84,7 +99,9 @@ class Tally:
         self.kinds[checked.kind()] += 1
         for program in programs:
             answer = of_program(program, folder, ["recheck", *words])
-            if answer != checked:
+            if answer != checked and is_named(answer, checked):
+                self.named += 1
+            elif answer != checked:
                 kept = "" if self.differing else shutil.copytree(folder, tempfile.mkdtemp(), dirs_exist_ok=True)
                 self.differing.append(f"{label}: {shown(checked)}, but {program} {shown(answer)} {kept}")
 
@@ -302,15 +319,113 @@ def changed(draw: random.Random, text: bytes) -> tuple[str, bytes]:
     return "+".join(names), joined(rows)
 
 
+# Changes of a case and of switchings ----------------------------------------------------------------------------------
+# Each takes a draw and a text, and answers another one.
+
+QUOTED = re.compile(rb'"[^"\n]*"')
+ROW_NAME = re.compile(rb'(?<=name = )"[^"\n]*"')
+KEY = re.compile(rb"^[a-z_]+(?= = )", re.MULTILINE)
+VALUE = re.compile(rb"(?<== )[^\n]+")
+CELL = re.compile(rb"[^,\n]+")
+ODD_VALUES = [
+    *(b"0", b"1", b"-1", b"3", b"999", b"1000", b"1000000000", b"1000000001", b"1_000", b"0x7d0", b"9" * 20),
+    *(b"3.5", b"true", b"false", b'"blocked"', b'"Blocked"', b'"auto"', b'"delta-delta"', b'""', b'"a b"'),
+    *(b'"' + b"n" * 33 + b'"', b"9" * 5000, b"[]", b"{}", b"[" * 40 + b"]" * 40, b"[" * 3000 + b"]" * 3000),
+    b"1979-05-27",
+]
+ODD_CELLS = [
+    *(b"Open", b"opened", b"trip", b"open", b"close", b"block", b"unblock", b" open", b"open ", b'"open"', b'"close', b""),
+    *(b"0", b"-1", b"+5", b"4294967295", b"4294967296", b"0" * 18, b"0" * 19, b"9" * 5000, b"1.5", b"\xff", b"\xc3\xbc"),
+    *(b"a,b", b'"\n"', b"\r"),
+]
+
+
+def in_place(text: bytes, found: re.Match[bytes] | None, other: bytes) -> bytes:
+    """The text with other bytes in the place of what was found."""
+    return text if found is None else text[: found.start()] + other + text[found.end() :]
+
+
+def any_of(draw: random.Random, pattern: re.Pattern[bytes], text: bytes) -> re.Match[bytes] | None:
+    matches = list(pattern.finditer(text))
+    return draw.choice(matches) if matches else None
+
+
+def one_for_another(draw: random.Random, pattern: re.Pattern[bytes], text: bytes) -> bytes:
+    """One thing of a kind in the place of another one."""
+    other = any_of(draw, pattern, text)
+    return in_place(text, any_of(draw, pattern, text), other[0] if other else b"")
+
+
+def mark(draw: random.Random, text: bytes) -> bytes:
+    """A byte order mark in front; or two of them, or a part of one."""
+    return draw.choice([b"\xef\xbb\xbf"] * 4 + [b"\xef\xbb\xbf" * 2, b"\xef\xbb"]) + text
+
+
+def line_ends(draw: random.Random, text: bytes) -> bytes:
+    return text.replace(b"\n", draw.choice([b"\r\n", b"\r\n", b"\n\n", b"\r"]))
+
+
+def name_twice(draw: random.Random, text: bytes) -> bytes:
+    return one_for_another(draw, ROW_NAME, text)
+
+
+def other_reference(draw: random.Random, text: bytes) -> bytes:
+    return one_for_another(draw, QUOTED, text)
+
+
+def other_key(draw: random.Random, text: bytes) -> bytes:
+    return one_for_another(draw, KEY, text)
+
+
+def other_value(draw: random.Random, text: bytes) -> bytes:
+    return in_place(text, any_of(draw, VALUE, text), draw.choice(ODD_VALUES))
+
+
+def lines_moved(draw: random.Random, text: bytes) -> bytes:
+    """A line is dropped, doubled, or changes places with another one."""
+    rows = [[row] for row in text.split(b"\n")]
+    line(draw, rows)
+    return b"\n".join(row[0] for row in rows)
+
+
+def other_cell(draw: random.Random, text: bytes) -> bytes:
+    return one_for_another(draw, CELL, text)
+
+
+def odd_cell(draw: random.Random, text: bytes) -> bytes:
+    return in_place(text, any_of(draw, CELL, text), draw.choice(ODD_CELLS))
+
+
+def cells_moved(draw: random.Random, text: bytes) -> bytes:
+    """A comma more, or one less."""
+    comma = any_of(draw, re.compile(rb","), text)
+    return in_place(text, comma, draw.choice([b"", b",,", b";"]))
+
+
+Change = Callable[[random.Random, bytes], bytes]
+CASE_CHANGES: list[Change] = [mark, line_ends, name_twice, other_reference, other_key, other_value, lines_moved]
+SWITCHING_CHANGES: list[Change] = [mark, line_ends, other_cell, odd_cell, cells_moved, lines_moved]
+
+
+def input_changed(draw: random.Random, files: Files) -> tuple[str, Files]:
+    """Files of which the case or the switchings have one or two changes, and the names of these."""
+    name, changes = draw.choice([("p", CASE_CHANGES), ("s", SWITCHING_CHANGES)])
+    text, names = files[name], []
+    for change in draw.sample(changes, draw.choice([1, 1, 2])):
+        text = change(draw, text)
+        names.append(change.__name__)
+    return f"{name}: {'+'.join(names)}", {**files, name: text}
+
+
 # Random networks ------------------------------------------------------------------------------------------------------
 
 
-def solvable(draw: random.Random, program: str, folder: str) -> tuple[list[str], bytes]:
-    """Writes networks until the program certifies one: the words that name its files, and its certificate."""
+def solvable(draw: random.Random, program: str, folder: str) -> tuple[Files, list[str], bytes]:
+    """Writes networks until the program certifies one: its files, the words that name them, and its certificate."""
     while True:
         random_cases.AT_LIMITS = draw.random() < 0.125
         text, items, resistors = random_cases.network(draw, draw.randint(2, NODES))
-        files, words = {"p": text.encode()}, ["--case=p"]
+        files, words = {"p": text.encode(), "s": b"time,item,action\n"}, ["--case=p"]
         if items and draw.random() < 0.6:
             files["s"] = random_cases.switchings(draw, items, resistors).encode()
             words.append("--switch=s")
@@ -318,16 +433,16 @@ def solvable(draw: random.Random, program: str, folder: str) -> tuple[list[str],
         north, east = draw.randint(-20000, 20000), draw.choice([0, draw.randint(-20000, 20000)])
         answer = of_program(program, folder, ["certify", f"--north={north}", f"--east={east}", *words])
         if answer.status == 0:
-            return words, answer.output
+            return files, words, answer.output
         if answer.status not in (8, 9):
             raise ValueError(f"certify answered {shown(answer)} in {folder}")
 
 
 def network(setting: Setting, place: int, mutated: int) -> Tally:
-    """One random network, its certificate, and so many changed ones."""
+    """One random network, its certificate, so many changed ones, and as many changed cases and switchings."""
     tally, draw = Tally(), random.Random(setting.seed * 1000003 + place)
     with tempfile.TemporaryDirectory() as folder:
-        words, certificate = solvable(draw, setting.programs[0], folder)
+        files, words, certificate = solvable(draw, setting.programs[0], folder)
         write(folder, {"c": certificate})
         tally.compare(setting.programs, folder, [*words, "--cert=c"], f"network {place}")
         if tally.kinds["accepted"] != 1:
@@ -336,6 +451,12 @@ def network(setting: Setting, place: int, mutated: int) -> Tally:
             names, text = changed(draw, certificate)
             write(folder, {"c": text})
             tally.compare(setting.programs, folder, [*words, "--cert=c"], f"network {place}, change {number}, {names}")
+        write(folder, {"c": certificate})
+        for number in range(mutated):
+            names, changed_files = input_changed(draw, files)
+            write(folder, changed_files)
+            words = ["--case=p", "--switch=s", "--cert=c"]
+            tally.compare(setting.programs, folder, words, f"network {place}, files {number}, {names}")
     return tally
 
 
@@ -412,8 +533,7 @@ def of_example(setting: Setting, label: str, words: list[str], files: Files) -> 
                 return tally
             write(folder, {"made.cert": answer.output})
             kept.append("--cert=made.cert")
-        # The checker takes for granted that the words, the case and the switchings are accepted.
-        elif of_program(setting.programs[0], folder, words).status not in (0, 13):
+        elif of_program(setting.programs[0], folder, words).status == 2:  # the checker tells such faults otherwise
             return tally
         tally.compare(setting.programs, folder, kept, label)
     return tally
@@ -427,6 +547,9 @@ def of_examples(setting: Setting, path: str) -> Tally:
 
 
 def main() -> None:
+    if len(sys.argv) < 2 or sys.argv[1] in ("--help", "-h"):
+        print(__doc__.strip())
+        sys.exit(0 if len(sys.argv) > 1 else 2)
     plain = [word for word in sys.argv[1:] if not word.startswith("--")]
     named = dict(word[2:].split("=", 1) for word in sys.argv[1:] if word.startswith("--"))
     count, mutated, seed = [int(word) for word in plain[1:]] + [100, 1000, 1][len(plain) - 1 :]
@@ -443,7 +566,7 @@ def main() -> None:
                 tally.add(job.result())
     for what, tally in (("examples", examples), (f"{count} networks", networks)):
         counts = ", ".join(f"{kind} {number}" for kind, number in sorted(tally.kinds.items()))
-        print(f"{what}: {sum(tally.kinds.values())} certificates: {counts}")
+        print(f"{what}: {sum(tally.kinds.values())} runs: {counts}; no TOML for one alone {tally.named}")
     differing = examples.differing + networks.differing
     print(*differing[:20], f"{len(differing)} answers differ", sep="\n")
     sys.exit(bool(differing))

@@ -117,7 +117,7 @@ class Builder:
         words += ["--jobs", str(start.jobs), *(["--", *TRIED] if crate.name == PROGRAM else [])]
         self.work.append(Work(start, crate, room, Run([self.rt, *words], room.folder(crate), log)))
         if crate.name == PROGRAM:
-            self.teller.say(f"the program is proved and linked, {self.teller.minutes()}")
+            self.teller.say(f"now the program itself is proved and linked, {self.teller.minutes()}")
 
     def free_room(self) -> Room:
         taken = [it.room for it in self.work]

@@ -252,7 +252,11 @@ def odd_fault_lines() -> list[str]:
 
 
 def main(words: list[str]) -> int:
-    program = os.path.abspath(words[-1])
+    programs = [word for word in words if word != "--write"]
+    if "--help" in words or "-h" in words or len(programs) != 1:
+        print(__doc__.strip(), file=sys.stdout if len(programs) == 1 else sys.stderr)
+        return 0 if len(programs) == 1 else 2
+    program = os.path.abspath(programs[0])
     counts = [look_at(document, program, "--write" in words) for document in DOCUMENTS]
     odd = odd_fault_lines()
     for line in odd:

@@ -8,11 +8,21 @@
 # The last line is `N blocks, M differ`, and the status is 0 only where M is 0. It needs bash and Python 3.11 or later.
 set -eu
 here=$(cd "$(dirname "$(readlink -f "$0")")" && pwd)
+
+# The remark above, which says how this is called.
+usage() {
+    sed -n '2,/^[^#]/{ /^#/s/^# \{0,1\}//p; }' "$0"
+}
+
 write=
-if [ "${1:-}" = --write ]; then
-    write=--write
-    shift
-fi
+case ${1:-} in
+    --help | -h) usage; exit ;;
+    --write) write=--write; shift ;;
+esac
+case $#${1:-} in
+    0 | 1[!-]*) ;;
+    *) usage >&2; exit 2 ;;
+esac
 program=$(readlink -f "${1:-$here/../gicstudy}")
 "$program" check --case="$here/valley.toml" >/dev/null
 exec python3 -B "$here/documents.py" $write "$program"

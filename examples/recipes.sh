@@ -7,18 +7,29 @@
 #
 # PROGRAM is the built program; where it is not given, ../gicstudy, which builds it first where that is needed. The
 # pictures are left in the folder PICTURES, where one is given. The second form puts what is printed today into the
-# document and into the reports, and its pictures into docs/pictures. Besides the program this needs awk, gnuplot and
-# python3. A recipe that differs is shown; the last line is `N recipes, M differ`, and the status is 0 only where nothing
-# differs.
+# document and into the reports, and its pictures into docs/pictures. Besides the program this needs awk, python3 and, for
+# pictures, gnuplot: where that isn't there, each recipe that draws one is named and left out. A recipe that differs is
+# shown; the last line is `N recipes, M differ`, and behind it how many were left out, if any. The status is 0 only where
+# nothing differs.
 set -u
 export LC_ALL=C
 here=$(cd "$(dirname "$0")" && pwd)
 document=$here/../docs/RECIPES.md
+
+# The remark above, which says how this is called.
+usage() {
+    sed -n '2,/^[^#]/{ /^#/s/^# \{0,1\}//p; }' "$0"
+}
+
 write=false
-if [ "${1:-}" = --write ]; then
-    write=true
-    shift
-fi
+case ${1:-} in
+    --help | -h) usage; exit ;;
+    --write) write=true; shift ;;
+esac
+case $#${1:-} in
+    0 | [12][!-]*) ;;
+    *) usage >&2; exit 2 ;;
+esac
 program=$(readlink -f "${1:-$here/../gicstudy}")
 pictures=${2:-}
 if "$write"; then
@@ -65,9 +76,14 @@ while read -r name words; do
     compare "reports/$name.txt" "$here/reports/$name.txt" gicstudy $words || differing_reports=$((differing_reports + 1))
 done <"$here/reports/words.txt"
 
-differing=0 recipes=0
+differing=0 recipes=0 left_out=0
 for recipe in "$scratch"/recipes/*.sh; do
     recipes=$((recipes + 1))
+    if grep -q '^gnuplot ' "$recipe" && ! command -v gnuplot >/dev/null; then
+        left_out=$((left_out + 1))
+        echo "$(cat "${recipe%.sh}.title"): left out, since gnuplot isn't there"
+        continue
+    fi
     compare "$(cat "${recipe%.sh}.title")" "${recipe%.sh}.expected" sh -eu "$recipe" || differing=$((differing + 1))
 done
 
@@ -80,10 +96,14 @@ if "$write"; then
                       while ((getline line <file) > 0) print line }' "$document" >"$scratch/document"
     cp "$scratch/document" "$document"
 fi
-if [ -n "$pictures" ]; then
+if [ -n "$pictures" ] && ls "$scratch"/work/*.png >/dev/null 2>&1; then
     mkdir -p "$pictures"
     cp "$scratch"/work/*.png "$pictures"
 fi
 echo "$reports reports, $differing_reports differ"
-echo "$recipes recipes, $differing differ"
+if [ "$left_out" = 0 ]; then
+    echo "$recipes recipes, $differing differ"
+else
+    echo "$recipes recipes, $differing differ, $left_out left out"
+fi
 [ "$differing" = 0 ] && [ "$differing_reports" = 0 ]

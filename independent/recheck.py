@@ -4,22 +4,23 @@
     python3 independent/recheck.py --case=FILE --cert=FILE [--switch=FILE]
 
 Where the certificate passes, the potentials that it shows are printed, and the status is 0. Where it is refused, one
-line on the error stream names the first rule that it breaks, and the status is 13. All of this is as `gicstudy recheck`
-has it for the same files. README.md says what it shows, and what it takes for granted.
+line on the error stream names the first rule that it breaks, and the status is 13. Where the case, the switchings or
+their files are refused there is a line and a status too (`rules.py`). All of this is as `gicstudy recheck` has it for
+the same files. README.md says what it shows, and what it takes for granted.
 """
 
 import argparse
-import csv
-import io
+import os
 import re
 import sys
-import tomllib
+from collections.abc import Iterable
 from fractions import Fraction
 from math import ceil, floor
 from pathlib import Path
-from typing import Any, Iterable, NamedTuple
+from typing import Any, NamedTuple
 
-Table = dict[str, Any]  # a table of TOML: a whole case, or a row of one of its lists
+from rules import CASE, USAGE, Refused, Table, file_bytes, read_case, read_switchings
+
 Node = str  # a node by its name: a substation, a bus, or the transformer whose neutral node it is
 EARTH = None  # remote earth, where grounds end; it is no node
 Numbers = dict[Node | None, int]  # a number for each live node
@@ -27,10 +28,13 @@ GRAIN = 2**36  # grains in a nanovolt
 MILLIVOLT = 10**6 * GRAIN  # grains in a millivolt
 # Latitudes in hundredths of a degree, each with the scaling alpha, in tenths, of a zone up to there.
 ALPHA = [(4000, 1), (4500, 2), (5000, 3), (5400, 5), (5600, 6), (5700, 7), (5800, 8), (5900, 9), (6000, 10)]
+MOST_ENDS = 256  # elements that may end at one node
+CANNOT_WRITE, REFUSED = 4, 13  # statuses; the others stand in rules.py
 
 
-class Refused(Exception):
-    """The certificate breaks a rule. The text says which, and where."""
+def refused(words: str) -> Refused:
+    """The certificate breaks a rule: the words say which, and where."""
+    return Refused(REFUSED, f"cert: {words}")
 
 
 # The network: what stands in it, and what a field induces -------------------------------------------------------------
@@ -154,11 +158,11 @@ def read(text: bytes, nodes: list[Node], live: set[Node]) -> Certificate:
         if rest:
             numbers[node] = numbers_of(rest, row, (1, 4096), (-(2**95), 2**95), (0, 2**126))
         if name != node.encode() or (node in numbers) != (node in live):
-            raise Refused(f"node in row {row}")
+            raise refused(f"node in row {row}")
     last = len(nodes) + 3
     words_of(lines, last, "end")
     if lines[last:] != [b""]:
-        raise Refused(f"shape in row {last + 1}")
+        raise refused(f"shape in row {last + 1}")
     return Certificate(north, east, *({node: three[place] for node, three in numbers.items()} for place in range(3)))
 
 
@@ -169,14 +173,14 @@ def words_of(lines: list[bytes], row: int, *forms: str) -> list[bytes]:
         pairs = list(zip(words, form))
         if len(words) == len(form) and all(word and (part.isupper() or word == part) for word, part in pairs):
             return [word for word, part in pairs if part.isupper()]
-    raise Refused(f"shape in row {row}")
+    raise refused(f"shape in row {row}")
 
 
 def numbers_of(words: list[bytes], row: int, *ranges: tuple[int, int]) -> list[int]:
     """The numbers that words of a row are: a sign or none, 1 to 38 digits, and each in its range."""
     for word, (least, most) in zip(words, ranges, strict=True):
         if not re.fullmatch(rb"[-+]?[0-9]{1,38}", word) or not least <= int(word) <= most:
-            raise Refused(f"number in row {row}")
+            raise refused(f"number in row {row}")
     return [int(word) for word in words]
 
 
@@ -203,15 +207,15 @@ def check(live: dict[Node, list[Branch]], certificate: Certificate) -> None:
     """Refuses a certificate that doesn't pass: the first rule that is broken, at the first live node that breaks it."""
     for node, ends in live.items():  # the entries are a bound vector
         if row_sum(node, ends, certificate.entries) < 0:
-            raise Refused(f"row at node {node}")
+            raise refused(f"row at node {node}")
     residuals = {node: residual(node, ends, certificate.guesses) for node, ends in live.items()}
     for node in live:  # no guess is hopelessly off
         if residuals[node] > 2**110:
-            raise Refused(f"residual at node {node}")
+            raise refused(f"residual at node {node}")
     step = max((ceil(Fraction(4096 * residuals[node], own_conductance(live[node]))) for node in live), default=0)
     for node in live:  # each radius makes up for the step
         if certificate.radii[node] < certificate.entries[node] * step:
-            raise Refused(f"radius at node {node}")
+            raise refused(f"radius at node {node}")
 
 
 # The whole ------------------------------------------------------------------------------------------------------------
@@ -230,19 +234,49 @@ def recheck(case: Table, switchings: Iterable[list[str]], text: bytes) -> str:
     return "\n".join([*lines, "end", ""])
 
 
-def main(words: list[str]) -> int:
-    """Reads the files that the words name, writes the report or the fault line, and answers the status."""
+def check_degrees(case: Table) -> None:
+    """Refuses a case where too many elements end at a node, whether they stand or not."""
+    ends = branches(elements(case), {})
+    for node in node_order(case):
+        if len(ends.get(node, [])) > MOST_ENDS:
+            raise Refused(CASE, f"case: degree at node {node}")
+
+
+class Once(argparse.Action):
+    """An option that may be given once."""
+
+    def __call__(self, parser: argparse.ArgumentParser, namespace: argparse.Namespace, values: Any, _=None) -> None:
+        if getattr(namespace, self.dest) is not None:
+            raise Refused(USAGE, "usage: words")
+        setattr(namespace, self.dest, values)
+
+
+def report_of(words: list[str]) -> str:
+    """Reads the files that the words name, in the order in which the program does, and rechecks."""
     options = argparse.ArgumentParser(usage="recheck.py --case=FILE --cert=FILE [--switch=FILE]", allow_abbrev=False)
     for option in ("--case", "--cert", "--switch"):
-        options.add_argument(option, type=Path, required=option != "--switch")
+        options.add_argument(option, type=Path, action=Once, required=option != "--switch")
     files = options.parse_args(words)
-    case = tomllib.loads(files.case.read_text("utf-8"))
-    switchings = files.switch.read_text("utf-8-sig") if files.switch else ""
+    case = read_case(file_bytes(files.case, "case"))
+    check_degrees(case)
+    switchings = read_switchings(file_bytes(files.switch, "switch"), case) if files.switch is not None else []
+    return recheck(case, switchings, file_bytes(files.cert, "cert"))
+
+
+def main(words: list[str]) -> int:
+    """Writes the report or the fault line, and answers the status."""
     try:
-        sys.stdout.write(recheck(case, csv.reader(io.StringIO(switchings)), files.cert.read_bytes()))
-    except Refused as refused:
-        sys.stderr.write(f"gicstudy: cert: {refused}\n")
-        return 13
+        report = report_of(words)
+    except Refused as fault:
+        sys.stderr.write(f"gicstudy: {fault}\n")
+        return fault.status
+    try:
+        sys.stdout.write(report)
+        sys.stdout.flush()
+    except OSError:
+        sys.stderr.write("gicstudy: cannot write\n")
+        os.dup2(os.open(os.devnull, os.O_WRONLY), 1)  # what is left is written to nowhere
+        return CANNOT_WRITE
     return 0
 
 

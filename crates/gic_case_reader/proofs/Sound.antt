@@ -1,6 +1,6 @@
 -- The lists of a document that breaks no rule are sound.
 use Rattle.std.proofs.Common.{◌≡◌, ◌≢◌, ℕ, zero, suc, ◌+◌, ◌≤◌, ◌<◌, nat_le, List, [], ◌∷◌, ◌++◌, length, map, take, get_or, Bool, true, false, not, Option, Some, None, unwrap_or, is_some, IfSome, Ok, refl, sym, ap, ◌∙◌, arith, inl, inr, subst, zero-add, length-take-le}
-use Rattle.std.proofs.lemmas.Bool.{cases_Bool, cases_eq, false≢true}
+use Rattle.std.proofs.lemmas.Bool.{cases_eq, false≢true}
 use Rattle.std.proofs.lemmas.Bool.Decides.{nat_tests}
 use Rattle.std.proofs.lemmas.Cmp.{nat_list_eq_equiv}
 use Rattle.std.proofs.lemmas.List.{length-map, get_or-map, get_or-take, get_or_default}
@@ -15,7 +15,7 @@ use Rattle.gic_scale.specs.ZoneView.{IsZone}
 use Rattle.gic_base.specs.Refusals.{unless}
 use Rattle.gic_base.proofs.RefusalLaws.{none_of_both, none_settled, unless_holds}
 use Rattle.gic_case.proofs.Places.{place_below}
-use Rattle.gic_case.specs.Names.{same, is_repeat, place_from, place_in}
+use Rattle.gic_case.specs.Names.{same, is_repeat, place_in}
 use Rattle.gic_case.specs.Lists.{Lists, node_names, substation_at, ends_of, degree_of, has_windings}
 use Rattle.gic_case.specs.Sound.{names_of, IsRated, IsSoundSubstation, IsSoundLine, AreSides, IsSoundKind, IsSoundTransformer, IsSound}
 use Rattle.gic_case_reader.specs.Sides.{sides_of, sides_differ, are_together, are_ordered}

@@ -1,5 +1,5 @@
 -- What is left of a rule or of a list, numbered from a place on: what the loops of the reader speak of. No public contract does.
-use Rattle.std.specs.Prelude.{ℕ, zero, suc, ◌+◌, ◌==◌, nat_le, List, [], ◌∷◌, length, flat_map, Bool, not, if◌then◌else◌, Option, Some, None, is_some}
+use Rattle.std.specs.Prelude.{ℕ, zero, suc, ◌+◌, ◌==◌, nat_le, List, length, flat_map, Bool, not, if◌then◌else◌, Option, Some, None}
 use Rattle.std.specs.List.{enumerate_from}
 use Rattle.gic_base.specs.Refusals.{unless}
 use Rattle.gic_base.specs.declared.limits.TheConstants.{MOST_AT_A_NODE}
@@ -9,7 +9,6 @@ use Rattle.gic_case_reader.specs.Sides.{sides_of, sides_differ, are_together, ar
 use Rattle.gic_case_reader.specs.declared.refusal.Part.TheVariants as parts
 use Rattle.gic_case_reader.specs.declared.refusal.CaseRefusal.{CaseRefusal}
 use Rattle.gic_case_reader.specs.declared.refusal.CaseRefusal.TheVariants as refusals
-use Rattle.gic_case.specs.declared.item.Substation.{Substation}
 use Rattle.gic_case.specs.declared.item.Bus.{Bus}
 use Rattle.gic_case.specs.declared.item.Line.{Line}
 use Rattle.gic_case.specs.declared.item.Transformer.{Transformer}

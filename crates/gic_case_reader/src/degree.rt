@@ -55,7 +55,7 @@ fn push_transformer_ends(
 }
 
 /// The nodes at which the elements end, a node once for each end.
-#[tactic(auto, unfolding(crate::specs::Lists::ends_of))]
+#[tactic(auto, unfolding(gic_case::specs::Lists::ends_of))]
 fn ends_of(alloc: Global, network: &Network) -> Result<Vec<u32>, AllocError>
     ensures ends { IfOk result (λ v. v.items ≡ ends_of network.now) }
     ensures few { IfOk result (λ v. vec_len v < 2 ^ 32) }

@@ -17,6 +17,7 @@ ghost use Rattle.gic_winding.specs.ElementList.{elements_of};
 
 use gic_base::{OutOfMemory, Sink};
 use gic_case::Case;
+use gic_cert::laws::passing_law;
 use gic_cert::{Cert, write_cert};
 use gic_enclose::laws::potential_bound_law;
 use gic_inputs::Inputs;
@@ -87,6 +88,8 @@ fn certify_net<S: Sink>(
         (shown S.written S.faults out.old) (shown S.written S.faults out.new) result }
     ensures memory { result ≡ Err Memory → IsSolvable (standing net.now) }
 {
+    passing_law();
+    net.within_limits();
     expect_solvable(case, net, room)?;
     let certificate = settled_certificate(alloc, case, net, volts, question, room)?;
     let writing = write_cert(case, &certificate, line, out);

@@ -1,7 +1,7 @@
 -- The counts of the verdicts of a solved view are right.
-use Rattle.std.proofs.Common.{◌≡◌, ◌∙◌, ℕ, ◌+◌, ◌<◌, ◌≤◌, Bool, true, not, cond, List, length, ℤ, pos, ◌-ℤ◌, ◌<ℤ◌, ◌≤ℤ◌, unsigned_abs, refl, sym, subst, arith}
+use Rattle.std.proofs.Common.{◌≡◌, ◌∙◌, ℕ, ◌*◌, ◌<◌, ◌≤◌, inl, inr, Bool, true, not, List, length, ℤ, pos, ◌-ℤ◌, ◌<ℤ◌, ◌≤ℤ◌, unsigned_abs, refl, sym, subst, arith}
 use Rattle.std.specs.Prelude.{nat_lt, nat_le}
-use Rattle.std.proofs.lemmas.Bool.{and_parts, and_from}
+use Rattle.std.proofs.lemmas.Bool.{and_parts, and_from, cases_lt}
 use Rattle.std.proofs.lemmas.Bool.Decides.{nat_tests}
 use Rattle.std.proofs.lemmas.Int.{ints}
 use Rattle.gic_case.specs.Lists.{Lists}
@@ -11,24 +11,22 @@ use Rattle.gic_fixed.proofs.Enclosures.{Encloses-abs}
 use Rattle.gic_model.specs.Solution.{Solution, IsSolution}
 use Rattle.gic_model.specs.Sums.{Placed}
 use Rattle.gic_effective.specs.Weighted.{effective_numerator, effective_denominator}
-use Rattle.gic_report.specs.VerdictText.{earthed_high, verdict_at}
+use Rattle.gic_report.specs.VerdictText.{earthed_high, is_judged, verdict_at}
 use Rattle.gic_view.specs.Absolute.{absolute_ends}
 use Rattle.gic_report.proofs.Absolutes.{absolute_narrow}
-use Rattle.gic_report.proofs.CountedVerdicts.{total_at}
+use Rattle.gic_report.proofs.CountedVerdicts.{total_at, is_below, is_reaching, is_undecided, is_outside, is_below_so, is_reaching_so, is_undecided_so, below_step, reaches_step, undecided_step, outside_step, count_le, counted_at}
 use Rattle.gic_screen.specs.declared.criterion.Verdict.{Verdict}
-use Rattle.gic_screen.specs.declared.criterion.Verdict.TheVariants.{Below, Reaches, Undecided, Outside}
+use Rattle.gic_screen.specs.declared.criterion.Verdict.TheVariants.{Undecided}
 use Rattle.gic_screen.specs.VerdictLaws.{BelowIsUnder, ReachesIsAtLeast}
 use Rattle.gic_view.specs.View.{View, effective_at}
 use Rattle.gic_winding.specs.Weights.{transformer_at}
 use Rattle.gic_uniform.specs.Solving.{IsSolvedView}
 use Rattle.gic_uniform.proofs.Denominators.{some_denominator}
-use Rattle.gic_report.specs.declared.counts.Counts.{Counts}
 use Rattle.gic_make_mode.specs.declared.solving.TheConstants.{WIDTH}
-use Rattle.gic_report.specs.Counts.{counted, counts_of}
+use Rattle.gic_report.specs.Counts.{counts_of}
 use Rattle.gic_make_mode.specs.Counting.{verdicts_of}
-use Rattle.gic_make_mode.specs.RightMake.{benchmark_threshold, surely_below, surely_reached, is_judged, is_under, is_at_least, TellOf, AreRightCounts}
-use Rattle.gic_make_mode.proofs.Verdicts.{is_below, is_reaching, is_outside, is_below_so, is_reaching_so, low_under, high_over, says_below, says_reaches, below_judged, reaches_judged, outside_is}
-use Rattle.gic_make_mode.proofs.Counted.{count_le, counted_at}
+use Rattle.gic_make_mode.specs.RightMake.{benchmark_threshold, surely_below, surely_reached, is_under, is_at_least, is_near, TellOf, AreRightCounts}
+use Rattle.gic_make_mode.proofs.Verdicts.{low_under, high_over, says_below, says_reaches, below_judged, reaches_judged, undecided_judged, outside_is}
 
 less_so : (a b : ℕ) → a < b → nat_lt a b ≡ true
 less_so a b h = grind (arith, nat_tests, h)
@@ -41,25 +39,6 @@ most_so a b h = grind (arith, nat_tests, h)
 
 so_most : (a b : ℕ) → nat_le a b ≡ true → a ≤ b
 so_most a b h = grind (arith, nat_tests, h)
-
--- how each count goes up
-below_step : (counts : Counts) (v : Verdict) → (counted counts v).below ≡ counts.below + cond (is_below v) 1 0
-below_step counts Below = omega arith
-below_step counts Reaches = omega arith
-below_step counts Undecided = omega arith
-below_step counts Outside = omega arith
-
-reaches_step : (counts : Counts) (v : Verdict) → (counted counts v).reaches ≡ counts.reaches + cond (is_reaching v) 1 0
-reaches_step counts Below = omega arith
-reaches_step counts Reaches = omega arith
-reaches_step counts Undecided = omega arith
-reaches_step counts Outside = omega arith
-
-outside_step : (counts : Counts) (v : Verdict) → (counted counts v).outside ≡ counts.outside + cond (is_outside v) 1 0
-outside_step counts Below = omega arith
-outside_step counts Reaches = omega arith
-outside_step counts Undecided = omega arith
-outside_step counts Outside = omega arith
 
 module _ (below_law : BelowIsUnder) (reaches_law : ReachesIsAtLeast) (case : Lists) (standing : List Placed) (volts : ℕ → ℤ) (view : View)
     (sound : IsSound case) (solved : IsSolvedView case standing volts WIDTH view) where
@@ -116,17 +95,42 @@ module _ (below_law : BelowIsUnder) (reaches_law : ReachesIsAtLeast) (case : Lis
         let verdict = says_reaches (lo t) (hi t) benchmark_threshold (high_volts t) (earthed t) parts.0 low in
         subst (λ (v : Verdict). is_reaching v ≡ true) (sym verdict) refl
 
+    -- neither under the lower number, where it would be below, nor at the upper one or more, where it would reach
+    not_below : (t : ℕ) → verdict_at case benchmark_threshold view t ≡ Undecided → is_below (verdict_at case benchmark_threshold view t) ≡ true → ⊥
+    not_below t is said = let nothing : is_below Undecided ≡ true = subst (λ (v : Verdict). is_below v ≡ true) is said in absurd (cc)
+
+    not_reaching : (t : ℕ) → verdict_at case benchmark_threshold view t ≡ Undecided → is_reaching (verdict_at case benchmark_threshold view t) ≡ true → ⊥
+    not_reaching t is said = let nothing : is_reaching Undecided ≡ true = subst (λ (v : Verdict). is_reaching v ≡ true) is said in absurd (cc)
+
+    undecided_is_near : (t : ℕ) → t < length case.transformers → is_undecided (verdict_at case benchmark_threshold view t) ≡ true → is_near case s t ≡ true
+    undecided_is_near t within said =
+        let verdict = is_undecided_so (verdict_at case benchmark_threshold view t) said in
+        let judged = undecided_judged (lo t) (hi t) benchmark_threshold (high_volts t) (earthed t) verdict in
+        let n = unsigned_abs (effective_numerator case s t) in
+        let d = effective_denominator case t s in
+        let least : surely_below * d ≤ n = elim (cases_lt n (surely_below * d)) [
+          | inl under ↦ absurd (not_below t verdict (under_is_below t within (and_from (is_judged case t) _ judged (less_so _ _ under))))
+          | inr over ↦ over
+        ] in
+        let most : n < surely_reached * d = elim (cases_lt n (surely_reached * d)) [
+          | inl under ↦ under
+          | inr over ↦ absurd (not_reaching t verdict (at_least_is_reaches t within (and_from (is_judged case t) _ judged (most_so _ _ over))))
+        ] in
+        and_from (is_at_least case s surely_below t) _ (and_from (is_judged case t) _ judged (most_so _ _ least)) (and_from (is_judged case t) _ judged (less_so _ _ most))
+
     tell : TellOf case s (counts_of (verdicts_of case benchmark_threshold view))
     tell =
         let count = length case.transformers in
         let said : ℕ → Verdict = verdict_at case benchmark_threshold view in
         let below = counted_at (λ counts. counts.below) is_below below_step refl said count in
         let reaches = counted_at (λ counts. counts.reaches) is_reaching reaches_step refl said count in
+        let undecided = counted_at (λ counts. counts.undecided) is_undecided undecided_step refl said count in
         record {
           below_most = omega (arith, below, count_le (λ t. is_below (said t)) (is_under case s benchmark_threshold) 0 count (λ t within. below_is_under t (omega (arith, within))));
           below_least = omega (arith, below, count_le (is_under case s surely_below) (λ t. is_below (said t)) 0 count (λ t within. under_is_below t (omega (arith, within))));
           reaches_most = omega (arith, reaches, count_le (λ t. is_reaching (said t)) (is_at_least case s benchmark_threshold) 0 count (λ t within. reaches_is_at_least t (omega (arith, within))));
           reaches_least = omega (arith, reaches, count_le (is_at_least case s surely_reached) (λ t. is_reaching (said t)) 0 count (λ t within. at_least_is_reaches t (omega (arith, within))));
+          undecided_most = omega (arith, undecided, count_le (λ t. is_undecided (said t)) (is_near case s) 0 count (λ t within. undecided_is_near t (omega (arith, within))));
         }
 
   outside_so : (t : ℕ) → is_outside (verdict_at case benchmark_threshold view t) ≡ not (is_judged case t)

@@ -1,37 +1,12 @@
 -- What tells the verdict of an interval, and what the verdict tells.
-use Rattle.std.proofs.Common.{◌≡◌, ℕ, ◌+◌, ◌*◌, ◌<◌, ◌≤◌, ◌⊎◌, inl, inr, Bool, true, false, not, ℤ, pos, negsuc, ◌*ℤ◌, ◌<ℤ◌, ◌≤ℤ◌, arith}
+use Rattle.std.proofs.Common.{◌≡◌, ℕ, ◌+◌, ◌*◌, ◌<◌, ◌≤◌, ◌⊎◌, inl, inr, Bool, true, not, ℤ, pos, negsuc, ◌*ℤ◌, ◌<ℤ◌, ◌≤ℤ◌, arith}
 use Rattle.std.proofs.lemmas.Bool.{cases_lt}
 use Rattle.std.proofs.lemmas.Int.{ints}
 use Rattle.std.proofs.lemmas.Grind.{common_steps}
 use Rattle.std.proofs.Math.Nat.{mul-le-mul_left}
-use Rattle.gic_screen.specs.declared.criterion.Verdict.{Verdict}
 use Rattle.gic_screen.specs.declared.criterion.Verdict.TheVariants.{Below, Reaches, Undecided, Outside}
+use Rattle.gic_report.proofs.CountedVerdicts.{is_outside}
 use Rattle.gic_screen.specs.Verdict.{is_assessed, verdict_of}
-
--- tests of verdicts
-abbrev pub is_below : Verdict → Bool
-is_below Below = true
-is_below Reaches = false
-is_below Undecided = false
-is_below Outside = false
-
-abbrev pub is_reaching : Verdict → Bool
-is_reaching Below = false
-is_reaching Reaches = true
-is_reaching Undecided = false
-is_reaching Outside = false
-
-abbrev pub is_outside : Verdict → Bool
-is_outside Below = false
-is_outside Reaches = false
-is_outside Undecided = false
-is_outside Outside = true
-
-pub is_below_so : (v : Verdict) → is_below v ≡ true → v ≡ Below
-is_below_so v h = grind (arith, common_steps, h)
-
-pub is_reaching_so : (v : Verdict) → is_reaching v ≡ true → v ≡ Reaches
-is_reaching_so v h = grind (arith, common_steps, h)
 
 -- a low end that isn't above a fraction under a number, and a high end that isn't under a fraction of a number or more
 pub low_under : (lo : ℤ) (n d k : ℕ) → (lo *ℤ pos d) ≤ℤ pos n → n < k * d → lo <ℤ pos k
@@ -65,6 +40,9 @@ module _ (lo hi : ℤ) (threshold high_volts : ℕ) (earthed : Bool) where
 
   pub reaches_judged : verdict_of lo hi threshold high_volts earthed ≡ Reaches → is_assessed high_volts earthed ≡ true
   reaches_judged said = grind (arith, common_steps, said)
+
+  pub undecided_judged : verdict_of lo hi threshold high_volts earthed ≡ Undecided → is_assessed high_volts earthed ≡ true
+  undecided_judged said = grind (arith, common_steps, said)
 
   pub outside_is : is_outside (verdict_of lo hi threshold high_volts earthed) ≡ not (is_assessed high_volts earthed)
   outside_is = grind (arith, common_steps)

@@ -1,24 +1,21 @@
 -- What a report of the mode has to say.
-use Rattle.std.specs.Prelude.{◌≡◌, ℕ, ◌+◌, ◌-◌, ◌*◌, ◌≤◌, Bool, not, ◌&&◌, nat_lt, nat_le, None, List, length, slice_index, All, Contains, count_by, ℤ, pos, unsigned_abs}
-use Rattle.std.specs.List.{range_with_len}
+use Rattle.std.specs.Prelude.{◌≡◌, ℕ, ◌+◌, ◌-◌, ◌*◌, ◌≤◌, Bool, not, ◌&&◌, nat_lt, nat_le, None, List, length, slice_index, All, Contains, ℤ, pos, unsigned_abs}
 use Rattle.gic_case.specs.Lists.{Lists}
 use Rattle.gic_model.specs.Bound.{IsLeastCappedVector}
 use Rattle.gic_model.specs.Solution.{Solution, IsSolution}
 use Rattle.gic_model.specs.Sums.{Placed}
 use Rattle.gic_winding.specs.ElementList.{elements_of}
-use Rattle.gic_winding.specs.Weights.{transformer_at}
 use Rattle.gic_effective.specs.Weighted.{effective_numerator, effective_denominator}
 use Rattle.gic_screen.specs.declared.event.Event.TheVariants.{Benchmark}
 use Rattle.gic_screen.specs.Event.{threshold_of, field_of}
-use Rattle.gic_screen.specs.Verdict.{is_assessed}
-use Rattle.gic_report.specs.VerdictText.{earthed_high}
+use Rattle.gic_report.specs.VerdictText.{is_judged}
 use Rattle.gic_stand.specs.Standing.{standing_of}
 use Rattle.gic_uniform.specs.Uniform.{uniform_volts}
 use Rattle.gic_make.specs.Made.{made_case}
 use Rattle.gic_report.specs.declared.counts.Counts.{Counts}
 use Rattle.gic_make_mode.specs.declared.solving.TheConstants.{WIDTH}
 use Rattle.gic_make_mode.specs.declared.text.Summary.{Summary}
-use Rattle.gic_report.specs.Counts.{total_of}
+use Rattle.gic_report.specs.Counts.{total_of, transformers_with}
 use Rattle.gic_make_mode.specs.MakeText.{make_text}
 
 -- the threshold of the benchmark event in mA per phase, 75000
@@ -45,14 +42,6 @@ pub record IsWalk (standing : List Placed) (nodes walk : ℕ) : Type 0 where
   pub none_above : All (λ entry. entry ≤ walk) entries
   pub reached : Contains entries walk
 
--- how many transformers of a case pass a test of their places
-abbrev pub transformers_with : Lists → (test : ℕ → Bool) → ℕ
-transformers_with case test = count_by test (range_with_len 0 (length case.transformers))
-
--- the transformer is assessed: its verdict isn't outside
-abbrev pub is_judged : Lists → (t : ℕ) → Bool
-is_judged case t = is_assessed (transformer_at case t).high_volts (earthed_high (transformer_at case t).kind)
-
 -- it is assessed, and its absolute effective current in a solution is under so many mA per phase
 abbrev pub is_under : Lists → Solution → (limit t : ℕ) → Bool
 is_under case s limit t = is_judged case t && nat_lt (unsigned_abs (effective_numerator case s t)) (limit * effective_denominator case t s)
@@ -61,12 +50,17 @@ is_under case s limit t = is_judged case t && nat_lt (unsigned_abs (effective_nu
 abbrev pub is_at_least : Lists → Solution → (limit t : ℕ) → Bool
 is_at_least case s limit t = is_judged case t && nat_le (limit * effective_denominator case t s) (unsigned_abs (effective_numerator case s t))
 
+-- it is assessed, and that current is within one width of the threshold: 74900 mA per phase or more, and under 75100
+abbrev pub is_near : Lists → Solution → (t : ℕ) → Bool
+is_near case s t = is_at_least case s surely_below t && is_under case s surely_reached t
+
 -- the counts tell of a solution how many transformers are on either side of the threshold, but for those within one width of it
 pub record TellOf (case : Lists) (s : Solution) (counts : Counts) : Type 0 where
   pub below_most : counts.below ≤ transformers_with case (is_under case s benchmark_threshold)
   pub below_least : transformers_with case (is_under case s surely_below) ≤ counts.below
   pub reaches_most : counts.reaches ≤ transformers_with case (is_at_least case s benchmark_threshold)
   pub reaches_least : transformers_with case (is_at_least case s surely_reached) ≤ counts.reaches
+  pub undecided_most : counts.undecided ≤ transformers_with case (is_near case s)
 
 -- each transformer is counted once, those that aren't assessed as outside, and the others as every solution has them
 pub record AreRightCounts (case : Lists) (standing : List Placed) (volts : ℕ → ℤ) (counts : Counts) : Type 0 where

@@ -23,6 +23,9 @@ once_out a z d e = same_in _ _ (simp (up-*ℤ, down-*ℤ) (omega arith))
 pub crossed : (a b c d : ℤ) → (a *ℤ b) *ℤ (c *ℤ d) ≡ (a *ℤ d) *ℤ (c *ℤ b)
 crossed a b c d = same_in _ _ (simp (up-*ℤ, down-*ℤ) (omega arith))
 
+pub parts_out : (a q z : ℤ) (k : ℕ) → a *ℤ ((pos k *ℤ q) *ℤ z) ≡ (a *ℤ pos k) *ℤ (q *ℤ z)
+parts_out a q z k = same_in _ _ (simp (up-*ℤ, down-*ℤ) (omega arith))
+
 -- a factor above 0 is taken off
 pub cancelled : (c : ℕ) (a b : ℤ) → 0 < c → pos c *ℤ a ≡ pos c *ℤ b → a ≡ b
 cancelled c a b some is =

@@ -1,5 +1,5 @@
 -- Squares of currents that are superposed.
-use Rattle.std.proofs.Common.{◌≡◌, ℕ, ◌+◌, ◌*◌, ◌<◌, ◌≤◌, ℤ, pos, negsuc, ◌+ℤ◌, ◌*ℤ◌, arith, ap, sym, ◌∙◌}
+use Rattle.std.proofs.Common.{◌≡◌, ℕ, zero, suc, ◌+◌, ◌*◌, ◌<◌, ◌≤◌, ℤ, pos, negsuc, ◌+ℤ◌, ◌*ℤ◌, arith, ap, sym, ◌∙◌}
 use Rattle.std.proofs.lemmas.Int.{ints, unsigned_abs-mul}
 use Rattle.std.proofs.Math.Nat.{mul-le-mul_left, mul-le-mul_right, le_of_mul-le-mul_left}
 use Rattle.gic_fixed.proofs.Integers.{linear, *ℤ-+ℤ, +ℤ-*ℤ}
@@ -74,3 +74,16 @@ square_same q n m k d e f is =
     let right : square_of (n *ℤ pos f) ≡ square_of n * (f * f) = square-product n (pos f) in
     let same : square_of q * (e * e) ≡ square_of n * (d * d) = sym (square-product q (pos e)) ∙ ap square_of is ∙ square-product n (pos d) in
     rw (left, right) (same_plain (square_of q) (square_of n) (square_of m) k d e f same)
+
+-- so many times a number has no lesser square
+pub square_grows : (q z : ℤ) (k : ℕ) → 0 < k → square_of (q *ℤ z) ≤ square_of ((pos k *ℤ q) *ℤ z)
+square_grows q z k some =
+    let left = square-product q z in
+    let inner : square_of (pos k *ℤ q) ≡ k * k * square_of q = square-product (pos k) q in
+    let right = square-product (pos k *ℤ q) z ∙ ap (λ n. n * square_of z) inner in
+    let more = mul-le-mul_right (square_of z) (grown (square_of q) k some) in
+    omega (arith, left, right, more)
+  where
+    grown : (n k : ℕ) → 0 < k → n ≤ k * k * n
+    grown n zero h = absurd (omega (arith, h))
+    grown n (suc k) h = omega arith

@@ -1,7 +1,7 @@
 -- A transformer's current in a uniform field is that to the north and that to the east, superposed.
 use Rattle.std.proofs.Common.{◌≡◌, ◌⊎◌, inl, inr, ℕ, ◌+◌, ◌*◌, ◌<◌, ◌≤◌, Bool, List, ℤ, pos, zero, suc, ◌+ℤ◌, ◌*ℤ◌, unsigned_abs, arith, ap, sym, subst, ◌∙◌}
 use Rattle.std.proofs.lemmas.Bool.{cases_lt}
-use Rattle.std.proofs.lemmas.Int.{ints}
+use Rattle.std.proofs.lemmas.Int.{ints, unsigned_abs-mul}
 use Rattle.gic_fixed.proofs.Integers.{linear}
 use Rattle.gic_base.specs.declared.id.ElementId.{ElementId}
 use Rattle.gic_case.specs.Lists.{Lists}
@@ -17,11 +17,11 @@ use Rattle.gic_winding.specs.Weights.{transformer_at, weighted_windings}
 use Rattle.gic_effective.specs.Weighted.{effective_numerator, effective_denominator}
 use Rattle.gic_screen.specs.Worst.{square_of}
 use Rattle.gic_uniform.specs.Uniform.{uniform_volts}
-use Rattle.gic_orientation.specs.Orientation.{AreSolutions, north_current, east_current, current_squared, worst_squared}
+use Rattle.gic_orientation.specs.Orientation.{AreSolutions, times, north_current, east_current, current_squared, worst_squared}
 use Rattle.gic_orientation.proofs.Fields.{volts_combined}
-use Rattle.gic_orientation.proofs.Products.{cancelled, once_out, scaled, square_out}
-use Rattle.gic_orientation.proofs.Squares.{square_most, square_reached, square_same}
-use Rattle.gic_orientation.proofs.WeightedSums.{none_times, sum_agrees, sum_combined}
+use Rattle.gic_orientation.proofs.Products.{cancelled, once_out, parts_out, scaled, square_out}
+use Rattle.gic_orientation.proofs.Squares.{square_grows, square_most, square_reached, square_same}
+use Rattle.gic_orientation.proofs.WeightedSums.{none_times, sum_agrees, sum_combined, sum_times}
 
 -- the effective numerator of combined solutions
 numerator_combined : (case : Lists) (t : ℕ) (c : ℤ) (one : Solution) (d : ℤ) (other : Solution)
@@ -35,6 +35,14 @@ numerator_agrees : (case : Lists) (t : ℕ) (standing : List Placed) (one other 
     → effective_numerator case one t *ℤ pos other.denominator ≡ effective_numerator case other t *ℤ pos one.denominator
 numerator_agrees case t standing one other agree =
     sum_agrees (λ (w : ElementId × ℕ). w.1) (λ w. one.current w.0.0) (λ w. other.current w.0.0) (pos other.denominator) (pos one.denominator) (λ w. agree.currents w.0.0) (weighted_windings case t)
+
+-- the effective numerator of so many times a solution
+numerator_times : (case : Lists) (t parts : ℕ) (s : Solution) → effective_numerator case (times parts s) t ≡ pos parts *ℤ effective_numerator case s t
+numerator_times case t parts s =
+    sum_times (λ (w : ElementId × ℕ). w.1) (λ w. s.current w.0.0) (λ w. s.current w.0.0) (pos parts) (weighted_windings case t)
+
+no_greater : (a b c : ℕ) → a ≤ b → b ≤ c → a ≤ c
+no_greater a b c first later = omega (arith, first, later)
 
 -- over plain numbers: from the two that agree to the sum, without the denominator that they share
 sum_taken_out : (strength north east q a b : ℤ) (d n e : ℕ) → 0 < d
@@ -54,9 +62,17 @@ root_of_nothing : (n : ℕ) → n * n ≤ 0 → n ≤ 0
 root_of_nothing zero h = omega arith
 root_of_nothing (suc n) h = absurd (omega arith)
 
-module _ (linear_volts : VoltsAreLinear) (superpose : SolutionsCombine) (case : Lists) (stands : Item → Bool) (strength north east : ℤ) (to_north to_east s : Solution)
+first_of_nothing : (n k : ℕ) → 0 < k → n * k ≤ 0 → n ≤ 0
+first_of_nothing zero k some h = omega arith
+first_of_nothing (suc n) k some h = absurd (omega (arith, some, h))
+
+module _ (linear_volts : VoltsAreLinear) (superpose : SolutionsCombine) (case : Lists) (stands : Item → Bool) (strength north east : ℤ) (parts : ℕ) (to_north to_east part : Solution)
     (agree : (volts : ℕ → ℤ) → AnyTwoAgree (standing_elements (elements_of case) stands) volts)
-    (solved : AreSolutions case (standing_elements (elements_of case) stands) strength north east to_north to_east s) where
+    (solved : AreSolutions case (standing_elements (elements_of case) stands) strength north east parts to_north to_east part) where
+  -- a solution in the field (north, east)
+  abbrev s : Solution
+  s = times parts part
+
   abbrev standing : List Placed
   standing = standing_elements (elements_of case) stands
 
@@ -82,34 +98,47 @@ module _ (linear_volts : VoltsAreLinear) (superpose : SolutionsCombine) (case : 
       scaled strength north east q a b (3000000 * (transformer_at case t).high_volts) s.denominator to_north.denominator to_east.denominator
       (sum_taken_out strength north east q a b s.denominator to_north.denominator to_east.denominator solved.in_both.denominator_above_0 equal)
 
+  -- the same of the solution in the field (north/parts, east/parts)
+  part_superposed : (t : ℕ) → (strength *ℤ pos parts) *ℤ (effective_numerator case part t *ℤ pos (effective_denominator case t to_north * effective_denominator case t to_east))
+      ≡ pos (effective_denominator case t part) *ℤ (north *ℤ north_current case t to_north to_east +ℤ east *ℤ east_current case t to_north to_east)
+  part_superposed t =
+      let both = pos (effective_denominator case t to_north * effective_denominator case t to_east) in
+      sym (parts_out strength (effective_numerator case part t) both parts) ∙ ap (λ z. strength *ℤ (z *ℤ both)) (sym (numerator_times case t parts part)) ∙ superposed t
+
   -- a field without strength is the one to the north
-  without_strength : square_of north + square_of east ≤ square_of strength → square_of strength ≤ 0 → uniform_volts case north east ≡ uniform_volts case strength (pos 0)
+  without_strength : square_of north + square_of east ≤ square_of (strength *ℤ pos parts) → square_of (strength *ℤ pos parts) ≤ 0 → uniform_volts case north east ≡ uniform_volts case strength (pos 0)
   without_strength within none =
-      let strength_is = nothing_of strength (root_of_nothing (unsigned_abs strength) none) in
+      let size = root_of_nothing (unsigned_abs (strength *ℤ pos parts)) none in
+      let product = unsigned_abs-mul strength (pos parts) in
+      let strength_is = nothing_of strength (first_of_nothing (unsigned_abs strength) parts solved.some_parts (omega (arith, size, product))) in
       let north_is = nothing_of north (root_of_nothing (unsigned_abs north) (omega (arith, within, none))) in
       let east_is = nothing_of east (root_of_nothing (unsigned_abs east) (omega (arith, within, none))) in
       ap (λ (z : ℤ). uniform_volts case z east) (north_is ∙ sym strength_is) ∙ ap (λ (z : ℤ). uniform_volts case strength z) east_is
 
   most_by : (t : ℕ) → ((c d : ℤ) (x y : ℤ) → square_of (c *ℤ x +ℤ d *ℤ y) ≤ (square_of c + square_of d) * (square_of x + square_of y))
-      → square_of north + square_of east ≤ square_of strength → ((0 < square_of strength) ⊎ (square_of strength ≤ 0))
-      → current_squared case t to_north to_east s ≤ worst_squared case t to_north to_east s
+      → square_of north + square_of east ≤ square_of (strength *ℤ pos parts) → ((0 < square_of (strength *ℤ pos parts)) ⊎ (square_of (strength *ℤ pos parts) ≤ 0))
+      → current_squared case t to_north to_east part ≤ worst_squared case t to_north to_east part
   most_by t cauchy within (inl some) =
-      square_most strength north east (effective_numerator case s t *ℤ pos (effective_denominator case t to_north * effective_denominator case t to_east))
-      (north_current case t to_north to_east) (east_current case t to_north to_east) (effective_denominator case t s)
-      (cauchy north east (north_current case t to_north to_east) (east_current case t to_north to_east)) (superposed t) within some
+      square_most (strength *ℤ pos parts) north east (effective_numerator case part t *ℤ pos (effective_denominator case t to_north * effective_denominator case t to_east))
+      (north_current case t to_north to_east) (east_current case t to_north to_east) (effective_denominator case t part)
+      (cauchy north east (north_current case t to_north to_east) (east_current case t to_north to_east)) (part_superposed t) within some
   most_by t cauchy within (inr none) =
       let same = subst (λ (v : ℕ → ℤ). IsSolution standing v s) (without_strength within none) solved.in_both in
-      square_same (effective_numerator case s t) (effective_numerator case to_north t) (east_current case t to_north to_east) (3000000 * (transformer_at case t).high_volts)
-      s.denominator to_north.denominator (effective_denominator case t to_east)
-      (numerator_agrees case t standing s to_north (agree _ s to_north same solved.in_north))
+      let q = effective_numerator case part t in
+      let both = pos (effective_denominator case t to_north * effective_denominator case t to_east) in
+      let agrees : (pos parts *ℤ q) *ℤ pos to_north.denominator ≡ effective_numerator case to_north t *ℤ pos s.denominator =
+      ap (λ z. z *ℤ pos to_north.denominator) (sym (numerator_times case t parts part)) ∙ numerator_agrees case t standing s to_north (agree _ s to_north same solved.in_north) in
+      let more = square_same (pos parts *ℤ q) (effective_numerator case to_north t) (east_current case t to_north to_east) (3000000 * (transformer_at case t).high_volts)
+      s.denominator to_north.denominator (effective_denominator case t to_east) agrees in
+      no_greater _ _ _ (square_grows q both parts solved.some_parts) more
 
   pub most : (t : ℕ) → ((c d : ℤ) (x y : ℤ) → square_of (c *ℤ x +ℤ d *ℤ y) ≤ (square_of c + square_of d) * (square_of x + square_of y))
-      → square_of north + square_of east ≤ square_of strength
-      → current_squared case t to_north to_east s ≤ worst_squared case t to_north to_east s
-  most t cauchy within = most_by t cauchy within (cases_lt 0 (square_of strength))
+      → square_of north + square_of east ≤ square_of (strength *ℤ pos parts)
+      → current_squared case t to_north to_east part ≤ worst_squared case t to_north to_east part
+  most t cauchy within = most_by t cauchy within (cases_lt 0 (square_of (strength *ℤ pos parts)))
 
   pub reached : (t : ℕ) → north *ℤ east_current case t to_north to_east ≡ east *ℤ north_current case t to_north to_east
-      → square_of strength * current_squared case t to_north to_east s ≡ (square_of north + square_of east) * worst_squared case t to_north to_east s
+      → square_of (strength *ℤ pos parts) * current_squared case t to_north to_east part ≡ (square_of north + square_of east) * worst_squared case t to_north to_east part
   reached t aligned =
-      square_reached strength north east (effective_numerator case s t *ℤ pos (effective_denominator case t to_north * effective_denominator case t to_east))
-      (north_current case t to_north to_east) (east_current case t to_north to_east) (effective_denominator case t s) (superposed t) aligned
+      square_reached (strength *ℤ pos parts) north east (effective_numerator case part t *ℤ pos (effective_denominator case t to_north * effective_denominator case t to_east))
+      (north_current case t to_north to_east) (east_current case t to_north to_east) (effective_denominator case t part) (part_superposed t) aligned

@@ -46,3 +46,11 @@ module _ {X : Type 0} (weight : X → ℕ) (f g : X → ℤ) where
       let one = +ℤ-*ℤ (w *ℤ f x) (sum_of (λ x. pos (weight x) *ℤ f x) xs) a in
       let other = +ℤ-*ℤ (w *ℤ g x) (sum_of (λ x. pos (weight x) *ℤ g x) xs) b in
       omega (arith, linear)
+
+  pub sum_times : (c : ℤ) (xs : List X) → sum_of (λ x. pos (weight x) *ℤ (c *ℤ f x)) xs ≡ c *ℤ sum_of (λ x. pos (weight x) *ℤ f x) xs
+  sum_times c [] = sym (*ℤ-zero c)
+  sum_times c (x ∷ xs) =
+      let here = *ℤ_left_comm (pos (weight x)) c (f x) in
+      let rest = sum_times c xs in
+      let both = *ℤ-+ℤ c (pos (weight x) *ℤ f x) (sum_of (λ x. pos (weight x) *ℤ f x) xs) in
+      omega (arith, linear)

@@ -9,10 +9,10 @@ use Rattle.gic_model.specs.Sums.{Placed}
 use Rattle.gic_report.specs.declared.counts.Counts.{Counts}
 use Rattle.gic_report.specs.Counts.{counts_of}
 use Rattle.gic_screen.specs.VerdictLaws.{UndecidedIsAcross, WorstBelowIsUnder, WorstReachesIsAtLeast}
-use Rattle.gic_screening.specs.RightRows.{IsRightWorst}
-use Rattle.gic_screening.specs.Rows.{Row, no_row}
+use Rattle.gic_screening.specs.RightRows.{IsThirdOfRight}
+use Rattle.gic_screening.specs.Rows.{Row, no_row, row_at}
 use Rattle.gic_screening.specs.Screening.{AreScreened}
-use Rattle.gic_screening.proofs.RightRows.{verdict_true}
+use Rattle.gic_screening.proofs.RightRows.{third_right, verdict_true}
 use Rattle.gic_stand.specs.declared.fault.NetworkRefusal.{NetworkRefusal}
 use Rattle.gic_stand.specs.declared.fault.NetworkRefusal.TheVariants.{Unearthed, Unresolved}
 use Rattle.gic_inputs.specs.declared.inputs.Inputs.{Inputs}
@@ -23,6 +23,7 @@ use Rattle.gic_outage_mode.specs.declared.outcome.Outcome.TheVariants.{Solved}
 use Rattle.gic_outage_mode.specs.Outages.{standing_without, worst_at}
 use Rattle.gic_outage_mode.specs.RightOutage.{north_volts, east_volts, threshold_asked, IsTakenOut, worst_verdicts}
 use Rattle.gic_outage_mode.specs.Taking.{worsts_in, AreRaisedBy, HasEnded, outcome_of}
+use Rattle.gic_outage_mode.proofs.CountedNear.{few_undecided}
 use Rattle.gic_outage_mode.proofs.Taken.{not_raised}
 
 -- the network is refused
@@ -55,9 +56,8 @@ solved_ended across under at_least inputs item standing north east rows counts o
     subst (λ (v : ℕ → ℤ). AreScreened case (standing_without inputs item) (north_volts inputs) v width rows) to_east
     (subst (λ (v : ℕ → ℤ). AreScreened case (standing_without inputs item) v east width rows) to_north
     (subst (λ (s : List Placed). AreScreened case s north east width rows) without screened)) in
-    let right : (t : ℕ) → t < length case.transformers → IsRightWorst case (standing_without inputs item) (north_volts inputs) (east_volts inputs) width t (worst_at worsts t) =
-    λ t inside. subst (λ (e : Ends). IsRightWorst case (standing_without inputs item) (north_volts inputs) (east_volts inputs) width t e)
-    (sym (get_or-map (λ (row : Row). row.worst) rows t no_row)) (own.right t inside).at_worst in
+    let right : (t : ℕ) → t < length case.transformers → IsThirdOfRight case (standing_without inputs item) (north_volts inputs) (east_volts inputs) width t (worst_at worsts t) =
+    λ t inside. record { row = row_at rows t; right = own.right t inside; is = get_or-map (λ (row : Row). row.worst) rows t no_row } in
     record {
       worsts = worsts;
       ends = (
@@ -66,8 +66,11 @@ solved_ended across under at_least inputs item standing north east rows counts o
           solvable = subst (λ (s : List Placed). IsSolvable s) without solvable;
           count = length-map rows (λ (row : Row). row.worst) ∙ own.count;
           right = right;
-          verdicts = λ t inside. verdict_true across under at_least case (standing_without inputs item) (north_volts inputs) (east_volts inputs) (threshold_asked inputs) width t (worst_at worsts t) sound inside (right t inside);
+          verdicts = λ t inside. verdict_true across under at_least case (standing_without inputs item) (north_volts inputs) (east_volts inputs) (threshold_asked inputs) width t (worst_at worsts t) sound inside
+              (third_right case (standing_without inputs item) (north_volts inputs) (east_volts inputs) width t (worst_at worsts t) (right t inside));
           counted = counted;
+          undecided_most = λ one other solve. few_undecided case (standing_without inputs item) (north_volts inputs) (east_volts inputs) (threshold_asked inputs) width worsts sound
+              (λ t inside. third_right case (standing_without inputs item) (north_volts inputs) (east_volts inputs) width t (worst_at worsts t) (right t inside)) one other solve counts counted;
         },
       );
       raised = raised;

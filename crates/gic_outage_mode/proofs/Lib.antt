@@ -1,3 +1,4 @@
+pub mod CountedNear
 pub mod Ended
 pub mod Greatest
 pub mod OutageDetermined

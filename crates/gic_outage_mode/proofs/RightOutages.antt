@@ -24,7 +24,8 @@ use Rattle.gic_screen.specs.declared.criterion.Verdict.{Verdict}
 use Rattle.gic_screen.specs.declared.criterion.Verdict.TheVariants.{Below, Reaches}
 use Rattle.gic_screen.specs.Verdict.{verdict_of}
 use Rattle.gic_screen.specs.VerdictLaws.{UndecidedIsAcross}
-use Rattle.gic_screening.specs.RightRows.{IsRightWorst, IsTrueVerdict, IsWorstUnder, worst_verdict_at}
+use Rattle.gic_screening.specs.RightRows.{IsRightWorst, IsThirdOfRight, IsTrueVerdict, IsWorstUnder, worst_verdict_at}
+use Rattle.gic_screening.proofs.RightRows.{third_right}
 use Rattle.gic_inputs.specs.declared.inputs.Inputs.{Inputs}
 use Rattle.gic_stand.specs.Standing.{IsSolvable, IsNameOfUnearthed, IsNameOfUnresolved}
 use Rattle.gic_winding.specs.Weights.{transformer_at}
@@ -104,6 +105,9 @@ if_some (Some e) P h = h e refl
 abbrev IsRightOne : Inputs → Item → (t : ℕ) → Ends → Type 0
 IsRightOne inputs item t w = IsRightWorst inputs.case (standing_without inputs item) (north_volts inputs) (east_volts inputs) inputs.question.width t w
 
+as_worst : (inputs : Inputs) (item : Item) (t : ℕ) (w : Ends) → IsThirdOfRight inputs.case (standing_without inputs item) (north_volts inputs) (east_volts inputs) inputs.question.width t w → IsRightOne inputs item t w
+as_worst inputs item t w third = third_right inputs.case (standing_without inputs item) (north_volts inputs) (east_volts inputs) inputs.question.width t w third
+
 -- it is, and the verdict on it is true
 record IsRightHere (inputs : Inputs) (item : Item) (t : ℕ) (w : Ends) : Type 0 where
   right : IsRightOne inputs item t w
@@ -161,7 +165,7 @@ module _ (across : UndecidedIsAcross) (inputs : Inputs) (outages : List Outage) 
       record {
         item = item;
         solved = record { planned = Contains-get_or (plan_of inputs.case) place (Line 0) here; taken_out = ended.taken_out; solvable = ended.right.solvable };
-        right = subst (IsRightHere inputs item t) (get_or_from_slice_get worsts t w no_ends shown) (record { right = ended.right.right t within; verdict = ended.right.verdicts t within });
+        right = subst (IsRightHere inputs item t) (get_or_from_slice_get worsts t w no_ends shown) (record { right = as_worst inputs item t (worst_at worsts t) (ended.right.right t within); verdict = ended.right.verdicts t within });
       }
 
   -- each solved outage shows it
@@ -178,7 +182,7 @@ module _ (across : UndecidedIsAcross) (inputs : Inputs) (outages : List Outage) 
         place = place;
         w = worst_at worsts t;
         shown = cell_of outages t place ∙ slice_get-get_or worsts t no_ends there;
-        right = record { right = right.right t within; verdict = right.verdicts t within };
+        right = record { right = as_worst inputs item t (worst_at worsts t) (right.right t within); verdict = right.verdicts t within };
       }
 
   under_all : (t : ℕ) (e : Ends) → t < length inputs.case.transformers → AreGreatest (worsts_of outages t) e → says t e ≡ Below → (item : Item) → IsSolvedOutage inputs item →

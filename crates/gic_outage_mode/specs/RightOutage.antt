@@ -1,5 +1,5 @@
 -- What a report of the mode has to say.
-use Rattle.std.specs.Prelude.{◌≡◌, ℕ, ◌<◌, List, [], length, map, Option, IfSome, IsTrue, IsFalse, Contains, ℤ, pos, ◌*◌, ◌≤◌, ◌*ℤ◌, ◌≤ℤ◌}
+use Rattle.std.specs.Prelude.{◌≡◌, ℕ, ◌<◌, List, [], length, map, Option, IfSome, IsTrue, IsFalse, Contains, ℤ, pos, ◌+◌, ◌-◌, ◌*◌, ◌≤◌, ◌*ℤ◌, ◌≤ℤ◌, Bool, ◌&&◌, nat_lt, nat_le}
 use Rattle.std.specs.List.{range_with_len}
 use Rattle.gic_case.specs.Lists.{Lists}
 use Rattle.gic_fixed.specs.Ends.{Ends}
@@ -14,13 +14,13 @@ use Rattle.gic_screen.specs.Worst.{square_of}
 use Rattle.gic_outage.specs.Plan.{plan_of}
 use Rattle.gic_outage.specs.Removing.{is_idle}
 use Rattle.gic_report.specs.declared.counts.Counts.{Counts}
-use Rattle.gic_report.specs.Counts.{counts_of}
+use Rattle.gic_report.specs.Counts.{counts_of, transformers_with}
 use Rattle.gic_inputs.specs.declared.inputs.Inputs.{Inputs}
 use Rattle.gic_stand.specs.Standing.{standing_of, IsSolvable, IsNameOfUnearthed, IsNameOfUnresolved}
 use Rattle.gic_effective.specs.Weighted.{effective_denominator}
 use Rattle.gic_uniform.specs.Uniform.{uniform_volts}
-use Rattle.gic_screening.specs.RightRows.{AreSolutionsOf, IsRightWorst, IsTrueVerdict, IsWorstUnder, IsWorstAtLeast, squared_worst, worst_verdict_at}
-use Rattle.gic_report.specs.VerdictText.{IsAcross}
+use Rattle.gic_screening.specs.RightRows.{AreSolutionsOf, IsThirdOfRight, IsTrueVerdict, IsWorstUnder, IsWorstAtLeast, squared_worst, squared_threshold, worst_verdict_at}
+use Rattle.gic_report.specs.VerdictText.{IsAcross, is_judged}
 use Rattle.gic_outage_mode.specs.declared.outcome.Outcome.{Outcome}
 use Rattle.gic_outage_mode.specs.declared.outcome.Outcome.TheVariants.{Idle, Unearthed, Unresolved, Solved}
 use Rattle.gic_outage_mode.specs.Outages.{Outage, standing_without, item_at, outage_at, worst_at, worsts_of, greatest_of}
@@ -45,15 +45,23 @@ IsTakenOut inputs item = IsFalse (is_idle (standing_of inputs.case inputs.switch
 abbrev pub worst_verdicts : Lists → (threshold : ℕ) → List Ends → List Verdict
 worst_verdicts case threshold worsts = map (λ t. worst_verdict_at case threshold t (worst_at worsts t)) (range_with_len 0 (length case.transformers))
 
--- the network without the item can be solved, each worst interval there is right, each verdict on it is true, and the counts are those of these verdicts
+-- the transformer at a place is assessed, and its current for the worst orientation in two solutions is within one width of the threshold: not under the threshold less the width, and under the threshold with the width added
+abbrev pub is_worst_near : Lists → (width threshold : ℕ) → (one other : Solution) → (t : ℕ) → Bool
+is_worst_near case width threshold one other t =
+    is_judged case t && (nat_le (squared_threshold case (threshold - width) t one other) (squared_worst case t one other)
+    && nat_lt (squared_worst case t one other) (squared_threshold case (threshold + width) t one other))
+
+-- the network without the item can be solved, each worst interval there is the third of a right row, each verdict on it is true, and the counts are those of these verdicts; in every two solutions so many transformers at least as are counted undecided have a worst current within one width of the threshold
 pub record AreRightWorsts (inputs : Inputs) (item : Item) (worsts : List Ends) (counts : Counts) : Type 0 where
   pub solvable : IsSolvable (standing_without inputs item)
   pub count : length worsts ≡ length inputs.case.transformers
   pub right : (t : ℕ) → t < length inputs.case.transformers →
-      IsRightWorst inputs.case (standing_without inputs item) (north_volts inputs) (east_volts inputs) inputs.question.width t (worst_at worsts t)
+      IsThirdOfRight inputs.case (standing_without inputs item) (north_volts inputs) (east_volts inputs) inputs.question.width t (worst_at worsts t)
   pub verdicts : (t : ℕ) → t < length inputs.case.transformers →
       IsTrueVerdict inputs.case (standing_without inputs item) (north_volts inputs) (east_volts inputs) (threshold_asked inputs) t (worst_at worsts t)
   pub counted : counts ≡ counts_of (worst_verdicts inputs.case (threshold_asked inputs) worsts)
+  pub undecided_most : (one other : Solution) → AreSolutionsOf (standing_without inputs item) (north_volts inputs) (east_volts inputs) one other →
+      counts.undecided ≤ transformers_with inputs.case (is_worst_near inputs.case inputs.question.width (threshold_asked inputs) one other)
 
 -- the outage of an item ends as its network decides: it was idle; or the network without it has this first live node that is not earthed; or all are earthed, and this is the first with the entry 4097 in the least capped vector; or it is solved
 abbrev pub EndsAs : Inputs → Item → List Ends → Outcome → Type 0

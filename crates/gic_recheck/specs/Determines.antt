@@ -1,5 +1,5 @@
 -- That the text of the mode determines what it shows, that no certificate is both accepted and refused, and that the text of one that passes is accepted.
-use Rattle.std.specs.Prelude.{◌≡◌, ℕ, List, Option, IfSome, All, ℤ, FitsSigned, is_some, length, map}
+use Rattle.std.specs.Prelude.{◌≡◌, ℕ, List, Option, IfSome, All, ℤ, FitsSigned, length}
 use mir.Syntax.{w32}
 use Rattle.gic_case.specs.Lists.{Lists, node_names}
 use Rattle.gic_fixed.specs.Ends.{Ends}
@@ -10,7 +10,7 @@ use Rattle.gic_cert.specs.Text.{cert_text}
 use Rattle.gic_cert.specs.Written.{Certificate, IsWritten}
 use Rattle.gic_uniform.specs.Uniform.{uniform_volts}
 use Rattle.gic_winding.specs.ElementList.{elements_of}
-use Rattle.gic_report.specs.Fits.{HasNames, AreInRange}
+use Rattle.gic_report.specs.Fits.{AreInRange}
 use Rattle.gic_text.specs.Lines.{lines_text}
 use Rattle.gic_recheck.specs.Accepted.{IsAccepted, IsRefused}
 use Rattle.gic_recheck.specs.RecheckText.{recheck_report}
@@ -23,14 +23,10 @@ pub record AreShownOf (case : Lists) (north east : ℤ) (intervals : List (Optio
   pub east_fits : FitsSigned w32 east
   pub ends_fit : All (λ interval. IfSome interval AreInRange) intervals
 
--- the same nodes have an interval
-abbrev pub HaveSameLive : List (Option Ends) → List (Option Ends) → Type 0
-HaveSameLive intervals others = map is_some intervals ≡ map is_some others
-
--- equal texts on one case, in which the same nodes are live, show the same
+-- equal texts on one sound case show the same: the names of the lines tell which nodes are live
 abbrev pub TextDeterminesPotentials : Type 0
-TextDeterminesPotentials = (case : Lists) → HasNames case → (north east : ℤ) (intervals : List (Option Ends)) (north' east' : ℤ) (intervals' : List (Option Ends)) →
-    AreShownOf case north east intervals → AreShownOf case north' east' intervals' → HaveSameLive intervals intervals' →
+TextDeterminesPotentials = (case : Lists) → IsSound case → (north east : ℤ) (intervals : List (Option Ends)) (north' east' : ℤ) (intervals' : List (Option Ends)) →
+    AreShownOf case north east intervals → AreShownOf case north' east' intervals' →
     lines_text (recheck_report case north east intervals) ≡ lines_text (recheck_report case north' east' intervals') →
     (north ≡ north') × (east ≡ east') × (intervals ≡ intervals')
 

@@ -3,7 +3,7 @@ ghost use Rattle.gic_recheck.specs.Determines.{TextDeterminesPotentials, Accepte
 
 use gic_cert::laws::text_law;
 
-/// Texts on one case that are equal, in which the same nodes are live, show the same field and the same intervals.
+/// Texts on one sound case that are equal show the same field and the same intervals, and so the same live nodes.
 pub fn text_determines_potentials_law()
     ensures { TextDeterminesPotentials }
 {}

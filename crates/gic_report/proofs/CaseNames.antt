@@ -60,7 +60,7 @@ module _ (P : List ℕ → Type 0) (case : Lists) where
   of_transformers h = (both_parts P lines transformers (past_buses h)).1
 
 -- of the neutral nodes
-of_devices : (P : List ℕ → Type 0) (ts : List Transformer) → AllByRecursion P (map (λ t. t.name) ts) → AllByRecursion P (map (λ t. t.name) (with_device ts))
+pub of_devices : (P : List ℕ → Type 0) (ts : List Transformer) → AllByRecursion P (map (λ t. t.name) ts) → AllByRecursion P (map (λ t. t.name) (with_device ts))
 of_devices P [] h = tt
 of_devices P (t ∷ ts) h =
     elim (is_some t.neutral) as (λ b. AllByRecursion P (map (λ t. t.name) (if b then t ∷ with_device ts else with_device ts)))

@@ -1,6 +1,7 @@
 -- Verdicts, counted, and their words.
-use Rattle.std.specs.Prelude.{ℕ, ◌+◌, ◌^◌, ◌<◌, List, [], ◌∷◌, codes, decimal}
-use Rattle.std.specs.List.{fold}
+use Rattle.std.specs.Prelude.{ℕ, ◌+◌, ◌^◌, ◌<◌, Bool, List, [], ◌∷◌, length, count_by, codes, decimal}
+use Rattle.std.specs.List.{fold, range_with_len}
+use Rattle.gic_case.specs.Lists.{Lists}
 use Rattle.gic_screen.specs.declared.criterion.Verdict.{Verdict}
 use Rattle.gic_screen.specs.declared.criterion.Verdict.TheVariants.{Below, Reaches, Undecided, Outside}
 use Rattle.gic_report.specs.declared.counts.Counts.{Counts}
@@ -24,6 +25,10 @@ counts_of verdicts = fold counted no_counts verdicts
 -- how many have been counted
 abbrev pub total_of : Counts → ℕ
 total_of counts = counts.below + counts.reaches + counts.undecided + counts.outside
+
+-- how many transformers of a case pass a test of their places
+abbrev pub transformers_with : Lists → (test : ℕ → Bool) → ℕ
+transformers_with case test = count_by test (range_with_len 0 (length case.transformers))
 
 -- each count is a number of 16 bits
 pub record AreCounts (counts : Counts) : Type 0 where

@@ -10,13 +10,17 @@ use Rattle.gic_case.specs.Lists.{Lists, has_windings}
 use Rattle.gic_winding.specs.Weights.{transformer_at}
 use Rattle.gic_screen.specs.declared.criterion.Verdict.{Verdict}
 use Rattle.gic_screen.specs.declared.criterion.Verdict.TheVariants.{Below, Reaches, Undecided, Outside}
-use Rattle.gic_screen.specs.Verdict.{verdict_of}
+use Rattle.gic_screen.specs.Verdict.{is_assessed, verdict_of}
 use Rattle.gic_report.specs.SharedLines.{Words}
 use Rattle.gic_report.specs.ItemText.{per_transformer}
 
 -- the high side is earthed through its winding, as NERC TPL-007 asks: only a delta-delta unit has no such winding
 abbrev pub earthed_high : Kind → Bool
 earthed_high kind = has_windings kind
+
+-- the transformer at a place of the case is assessed: its verdict isn't outside
+abbrev pub is_judged : Lists → (t : ℕ) → Bool
+is_judged case t = is_assessed (transformer_at case t).high_volts (earthed_high (transformer_at case t).kind)
 
 -- the interval lies across a threshold in mA: it begins under it, and doesn't end under it
 abbrev pub IsAcross : (threshold : ℕ) → Ends → Type 0

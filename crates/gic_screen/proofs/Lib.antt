@@ -1,3 +1,4 @@
+pub mod Determined
 pub mod Judged
 pub mod Squares
 pub mod Worsts

@@ -1,5 +1,8 @@
 -- The greatest current over all orientations of a uniform field.
-use Rattle.std.specs.Prelude.{ℕ, ◌+◌, ◌*◌, ◌≤◌, ℤ, pos, ◌*ℤ◌, ◌≤ℤ◌, unsigned_abs}
+use Rattle.std.specs.Prelude.{ℕ, ◌+◌, ◌*◌, ◌≤◌, ◌≡◌, ℤ, pos, negsuc, ◌*ℤ◌, ◌≤ℤ◌, unsigned_abs}
+use Rattle.gic_fixed.specs.Ends.{Ends, no_ends}
+use Rattle.gic_fixed.specs.Rounding.{least_abs, greatest_abs}
+use Rattle.gic_fixed.specs.Roots.{IsFloorRoot, IsCeilRoot}
 
 -- the square of a whole number
 abbrev pub square_of : ℤ → ℕ
@@ -10,3 +13,28 @@ pub record EnclosesWorst (lo hi n : ℤ) (d : ℕ) (m : ℤ) (e : ℕ) : Type 0 
   pub not_negative : pos 0 ≤ℤ lo
   pub above_lo : square_of (lo *ℤ pos (d * e)) ≤ square_of (n *ℤ pos e) + square_of (m *ℤ pos d)
   pub below_hi : square_of (n *ℤ pos e) + square_of (m *ℤ pos d) ≤ square_of (hi *ℤ pos (d * e))
+
+-- the worst interval of the signed intervals to the north and to the east: from the root of the sum of the squares of the least absolute values in the two, rounded down, to that of the greatest ones, rounded up
+pub record IsWorstOf (north east worst : Ends) : Type 0 where
+  pub not_negative : pos 0 ≤ℤ worst.low
+  pub in_order : worst.low ≤ℤ worst.high
+  pub low : IsFloorRoot (square_of (least_abs north.low north.high) + square_of (least_abs east.low east.high)) (unsigned_abs worst.low)
+  pub high : IsCeilRoot (square_of (greatest_abs north.low north.high) + square_of (greatest_abs east.low east.high)) (unsigned_abs worst.high)
+
+-- there is one alone
+abbrev pub WorstIsDetermined : Type 0
+WorstIsDetermined = (north east worst other : Ends) → IsWorstOf north east worst → IsWorstOf north east other → worst ≡ other
+
+-- that of two points 0 is the point 0
+abbrev pub WorstOfNoughtIsNought : Type 0
+WorstOfNoughtIsNought = (worst : Ends) → IsWorstOf no_ends no_ends worst → worst ≡ no_ends
+
+-- that of two intervals from -1 to 1 goes from 0 to 2
+abbrev pub ends_about_nought : Ends
+ends_about_nought = record { low = negsuc 0; high = pos 1 }
+
+abbrev pub ends_up_to_2 : Ends
+ends_up_to_2 = record { low = pos 0; high = pos 2 }
+
+abbrev pub WorstAboutNought : Type 0
+WorstAboutNought = (worst : Ends) → IsWorstOf ends_about_nought ends_about_nought worst → worst ≡ ends_up_to_2

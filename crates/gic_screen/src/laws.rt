@@ -1,7 +1,7 @@
 //! Laws over the definitions, each the contract of a function that does nothing: a function whose proof rests on a law
 //! calls it.
 ghost use Rattle.std.specs.Prelude.{◌≡◌, ◌+◌, ◌*◌, ◌≤◌, ℤ, ◌+ℤ◌, ◌*ℤ◌};
-ghost use Rattle.gic_screen.specs.Worst.{square_of};
+ghost use Rattle.gic_screen.specs.Worst.{square_of, WorstIsDetermined, WorstOfNoughtIsNought, WorstAboutNought};
 ghost use Rattle.gic_screen.specs.VerdictLaws.{BelowIsUnder, ReachesIsAtLeast, UndecidedIsAcross, WorstBelowIsUnder, WorstReachesIsAtLeast};
 
 /// In a uniform field with the parts c and s a current that is a for the one unit field and b for the other is
@@ -25,4 +25,12 @@ pub fn verdict_law()
 pub fn worst_verdict_law()
     ensures below { WorstBelowIsUnder }
     ensures reaches { WorstReachesIsAtLeast }
+{}
+
+/// The worst interval is determined by the two signed intervals that it is made of: of `0 0` twice it is `0 0`, and of
+/// `-1 1` twice `0 2`.
+pub fn worst_interval_law()
+    ensures determined { WorstIsDetermined }
+    ensures nought { WorstOfNoughtIsNought }
+    ensures about_nought { WorstAboutNought }
 {}

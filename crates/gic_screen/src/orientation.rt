@@ -1,10 +1,9 @@
 //! The greatest current over all orientations of a uniform field.
 ghost use Rattle.std.specs.Prelude.{◌≡◌, ℕ, ◌+◌, ◌*◌, ◌^◌, ◌<◌, ◌≤◌, ℤ, pos, ◌≤ℤ◌, unsigned_abs};
-ghost use Rattle.gic_fixed.specs.Ends.{IsAtMostWide};
-ghost use Rattle.gic_fixed.specs.Rounding.{least_abs, greatest_abs};
+ghost use Rattle.gic_fixed.specs.Ends.{ends_of, IsAtMostWide};
 ghost use Rattle.gic_fixed.specs.Encloses.{Encloses, IsWithin};
 ghost use Rattle.gic_fixed.specs.Roots.{IsFloorRoot, IsCeilRoot};
-ghost use Rattle.gic_screen.specs.Worst.{square_of, EnclosesWorst};
+ghost use Rattle.gic_screen.specs.Worst.{square_of, EnclosesWorst, IsWorstOf};
 
 use gic_fixed::{Interval, isqrt_ceil, isqrt_floor};
 
@@ -43,13 +42,7 @@ fn ceil_length(a: i128, b: i128) -> i128
 pub fn worst(north: Interval, east: Interval) -> Interval
     requires north { IsWithin (2 ^ 62) north.lo north.hi }
     requires east { IsWithin (2 ^ 62) east.lo east.hi }
-    ensures not_negative { pos 0 ≤ℤ result.lo }
-    ensures low { IsFloorRoot
-        (square_of (least_abs north.lo north.hi) + square_of (least_abs east.lo east.hi))
-        (unsigned_abs result.lo) }
-    ensures high { IsCeilRoot
-        (square_of (greatest_abs north.lo north.hi) + square_of (greatest_abs east.lo east.hi))
-        (unsigned_abs result.hi) }
+    ensures is { IsWorstOf (ends_of north) (ends_of east) (ends_of result) }
 
     // Whatever fractions n/d and m/e the two intervals enclose, the result encloses their worst current.
     ensures holds { (n : ℤ) (d : ℕ) (m : ℤ) (e : ℕ) →

@@ -1,5 +1,5 @@
 -- Rows of two solved views are right, and the verdicts on right worst intervals are true.
-use Rattle.std.proofs.Common.{◌≡◌, ℕ, ◌*◌, ◌<◌, ◌≤◌, List, length, ℤ, pos, arith, sym, subst}
+use Rattle.std.proofs.Common.{◌≡◌, ℕ, ◌*◌, ◌<◌, ◌≤◌, List, length, ℤ, pos, arith, sym, subst, subst₂}
 use Rattle.std.proofs.lemmas.Int.{ints}
 use Rattle.gic_case.specs.Lists.{Lists}
 use Rattle.gic_case.specs.Sound.{IsSound}
@@ -14,11 +14,12 @@ use Rattle.gic_screen.specs.declared.event.Event.{Event}
 use Rattle.gic_screen.specs.declared.event.Event.TheVariants.{Benchmark, Supplemental}
 use Rattle.gic_screen.specs.Event.{field_of}
 use Rattle.gic_screen.specs.VerdictLaws.{UndecidedIsAcross, WorstBelowIsUnder, WorstReachesIsAtLeast}
+use Rattle.gic_screen.specs.Worst.{IsWorstOf}
 use Rattle.gic_report.specs.VerdictText.{earthed_high}
 use Rattle.gic_uniform.specs.Solving.{IsSolvedView}
 use Rattle.gic_uniform.proofs.Denominators.{some_denominator}
 use Rattle.gic_screening.specs.Rows.{Row, row_at, IsRowOf}
-use Rattle.gic_screening.specs.RightRows.{IsRightWorst, IsRightRow, IsTrueVerdict}
+use Rattle.gic_screening.specs.RightRows.{IsRightWorst, IsRightRow, IsThirdOfRight, IsTrueVerdict}
 use Rattle.gic_screening.specs.Screening.{AreScreened}
 
 -- the field of an event is one that can be asked for, and so is none
@@ -43,11 +44,12 @@ row_right case standing north east width half t north_view east_view row one oth
       at_worst = record {
         holds = λ s r solves. is.holds (effective_numerator case s t) (effective_denominator case t s) (effective_numerator case r t) (effective_denominator case t r)
             ((one.right.effective t inside).holds s solves.in_north) ((other.right.effective t inside).holds r solves.in_east);
-        in_order = is.in_order;
+        in_order = is.worst_is.in_order;
         narrow = wider row.worst (2 * half) width twice third;
       };
       north_narrow = subst (λ (e : Ends). IsAtMostWide width e.low e.high) (sym is.north_is) (wider (effective_at north_view t) half width (omega arith) first);
       east_narrow = subst (λ (e : Ends). IsAtMostWide width e.low e.high) (sym is.east_is) (wider (effective_at east_view t) half width (omega arith) second);
+      worst_is = subst₂ (λ (a b : Ends). IsWorstOf a b row.worst) (sym is.north_is) (sym is.east_is) is.worst_is;
     }
   where
     wider : (e : Ends) (w v : ℕ) → w ≤ v → IsAtMostWide w e.low e.high → IsAtMostWide v e.low e.high
@@ -63,6 +65,10 @@ rows_screened case standing north east width half north_view east_view rows one 
   count = count;
   right = λ t inside. row_right case standing north east width half t north_view east_view (row_at rows t) one other inside least twice (filled t (subst (λ n. t < n) (sym count) inside));
 }
+
+-- the third of a right row is a right worst interval
+pub third_right : (case : Lists) (standing : List Placed) (north east : ℕ → ℤ) (width t : ℕ) (worst : Ends) → IsThirdOfRight case standing north east width t worst → IsRightWorst case standing north east width t worst
+third_right case standing north east width t worst third = subst (λ (e : Ends). IsRightWorst case standing north east width t e) (sym third.is) third.right.at_worst
 
 -- the verdict on a right worst interval is true
 pub verdict_true : UndecidedIsAcross → WorstBelowIsUnder → WorstReachesIsAtLeast → (case : Lists) (standing : List Placed) (north east : ℕ → ℤ) (threshold width t : ℕ) (worst : Ends)

@@ -12,7 +12,7 @@ use Rattle.gic_screen.specs.declared.criterion.Verdict.{Verdict}
 use Rattle.gic_screen.specs.declared.criterion.Verdict.TheVariants.{Below, Reaches, Undecided}
 use Rattle.gic_screen.specs.Verdict.{verdict_of}
 use Rattle.gic_screen.specs.VerdictLaws.{threshold_square, worst_square}
-use Rattle.gic_screen.specs.Worst.{EnclosesWorst}
+use Rattle.gic_screen.specs.Worst.{EnclosesWorst, IsWorstOf}
 use Rattle.gic_report.specs.VerdictText.{IsAcross, earthed_high}
 use Rattle.gic_screening.specs.Rows.{Row}
 
@@ -28,13 +28,20 @@ pub record IsRightWorst (case : Lists) (standing : List Placed) (north east : �
   pub in_order : worst.low ≤ℤ worst.high
   pub narrow : IsAtMostWide width worst.low worst.high
 
--- each interval holds what it stands for in every solution, and none is wider than asked
+-- each interval holds what it stands for in every solution, none is wider than asked, and the third is the worst interval of the other two
 pub record IsRightRow (case : Lists) (standing : List Placed) (north east : ℕ → ℤ) (width t : ℕ) (row : Row) : Type 0 where
   pub to_north : IsRightEffective case standing north t row.north
   pub to_east : IsRightEffective case standing east t row.east
   pub at_worst : IsRightWorst case standing north east width t row.worst
   pub north_narrow : IsAtMostWide width row.north.low row.north.high
   pub east_narrow : IsAtMostWide width row.east.low row.east.high
+  pub worst_is : IsWorstOf row.north row.east row.worst
+
+-- the interval is the third of a right row
+pub record IsThirdOfRight (case : Lists) (standing : List Placed) (north east : ℕ → ℤ) (width t : ℕ) (worst : Ends) : Type 0 where
+  pub row : Row
+  pub right : IsRightRow case standing north east width t row
+  pub is : worst ≡ row.worst
 
 -- the square of the transformer's current for the worst orientation, and that of a threshold in mA per phase, both times the squares of the two denominators
 abbrev pub squared_worst : Lists → (t : ℕ) → (one other : Solution) → ℕ

@@ -1,8 +1,8 @@
 -- What a screen shows of a transformer, with each interval as its two ends.
-use Rattle.std.specs.Prelude.{◌≡◌, ℕ, ◌*◌, ◌≤◌, List, slice_index_or, ℤ, ◌≤ℤ◌}
+use Rattle.std.specs.Prelude.{◌≡◌, ℕ, ◌*◌, ◌≤◌, List, slice_index_or, ℤ}
 use Rattle.gic_fixed.specs.Encloses.{Encloses}
 use Rattle.gic_fixed.specs.Ends.{Ends, ends_of, no_ends, IsAtMostWide}
-use Rattle.gic_screen.specs.Worst.{EnclosesWorst}
+use Rattle.gic_screen.specs.Worst.{EnclosesWorst, IsWorstOf}
 use Rattle.gic_screening.specs.declared.rows.ScreenRow.{ScreenRow}
 
 -- its signed effective currents to the north and to the east, and its absolute one for the worst orientation, in mA per phase
@@ -22,11 +22,11 @@ no_row = record { north = no_ends; east = no_ends; worst = no_ends }
 abbrev pub row_at : List Row → ℕ → Row
 row_at rows place = slice_index_or rows place no_row
 
--- the row of two signed intervals: the third one encloses the worst current of whatever fractions the two enclose, and where neither is wider than a width from 2 on, it is at most twice that width
+-- the row of two signed intervals: the third one is their worst interval; it encloses the worst current of whatever fractions the two enclose, and where neither is wider than a width from 2 on, it is at most twice that width
 pub record IsRowOf (north_ends east_ends : Ends) (row : Row) : Type 0 where
   pub north_is : row.north ≡ north_ends
   pub east_is : row.east ≡ east_ends
-  pub in_order : row.worst.low ≤ℤ row.worst.high
+  pub worst_is : IsWorstOf north_ends east_ends row.worst
   pub holds : (n : ℤ) (d : ℕ) (m : ℤ) (e : ℕ) → Encloses north_ends.low north_ends.high n d → Encloses east_ends.low east_ends.high m e →
       EnclosesWorst row.worst.low row.worst.high n d m e
   pub narrow : (width : ℕ) → 2 ≤ width → IsAtMostWide width north_ends.low north_ends.high → IsAtMostWide width east_ends.low east_ends.high →

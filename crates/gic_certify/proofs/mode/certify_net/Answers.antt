@@ -23,7 +23,7 @@ returns-clause-serves g c =
     let made = c.in_ok-certificate.ensures in
     served Solved case _ (ShowsPassing case stands volts question.north question.east) _ _ _ c.write_cert-writing.result c.ended.result
     (met_once Solved stands c.in_ok-expect_solvable.ensures.ready.solvable)
-    (shows_passing case c.args.net.now volts question.north question.east c.in_ok-certificate.certificate c.requires.net made.written made.field made.passes made.exact made.small)
+    (shows_passing c.passing_law.ensures case c.args.net.now volts question.north question.east c.in_ok-certificate.certificate c.requires.net c.within_limits.ensures made.written made.field made.passes made.exact made.small)
     c.write_cert-writing.ensures.all c.write_cert-writing.ensures.part c.write_cert-writing.ensures.cause c.ended.ensures
 
 pub returns-in_err-expect_solvable-clause-serves : goal.returns-in_err-expect_solvable-clause-serves

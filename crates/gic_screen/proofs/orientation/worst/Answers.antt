@@ -28,26 +28,28 @@ new-requires c =
     let order = lengths_in_order a.lo a.hi b.lo b.hi c.floor_length.result c.ceil_length.result first a.ordered second b.ordered c.floor_length.ensures.sign c.ceil_length.ensures.sign floor ceil in
     search (rules, order)
 
-pub returns-clause-low : goal.returns-clause-low
-returns-clause-low c =
+pub returns-clause-is : goal.returns-clause-is
+returns-clause-is c =
     let a = c.abs-a.result in
     let b = c.abs-b.result in
+    let worst = c.new.result in
     let floor : IsFloorRoot (square_of a.lo + square_of b.lo) (unsigned_abs c.floor_length.result) = search (rules, c.floor_length.ensures.root) in
-    let same : c.floor_length.result ≡ c.new.result.lo = search (rules, c.new.ensures.low) in
-    floor_root_same a.lo _ b.lo _ c.floor_length.result c.new.result.lo c.abs-a.ensures.low c.abs-b.ensures.low same floor
-
-pub returns-clause-high : goal.returns-clause-high
-returns-clause-high c =
-    let a = c.abs-a.result in
-    let b = c.abs-b.result in
     let ceil : IsCeilRoot (square_of a.hi + square_of b.hi) (unsigned_abs c.ceil_length.result) = search (rules, c.ceil_length.ensures.root) in
-    let same : c.ceil_length.result ≡ c.new.result.hi = search (rules, c.new.ensures.high) in
-    ceil_root_same a.hi _ b.hi _ c.ceil_length.result c.new.result.hi c.abs-a.ensures.high c.abs-b.ensures.high same ceil
+    let low : c.floor_length.result ≡ worst.lo = search (rules, c.new.ensures.low) in
+    let high : c.ceil_length.result ≡ worst.hi = search (rules, c.new.ensures.high) in
+    record {
+      not_negative = search (rules, c.floor_length.ensures.sign);
+      in_order = worst.ordered;
+      low = floor_root_same a.lo _ b.lo _ c.floor_length.result worst.lo c.abs-a.ensures.low c.abs-b.ensures.low low floor;
+      high = ceil_root_same a.hi _ b.hi _ c.ceil_length.result worst.hi c.abs-a.ensures.high c.abs-b.ensures.high high ceil;
+    }
 
 pub returns-clause-holds : goal.returns-clause-holds
 returns-clause-holds c =
-    worst_holds c.args.north.lo c.args.north.hi c.args.east.lo c.args.east.hi c.new.result.lo c.new.result.hi c.args.north.ordered c.args.east.ordered (search (rules, c.floor_length.ensures.sign)) (returns-clause-low c) (returns-clause-high c)
+    let is = returns-clause-is c in
+    worst_holds c.args.north.lo c.args.north.hi c.args.east.lo c.args.east.hi c.new.result.lo c.new.result.hi c.args.north.ordered c.args.east.ordered is.not_negative is.low is.high
 
 pub returns-clause-narrow : goal.returns-clause-narrow
 returns-clause-narrow c =
-    worst_narrow c.args.north.lo c.args.north.hi c.args.east.lo c.args.east.hi c.new.result.lo c.new.result.hi c.args.north.ordered c.args.east.ordered (search (rules, c.floor_length.ensures.sign)) (returns-clause-low c) (returns-clause-high c)
+    let is = returns-clause-is c in
+    worst_narrow c.args.north.lo c.args.north.hi c.args.east.lo c.args.east.hi c.new.result.lo c.new.result.hi c.args.north.ordered c.args.east.ordered is.not_negative is.low is.high

@@ -1,0 +1,187 @@
+#!/usr/bin/env python3
+"""Makes the index of all definitions, docs/INDEX.md, and checks it.
+
+    python3 docs/definitions.py [--write]
+
+The index has each file of definitions, `crates/NAME/specs/FILE.antt`, once: first those that the headline leads to, in
+the order in which a reader comes to them who follows what is cited, step by step; then those that laws lead to; then
+the others, crate by crate. Behind each stand the first sentence of its head, and where it is cited: in definitions
+(`specs/`) and in contracts (`src/`); proofs aren't counted.
+
+Without --write it compares docs/INDEX.md with what it makes. It also looks whether each file begins with a remark,
+whether each is cited, whether docs/DEFINITIONS.md names none that isn't there, and whether each crate of crates.txt
+stands once in the first column of the table of crates in docs/MAP.md, and no other. The last line is `N definitions, M
+faults`, and the status is 0 only where M is 0.
+"""
+
+from __future__ import annotations
+
+import re
+import sys
+from dataclasses import dataclass, field
+from pathlib import Path
+
+TOP = Path(__file__).resolve().parent.parent
+INDEX = "docs/INDEX.md"
+WORDS = "docs/DEFINITIONS.md"
+MAP = "docs/MAP.md"
+HEADLINE = "crates/gic_study/src/study.rt"
+CITED = re.compile(r"Rattle\.(gic_\w+)\.specs\.([A-Z]\w*)")
+NAMED = re.compile(r"`(\w+\.antt)`")
+HEAD = """# Index of the definitions
+
+Made by `python3 docs/definitions.py --write`, which without `--write` checks it.
+[DEFINITIONS.md](DEFINITIONS.md) says how to read them. A file `gic_x/Y` is `crates/gic_x/specs/Y.antt`.
+"""
+PARTS = (
+    "What the headline leads to, in reading order",
+    "What laws lead to besides",
+    "What other contracts cite, crate by crate",
+)
+
+
+@dataclass
+class Definition:
+    """One file of definitions: `gic_x/Y`."""
+
+    name: str
+    says: str  # the first sentence of its head, or nothing
+    cites: list[str]  # other definitions, in order
+    cited_in: list[str] = field(default_factory=list)  # `gic_x/Y` or `gic_x/y.rt`
+
+
+def sentence_of(text: str) -> str:
+    """The first sentence of the remark at the head of a file."""
+    lines: list[str] = []
+    for line in text.splitlines():
+        if not line.startswith("--"):
+            break
+        lines.append(line.removeprefix("--").strip())
+    sentence = re.match(r".*?\.(?=\s|$)", " ".join(lines))
+    return sentence[0].removesuffix(".") if sentence else " ".join(lines)
+
+
+def cited_by(text: str) -> list[str]:
+    """The definitions that a text cites, each once, in order."""
+    return list(dict.fromkeys(f"{crate}/{file}" for crate, file in CITED.findall(text)))
+
+
+def crate_names(text: str) -> list[str]:
+    """The crates of crates.txt, in its order."""
+    return [line.partition(":")[0] for line in text.splitlines() if line.strip() and not line.startswith("#")]
+
+
+def definitions(top: Path, crates: list[str]) -> dict[str, Definition]:
+    """All definitions, crate by crate, with where each is cited."""
+    found: dict[str, Definition] = {}
+    for crate in crates:
+        for path in sorted((top / "crates" / crate / "specs").glob("*.antt")):
+            if path.stem != "Lib":
+                text = path.read_text()
+                name = f"{crate}/{path.stem}"
+                found[name] = Definition(name, sentence_of(text), [other for other in cited_by(text) if other != name])
+    for definition in found.values():
+        for other in definition.cites:
+            if other in found:
+                found[other].cited_in.append(definition.name)
+    for crate in crates:
+        for path in sorted((top / "crates" / crate / "src").glob("**/*.rt")):
+            for other in cited_by(path.read_text()):
+                if other in found:
+                    found[other].cited_in.append(f"{crate}/{path.name}")
+    return found
+
+
+def reached(found: dict[str, Definition], first: list[str], known: set[str]) -> list[str]:
+    """The definitions that one comes to from the first ones, step by step, but those that are known."""
+    order: list[str] = []
+    waiting = list(first)
+    seen = set(known)
+    while waiting:
+        later: list[str] = []
+        for name in waiting:
+            if name in found and name not in seen:
+                seen.add(name)
+                order.append(name)
+                later.extend(found[name].cites)
+        waiting = later
+    return order
+
+
+def in_parts(top: Path, crates: list[str], found: dict[str, Definition]) -> list[list[str]]:
+    """The names of all definitions, in the three parts of the index."""
+    headline = reached(found, cited_by((top / HEADLINE).read_text()), set())
+    files = [top / "crates" / crate / "src" / "laws.rt" for crate in crates]
+    laws = [other for path in files if path.exists() for other in cited_by(path.read_text())]
+    by_laws = reached(found, laws, set(headline))
+    rest = [name for name in found if name not in set(headline) | set(by_laws)]
+    return [headline, by_laws, rest]
+
+
+def places(cited_in: list[str]) -> str:
+    """Where something is cited: by file where that is short, else by how many files of which crates."""
+    if len(cited_in) <= 3:
+        return ", ".join(cited_in)
+    counts: dict[str, int] = {}
+    for place in cited_in:
+        crate = place.partition("/")[0]
+        counts[crate] = counts.get(crate, 0) + 1
+    if len(counts) <= 5:
+        return ", ".join(f"{crate} ({count})" if count > 1 else crate for crate, count in counts.items())
+    return f"{len(cited_in)} files of {len(counts)} crates"
+
+
+def index_of(found: dict[str, Definition], parts: list[list[str]]) -> str:
+    """The text of the index."""
+    lines = [HEAD]
+    for title, names in zip(PARTS, parts):
+        lines.append(f"## {title}\n\n| definition | says | cited in |\n|---|---|---|")
+        lines.extend(f"| {name} | {found[name].says} | {places(found[name].cited_in)} |" for name in names)
+        lines.append("")
+    return "\n".join(lines)
+
+
+def odd_crates(text: str, crates: list[str]) -> list[str]:
+    """The crates that don't stand once in the table of crates, and those that stand there and aren't any."""
+    table = text.partition("\n## Crates\n")[2].partition("\n## ")[0]
+    rows = [line.split("|")[1] for line in table.splitlines() if line.startswith("|")]
+    named = [name for row in rows for name in re.findall(r"`(gic\w+)`", row)]
+    odd = [name for name in dict.fromkeys(crates + named) if name not in crates or named.count(name) != 1]
+    return [f"{MAP} has {name} {named.count(name)} times in its table of crates" for name in odd]
+
+
+def faults_of(found: dict[str, Definition], index: str, shown: str, words: str) -> list[str]:
+    """What is wrong with the definitions, the index that is shown, and the document of words."""
+    files = {name.partition("/")[2] + ".antt" for name in found}
+    faults = [f"{name} begins with no remark" for name, definition in found.items() if not definition.says]
+    faults += [f"{name} is cited nowhere" for name, definition in found.items() if not definition.cited_in]
+    faults += [f"{WORDS} names {name}, which isn't there" for name in sorted(set(NAMED.findall(words)) - files)]
+    if index != shown:
+        faults.append(f"{INDEX} isn't the index that is made today; run `python3 docs/definitions.py --write`")
+    return faults
+
+
+def main(words: list[str]) -> int:
+    if words not in ([], ["--write"]):
+        print(__doc__.strip(), file=sys.stdout if words in (["--help"], ["-h"]) else sys.stderr)
+        return 0 if words in (["--help"], ["-h"]) else 2
+    try:
+        crates = crate_names((TOP / "crates.txt").read_text())
+        found = definitions(TOP, crates)
+        index = index_of(found, in_parts(TOP, crates, found))
+        if words:
+            (TOP / INDEX).write_text(index)
+        shown = (TOP / INDEX).read_text() if (TOP / INDEX).exists() else ""
+        faults = faults_of(found, index, shown, (TOP / WORDS).read_text())
+        faults += odd_crates((TOP / MAP).read_text(), crates)
+    except (OSError, UnicodeDecodeError) as error:
+        print(f"definitions.py: {error}", file=sys.stderr)
+        return 1
+    for fault in faults:
+        print(fault)
+    print(f"{len(found)} definitions, {len(faults)} faults")
+    return 1 if faults else 0
+
+
+if __name__ == "__main__":
+    sys.exit(main(sys.argv[1:]))

@@ -1,0 +1,98 @@
+#!/usr/bin/env python3
+"""Tests of definitions.py and links.py.
+
+    python3 docs/test_documents.py
+"""
+
+from __future__ import annotations
+
+import tempfile
+import unittest
+from pathlib import Path
+
+import definitions
+import links
+
+
+def written(top: Path, texts: dict[str, str]) -> None:
+    """Writes files below a folder."""
+    for name, text in texts.items():
+        (top / name).parent.mkdir(parents=True, exist_ok=True)
+        (top / name).write_text(text)
+
+
+class Definitions(unittest.TestCase):
+    def setUp(self) -> None:
+        folder = tempfile.TemporaryDirectory()
+        self.addCleanup(folder.cleanup)
+        self.top = Path(folder.name)
+        written(
+            self.top,
+            {
+                "crates/gic_low/specs/Far.antt": "-- What is far. And more.\n",
+                "crates/gic_low/specs/Law.antt": "-- What the law\n-- says.\nuse Rattle.gic_low.specs.Far.{far}\n",
+                "crates/gic_low/specs/Own.antt": "",
+                "crates/gic_low/specs/Lib.antt": "pub mod Far\n",
+                "crates/gic_low/src/laws.rt": "ghost use Rattle.gic_low.specs.Law.{law};\n",
+                "crates/gic_study/specs/Near.antt": "-- What is near.\nuse Rattle.gic_low.specs.Far.{far}\n",
+                "crates/gic_study/src/study.rt": "ghost use Rattle.gic_study.specs.Near.{near};\n",
+            },
+        )
+        self.crates = ["gic_low", "gic_study"]
+        self.found = definitions.definitions(self.top, self.crates)
+
+    def test_a_sentence_may_go_over_lines(self) -> None:
+        self.assertEqual(self.found["gic_low/Law"].says, "What the law says")
+        self.assertEqual(self.found["gic_low/Far"].says, "What is far")
+
+    def test_the_list_of_a_crate_is_no_definition(self) -> None:
+        self.assertNotIn("gic_low/Lib", self.found)
+
+    def test_the_parts_follow_what_is_cited(self) -> None:
+        parts = definitions.in_parts(self.top, self.crates, self.found)
+        self.assertEqual(parts, [["gic_study/Near", "gic_low/Far"], ["gic_low/Law"], ["gic_low/Own"]])
+
+    def test_where_a_definition_is_cited(self) -> None:
+        self.assertEqual(self.found["gic_low/Far"].cited_in, ["gic_low/Law", "gic_study/Near"])
+
+    def test_faults_are_told(self) -> None:
+        faults = definitions.faults_of(self.found, "made", "shown", "`Far.antt` and `Gone.antt`")
+        self.assertEqual(
+            [fault.split(";")[0] for fault in faults],
+            [
+                "gic_low/Own begins with no remark",
+                "gic_low/Own is cited nowhere",
+                "docs/DEFINITIONS.md names Gone.antt, which isn't there",
+                "docs/INDEX.md isn't the index that is made today",
+            ],
+        )
+
+    def test_each_crate_stands_once_in_the_map(self) -> None:
+        flow, more = "## Flow\n| `gic_low` |\n\n", "\n## More\n| `gic_study` |\n"
+        text = flow + "## Crates\n\n| `gic_low` | a |\n| `gic_low`, `gic_old` | b |\n" + more
+        self.assertEqual(
+            definitions.odd_crates("\n" + text, self.crates),
+            [
+                "docs/MAP.md has gic_low 2 times in its table of crates",
+                "docs/MAP.md has gic_study 0 times in its table of crates",
+                "docs/MAP.md has gic_old 1 times in its table of crates",
+            ],
+        )
+
+
+class Links(unittest.TestCase):
+    def test_dead_links_and_names(self) -> None:
+        with tempfile.TemporaryDirectory() as folder:
+            top = Path(folder)
+            written(top, {"docs/A.md": "# One thing\n", "src/a.rt": ""})
+            text = (
+                "[a](docs/A.md) [b](docs/A.md#one-thing) [c](docs/A.md#two) [d](gone.md) [e](https://x.org/)\n"
+                "`a.rt` `src/a.rt` `other/a.rt` `NAME.rt`\n```\n[f](gone.md)\n```\n"
+            )
+            found = list(links.dead(Path("B.md"), text, top, links.endings(links.files_below(top))))
+        self.assertEqual([name for name, is_dead in found if is_dead], ["docs/A.md#two", "gone.md", "other/a.rt"])
+        self.assertEqual(len(found), 7)
+
+
+if __name__ == "__main__":
+    unittest.main()
