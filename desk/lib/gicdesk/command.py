@@ -1,0 +1,75 @@
+"""The words of `gicdesk`, and what is done with them."""
+
+import argparse
+import os
+import sys
+from collections.abc import Sequence
+
+from . import layouts, reports
+from .files import refuse_taken, write_whole
+from .findings import Refused
+
+DONE, REFUSED, USAGE, STOPPED = 0, 1, 2, 130
+
+
+class Words(argparse.ArgumentParser):
+    """A parser that takes no option by a part of its name."""
+
+    def __init__(self, *words, **options) -> None:
+        super().__init__(*words, allow_abbrev=False, **options)
+
+
+def show(text: str) -> None:
+    """Writes a text to the standard output, whole."""
+    sys.stdout.buffer.write(text.encode())
+    sys.stdout.buffer.flush()
+
+
+def add_output(words: argparse.ArgumentParser, help_text: str) -> None:
+    words.add_argument("--out", metavar="FILE", help=help_text)
+    words.add_argument("--force", action="store_true", help="replace what is there already under the name of --out")
+
+
+def run_csv(options: argparse.Namespace) -> None:
+    if options.out is not None:
+        refuse_taken([options.out], options.force)
+    mode, report = reports.read_report(options.report)
+    text = layouts.table_of(options.report, mode, report, options.part).csv()
+    if options.out is None:
+        show(text)
+    else:
+        write_whole(options.out, text, options.force)
+
+
+def command_words() -> argparse.ArgumentParser:
+    words = Words(prog="gicdesk", description="What a planner does before and after gicstudy; see desk/README.md.")
+    commands = words.add_subparsers(dest="command", required=True, metavar="COMMAND", parser_class=Words)
+
+    one = commands.add_parser("csv", help="any report as CSV, in amperes and volts")
+    one.add_argument("report", metavar="REPORT", help="the file of a report; - is the standard input")
+    one.add_argument("--part", help="the rows of one kind alone, as node or peaks")
+    add_output(one, "a new file for the table, in place of the standard output")
+    one.set_defaults(run=run_csv)
+    return words
+
+
+def main(arguments: Sequence[str]) -> int:
+    """Runs the command of the words; what it refuses is told on the error stream, a line for each finding."""
+    try:
+        options = command_words().parse_args(arguments)
+        options.run(options)
+        return DONE
+    except Refused as refused:
+        for line in refused.lines():
+            print(f"gicdesk: {line}", file=sys.stderr)
+        return REFUSED
+    except BrokenPipeError:
+        # Nobody reads any more. The system's own message at the end is kept away as well.
+        os.dup2(os.open(os.devnull, os.O_WRONLY), sys.stdout.fileno())
+        return REFUSED
+    except OSError as error:
+        print(f"gicdesk: {error.filename or 'the output'}: {error.strerror}", file=sys.stderr)
+        return REFUSED
+    except KeyboardInterrupt:
+        print("gicdesk: stopped", file=sys.stderr)
+        return STOPPED
