@@ -5,7 +5,7 @@ import os
 import sys
 from collections.abc import Sequence
 
-from . import layouts, reports
+from . import compare, layouts, reports
 from .files import refuse_taken, write_whole
 from .findings import Refused
 
@@ -41,6 +41,17 @@ def run_csv(options: argparse.Namespace) -> None:
         write_whole(options.out, text, options.force)
 
 
+def run_compare(options: argparse.Namespace) -> None:
+    if options.out is not None:
+        refuse_taken([options.out], options.force)
+    names = (options.before, options.after)
+    read = compare.read_compared(names)
+    comparison = compare.compare(read[0][1], read[1][1])
+    if options.out is not None:
+        write_whole(options.out, compare.comparison_table(comparison).csv(), options.force)
+    show(compare.report_text(names, read, comparison))
+
+
 def command_words() -> argparse.ArgumentParser:
     words = Words(prog="gicdesk", description="What a planner does before and after gicstudy; see desk/README.md.")
     commands = words.add_subparsers(dest="command", required=True, metavar="COMMAND", parser_class=Words)
@@ -50,6 +61,12 @@ def command_words() -> argparse.ArgumentParser:
     one.add_argument("--part", help="the rows of one kind alone, as node or peaks")
     add_output(one, "a new file for the table, in place of the standard output")
     one.set_defaults(run=run_csv)
+
+    two = commands.add_parser("compare", help="two reports of screen or outage beside each other")
+    two.add_argument("before", metavar="BEFORE", help="the file of the first report")
+    two.add_argument("after", metavar="AFTER", help="the file of the second report")
+    add_output(two, "a new file for all of it as CSV")
+    two.set_defaults(run=run_compare)
     return words
 
 
