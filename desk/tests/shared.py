@@ -17,7 +17,7 @@ from gicdesk import command  # noqa: E402
 EXAMPLES = TOP / "examples"
 REPORTS = EXAMPLES / "reports"
 BUILT = pathlib.Path(os.environ.get("GICSTUDY") or TOP / "crates" / "gicstudy" / "out" / "gicstudy")
-FAKE = TESTS / "fake.py"
+FAKE = TESTS / "fake"
 
 
 class Stream(io.TextIOWrapper):

@@ -5,9 +5,10 @@ import os
 import sys
 from collections.abc import Sequence
 
-from . import compare, layouts, reports
-from .files import refuse_taken, write_whole
+from . import compare, layouts, outages, reports
+from .files import refuse_folder, refuse_taken, write_folder, write_whole
 from .findings import Refused
+from .program import find_program
 
 DONE, REFUSED, USAGE, STOPPED = 0, 1, 2, 130
 
@@ -52,6 +53,17 @@ def run_compare(options: argparse.Namespace) -> None:
     show(compare.report_text(names, read, comparison))
 
 
+def run_outages(options: argparse.Namespace) -> None:
+    if options.out is not None:
+        refuse_folder(options.out, [outages.UNITS, outages.EVENTS, outages.CURRENTS], options.force)
+    words = [f"--{name}={value}" for name in ("event", "width") if (value := getattr(options, name)) is not None]
+    asked = outages.Asked(find_program(options.program), options.case, options.switch, tuple(words))
+    found = outages.find_outages(asked, options.events)
+    if options.out is not None:
+        write_folder(options.out, outages.files_of(found), options.force)
+    show(outages.report_text(asked, found, options.events is not None))
+
+
 def command_words() -> argparse.ArgumentParser:
     words = Words(prog="gicdesk", description="What a planner does before and after gicstudy; see desk/README.md.")
     commands = words.add_subparsers(dest="command", required=True, metavar="COMMAND", parser_class=Words)
@@ -67,6 +79,17 @@ def command_words() -> argparse.ArgumentParser:
     two.add_argument("after", metavar="AFTER", help="the file of the second report")
     add_output(two, "a new file for all of it as CSV")
     two.set_defaults(run=run_compare)
+
+    three = commands.add_parser("outages", help="outages of several items, or of each one: the worst for each transformer")
+    three.add_argument("case", metavar="CASE", help="the file of the case")
+    three.add_argument("--events", metavar="FILE", help="a table event,item,action; without it each single item is out")
+    three.add_argument("--switch", metavar="FILE", help="switchings that are in force whatever the event")
+    three.add_argument("--event", metavar="WORD", help="benchmark or supplemental, as screen takes it")
+    three.add_argument("--width", metavar="NUMBER", help="how wide an interval may be, in mA, as screen takes it")
+    three.add_argument("--program", metavar="FILE", help="the built program, in place of the one of this repository")
+    three.add_argument("--out", metavar="FOLDER", help="a new folder for the tables units, events and currents")
+    three.add_argument("--force", action="store_true", help="replace these tables in a folder that is there already")
+    three.set_defaults(run=run_outages)
     return words
 
 
