@@ -2,10 +2,11 @@
 
 import argparse
 import os
+import pathlib
 import sys
 from collections.abc import Sequence
 
-from . import compare, layouts, outages, reports
+from . import compare, layouts, outages, psse, psse_units, reports
 from .files import refuse_folder, refuse_taken, write_folder, write_whole
 from .findings import Refused
 from .program import find_program
@@ -64,6 +65,16 @@ def run_outages(options: argparse.Namespace) -> None:
     show(outages.report_text(asked, found, options.events is not None))
 
 
+def run_psse(options: argparse.Namespace) -> None:
+    names = str(pathlib.Path(options.out).with_suffix(".names.csv"))
+    refuse_taken([options.out, names], options.force)
+    tables = (options.zones, options.substations, options.lines)
+    made = psse.make_case(options.raw, options.gic, tables, psse.Choices(options.beyond, options.vector))
+    write_whole(names, made.names, options.force)
+    write_whole(options.out, made.case, options.force)
+    show("".join(f"{note}\n" for note in made.notes) + f"{options.out} is made, and {names} says what its names stand for\n")
+
+
 def command_words() -> argparse.ArgumentParser:
     words = Words(prog="gicdesk", description="What a planner does before and after gicstudy; see desk/README.md.")
     commands = words.add_subparsers(dest="command", required=True, metavar="COMMAND", parser_class=Words)
@@ -90,6 +101,18 @@ def command_words() -> argparse.ArgumentParser:
     three.add_argument("--out", metavar="FOLDER", help="a new folder for the tables units, events and currents")
     three.add_argument("--force", action="store_true", help="replace these tables in a folder that is there already")
     three.set_defaults(run=run_outages)
+
+    four = commands.add_parser("psse", help="a case from the files .raw and .gic of a power-flow program")
+    four.add_argument("raw", metavar="NET.raw", help="the power flow: buses, branches, transformers, fixed shunts")
+    four.add_argument("gic", metavar="NET.gic", help="places, grounds, resistances of windings")
+    four.add_argument("--zones", metavar="FILE", required=True, help="a table name,geomagnetic_latitude,beta")
+    four.add_argument("--substations", metavar="FILE", help="a table substation,zone, with more zones than one")
+    four.add_argument("--lines", metavar="FILE", help="a table bus_i,bus_j,circuit,zone,north_km,east_km of single lines")
+    four.add_argument("--beyond", choices=psse_units.CHOICES, help="what becomes of third windings and reactors")
+    four.add_argument("--vector", choices=("volts", "buses"), help="in which order the letters of vector groups stand")
+    four.add_argument("--out", metavar="CASE", required=True, help="a new file for the case; CASE.names.csv comes beside it")
+    four.add_argument("--force", action="store_true", help="replace what is there already under these names")
+    four.set_defaults(run=run_psse)
     return words
 
 
