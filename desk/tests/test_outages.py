@@ -11,7 +11,7 @@ import sys
 import unittest
 from unittest import mock
 
-from shared import BUILT, EXAMPLES, FAKE, DeskTest, desk
+from shared import BUILT, EXAMPLES, FAKE, REPORTS, DeskTest, desk
 
 from gicdesk.outages import worst_of
 from gicdesk.progress import Progress
@@ -337,62 +337,65 @@ class Bars(unittest.TestCase):
 
 @unittest.skipUnless(BUILT.is_file(), "no program is built")
 class OverTheProgram(DeskTest):
-    """docs/RECIPES.md, "Which outage brings it", has these numbers of the region."""
-
-    def tables(self, *words: object) -> dict[str, list[dict[str, str]]]:
+    def tables(self, case: str, *words: object) -> dict[str, list[dict[str, str]]]:
         folder = self.folder / "out"
-        self.done("outages", EXAMPLES / "region.toml", f"--program={BUILT}", f"--out={folder}", *words)
+        self.done("outages", EXAMPLES / case, f"--program={BUILT}", f"--out={folder}", *words)
         tables = {}
         for path in folder.iterdir():
             with open(path, newline="") as file:
                 tables[path.stem] = list(csv.DictReader(file))
         return tables
 
-    def test_each_single_item_of_the_region(self) -> None:
-        tables = self.tables()
-        units = {row["transformer"]: row for row in tables["units"]}
+    def test_each_single_item_of_the_valley(self) -> None:
+        # The program's own report of outages has the greatest worst current of each transformer, without a name.
+        lines = [line.split(" ") for line in (REPORTS / "valley_outage.txt").read_text().splitlines()]
+        tables = self.tables("valley.toml")
+        ends = [(row["event"], row["outcome"]) for row in tables["events"][1:]]
+        outages = [words for words in lines if len(words) > 1 and words[0] == "outage"]
+        self.assertEqual(ends, [(words[1], "idle" if words[2] == "idle" else "solved") for words in outages])
+        worst = [
+            (row["transformer"], row["worst_low_A_per_phase"].replace(".", ""), row["worst_high_A_per_phase"].replace(".", ""))
+            for row in tables["units"]
+        ]
+        self.assertEqual(worst, [(words[1], *words[3:5]) for words in lines if words[0] == "transformer"])
+
+    def test_outages_of_the_region(self) -> None:
+        # docs/RECIPES.md, "Which outage brings it", has these: the transformers that are below the threshold in the whole
+        # network and reach it without the item, with the high end of their current.
         recipe = {
-            "HF-G1": ("293.2", "HF-G2"),
-            "HF-G2": ("293.2", "HF-G1"),
-            "KS-A2": ("290.3", "KS-A3"),
-            "KS-A3": ("290.3", "KS-A2"),
-            "GR-G1": ("198.0", "LK-CR"),
-            "LK-A1": ("195.8", "LK-A2"),
-            "LK-A2": ("195.8", "LK-A1"),
-            "GP-G2": ("195.5", "EM-T1"),
+            ("LK-IB", "IB-A1"): "155.8",
+            ("LK-IB", "IB-A2"): "155.8",
+            ("MF-QR", "QR-T1"): "83.4",
+            ("QR-AD", "QR-T1"): "104.4",
+            ("QR-AD", "AD-T1"): "98.9",
+            ("AD-DM", "AD-T1"): "75.6",
+            ("IB-A1", "IB-A2"): "96.7",
+            ("IB-A2", "IB-A1"): "96.7",
+            ("MF-T1", "QR-T1"): "103.9",
+            ("DM-G1", "DM-G2"): "82.2",
+            ("DM-G2", "DM-G1"): "82.2",
         }
-        found = {
-            name: (f"{float(units[name]['worst_high_A_per_phase']):.1f}", units[name]["worst_event"]) for name in recipe
-        }
-        self.assertEqual(found, recipe)
+        items = dict.fromkeys(item for item, _ in recipe)
+        events = self.file("events.csv", HEADS + "".join(f"{item},{item},open\n" for item in items))
+        tables = self.tables("region.toml", f"--events={events}")
+        units = {row["transformer"]: row for row in tables["units"]}
         reaching = {
             (row["event"], row["transformer"]): f"{float(row['worst_high_A_per_phase']):.1f}"
             for row in tables["currents"]
             if row["event"] and row["verdict"] == "reaches" and units[row["transformer"]]["no_event_verdict"] == "below"
         }
-        self.assertEqual(
-            reaching,
-            {
-                ("LK-IB", "IB-A1"): "155.8",
-                ("LK-IB", "IB-A2"): "155.8",
-                ("MF-QR", "QR-T1"): "83.4",
-                ("QR-AD", "QR-T1"): "104.4",
-                ("QR-AD", "AD-T1"): "98.9",
-                ("AD-DM", "AD-T1"): "75.6",
-                ("IB-A1", "IB-A2"): "96.7",
-                ("IB-A2", "IB-A1"): "96.7",
-                ("MF-T1", "QR-T1"): "103.9",
-                ("DM-G1", "DM-G2"): "82.2",
-                ("DM-G2", "DM-G1"): "82.2",
-            },
-        )
+        self.assertEqual(reaching, recipe)
+        worst = {name: (units[name]["worst_event"], units[name]["perhaps_as_bad"]) for name in ("QR-T1", "AD-T1", "DM-G1")}
+        self.assertEqual(worst, {"QR-T1": ("QR-AD", ""), "AD-T1": ("QR-AD", ""), "DM-G1": ("DM-G2", "")})
 
-    def test_an_event_of_one_item_is_that_of_the_single_item(self) -> None:
-        events = self.file("events.csv", f"{HEADS}trip,LK-IB,open\nresistor,GP-G1,block\nground,Quarry,open\n")
-        tables = self.tables(f"--events={events}")
+    def test_grounds_and_resistors_can_be_switched_too(self) -> None:
+        rows = "both,GP-G1,block\nboth,Quarry,open\n"
+        tables = self.tables("region.toml", f"--events={self.file('events.csv', HEADS + rows)}")
+        ends = [(row["event"], row["switchings"], row["outcome"]) for row in tables["events"]]
+        self.assertEqual(ends, [("", "", "solved"), ("both", "block GP-G1; open Quarry", "solved")])
         currents = {(row["event"], row["transformer"]): row["worst_high_A_per_phase"] for row in tables["currents"]}
-        self.assertEqual(f"{float(currents['trip', 'IB-A1']):.1f}", "155.8")
-        self.assertEqual([row["outcome"] for row in tables["events"]], ["solved"] * 4)
+        # Its only winding runs to a neutral that is blocked: nothing flows in it.
+        self.assertLess(float(currents["both", "GP-G1"]), 0.1)
 
     def test_a_wrong_name_is_told_with_the_next_one(self) -> None:
         events = self.file("events.csv", f"{HEADS}trip,LK-1B,open\ntrip,Crossing,open\n")
