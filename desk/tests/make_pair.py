@@ -49,7 +49,8 @@ class Pair:
 
     def raw(self) -> str:
         lines = self.named(" IC,SBASE,REV,XFRRAT,NXFRAT,BASFRQ")
-        lines += [f"0, {BASE_MVA}.00, {self.version}, 0, 1, 60.00 / the sample region", "made of the tables of examples/", ""]
+        lines += [f"0, {BASE_MVA}.00, {self.version}, 0, 1, 60.00 / the sample region"]
+        lines += ["made of the tables of examples/", ""]
         if self.version >= 34:
             lines += ["GENERAL, THRSHZ=0.0001, PQBRAK=0.7", "0 / END OF SYSTEM-WIDE DATA, BEGIN BUS DATA"]
         lines += self.named("   I,'NAME        ', BASKV, IDE,AREA,ZONE,OWNER, VM, VA") + self.bus_lines()
@@ -67,8 +68,8 @@ class Pair:
         lines += self.named(" R1-2, X1-2, SBASE1-2") if self.version >= 34 else []
         for unit in self.units:
             lines += self.transformer(unit)
-        lines += ["0 / END OF TRANSFORMER DATA, BEGIN AREA DATA", "0 / END OF AREA DATA, BEGIN TWO-TERMINAL DC DATA", "Q"]
-        return "\n".join(lines) + "\n"
+        lines += ["0 / END OF TRANSFORMER DATA, BEGIN AREA DATA", "0 / END OF AREA DATA, BEGIN TWO-TERMINAL DC DATA"]
+        return "\n".join([*lines, "Q"]) + "\n"
 
     def bus_lines(self) -> list[str]:
         lines = [
@@ -118,7 +119,8 @@ class Pair:
                 lines.append(f"{self.beside[unit['name']]},{self.substations[self.station_of[unit['high']]]}")
         lines.append("0 / END OF BUS SUBSTATION DATA, BEGIN TRANSFORMER DATA")
         lines += [self.windings(unit) for unit in self.units]
-        lines += ["0 / END OF TRANSFORMER DATA, BEGIN FIXED SHUNT DATA", "0 / END OF FIXED SHUNT DATA, BEGIN BRANCH DATA"]
+        lines += ["0 / END OF TRANSFORMER DATA, BEGIN FIXED SHUNT DATA"]
+        lines += ["0 / END OF FIXED SHUNT DATA, BEGIN BRANCH DATA"]
         return "\n".join([*lines, "0 / END OF BRANCH DATA, BEGIN EARTH MODEL DATA", "0", "Q"]) + "\n"
 
     def windings(self, unit: Row) -> str:

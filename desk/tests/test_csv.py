@@ -99,7 +99,8 @@ class Csv(DeskTest):
                 "list\nnodes 4 elements 3\nelement A ground A * 1 1000000\nelement TA third t TA 3 300000\n"
                 "element TA neutral TA A 1 1800000\nend\n"
             ),
-            "item,role,from,to,times,ohm\nA,ground,A,*,1,1.000000\nTA,third,t,TA,3,0.300000\nTA,neutral,TA,A,1,1.800000\n",
+            "item,role,from,to,times,ohm\nA,ground,A,*,1,1.000000\nTA,third,t,TA,3,0.300000\n"
+            "TA,neutral,TA,A,1,1.800000\n",
         )
 
     def test_check(self) -> None:
@@ -209,7 +210,9 @@ class Csv(DeskTest):
 
     def test_series(self) -> None:
         self.assertEqual(
-            self.table("series\nwidth 100 transformer TA steps 2\nstep 1 time 0 31249 31251\nstep 2 time 60 0 0\nend\n"),
+            self.table(
+                "series\nwidth 100 transformer TA steps 2\nstep 1 time 0 31249 31251\nstep 2 time 60 0 0\nend\n"
+            ),
             "transformer,step,time_s,low_A_per_phase,high_A_per_phase,width_A\n"
             "TA,1,0,31.249,31.251,0.100\nTA,2,60,0.000,0.000,0.100\n",
         )
@@ -239,7 +242,8 @@ class Csv(DeskTest):
         self.assertEqual(
             self.table(
                 "review\nungrounded B\npart 4 A\nclosure L -90 12345\nvalue zone Z latitude 60\n"
-                "value transformer TB high_resistance 3000\nvolts TB high_volts 34500 345000\noutside D\nfindings 7\nend\n"
+                "value transformer TB high_resistance 3000\nvolts TB high_volts 34500 345000\noutside D\n"
+                "findings 7\nend\n"
             ),
             "kind,list,name,field,number,unit,other,north_m,east_m\n"
             "ungrounded,,B,,,,,,\n"
@@ -324,8 +328,8 @@ class Refusals(DeskTest):
         )
         self.told(
             "time,north,east\n",
-            ' line 1: "time,north,east" begins no report; a report begins with one of volts, list, check, field, study, '
-            "screen, outage, series, make, certificate, recheck, review",
+            ' line 1: "time,north,east" begins no report; a report begins with one of volts, list, check, field, '
+            "study, screen, outage, series, make, certificate, recheck, review",
         )
         self.told(
             SCREEN.encode("utf-16"),
@@ -341,7 +345,7 @@ class Refusals(DeskTest):
 
     def test_lines_that_are_wrong_are_told_at_once(self) -> None:
         form = '"transformer NAME north LO HI east LO HI worst LO HI VERDICT"'
-        faulty = SCREEN.replace("83332 83335 reaches\ntransformer TB north", "83,332 83335 reaches\ntransformer TB nord")
+        faulty = SCREEN.replace("83332 83335", "83,332 83335", 1).replace("TB north", "TB nord")
         self.told(
             faulty,
             ' line 3: "transformer TA north -50001 -49999 east -66667 -66666 wor.." is not of the form ' + form,
@@ -362,7 +366,8 @@ class Refusals(DeskTest):
     def test_counts_that_disagree(self) -> None:
         again = "stand there; ask the program for the report again"
         self.told("check\nnode A live\nlive 2\nend\n", f" line 3: 2 live nodes are told and 1 {again}")
-        self.told("list\nnodes 1 elements 2\nelement A ground A * 1 1000000\nend\n", f" line 3: 2 elements are told and 1 {again}")
+        elements = "list\nnodes 1 elements 2\nelement A ground A * 1 1000000\nend\n"
+        self.told(elements, f" line 3: 2 elements are told and 1 {again}")
         self.told("review\noutside D\nfindings 3\nend\n", f" line 3: 3 findings are told and 1 {again}")
 
     def test_two_reports_in_one_file(self) -> None:

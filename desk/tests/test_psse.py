@@ -1,5 +1,5 @@
-"""`gicdesk psse`: a case from a pair of files. One pair is made of the sample region by make_pair.py; another is a small
-one of three substations with what a pair can have beside that."""
+"""`gicdesk psse`: a case from a pair of files. One pair is made of the sample region by make_pair.py; another is a
+small one of three substations with what a pair can have beside that."""
 
 import csv
 import pathlib
@@ -158,8 +158,10 @@ class Region(DeskTest):
         names = self.names(out, make_pair.Pair(33))
         printed = subprocess.run([BUILT, "screen", f"--case={out}"], capture_output=True, text=True, check=True).stdout
         lines = [line.split(" ") for line in printed.splitlines()]
-        mapped = [" ".join([words[0], names[words[1]], *words[2:]] if words[0] == "transformer" else words) for words in lines]
-        self.assertEqual(mapped, (REPORTS / "region_screen.txt").read_text().splitlines())
+        for words in lines:
+            if words[0] == "transformer":
+                words[1] = names[words[1]]
+        self.assertEqual(list(map(" ".join, lines)), (REPORTS / "region_screen.txt").read_text().splitlines())
 
 
 class Small(PsseTest):
@@ -217,7 +219,8 @@ class Small(PsseTest):
             [
                 "net.gic line 4: EAST_STATION has no ground: RG is empty",
                 # 0.0001 per unit on 100 MVA at 345 kV are 0.119025 ohm.
-                "net.raw line 20: the branch 4-5 '1' of 0.119025 ohm ties two buses of one substation: they are one bus, 4",
+                "net.raw line 20: the branch 4-5 '1' of 0.119025 ohm ties two buses of one substation: they are one "
+                "bus, 4",
                 "net.raw line 22: the branch 5-7 '2' is out of service: it is left out",
                 "net.raw line 23: the branch 1-8 '1' is out of service: it is left out",
                 "net.raw line 25: the third grounded winding of BANK, at the bus 3, is left out",
@@ -295,7 +298,7 @@ class Groups(PsseTest):
         ways = "--vector=volts takes the first letters for the highest voltage, --vector=buses for bus I"
         self.told(
             [*self.words(raw, gic), "--beyond=leave"],
-            'net.gic line 16, VECGRP: "YNd1" can be read in two ways, since bus I isn\'t the one of the highest voltage; '
+            'net.gic line 16, VECGRP: "YNd1" can be read in two ways: bus I isn\'t the one of the highest voltage; '
             + ways,
         )
         for order, bus, ohm in (("volts", "4_SOUTH_A", 100000), ("buses", "6_SOUTH_LV", 300000)):
@@ -332,22 +335,23 @@ class Refusals(PsseTest):
         self.one(
             "2,'SOUTH',0,49.0", "2,'SOUTH',0,94.0",
             "net.gic line 3, LATITUDE: it is 94.0, and not -90 to 90 degrees",
-            "net.raw line 18: its ends lie 4909.79 km apart to the north, and not up to 1000; look at the coordinates of "
-            "NORTH and SOUTH",
-            "net.raw line 21: its ends lie 4909.79 km apart to the north, and not up to 1000; look at the coordinates of "
-            "SOUTH and EAST STATION",
+            "net.raw line 18: its ends lie 4909.79 km apart to the north, and not up to 1000; look at the coordinates "
+            "of NORTH and SOUTH",
+            "net.raw line 21: its ends lie 4909.79 km apart to the north, and not up to 1000; look at the coordinates "
+            "of SOUTH and EAST STATION",
         )  # fmt: skip
         self.one("-100.0,0.2,''", "-100.0,0,''", f"net.gic line 2, RG: it is 0 ohm, and not 0.001 to 1000; {write}")
         self.one("3.25,0.0", "3250000,0.0", f"net.gic line 21, RBRN: it is 3250000 ohm, and not 0.001 to 1000; {write}")
         self.one("'1 ',0.3,0.1", "'1 ',0.0,0.1", f"net.gic line 16, WRI: it is 0.0 ohm, and not 0.001 to 1000; {write}")
-        self.one("'YNd1'", "'wye'", 'net.gic line 16, VECGRP: "wye" is no vector group; allowed are groups of YN, Y, D, Z '
-                 "and A, as YNd1, YNyn0 and YNa0d1")  # fmt: skip
+        allowed = "allowed are groups of YN, Y, D, Z and A, as YNd1, YNyn0 and YNa0d1"
+        self.one("'YNd1'", "'wye'", f'net.gic line 16, VECGRP: "wye" is no vector group; {allowed}')
         self.one("0.3,0.1,0.0,0,0", "0.3,0.1,0.0,2,0", "net.gic line 16, GICBDI: it is 2; allowed are 0, and 1 for a "
                  "blocking device")  # fmt: skip
 
     def test_what_one_file_has_and_the_other_has_not(self) -> None:
         self.one("6,2\n", "", "net.raw line 30: the bus 6 is in no substation of net.gic; write its record there")
-        self.one("6,2\n", "6,4\n", "net.gic line 11, SUBSTATION: there is no substation 4 in this file; write its record")
+        words = "there is no substation 4 in this file; write its record"
+        self.one("6,2\n", "6,4\n", f"net.gic line 11, SUBSTATION: {words}")
         self.one(
             "4,6,0,'1 ',0.3", "4,6,0,'2 ',0.3",
             "net.raw line 30: the transformer 4-6 '1' has no record in net.gic; write it there",
@@ -357,8 +361,8 @@ class Refusals(PsseTest):
             "7,'1 ',1.5", "7,'3 ',1.5",
             "net.gic line 18: there is no fixed shunt of this bus and id in net.raw; write it there",
         )  # fmt: skip
-        self.one("6,2\n", "6,1\n", "net.raw line 30: the transformer 4-6 '1' has buses in different substations; a station "
-                 "is one of net.gic")  # fmt: skip
+        words = "the transformer 4-6 '1' has buses in different substations; a station is one of net.gic"
+        self.one("6,2\n", "6,1\n", f"net.raw line 30: {words}")
 
     def test_what_stands_twice(self) -> None:
         self.one(
@@ -369,9 +373,11 @@ class Refusals(PsseTest):
     def test_other_files(self) -> None:
         self.told(
             self.words(raw="time,north,east\n", gic="hello\n", zones="zone;beta\n"),
-            "net.raw line 1: the first line isn't IC, SBASE, REV, ..; is it another file, or a binary one? Save it as .raw",
+            "net.raw line 1: the first line isn't IC, SBASE, REV, ..; is it another file, or a binary one? Save it as "
+            ".raw",
             "net.gic line 1: the first line isn't GICFILEVRSN=..; is it another file?",
-            'zones.csv line 1: the columns are "zone;beta", and not name,geomagnetic_latitude,beta; write these, with commas',
+            'zones.csv line 1: the columns are "zone;beta", and not name,geomagnetic_latitude,beta; write these, with '
+            "commas",
         )
         words = "the version is 23; 30 to 36 are read. Save it as one of these"
         self.told(self.words(raw=RAW.replace(" 33,", " 23,")), f"net.raw line 1, REV: {words}")
@@ -383,8 +389,8 @@ class Refusals(PsseTest):
             'zones.csv line 2, name: "a b" is no name of a case; allowed are 1 to 32 letters, digits and _ - .',
             "zones.csv line 3, geomagnetic_latitude: it is 6000, and not 0 to 90 degrees",
             "zones.csv line 4, name: north stands in the table already; leave one of the two",
-            "zones.csv line 4, geomagnetic_latitude: it is 57.123, which has more digits than a case can tell: degrees times "
-            "100 is whole",
+            "zones.csv line 4, geomagnetic_latitude: it is 57.123, which has more digits than a case tells: times 100 "
+            "it is whole",
             "zones.csv line 4, beta: it is 1.6, and not 0.01 to 1.5 as a factor",
         )
         two = f"{heads}north,60,0.81\nsouth,50,0.81\n"

@@ -57,7 +57,11 @@ def write(program: str) -> None:
     with tempfile.TemporaryDirectory() as scratch:
         folder = pathlib.Path(scratch)
         furnish(folder, pathlib.Path(os.path.abspath(program)))
-        text = BLOCKS.sub(lambda found: f"```sh\n{found[1]}```\n\n```text\n{printed(found[1], folder)}```\n", README.read_text())
+
+        def block(found: re.Match[str]) -> str:
+            return f"```sh\n{found[1]}```\n\n```text\n{printed(found[1], folder)}```\n"
+
+        text = BLOCKS.sub(block, README.read_text())
     README.write_text(text)
 
 

@@ -75,6 +75,9 @@ class Names:
         self.taken.add(name)
         return name
 
+    def give_like(self, wanted: str) -> str:
+        return self.give(wanted, wanted)
+
 
 def kept(text: str) -> str:
     """The text with `_` for each run of letters that names can't have, cut to the length of a name."""

@@ -72,7 +72,8 @@ def run_psse(options: argparse.Namespace) -> None:
     made = psse.make_case(options.raw, options.gic, tables, psse.Choices(options.beyond, options.vector))
     write_whole(names, made.names, options.force)
     write_whole(options.out, made.case, options.force)
-    show("".join(f"{note}\n" for note in made.notes) + f"{options.out} is made, and {names} says what its names stand for\n")
+    told = "".join(f"{note}\n" for note in made.notes)
+    show(f"{told}{options.out} is made, and {names} says what its names stand for\n")
 
 
 def command_words() -> argparse.ArgumentParser:
@@ -91,7 +92,7 @@ def command_words() -> argparse.ArgumentParser:
     add_output(two, "a new file for all of it as CSV")
     two.set_defaults(run=run_compare)
 
-    three = commands.add_parser("outages", help="outages of several items, or of each one: the worst for each transformer")
+    three = commands.add_parser("outages", help="outages of several items, or of each one: the worst of each unit")
     three.add_argument("case", metavar="CASE", help="the file of the case")
     three.add_argument("--events", metavar="FILE", help="a table event,item,action; without it each single item is out")
     three.add_argument("--switch", metavar="FILE", help="switchings that are in force whatever the event")
@@ -107,10 +108,10 @@ def command_words() -> argparse.ArgumentParser:
     four.add_argument("gic", metavar="NET.gic", help="places, grounds, resistances of windings")
     four.add_argument("--zones", metavar="FILE", required=True, help="a table name,geomagnetic_latitude,beta")
     four.add_argument("--substations", metavar="FILE", help="a table substation,zone, with more zones than one")
-    four.add_argument("--lines", metavar="FILE", help="a table bus_i,bus_j,circuit,zone,north_km,east_km of single lines")
+    four.add_argument("--lines", metavar="FILE", help="a table bus_i,bus_j,circuit,zone,north_km,east_km")
     four.add_argument("--beyond", choices=psse_units.CHOICES, help="what becomes of third windings and reactors")
     four.add_argument("--vector", choices=("volts", "buses"), help="in which order the letters of vector groups stand")
-    four.add_argument("--out", metavar="CASE", required=True, help="a new file for the case; CASE.names.csv comes beside it")
+    four.add_argument("--out", metavar="CASE", required=True, help="a new file for the case, with its names beside")
     four.add_argument("--force", action="store_true", help="replace what is there already under these names")
     four.set_defaults(run=run_psse)
     return words

@@ -162,10 +162,11 @@ def plural(many: int, one: str) -> str:
 def sum_text(comparison: Comparison) -> str:
     told = [change for change in comparison.changes if change.told]
     certain = sum(change.certain for change in told)
+    alike = len(comparison.changes) - len(told)
     crossings = [change.crossing for change in told]
     lines = [
         f"{plural(len(comparison.changes), 'transformer')} in both reports: {certain} changed for certain, "
-        f"{len(told) - certain} told otherwise without a certain change, {len(comparison.changes) - len(told)} told alike",
+        f"{len(told) - certain} perhaps, {alike} told alike",
         f"across the threshold: {crossings.count('up')} up, {crossings.count('down')} down, "
         f"{sum(word.startswith('perhaps') for word in crossings)} perhaps",
     ]
@@ -181,7 +182,7 @@ def verdict_text(change: Change) -> str:
 
 
 def report_text(names: Sequence[str], reports: Sequence[tuple[str, Compared]], comparison: Comparison) -> str:
-    """What is shown of a comparison: the heads, the sums, and then what is told otherwise, the greatest change first."""
+    """What is shown of a comparison: the heads, the sums, and what is told otherwise, the greatest change first."""
     text = head_text(names, reports) + sum_text(comparison)
     told = [change for change in comparison.changes if change.told]
     rows = [
@@ -213,10 +214,13 @@ def comparison_table(comparison: Comparison) -> Table:
         before = (*ends_or_nothing(change.before.value), change.before.verdict)
         after = (*ends_or_nothing(change.after.value), change.after.verdict)
         rows.append(("transformer", change.name, *before, *after, *ends_or_nothing(change.by), change.crossing))
+    absent = ("", "", "not there")
     for unit in comparison.gone:
-        rows.append(("transformer", unit.name, *ends_or_nothing(unit.value), unit.verdict, "", "", "not there", "", "", ""))
+        there = (*ends_or_nothing(unit.value), unit.verdict)
+        rows.append(("transformer", unit.name, *there, *absent, "", "", ""))
     for unit in comparison.new:
-        rows.append(("transformer", unit.name, "", "", "not there", *ends_or_nothing(unit.value), unit.verdict, "", "", ""))
+        there = (*ends_or_nothing(unit.value), unit.verdict)
+        rows.append(("transformer", unit.name, *absent, *there, "", "", ""))
     for item, old, new in comparison.outcomes:
         rows.append(("outage", item, "", "", outcome_text(old), "", "", outcome_text(new), "", "", ""))
     return Table(heads, rows)

@@ -4,11 +4,11 @@ import csv
 import dataclasses
 import difflib
 import io
-from collections.abc import Iterable, Iterator
+from collections.abc import Iterable
 
-from .files import read_text
-from .findings import Finding, Refused, refuse, shown
+from .findings import Finding, Refused, shown
 from .forms import NAME
+from .records import read_table
 
 HEADS = ["event", "item", "action"]
 ACTIONS = ("open", "close", "block", "unblock")
@@ -56,26 +56,11 @@ def one_event(item: str) -> Event:
     return Event(item, (Switching(item, "open"),))
 
 
-def records(file: str, text: str) -> Iterator[tuple[int, list[str]]]:
-    """The records behind the heads, each with the line at which it ends; empty lines are none."""
-    reader = csv.reader(io.StringIO(text, newline=""), strict=True)
-    try:
-        heads = next(reader, [])
-        if heads != HEADS:
-            words = f"the columns are {shown(','.join(heads))}, and not event,item,action; write these, with commas"
-            raise refuse(file, words, 1)
-        for cells in reader:
-            if cells:
-                yield reader.line_num, cells
-    except csv.Error as error:
-        raise refuse(file, f"it is no table of commas here ({error}); look at the quotation marks", reader.line_num) from None
-
-
 def name_fault(name: str) -> str | None:
     if not name:
         return "it is empty; give each event a name"
-    if len(name) > LONGEST_NAME or not name.isprintable() or name != name.strip():
-        return f"{shown(name)} is no name; allowed are 1 to {LONGEST_NAME} printable letters without blanks at the ends"
+    if len(name) > LONGEST_NAME or not name.isprintable():
+        return f"{shown(name)} is no name; allowed are 1 to {LONGEST_NAME} printable letters"
     return None
 
 
@@ -97,24 +82,24 @@ def read_events(file: str, items: Items) -> list[Event]:
     """The events of a table in the order of their first rows; all that is wrong with it is told at once."""
     events: dict[str, dict[str, Switching]] = {}
     findings: list[Finding] = []
-    for line, cells in records(file, read_text(file)):
-        if len(cells) != len(HEADS):
-            findings.append(Finding(file, f"it has {len(cells)} cells, and not 3: event,item,action", line))
-            continue
-        name, item, action = cells
+    for at in read_table(file, HEADS, findings):
+        name, item, action = at.text("event"), at.text("item"), at.text("action")
+        earlier = events.setdefault(name, {}).get(item)
         faults = {"event": name_fault(name)}
-        if action in ACTIONS:
-            faults["item"] = item_fault(item, action, items)
-        else:
+        if action not in ACTIONS:
             faults["action"] = f"{shown(action)} is none of {', '.join(ACTIONS)}; write one of these"
-        if item in events.get(name, {}):
-            faults["item"] = f"{item} is in this event already, by line {events[name][item].line}; leave one of the two"
-        findings += [Finding(file, words, line, column) for column, words in faults.items() if words]
-        events.setdefault(name, {})[item] = Switching(item, action, line)
+        elif earlier is not None:
+            faults["item"] = f"{item} is in this event already, by line {earlier.line}; leave one of the two"
+        else:
+            faults["item"] = item_fault(item, action, items)
+        for column, words in faults.items():
+            if words is not None:
+                at.wrong(column, words)
+        events[name][item] = Switching(item, action, at.line)
     if not events and not findings:
         findings.append(Finding(file, "it has no event; write a row for each switching of an event", 1))
     if findings:
-        raise Refused(findings)
+        raise Refused(sorted(findings, key=lambda finding: finding.line or 0))
     return [Event(name, tuple(switchings.values())) for name, switchings in events.items()]
 
 

@@ -103,7 +103,9 @@ def refuse_folder(folder: str, names: list[str], force: bool) -> None:
     if path.is_dir() and force:
         refuse_taken([str(path / name) for name in names], force)
     elif path.exists():
-        more = "; choose another name, or give --force to replace what the command writes in it" if path.is_dir() else ""
-        raise refuse(folder, f"it is there already{more or ', and no folder; choose another name'}")
+        way = ", and no folder; choose another name"
+        if path.is_dir():
+            way = "; choose another name, or give --force to replace what the command writes in it"
+        raise refuse(folder, f"it is there already{way}")
     elif not path.resolve().parent.is_dir():
         raise refuse(folder, "there is no folder to make it in; make that first")

@@ -13,7 +13,6 @@ from .findings import Finding, Refused, shown
 NUMBER = re.compile(r"-?(0|[1-9][0-9]{0,59})")
 COUNT = re.compile(r"0|[1-9][0-9]{0,59}")
 NAME = re.compile(r"[A-Za-z0-9_.-]{1,32}")
-WORD = re.compile(r"[!-~]+")
 PLACES = {
     "NAME": NAME,
     "NODE": NAME,

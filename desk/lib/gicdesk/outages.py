@@ -211,7 +211,8 @@ def single_results(runner: Runner, outage: Outage, next_piece: Step) -> list[Res
 def outage_report(asked: Asked) -> Outage:
     run = asked.run("outage", asked.switch)
     if run.status != 0:
-        raise refuse(asked.case, f"{ending(run)}; without events each item is taken out of a network that can be solved")
+        words = "without --events each item is taken out of a network that can be solved"
+        raise refuse(asked.case, f"{ending(run)}; {words}")
     return checked(Outage, run.report, "outage")
 
 

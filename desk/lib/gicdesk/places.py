@@ -4,11 +4,12 @@ import decimal
 import math
 
 MOST_KM = 1000  # of a span, to either direction
+Place = tuple[decimal.Decimal, decimal.Decimal]  # a latitude and a longitude
 
 
-def span_metres(start: tuple[decimal.Decimal, decimal.Decimal], end: tuple[decimal.Decimal, decimal.Decimal]) -> tuple[int, int]:
-    """How far the second place, a latitude and a longitude, lies to the north and to the east of the first, in whole
-    metres: their degrees apart, times the kilometres that a degree has at the mean latitude."""
+def span_metres(start: Place, end: Place) -> tuple[int, int]:
+    """How far the second place lies to the north and to the east of the first, in whole metres: their degrees apart,
+    times the kilometres that a degree has at the mean latitude."""
     latitudes = [float(place[0]) for place in (start, end)]
     longitudes = [float(place[1]) for place in (start, end)]
     mean = math.radians(sum(latitudes) / 2)

@@ -79,5 +79,6 @@ def find_program(given: str | None) -> Program:
     # A run without files: what is built is told on the error stream as it goes on.
     build = subprocess.run([SCRIPT, "make", "--seed=1", "--size=2"], stdout=subprocess.DEVNULL, check=False)
     if build.returncode != 0 or not BUILT.exists():
-        raise refuse(str(SCRIPT), "the program couldn't be built, as told above; or give the path of a built one by --program")
+        words = "the program couldn't be built, as told above; or give the path of a built one by --program"
+        raise refuse(str(SCRIPT), words)
     return Program(str(BUILT))

@@ -153,7 +153,8 @@ class Making:
             return True
         kilovolts = [self.raw.buses[bus].kilovolts for bus in branch.ends]
         if kilovolts[0] != kilovolts[1]:
-            branch.record.wrong(None, f"{what} ties a bus of {kilovolts[0]:f} kV to one of {kilovolts[1]:f} kV; look at both")
+            words = f"{what} ties a bus of {kilovolts[0]:f} kV to one of {kilovolts[1]:f} kV; look at BASKV of both"
+            branch.record.wrong(None, words)
         self.join(branch.record, f"{what} of {self.ohm(branch):f} ohm", branch.ends)
         return True
 
@@ -179,7 +180,8 @@ class Making:
         for bus, ohm in ({} if data is None else data.shunts).items():
             if ohm != 0 and data is not None:
                 column = f"RLNSH{'I' if bus == data.record.bus('I') else 'J'}"
-                self.say_reactor(data.record, f"the reactor of {name} at the bus {bus}", bus, f"{name}_{bus}", ohm, column)
+                what = f"the reactor of {name} at the bus {bus}"
+                self.say_reactor(data.record, what, bus, f"{name}_{bus}", ohm, column)
 
     def line_resistance(self, branch: Branch) -> Field:
         ohm = self.ohm(branch)
@@ -219,7 +221,8 @@ class Making:
         zones = [self.zones.of_substations.get(number, "") for number in numbers]
         for number, zone in zip(numbers, zones):
             if not zone:
-                branch.record.wrong(None, f"the substation {number} has no zone; write it into the table of --substations")
+                words = f"the substation {number} has no zone; write it into the table of --substations"
+                branch.record.wrong(None, words)
         if all(zones) and zones[0] != zones[1]:
             words = f"its ends are in {zones[0]} and in {zones[1]}; write its zone into the table of --lines"
             branch.record.wrong(None, words)
@@ -245,9 +248,7 @@ class Making:
         if not windings:
             return
         name = self.names.give(unit.name, f"T{numbers}-{unit.circuit}")
-        making = Unit(
-            unit.record, data.record, name, windings, self.bus, lambda wanted: self.names.give(wanted, wanted), self.beyond
-        )
+        making = Unit(unit.record, data.record, name, windings, self.bus, self.names.give_like, self.beyond)
         for row in making.rows():
             used = [row.value(end) for end in ("high", "low") if row.value(end) is not None]
             if len(set(used)) < len(used):
@@ -270,7 +271,7 @@ class Making:
         neutral_ohm: decimal.Decimal = decimal.Decimal(0),
     ) -> None:  # fmt: skip
         def row() -> Row:
-            return reactor_row(at, self.names.give(name, name), self.bus(bus), ohm, neutral_ohm, column)
+            return reactor_row(at, self.names.give_like(name), self.bus(bus), ohm, neutral_ohm, column)
 
         for made in self.beyond.say(at, what, "a delta-wye outside of the assessment", row):
             self.add("transformer", made, "", [bus])

@@ -130,7 +130,9 @@ def by_key(found: list[tuple[Key, Datum]]) -> dict[Key, Datum]:
 def read_gic(file: str, findings: list[Finding]) -> Gic:
     """The data of a file; what is wrong with its fields becomes findings."""
     lines = read_text(file).split("\n")
-    first = next((place for place, line in enumerate(lines) if line.strip() and not line.lstrip().startswith(("@!", "/"))), 0)
+    first = 0
+    while first + 1 < len(lines) and (not lines[first].strip() or lines[first].lstrip().startswith(("@!", "/"))):
+        first += 1
     if not lines[first].replace(" ", "").upper().startswith("GICFILEVRSN="):
         raise refuse(file, "the first line isn't GICFILEVRSN=..; is it another file?", first + 1)
     sections = read_sections(file, lines, first + 2, LAYOUT, findings)
@@ -158,4 +160,5 @@ def read_gic(file: str, findings: list[Finding]) -> Gic:
         for at in records("FIXED SHUNT")
     ]
     windings = by_key([read_windings(at) for at in records("TRANSFORMER")])
-    return Gic(file, substations, substation_of, windings, reactors, by_key([read_line(at) for at in records("BRANCH")]))
+    branches = by_key([read_line(at) for at in records("BRANCH")])
+    return Gic(file, substations, substation_of, windings, reactors, branches)

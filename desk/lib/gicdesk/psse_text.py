@@ -2,8 +2,8 @@
 
 Fields stand between commas (in a line without commas: between blanks), strings in single quotes, and a `/` outside of
 them begins a comment. A section ends with a line whose first field is 0; mostly a comment behind it names the next
-section, as in `0 / END OF BUS DATA, BEGIN LOAD DATA`. A line `Q` ends the file. From version 34 on lines that begin with
-`@!` name the columns of the records below them.
+section, as in `0 / END OF BUS DATA, BEGIN LOAD DATA`. A line `Q` ends the file. From version 34 on lines that begin
+with `@!` name the columns of the records below them.
 """
 
 import csv
@@ -88,7 +88,8 @@ def read_sections(
             continue
         fields = fields_of(line)
         if fields is None:
-            findings.append(Finding(file, f"{shown(line.strip())} has quotes that don't fit; each string has two", number))
+            words = f"{shown(line.strip())} has quotes that don't fit; each string has two"
+            findings.append(Finding(file, words, number))
             continue
         if fields == ["Q"]:
             break

@@ -104,13 +104,17 @@ def letters_by_bus(
         by_order["volts"][place] = letter
     if order is None and by_order["buses"] != by_order["volts"]:
         ways = "--vector=volts takes the first letters for the highest voltage, --vector=buses for bus I"
-        at.wrong("VECGRP", f'"{vector}" can be read in two ways, since bus I isn\'t the one of the highest voltage; {ways}')
+        at.wrong("VECGRP", f'"{vector}" can be read in two ways: bus I isn\'t the one of the highest voltage; {ways}')
         return None
     return by_order[order or "volts"]
 
 
 def windings_of(
-    unit: Transformer, data: Windings, bus_kilovolts: dict[int, decimal.Decimal], order: str | None, notes: list[Finding]
+    unit: Transformer,
+    data: Windings,
+    bus_kilovolts: dict[int, decimal.Decimal],
+    order: str | None,
+    notes: list[Finding],
 ) -> list[Winding]:
     """The windings of a unit, the highest voltage first; none where it has none for a case."""
     kilovolts = []
@@ -199,8 +203,8 @@ class Unit:
 
     def delta_wye(self, winding: Winding) -> Row:
         if winding.kilovolts < self.windings[0].kilovolts:
-            self.tell(f"{self.name} is grounded at the bus {winding.bus} alone, which is not its highest voltage: it is "
-                      "written as delta-wye with this one as its high side, and its verdict means nothing")  # fmt: skip
+            where = f"{self.name} is grounded at the bus {winding.bus} alone, which is not its highest voltage"
+            self.tell(f"{where}: it is delta-wye with this one as its high side, and its verdict means nothing")
         fields = [Field("kind", "delta-wye"), *self.side("high", winding)]
         return Row(
             self.name, [*fields, self.resistance("high_resistance", winding), *self.neutral([winding])], self.note
@@ -219,7 +223,8 @@ class Unit:
     def auto(self, low: Winding) -> list[Row]:
         high = self.windings[0]
         if high is low or high.letters not in ("Y", GROUNDED):
-            self.data_at.wrong("VECGRP", "the letter A is of the winding below the one of the highest voltage; write YNa..")
+            words = "the letter A is not of the highest voltage, and that one has YN or Y; write YNa.."
+            self.data_at.wrong("VECGRP", words)
             return []
         fields = [Field("kind", "auto"), *self.side("high", high), *self.side("low", low)]
         fields += [self.resistance("series_resistance", high), self.resistance("common_resistance", low)]
@@ -245,7 +250,9 @@ class Unit:
         return Row(self.give_name(f"{self.name}_3"), fields, f"the third winding of {self.name}")
 
 
-def reactor_row(at: Record, name: str, bus: str, ohm: decimal.Decimal, neutral_ohm: decimal.Decimal, column: str) -> Row:
+def reactor_row(
+    at: Record, name: str, bus: str, ohm: decimal.Decimal, neutral_ohm: decimal.Decimal, column: str
+) -> Row:
     """A shunt reactor as docs/MODELLING.md writes it: a delta-wye that is outside of the assessment."""
     fields = [Field("kind", "delta-wye"), Field("high_volts", REACTOR_VOLTS, "a reactor: no rated voltage")]
     fields += [Field("high", bus), Field("high_resistance", micro_ohm(at, column, ohm), f"{ohm:f} ohm per phase")]

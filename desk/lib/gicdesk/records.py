@@ -1,11 +1,14 @@
 """Rows of tables and records of files: fields under the names of columns."""
 
+import csv
 import dataclasses
 import decimal
+import io
 import re
 from collections.abc import Sequence
 
-from .findings import Finding, shown
+from .files import read_text
+from .findings import Finding, refuse, shown
 
 NUMBER = re.compile(r"[+-]?([0-9]+\.?[0-9]*|\.[0-9]+)([eEdD][+-]?[0-9]{1,3})?")
 WHOLE = re.compile(r"[+-]?[0-9]{1,12}")
@@ -53,3 +56,24 @@ class Record:
     def bus(self, column: str, default: int | None = None) -> int:
         """The number of a bus; a minus sign in front of it marks the metered end in older files."""
         return abs(self.whole(column, default))
+
+
+def read_table(file: str, heads: list[str], findings: list[Finding]) -> list[Record]:
+    """The rows of a table of commas with these heads; a head `note` may follow them. Empty rows are none."""
+    reader = csv.reader(io.StringIO(read_text(file), newline=""), strict=True)
+    try:
+        first = next(reader, [])
+        if first not in (heads, [*heads, "note"]):
+            words = f"the columns are {shown(','.join(first))}, and not {','.join(heads)}; write these, with commas"
+            raise refuse(file, words, 1)
+        rows = [(reader.line_num, [cell.strip() for cell in cells]) for cells in reader if any(cells)]
+    except csv.Error as error:
+        words = f"it is no table of commas here ({error}); look at the quotation marks"
+        raise refuse(file, words, reader.line_num) from None
+    records = []
+    for line, cells in rows:
+        if len(cells) == len(first):
+            records.append(Record(file, line, cells, first, findings))
+        else:
+            findings.append(Finding(file, f"it has {len(cells)} cells, and not {len(first)}: {','.join(first)}", line))
+    return records

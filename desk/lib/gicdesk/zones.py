@@ -1,15 +1,12 @@
 """The zones of a case, and which of them a line is in, from tables."""
 
-import csv
 import dataclasses
 import decimal
-import io
 
 from .cases import Field, Row
-from .files import read_text
-from .findings import Finding, refuse, shown
+from .findings import Finding, shown
 from .forms import NAME
-from .records import Record
+from .records import Record, read_table
 
 ZONES = ["name", "geomagnetic_latitude", "beta"]
 SUBSTATIONS = ["substation", "zone"]
@@ -34,33 +31,13 @@ class Zones:
     of_lines: dict[tuple[frozenset[int], str], Override]
 
 
-def read_table(file: str, heads: list[str], findings: list[Finding]) -> list[Record]:
-    """The rows of a table with these heads; a head `note` may follow them. Empty rows are none."""
-    reader = csv.reader(io.StringIO(read_text(file), newline=""), strict=True)
-    try:
-        first = next(reader, [])
-        if first not in (heads, [*heads, "note"]):
-            words = f"the columns are {shown(','.join(first))}, and not {','.join(heads)}; write these, with commas"
-            raise refuse(file, words, 1)
-        rows = [(reader.line_num, [cell.strip() for cell in cells]) for cells in reader if any(cells)]
-    except csv.Error as error:
-        raise refuse(file, f"it is no table of commas here ({error}); look at the quotation marks", reader.line_num) from None
-    records = []
-    for line, cells in rows:
-        if len(cells) != len(first):
-            findings.append(Finding(file, f"it has {len(cells)} cells, and not {len(first)}: {','.join(first)}", line))
-        else:
-            records.append(Record(file, line, cells, first, findings))
-    return records
-
-
 def whole_in(at: Record, column: str, scale: int, least: str, most: str, unit: str) -> int:
     """The number of a column in the whole units of the case, of which it is in the range."""
     number = at.number(column)
     if not decimal.Decimal(least) <= number <= decimal.Decimal(most):
         at.wrong(column, f"it is {at.text(column)}, and not {least} to {most} {unit}")
     elif number * scale != int(number * scale):
-        at.wrong(column, f"it is {at.text(column)}, which has more digits than a case can tell: {unit} times {scale} is whole")
+        at.wrong(column, f"it is {at.text(column)}, which has more digits than a case tells: times {scale} it is whole")
     return int(number * scale)
 
 
