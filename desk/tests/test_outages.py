@@ -367,19 +367,15 @@ class OverTheProgram(DeskTest):
         recipe = {
             ("LK-IB", "IB-A1"): "155.8",
             ("LK-IB", "IB-A2"): "155.8",
-            ("MF-QR", "QR-T1"): "83.4",
             ("QR-AD", "QR-T1"): "104.4",
             ("QR-AD", "AD-T1"): "98.9",
-            ("AD-DM", "AD-T1"): "75.6",
             ("IB-A1", "IB-A2"): "96.7",
-            ("IB-A2", "IB-A1"): "96.7",
             ("MF-T1", "QR-T1"): "103.9",
             ("DM-G1", "DM-G2"): "82.2",
-            ("DM-G2", "DM-G1"): "82.2",
         }
         items = dict.fromkeys(item for item, _ in recipe)
-        events = self.file("events.csv", HEADS + "".join(f"{item},{item},open\n" for item in items))
-        tables = self.tables("region.toml", f"--events={events}")
+        rows = "".join(f"{item},{item},open\n" for item in items) + "both,GP-G1,block\nboth,Quarry,open\n"
+        tables = self.tables("region.toml", f"--events={self.file('events.csv', HEADS + rows)}")
         units = {row["transformer"]: row for row in tables["units"]}
         reaching = {
             (row["event"], row["transformer"]): f"{float(row['worst_high_A_per_phase']):.1f}"
@@ -387,24 +383,19 @@ class OverTheProgram(DeskTest):
             if row["event"] and row["verdict"] == "reaches" and units[row["transformer"]]["no_event_verdict"] == "below"
         }
         self.assertEqual(reaching, recipe)
-        worst = {name: units[name]["worst_event"] for name in ("QR-T1", "AD-T1", "DM-G1")}
-        self.assertEqual(worst, {"QR-T1": "QR-AD", "AD-T1": "QR-AD", "DM-G1": "DM-G2"})
-
-    def test_grounds_and_resistors_can_be_switched_too(self) -> None:
-        rows = "both,GP-G1,block\nboth,Quarry,open\n"
-        tables = self.tables("region.toml", f"--events={self.file('events.csv', HEADS + rows)}")
-        ends = [(row["event"], row["switchings"], row["outcome"]) for row in tables["events"]]
-        self.assertEqual(ends, [("", "", "solved"), ("both", "block GP-G1; open Quarry", "solved")])
+        worst = {name: units[name]["worst_event"] for name in ("QR-T1", "AD-T1", "IB-A1")}
+        self.assertEqual(worst, {"QR-T1": "QR-AD", "AD-T1": "QR-AD", "IB-A1": "LK-IB"})
+        # Grounds and neutral resistors are items too. The only winding of GP-G1 runs to a neutral that is blocked then.
+        self.assertEqual(tables["events"][-1]["switchings"], "block GP-G1; open Quarry")
         currents = {(row["event"], row["transformer"]): row["worst_high_A_per_phase"] for row in tables["currents"]}
-        # Its only winding runs to a neutral that is blocked: nothing flows in it.
         self.assertLess(float(currents["both", "GP-G1"]), 0.1)
 
     def test_a_wrong_name_is_told_with_the_next_one(self) -> None:
-        events = self.file("events.csv", f"{HEADS}trip,LK-1B,open\ntrip,Crossing,open\n")
-        lines = self.refused("outages", EXAMPLES / "region.toml", f"--program={BUILT}", f"--events={events}")
+        events = self.file("events.csv", f"{HEADS}trip,N-N,open\ntrip,Junction,open\n")
+        lines = self.refused("outages", EXAMPLES / "valley.toml", f"--program={BUILT}", f"--events={events}")
         what = "isn't a line, a transformer, or a substation with a ground, as open takes"
-        self.assertEqual(lines[0], f'{events} line 2, item: "LK-1B" {what}; is it LK-IB?')
-        self.assertTrue(lines[1].startswith(f'{events} line 3, item: "Crossing" {what}'), lines[1])
+        self.assertEqual(lines[0], f'{events} line 2, item: "N-N" {what}; is it N-M?')
+        self.assertTrue(lines[1].startswith(f'{events} line 3, item: "Junction" {what}'), lines[1])
 
 
 if __name__ == "__main__":
