@@ -344,24 +344,20 @@ class Refusals(DeskTest):
         self.told(STUDY[: STUDY.index("said")], f" line 27: {cut}")
 
     def test_lines_that_are_wrong_are_told_at_once(self) -> None:
-        form = '"transformer NAME north LO HI east LO HI worst LO HI VERDICT"'
+        printed = "; take the report as it was printed"
+        form = f'"transformer NAME north LO HI east LO HI worst LO HI VERDICT"{printed}'
         faulty = SCREEN.replace("83332 83335", "83,332 83335", 1).replace("TB north", "TB nord")
         self.told(
             faulty,
             ' line 3: "transformer TA north -50001 -49999 east -66667 -66666 wor.." is not of the form ' + form,
             ' line 4: "transformer TB nord 49999 50001 east 66666 66667 worst 83.." is not of the form ' + form,
         )
-        self.told(
-            "recheck\nnorth 1000 east 0\nnode A 1 0\nend\n",
-            ' line 3: "node A 1 0" is not of the form "node NAME LO HI"',
-        )
-        self.told(
-            "check\nnode A alive\nlive 0\nend\n",
-            ' line 2: "node A alive" is not of the form "node NAME live" or "node NAME dead"',
-        )
-        self.told(
-            "make\nseed 07 size 2\n", ' line 2: "seed 07 size 2" is not of the form "seed COUNT size COUNT"'
-        )
+        for text, number, line, forms in (
+            ("recheck\nnorth 1000 east 0\nnode A 1 0\nend\n", 3, "node A 1 0", '"node NAME LO HI"'),
+            ("check\nnode A alive\nlive 0\nend\n", 2, "node A alive", '"node NAME live" or "node NAME dead"'),
+            ("make\nseed 07 size 2\n", 2, "seed 07 size 2", '"seed COUNT size COUNT"'),
+        ):
+            self.told(text, f' line {number}: "{line}" is not of the form {forms}{printed}')
 
     def test_counts_that_disagree(self) -> None:
         again = "stand there; ask the program for the report again"

@@ -232,6 +232,22 @@ class Small(PsseTest):
             ],
         )
 
+    def test_a_section_that_is_skipped_is_told(self) -> None:
+        shunts = "0 / END OF AREA DATA, BEGIN SWITCHED SHUNT DATA\n7,1,0,1\n0 / END OF SWITCHED SHUNT DATA\nQ\n"
+        self.case([*self.words(RAW.replace("Q\n", shunts)), "--beyond=leave"])
+        words = "the section SWITCHED SHUNT is skipped, with 1 line; see whether a case needs what stands there"
+        self.assertEqual(self.shown[0].replace(f"{self.folder}/", ""), f"net.raw line 40: {words}")
+
+    @unittest.skipUnless(BUILT.is_file(), "no program is built")
+    def test_the_program_takes_the_case(self) -> None:
+        self.case([*self.words(), "--beyond=model"])
+        words = [BUILT, "list", f"--case={self.out}"]
+        printed = subprocess.run(words, capture_output=True, text=True, check=True).stdout.splitlines()
+        # Two grounds, two lines without the capacitor, two windings of the auto, three others, and a neutral resistor.
+        self.assertEqual(printed[1], "nodes 9 elements 10")
+        self.assertIn("element L1-7-1 line 1_NORTH_345 7_EAST 3 2975625", printed)
+        self.assertIn("element T4-6-1 neutral T4-6-1 SOUTH 1 2500000", printed)
+
     def test_the_table_of_names(self) -> None:
         self.case([*self.words(), "--beyond=model"])
         with open(self.folder / "case.names.csv", newline="") as file:

@@ -5,6 +5,7 @@ import os
 import pathlib
 import sys
 from collections.abc import Sequence
+from typing import Any
 
 from . import compare, layouts, outages, psse, psse_units, reports
 from .files import refuse_folder, refuse_taken, write_folder, write_whole
@@ -17,8 +18,8 @@ DONE, REFUSED, USAGE, STOPPED = 0, 1, 2, 130
 class Words(argparse.ArgumentParser):
     """A parser that takes no option by a part of its name."""
 
-    def __init__(self, *words, **options) -> None:
-        super().__init__(*words, allow_abbrev=False, **options)
+    def __init__(self, **options: Any) -> None:
+        super().__init__(allow_abbrev=False, **options)
 
 
 def show(text: str) -> None:

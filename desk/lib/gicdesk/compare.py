@@ -7,6 +7,7 @@ to the high end afterwards less the low end before.
 import dataclasses
 from collections.abc import Sequence
 
+from .counts import plural
 from .decimals import MILLI, shifted, signed
 from .findings import Finding, Refused
 from .forms import Interval
@@ -153,10 +154,6 @@ def head_text(names: Sequence[str], reports: Sequence[tuple[str, Compared]]) -> 
         if facts[0][key] != facts[1][key]:
             text += f"the head lines differ: {key} {facts[0][key]} before, {facts[1][key]} after\n"
     return text
-
-
-def plural(many: int, one: str) -> str:
-    return f"{many} {one}" if many == 1 else f"{many} {one}s"
 
 
 def sum_text(comparison: Comparison) -> str:

@@ -38,7 +38,7 @@ def read_text(name: str) -> str:
         line = data.count(b"\n", 0, error.start) + 1
         words = f"the byte {data[error.start]:#04x} is no UTF-8; save the file as UTF-8"
         raise refuse(name, words, line) from None
-    return text.replace("\r\n", "\n")
+    return text.replace("\r\n", "\n").replace("\r", "\n")
 
 
 def refuse_taken(names: list[str], force: bool) -> None:

@@ -121,7 +121,7 @@ class Lines:
             if values is not None:
                 self.take()
                 return values
-        raise self.stop(f"{shown(line)} is not of the form {or_words(forms)}")
+        raise self.stop(not_of(line, forms))
 
     def rows(self, forms: tuple[str, ...], until: tuple[str, ...] = ("end",)) -> list[tuple[str, Values]]:
         """The lines up to one whose first word is one of `until`, each with its form and its values. One that has no
@@ -136,7 +136,7 @@ class Lines:
                     break
             else:
                 alike = [form for form in forms if form.split(" ")[0] == line.split(" ")[0]]
-                self.wrong(f"{shown(line)} is not of the form {or_words(alike or forms)}")
+                self.wrong(not_of(line, alike or forms))
         if line is None:
             raise self.cut()
         return rows
@@ -150,5 +150,6 @@ class Lines:
             raise Refused(self.findings)
 
 
-def or_words(forms: Sequence[str]) -> str:
-    return " or ".join(f'"{form}"' for form in forms)
+def not_of(line: str, forms: Sequence[str]) -> str:
+    allowed = " or ".join(f'"{form}"' for form in forms)
+    return f"{shown(line)} is not of the form {allowed}; take the report as it was printed"

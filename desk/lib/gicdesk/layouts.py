@@ -229,7 +229,7 @@ def study_rows(report: Study) -> list[Cells]:
     rows += [{"block": "peaks"} | item_cells(item) for item in report.items]
     rows += [{"block": "peaks"} | unit_cells(unit) for unit in report.units]
     for number, text in enumerate(report.monitors, 1):
-        rows += [monitor_cells(number, line) for line in text.splitlines()]
+        rows += [monitor_cells(number, line) for line in text.removesuffix("\n").split("\n") if text]
     asked = {
         "threshold_A_per_phase": shifted(report.threshold, MILLI),
         "steps": str(report.steps),

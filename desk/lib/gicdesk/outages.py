@@ -10,7 +10,8 @@ from collections import Counter
 from collections.abc import Callable, Sequence
 from typing import TypeVar
 
-from .compare import ends_or_nothing, interval_text, outcome_text, plural
+from .compare import ends_or_nothing, interval_text, outcome_text
+from .counts import plural
 from .decimals import MILLI, shifted
 from .events import MOST_ROWS, BaseSwitchings, Event, Items, one_event, read_events
 from .files import read_bytes
@@ -223,6 +224,8 @@ def find_outages(asked: Asked, file: str | None) -> Outages:
     with tempfile.TemporaryDirectory(prefix="gicdesk.") as folder:
         runner = Runner(asked, base, file or asked.case, pathlib.Path(folder, "event.csv"))
         if file is None:
+            progress = Progress(1)
+            progress.next("the report of outage")
             outage = outage_report(asked)
             progress = Progress(len(outage.outcomes))
             results = single_results(runner, outage, progress.next)

@@ -46,9 +46,8 @@ class Groups:
 class Making:
     """A case in the making, list by list, with what is wrong and what is told."""
 
-    def __init__(self, raw: Raw, gic: Gic, zones: Zones, choices: Choices, findings: list[Finding]) -> None:
-        self.raw, self.gic, self.zones, self.choices, self.findings = raw, gic, zones, choices, findings
-        self.notes: list[Finding] = []
+    def __init__(self, raw: Raw, gic: Gic, zones: Zones, choices: Choices, notes: list[Finding]) -> None:
+        self.raw, self.gic, self.zones, self.choices, self.notes = raw, gic, zones, choices, notes
         self.beyond = Beyond(choices.beyond, self.notes)
         self.case, self.names, self.groups = Case(), Names(), Groups()
         self.theirs: list[tuple[str, str, str, str, str]] = []
@@ -324,10 +323,11 @@ def make_case(
 ) -> Made:
     """The case of the two files and the tables of zones; all that is wrong with any of them is told at once."""
     findings: list[Finding] = []
+    notes: list[Finding] = []
     read: list[Raw | Gic | Zones] = []
     for reader in (
-        lambda: read_raw(raw_file, findings),
-        lambda: read_gic(gic_file, findings),
+        lambda: read_raw(raw_file, findings, notes),
+        lambda: read_gic(gic_file, findings, notes),
         lambda: read_all(*zone_files, findings),
     ):
         try:
@@ -337,7 +337,7 @@ def make_case(
     raw, gic, zones = read if len(read) == 3 else (None, None, None)
     if findings or not (isinstance(raw, Raw) and isinstance(gic, Gic) and isinstance(zones, Zones)):
         raise Refused(findings)
-    making = Making(raw, gic, zones, choices, findings)
+    making = Making(raw, gic, zones, choices, notes)
     making.make()
     if findings:
         raise Refused(findings)

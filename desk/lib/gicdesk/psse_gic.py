@@ -7,7 +7,7 @@ from typing import TypeVar
 from .files import read_text
 from .findings import Finding, refuse
 from .psse_raw import circuit_of
-from .psse_text import Layout, read_sections, record
+from .psse_text import Layout, read_sections, record, told_skipped
 from .records import Record
 
 LAYOUT = Layout(
@@ -29,6 +29,7 @@ LAYOUT = Layout(
     {"BUS SUBSTATION": "BUS", "SUBSTATION BUS": "BUS", "BUS SUBSTATIONS": "BUS", "LINE": "BRANCH"},
 )
 SIDES = ("I", "J", "K")
+PASSED = ("EARTH MODEL",)  # what is skipped without a word
 
 
 @dataclasses.dataclass(frozen=True)
@@ -127,8 +128,8 @@ def by_key(found: list[tuple[Key, Datum]]) -> dict[Key, Datum]:
     return data
 
 
-def read_gic(file: str, findings: list[Finding]) -> Gic:
-    """The data of a file; what is wrong with its fields becomes findings."""
+def read_gic(file: str, findings: list[Finding], notes: list[Finding]) -> Gic:
+    """The data of a file. What is wrong with its fields becomes findings, and what is skipped is told."""
     lines = read_text(file).split("\n")
     first = 0
     while first + 1 < len(lines) and (not lines[first].strip() or lines[first].lstrip().startswith(("@!", "/"))):
@@ -136,6 +137,7 @@ def read_gic(file: str, findings: list[Finding]) -> Gic:
     if not lines[first].replace(" ", "").upper().startswith("GICFILEVRSN="):
         raise refuse(file, "the first line isn't GICFILEVRSN=..; is it another file?", first + 1)
     sections = read_sections(file, lines, first + 2, LAYOUT, findings)
+    told_skipped(file, sections, LAYOUT, PASSED, notes)
 
     def records(section: str) -> list[Record]:
         return [record(file, line, section, LAYOUT, findings) for line in sections[section]]

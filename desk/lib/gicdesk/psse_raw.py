@@ -5,7 +5,7 @@ import decimal
 
 from .files import read_text
 from .findings import Finding, refuse, shown
-from .psse_text import Layout, SectionLine, fields_of, read_sections, record
+from .psse_text import Layout, SectionLine, fields_of, read_sections, record, told_skipped
 from .records import Record
 
 RATES = " ".join(f"RATE{number}" for number in range(1, 13))
@@ -22,8 +22,12 @@ NEEDED = {
     "SYSTEM SWITCHING DEVICE": "I J CKT ST",
     "TRANSFORMER": "I J K CKT ST",
 }
+OTHER_SECTIONS = {"FIXED BUS SHUNT": "FIXED SHUNT", "NONTRANSFORMER BRANCH": "BRANCH", "LINE": "BRANCH"}
+# Sections that say nothing of direct currents.
+PASSED = ["SYSTEM-WIDE", "LOAD", "GENERATOR", "AREA", "ZONE", "OWNER"]
+PASSED += ["INTER-AREA TRANSFER", "IMPEDANCE CORRECTION", "MULTI-SECTION LINE"]
 TO_TRANSFORMERS = ["BUS", "LOAD", "FIXED SHUNT", "GENERATOR", "BRANCH", "TRANSFORMER", "AREA"]
-TO_33 = Layout(TO_TRANSFORMERS, COLUMNS, NEEDED)
+TO_33 = Layout(TO_TRANSFORMERS, COLUMNS, NEEDED, OTHER_SECTIONS)
 FROM_34 = Layout(
     ["SYSTEM-WIDE", *TO_TRANSFORMERS[:5], "SYSTEM SWITCHING DEVICE", *TO_TRANSFORMERS[5:]],
     COLUMNS
@@ -32,6 +36,7 @@ FROM_34 = Layout(
         "SYSTEM SWITCHING DEVICE": f"I J CKT X {RATES} ST NSTAT MET STYPE NAME",
     },
     NEEDED,
+    OTHER_SECTIONS,
 )
 VERSIONS = {30: TO_33, 31: TO_33, 32: TO_33, 33: TO_33, 34: FROM_34, 35: FROM_34, 36: FROM_34}
 ISOLATED = 4  # the IDE of a bus that stands alone
@@ -166,11 +171,12 @@ def read_transformers(
     return units
 
 
-def read_raw(file: str, findings: list[Finding]) -> Raw:
-    """The network of a file; what is wrong with its fields becomes findings."""
+def read_raw(file: str, findings: list[Finding], notes: list[Finding]) -> Raw:
+    """The network of a file. What is wrong with its fields becomes findings, and what is skipped is told."""
     lines = read_text(file).split("\n")
     first, base, layout = read_head(file, lines)
     sections = read_sections(file, lines, first, layout, findings)
+    told_skipped(file, sections, layout, PASSED, notes)
 
     def records(section: str) -> list[Record]:
         return [record(file, line, section, layout, findings) for line in sections.get(section, [])]

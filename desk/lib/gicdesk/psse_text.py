@@ -11,6 +11,7 @@ import dataclasses
 import re
 from collections.abc import Sequence
 
+from .counts import plural
 from .findings import Finding, shown
 from .records import Record
 
@@ -32,13 +33,18 @@ def uncommented(line: str) -> str | None:
 
 
 def fields_of(line: str) -> list[str] | None:
-    """The fields of a line without its comment, strings without their quotes; None where quotes don't fit."""
+    """The fields of a line without its comment, strings without their quotes; None where there can't be any, as where
+    quotes don't fit."""
     text = uncommented(line)
     if text is None:
         return None
+    fields: list[str] = []
     for delimiter in (",", " "):
         words = csv.reader([text.replace("\t", " ").strip()], delimiter=delimiter, quotechar="'", skipinitialspace=True)
-        fields = [field.strip() for field in next(words, [""])]
+        try:
+            fields = [field.strip() for field in next(words, [""])]
+        except csv.Error:
+            return None
         if len(fields) > 1:
             break
     return fields
@@ -88,7 +94,7 @@ def read_sections(
             continue
         fields = fields_of(line)
         if fields is None:
-            words = f"{shown(line.strip())} has quotes that don't fit; each string has two"
+            words = f"{shown(line.strip())} has no fields that can be read; look at its quotes, two for each string"
             findings.append(Finding(file, words, number))
             continue
         if fields == ["Q"]:
@@ -105,6 +111,16 @@ def read_sections(
             continue
         sections.setdefault(section, []).append(SectionLine(number, fields, named))
     return sections
+
+
+def told_skipped(
+    file: str, sections: dict[str, list[SectionLine]], layout: Layout, passed: Sequence[str], notes: list[Finding]
+) -> None:
+    """Tells of sections that have lines and are skipped, but for those that say nothing of direct currents."""
+    for name, lines in sections.items():
+        if lines and name not in layout.columns and name not in passed:
+            what = f"the section {name} is skipped, with {plural(len(lines), 'line')}"
+            notes.append(Finding(file, f"{what}; see whether a case needs what stands there", lines[0].number))
 
 
 def record(file: str, line: SectionLine, section: str, layout: Layout, findings: list[Finding]) -> Record:
