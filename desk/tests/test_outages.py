@@ -214,7 +214,7 @@ class Singles(OutagesTest):
         self.prints("screen", "gicstudy: unearthed: step 1 node B\n")
         self.prints("outage", "gicstudy: unearthed: step 1 node B\n")
         (line,) = self.refused(*self.words())
-        start = 'case.toml: it ended with status 8 and "gicstudy: unearthed: step 1 node B"'
+        start = 'case.toml: the program ended with status 8 and "gicstudy: unearthed: step 1 node B"'
         self.assertTrue(line.startswith(start), line)
 
 
@@ -255,8 +255,9 @@ class Refusals(OutagesTest):
         self.told("", f'line 1: the columns are "", {words}')
         self.told(HEADS, "line 1: it has no event; write a row for each switching of an event")
         self.told(
-            f'{HEADS}"e,K,open\n',
-            "line 2: it is no table of commas here (unexpected end of data); look at the quotation marks",
+            f'{HEADS}e,K,trip\n"e,K,open\n',
+            'line 2, action: "trip" is none of open, close, block, unblock; write one of these',
+            "line 3: it is no table of commas here (unexpected end of data); look at the quotation marks",
         )
 
     def test_bytes_of_another_code_page(self) -> None:
@@ -281,8 +282,8 @@ class Refusals(OutagesTest):
         self.assertEqual(
             lines,
             [
-                f'{events} line 4: e: it ended with status 7 and "gicstudy: switch: item in row 2"; {words}',
-                f'{events} line 3: f: it ended with status 7 and "gicstudy: switch: item in row 1"; {words}',
+                f'{events} line 4: e: the program ended with status 7 and "gicstudy: switch: item in row 2"; {words}',
+                f'{events} line 3: f: the program ended with status 7 and "gicstudy: switch: item in row 1"; {words}',
             ],
         )
 
@@ -290,7 +291,7 @@ class Refusals(OutagesTest):
         self.prints("screen", "gicstudy: cannot read case\n")
         (line,) = self.refused(*self.words())
         words = "docs/FAULTS.md says what it comes from"
-        self.assertEqual(line, f'case.toml: it ended with status 3 and "gicstudy: cannot read case"; {words}')
+        self.assertEqual(line, f'case.toml: the program ended with status 3 and "gicstudy: cannot read case"; {words}')
 
     def test_a_program_that_is_none(self) -> None:
         (line,) = self.refused("outages", "case.toml", "--program=/none")

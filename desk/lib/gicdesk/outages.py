@@ -124,7 +124,7 @@ def whole_result(asked: Asked) -> Result:
     run = asked.run("screen", asked.switch)
     result = screen_result(Event("", ()), run)
     if result is None:
-        file = asked.switch if run.status == 7 and asked.switch is not None else asked.case
+        file = asked.switch if asked.switch is not None and "switch" in run.line else asked.case
         raise refuse(file, ending(run))
     return result
 

@@ -62,9 +62,9 @@ class Program:
 def ending(run: Run) -> str:
     """How a run without a report ended, in words."""
     if run.status < 0:
-        return f"it was ended by the signal {-run.status}; is there too little memory?"
+        return f"the program was ended by the signal {-run.status}; is there too little memory?"
     line = shown(run.line) if run.line else "no line"
-    return f"it ended with status {run.status} and {line}; docs/FAULTS.md says what it comes from"
+    return f"the program ended with status {run.status} and {line}; docs/FAULTS.md says what it comes from"
 
 
 def find_program(given: str | None) -> Program:

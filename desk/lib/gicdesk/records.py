@@ -61,19 +61,20 @@ class Record:
 def read_table(file: str, heads: list[str], findings: list[Finding]) -> list[Record]:
     """The rows of a table of commas with these heads; a head `note` may follow them. Empty rows are none."""
     reader = csv.reader(io.StringIO(read_text(file), newline=""), strict=True)
+    first: list[str] = []
+    records = []
     try:
         first = next(reader, [])
         if first not in (heads, [*heads, "note"]):
             words = f"the columns are {shown(','.join(first))}, and not {','.join(heads)}; write these, with commas"
             raise refuse(file, words, 1)
-        rows = [(reader.line_num, [cell.strip() for cell in cells]) for cells in reader if any(cells)]
+        for cells in reader:
+            if len(cells) == len(first):
+                records.append(Record(file, reader.line_num, [cell.strip() for cell in cells], first, findings))
+            elif cells:
+                words = f"it has {len(cells)} cells, and not {len(first)}: {','.join(first)}"
+                findings.append(Finding(file, words, reader.line_num))
     except csv.Error as error:
         words = f"it is no table of commas here ({error}); look at the quotation marks"
-        raise refuse(file, words, reader.line_num) from None
-    records = []
-    for line, cells in rows:
-        if len(cells) == len(first):
-            records.append(Record(file, line, cells, first, findings))
-        else:
-            findings.append(Finding(file, f"it has {len(cells)} cells, and not {len(first)}: {','.join(first)}", line))
-    return records
+        findings.append(Finding(file, words, reader.line_num))
+    return [record for record in records if any(record.fields)]
