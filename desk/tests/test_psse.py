@@ -2,6 +2,7 @@
 small one of three substations with what a pair can have beside that."""
 
 import csv
+import decimal
 import pathlib
 import subprocess
 import tomllib
@@ -10,6 +11,7 @@ import unittest
 import make_pair
 from shared import BUILT, EXAMPLES, REPORTS, TESTS, DeskTest
 
+from gicdesk.polygons import Polygon
 from gicdesk.psse_text import fields_of
 from gicdesk.psse_units import letters_of
 
@@ -411,15 +413,12 @@ class Refusals(PsseTest):
         )
         two = f"{heads}north,60,0.81\nsouth,50,0.81\n"
         words = [*self.words(zones=two), "--beyond=leave"]
-        table = "write it into the table of --substations"
+        table = "write it into the table of --substations, or give --polygons"
         self.told(
             words,
-            f"net.raw line 18: the substation 1 has no zone; {table}",
-            f"net.raw line 18: the substation 2 has no zone; {table}",
-            f"net.raw line 19: the substation 1 has no zone; {table}",
-            f"net.raw line 19: the substation 3 has no zone; {table}",
-            f"net.raw line 21: the substation 2 has no zone; {table}",
-            f"net.raw line 21: the substation 3 has no zone; {table}",
+            f"net.gic line 2: the substation 1 has no zone; {table}",
+            f"net.gic line 3: the substation 2 has no zone; {table}",
+            f"net.gic line 4: the substation 3 has no zone; {table}",
         )
         stations = self.file("stations.csv", "substation,zone\n1,north\n2,south\n3,north\n")
         self.told(
@@ -434,6 +433,36 @@ class Refusals(PsseTest):
         self.assertEqual(
             found,
             {"L1-4-1": ("north", -111221, 0), "L1-7-1": ("north", 0, 71696), "L5-7-1": ("south", 110500, 72000)},
+        )
+
+    def test_zones_as_polygons(self) -> None:
+        words = [*self.words(zones="name,geomagnetic_latitude,beta\nnorth,60,0.81\nsouth,50,0.81\n"), "--beyond=leave"]
+        heads = "zone,latitude,longitude\n"
+        # The border is the parallel of 49.5 degrees: the stations 1 and 3 lie in the north, and 2 in the south.
+        north = "north,49.5,-101\nnorth,51,-101\nnorth,51,-98\nnorth,49.5,-98\n"
+        south = "south,48,-101\nsouth,49.5,-101\nsouth,49.5,-98\nsouth,48,-98\n"
+        lines = self.file("lines.csv", "bus_i,bus_j,circuit,zone,north_km,east_km\n4,1,1,south,,\n5,7,1,north,,\n")
+        polygons = self.file("polygons.csv", heads + north + south)
+        case = self.case([*words, f"--polygons={polygons}", f"--lines={lines}"])
+        found = {name: row["zone"] for name, row in case["line"].items()}
+        self.assertEqual(found, {"L1-4-1": "south", "L1-7-1": "north", "L5-7-1": "north"})
+        self.out.unlink(), self.out.with_suffix(".names.csv").unlink()
+        self.told(
+            [*words, f"--polygons={self.file('p.csv', heads + north)}"],
+            "net.gic line 3: it lies at 49.0, -100.0, in no polygon; widen one, or look at its coordinates",
+        )
+        table = heads + north + "south,48,-101\nx,48,-100\n"
+        self.told(
+            [*words, f"--polygons={self.file('p.csv', table)}"],
+            'p.csv line 7, zone: "x" is none of north, south; write one of these',
+            "p.csv: south has 1 corner; a polygon has 3 or more, a row for each",
+        )
+        overlapping = heads + north + north.replace("north", "south")
+        self.told(
+            [*words, f"--polygons={self.file('p.csv', overlapping)}"],
+            "net.gic line 2: it lies at 50.0, -100.0, in north and in south; let these polygons not overlap",
+            "net.gic line 3: it lies at 49.0, -100.0, in no polygon; widen one, or look at its coordinates",
+            "net.gic line 4: it lies at 50.0, -99.0, in north and in south; let these polygons not overlap",
         )
 
     def test_a_span_whose_sign_is_turned_and_a_line_that_is_none(self) -> None:
@@ -452,6 +481,23 @@ class Refusals(PsseTest):
         lines = self.refused(*words)
         more = "it is there already; choose another name, or give --force to replace it"
         self.assertEqual(lines, [f"{self.folder}/case.toml: {more}", f"{self.folder}/case.names.csv: {more}"])
+
+
+class Polygons(unittest.TestCase):
+    def test_inside_outside_and_on_the_border(self) -> None:
+        def places(*pairs: tuple[str, str]) -> list[tuple[decimal.Decimal, decimal.Decimal]]:
+            return [(decimal.Decimal(north), decimal.Decimal(east)) for north, east in pairs]
+
+        # An L: the square from 0 to 2 without its quarter to the north and the east.
+        shape = Polygon("z", places(("0", "0"), ("0", "2"), ("1", "2"), ("1", "1"), ("2", "1"), ("2", "0")))
+        turned = Polygon("z", shape.corners[::-1])
+        for polygon in (shape, turned):
+            for place in places(("0.5", "0.5"), ("1", "0.5"), ("1.999", "0.999"), ("0.5", "1.5")):
+                self.assertTrue(polygon.inside(place), place)
+            for place in places(("1.5", "1.5"), ("1", "2.5"), ("-0.1", "1"), ("2.1", "0.5"), ("0", "-1"), ("1", "-1")):
+                self.assertFalse(polygon.inside(place) or polygon.on_border(place), place)
+            for place in places(("0", "0"), ("1", "1"), ("1", "1.5"), ("1.5", "1"), ("0", "1"), ("2", "0.5")):
+                self.assertTrue(polygon.on_border(place) and not polygon.inside(place), place)
 
 
 class Fields(unittest.TestCase):

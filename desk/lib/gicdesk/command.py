@@ -7,7 +7,7 @@ import sys
 from collections.abc import Sequence
 from typing import Any
 
-from . import compare, layouts, outages, psse, psse_units, reports
+from . import compare, layouts, outages, psse, psse_units, reports, zones
 from .files import refuse_folder, refuse_taken, write_folder, write_whole
 from .findings import Refused
 from .program import find_program
@@ -69,7 +69,7 @@ def run_outages(options: argparse.Namespace) -> None:
 def run_psse(options: argparse.Namespace) -> None:
     names = str(pathlib.Path(options.out).with_suffix(".names.csv"))
     refuse_taken([options.out, names], options.force)
-    tables = (options.zones, options.substations, options.lines)
+    tables = zones.ZoneFiles(options.zones, options.substations, options.polygons, options.lines)
     made = psse.make_case(options.raw, options.gic, tables, psse.Choices(options.beyond, options.vector))
     write_whole(names, made.names, options.force)
     write_whole(options.out, made.case, options.force)
@@ -109,6 +109,7 @@ def command_words() -> argparse.ArgumentParser:
     four.add_argument("gic", metavar="NET.gic", help="places, grounds, resistances of windings")
     four.add_argument("--zones", metavar="FILE", required=True, help="a table name,geomagnetic_latitude,beta")
     four.add_argument("--substations", metavar="FILE", help="a table substation,zone, with more zones than one")
+    four.add_argument("--polygons", metavar="FILE", help="a table zone,latitude,longitude of corners, in its place")
     four.add_argument("--lines", metavar="FILE", help="a table bus_i,bus_j,circuit,zone,north_km,east_km")
     four.add_argument("--beyond", choices=psse_units.CHOICES, help="what becomes of third windings and reactors")
     four.add_argument("--vector", choices=("volts", "buses"), help="in which order the letters of vector groups stand")

@@ -126,17 +126,19 @@ class Lines:
     def rows(self, forms: tuple[str, ...], until: tuple[str, ...] = ("end",)) -> list[tuple[str, Values]]:
         """The lines up to one whose first word is one of `until`, each with its form and its values. One that has no
         form is a finding, and left out."""
+        by_word: dict[str, list[str]] = {}
+        for form in forms:
+            by_word.setdefault(form.split(" ")[0], []).append(form)
         rows = []
-        while (line := self.peek()) is not None and line.split(" ")[0] not in until:
+        while (line := self.peek()) is not None and (first := line.split(" ")[0]) not in until:
             self.take()
-            for form in forms:
+            for form in by_word.get(first, []):
                 values = read_line(form, line)
                 if values is not None:
                     rows.append((form, values))
                     break
             else:
-                alike = [form for form in forms if form.split(" ")[0] == line.split(" ")[0]]
-                self.wrong(not_of(line, alike or forms))
+                self.wrong(not_of(line, by_word.get(first, forms)))
         if line is None:
             raise self.cut()
         return rows

@@ -7,12 +7,13 @@ from collections.abc import Sequence
 from .cases import Case, Field, Names, Row
 from .findings import Finding, Refused
 from .places import MOST_KM, span_metres
+from .polygons import zone_of
 from .psse_gic import Gic, Key, LineData, Reactor, Substation, read_gic
 from .psse_raw import Branch, Raw, Switch, Transformer, read_raw
 from .psse_units import Beyond, Unit, micro_ohm, reactor_row, windings_of
 from .records import Record
 from .tables import Table
-from .zones import Override, Zones, read_all
+from .zones import Override, ZoneFiles, Zones, read_all
 
 SPAN_FROM_MAP_M = 10000  # a span that is given is this near to that of the coordinates
 BLOCKED_MICRO_OHM = 1000000  # of a series capacitor without a resistance: it carries nothing
@@ -53,6 +54,7 @@ class Making:
         self.theirs: list[tuple[str, str, str, str, str]] = []
         self.substation_names: dict[int, str] = {}
         self.bus_names: dict[int, str] = {}
+        self.substation_zones: dict[int, str] = {}
         self.without: set[int] = set()  # buses that were told to be in no substation
 
     def tell(self, at: Record, words: str) -> None:
@@ -216,16 +218,24 @@ class Making:
             return override.zone
         if len(self.zones.rows) == 1:
             return self.zones.rows[0].name
-        numbers = [self.gic.substation_of[bus] for bus in branch.ends]
-        zones = [self.zones.of_substations.get(number, "") for number in numbers]
-        for number, zone in zip(numbers, zones):
-            if not zone:
-                words = f"the substation {number} has no zone; write it into the table of --substations"
-                branch.record.wrong(None, words)
+        zones = [self.zone_of_substation(self.gic.substation_of[bus]) for bus in branch.ends]
         if all(zones) and zones[0] != zones[1]:
             words = f"its ends are in {zones[0]} and in {zones[1]}; write its zone into the table of --lines"
             branch.record.wrong(None, words)
         return zones[0]
+
+    def zone_of_substation(self, number: int) -> str:
+        """The zone of a substation: that of the table, or that of the polygons; empty where it has none, told once."""
+        if number not in self.substation_zones:
+            substation = self.gic.substations[number]
+            zone = self.zones.of_substations.get(number, "")
+            if not zone and self.zones.polygons:
+                zone = zone_of(substation.record, (substation.latitude, substation.longitude), self.zones.polygons)
+            elif not zone:
+                words = f"the substation {number} has no zone; write it into the table of --substations"
+                substation.record.wrong(None, f"{words}, or give --polygons")
+            self.substation_zones[number] = zone
+        return self.substation_zones[number]
 
     def transformer(self, unit: Transformer) -> None:
         what = f"the transformer {title(unit.buses, unit.circuit)}"
@@ -318,9 +328,7 @@ class Made:
     notes: list[Finding]
 
 
-def make_case(
-    raw_file: str, gic_file: str, zone_files: tuple[str, str | None, str | None], choices: Choices
-) -> Made:
+def make_case(raw_file: str, gic_file: str, zone_files: ZoneFiles, choices: Choices) -> Made:
     """The case of the two files and the tables of zones; all that is wrong with any of them is told at once."""
     findings: list[Finding] = []
     notes: list[Finding] = []
@@ -328,7 +336,7 @@ def make_case(
     for reader in (
         lambda: read_raw(raw_file, findings, notes),
         lambda: read_gic(gic_file, findings, notes),
-        lambda: read_all(*zone_files, findings),
+        lambda: read_all(zone_files, findings),
     ):
         try:
             read.append(reader())

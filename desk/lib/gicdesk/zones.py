@@ -6,6 +6,7 @@ import decimal
 from .cases import Field, Row
 from .findings import Finding, shown
 from .forms import NAME
+from .polygons import Polygon, read_polygons
 from .records import Record, read_table
 
 ZONES = ["name", "geomagnetic_latitude", "beta"]
@@ -25,9 +26,22 @@ class Override:
 
 
 @dataclasses.dataclass(frozen=True)
+class ZoneFiles:
+    """The names of the tables; only the first must be there."""
+
+    zones: str
+    substations: str | None = None
+    polygons: str | None = None
+    lines: str | None = None
+
+
+@dataclasses.dataclass(frozen=True)
 class Zones:
+    """The zones, and where they are: of a substation the table of substations decides, and then the polygons."""
+
     rows: list[Row]
     of_substations: dict[int, str]
+    polygons: list[Polygon]
     of_lines: dict[tuple[frozenset[int], str], Override]
 
 
@@ -100,11 +114,12 @@ def read_of_lines(file: str, names: set[str], findings: list[Finding]) -> dict[t
     return overrides
 
 
-def read_all(zones: str, substations: str | None, lines: str | None, findings: list[Finding]) -> Zones:
-    rows = read_zones(zones, findings)
+def read_all(files: ZoneFiles, findings: list[Finding]) -> Zones:
+    rows = read_zones(files.zones, findings)
     names = {row.name for row in rows}
     return Zones(
         rows,
-        {} if substations is None else read_of_substations(substations, names, findings),
-        {} if lines is None else read_of_lines(lines, names, findings),
+        {} if files.substations is None else read_of_substations(files.substations, names, findings),
+        [] if files.polygons is None else read_polygons(files.polygons, names, findings),
+        {} if files.lines is None else read_of_lines(files.lines, names, findings),
     )
