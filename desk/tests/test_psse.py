@@ -250,6 +250,12 @@ class Small(PsseTest):
         self.assertIn("element L1-7-1 line 1_NORTH_345 7_EAST 3 2975625", printed)
         self.assertIn("element T4-6-1 neutral T4-6-1 SOUTH 1 2500000", printed)
 
+    def test_names_of_another_code_page(self) -> None:
+        words = [*self.words(gic=GIC), "--beyond=leave"]
+        self.gic.write_bytes(GIC.replace("NORTH", "ZÜRICH").encode("latin-1"))
+        self.assertIn("Z_RICH", self.case(words)["substation"])
+        self.assertIn("substation,Z_RICH,ZÜRICH,1,\n", self.out.with_suffix(".names.csv").read_text())
+
     def test_the_table_of_names(self) -> None:
         self.case([*self.words(), "--beyond=model"])
         with open(self.folder / "case.names.csv", newline="") as file:
@@ -350,14 +356,17 @@ class Refusals(PsseTest):
         self.one(
             "2,'SOUTH',0,49.0", "2,'SOUTH',1,49.0", "net.gic line 3, UNIT: it is 1; degrees are read, which is 0"
         )
+        degrees = "and not -90 to 90 degrees"
+        self.one("2,'SOUTH',0,49.0", "2,'SOUTH',0,94.0", f"net.gic line 3, LATITUDE: it is 94.0, {degrees}")
+        self.one("2,'SOUTH',0,49.0", "2,'SOUTH',0,1e999", f"net.gic line 3, LATITUDE: it is 1e999, {degrees}")
+        # At the mean of 50 and 60 degrees a degree has 111.133 - 0.56 cos 110 = 111.3245 km.
+        words = "its ends lie 1113.245 km apart to the north, and not up to 1000; look at the coordinates of"
         self.one(
-            "2,'SOUTH',0,49.0", "2,'SOUTH',0,94.0",
-            "net.gic line 3, LATITUDE: it is 94.0, and not -90 to 90 degrees",
-            "net.raw line 18: its ends lie 4909.79 km apart to the north, and not up to 1000; look at the coordinates "
-            "of NORTH and SOUTH",
-            "net.raw line 21: its ends lie 4909.79 km apart to the north, and not up to 1000; look at the coordinates "
-            "of SOUTH and EAST STATION",
-        )  # fmt: skip
+            "2,'SOUTH',0,49.0",
+            "2,'SOUTH',0,60.0",
+            f"net.raw line 18: {words} NORTH and SOUTH",
+            f"net.raw line 21: {words} SOUTH and EAST STATION",
+        )
         self.one("-100.0,0.2,''", "-100.0,0,''", f"net.gic line 2, RG: it is 0 ohm, and not 0.001 to 1000; {write}")
         self.one("3.25,0.0", "3250000,0.0", f"net.gic line 21, RBRN: it is 3250000 ohm, and not 0.001 to 1000; {write}")
         self.one("'1 ',0.3,0.1", "'1 ',0.0,0.1", f"net.gic line 16, WRI: it is 0.0 ohm, and not 0.001 to 1000; {write}")

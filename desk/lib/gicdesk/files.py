@@ -27,14 +27,17 @@ def read_bytes(name: str) -> bytes:
     return data
 
 
-def read_text(name: str) -> str:
-    """The text of a file in UTF-8, with LF at the end of each line and without a byte order mark."""
+def read_text(name: str, other_code: str | None = None) -> str:
+    """The text of a file in UTF-8, with LF at the end of each line and without a byte order mark. What isn't UTF-8 is
+    of the other code, where one is named."""
     data = read_bytes(name)
     if data[:2] in (b"\xff\xfe", b"\xfe\xff"):
         raise refuse(name, "it is in UTF-16, as `>` of some shells of Windows writes it; save it as UTF-8")
     try:
         text = data.decode("utf-8-sig")
     except UnicodeDecodeError as error:
+        if other_code is not None:
+            return data.decode(other_code).replace("\r\n", "\n").replace("\r", "\n")
         line = data.count(b"\n", 0, error.start) + 1
         words = f"the byte {data[error.start]:#04x} is no UTF-8; save the file as UTF-8"
         raise refuse(name, words, line) from None

@@ -5,6 +5,7 @@ import decimal
 from collections.abc import Sequence
 
 from .cases import Case, Field, Names, Row
+from .decimals import MILLI, shifted
 from .findings import Finding, Refused
 from .places import MOST_KM, span_metres
 from .polygons import zone_of
@@ -91,9 +92,6 @@ class Making:
         else:
             micro = micro_ohm(substation.record, "RG", substation.ground)
             fields.append(Field("ground", micro, f"{substation.ground:f} ohm to remote earth"))
-        for column, number, most in (("LATITUDE", substation.latitude, 90), ("LONGITUDE", substation.longitude, 180)):
-            if abs(number) > most:
-                substation.record.wrong(column, f"it is {number:f}, and not {-most} to {most} degrees")
         self.add("substation", Row(name, fields), substation.name, [substation.number])
 
     def known(self, at: Record, buses: Sequence[int]) -> bool:
@@ -200,7 +198,8 @@ class Making:
         mapped = span_metres(*((end.latitude, end.longitude) for end in ends))
         for direction, metres in zip(("north", "east"), mapped):
             if abs(metres) > MOST_KM * 1000:
-                words = f"its ends lie {abs(metres) / 1000:g} km apart to the {direction}, and not up to {MOST_KM}"
+                apart = shifted(abs(metres), MILLI)
+                words = f"its ends lie {apart} km apart to the {direction}, and not up to {MOST_KM}"
                 branch.record.wrong(None, f"{words}; look at the coordinates of {ends[0].name} and {ends[1].name}")
         if override is None or override.span is None:
             return mapped

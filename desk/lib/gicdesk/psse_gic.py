@@ -93,7 +93,11 @@ def read_substation(at: Record) -> Substation:
     if unit != 0:
         at.wrong("UNIT", f"it is {unit}; degrees are read, which is 0")
     ground = at.number("RG") if at.text("RG") else None
-    return Substation(at.whole("I"), at.text("NAME"), at.number("LATITUDE"), at.number("LONGITUDE"), ground, at)
+    latitude, longitude = at.number("LATITUDE"), at.number("LONGITUDE")
+    for column, number, most in (("LATITUDE", latitude, 90), ("LONGITUDE", longitude, 180)):
+        if abs(number) > most:
+            at.wrong(column, f"it is {at.text(column)}, and not {-most} to {most} degrees")
+    return Substation(at.whole("I"), at.text("NAME"), latitude, longitude, ground, at)
 
 
 def read_windings(at: Record) -> tuple[Key, Windings]:
@@ -130,7 +134,7 @@ def by_key(found: list[tuple[Key, Datum]]) -> dict[Key, Datum]:
 
 def read_gic(file: str, findings: list[Finding], notes: list[Finding]) -> Gic:
     """The data of a file. What is wrong with its fields becomes findings, and what is skipped is told."""
-    lines = read_text(file).split("\n")
+    lines = read_text(file, "latin-1").split("\n")
     first = 0
     while first + 1 < len(lines) and (not lines[first].strip() or lines[first].lstrip().startswith(("@!", "/"))):
         first += 1

@@ -173,7 +173,7 @@ def read_transformers(
 
 def read_raw(file: str, findings: list[Finding], notes: list[Finding]) -> Raw:
     """The network of a file. What is wrong with its fields becomes findings, and what is skipped is told."""
-    lines = read_text(file).split("\n")
+    lines = read_text(file, "latin-1").split("\n")
     first, base, layout = read_head(file, lines)
     sections = read_sections(file, lines, first, layout, findings)
     told_skipped(file, sections, layout, PASSED, notes)
