@@ -250,6 +250,19 @@ class Small(PsseTest):
         self.assertIn("element L1-7-1 line 1_NORTH_345 7_EAST 3 2975625", printed)
         self.assertIn("element T4-6-1 neutral T4-6-1 SOUTH 1 2500000", printed)
 
+    def test_what_is_of_nothing_is_told(self) -> None:
+        raw = RAW.replace("7,'2 ',0,0.0,-50.0", "7,'2 ',1,0.0,-50.0")
+        gic = GIC.replace("7,'2 ',1.5,0.0\n", "").replace("1,4,'1 ',3.25", "1,4,'3 ',3.25")
+        gic = gic.replace("3,'EAST STATION',0,50.0,-99.0", "3,'EAST STATION',0,50.0,-100.0")
+        self.case([*self.words(raw, gic), "--beyond=leave"])
+        told = [line.replace(f"{self.folder}/", "") for line in self.shown]
+        for line in (
+            "net.gic line 20: there is no branch of these buses and this circuit in net.raw",
+            "net.raw line 15: the reactor 7 '2' has no record in net.gic: it is taken as not grounded",
+            "net.raw line 19: L1-7-1 has a span of less than 100 m: look at the coordinates of its ends",
+        ):
+            self.assertIn(line, told)
+
     def test_names_of_another_code_page(self) -> None:
         words = [*self.words(gic=GIC), "--beyond=leave"]
         self.gic.write_bytes(GIC.replace("NORTH", "ZÜRICH").encode("latin-1"))
@@ -372,30 +385,27 @@ class Refusals(PsseTest):
         self.one("'1 ',0.3,0.1", "'1 ',0.0,0.1", f"net.gic line 16, WRI: it is 0.0 ohm, and not 0.001 to 1000; {write}")
         allowed = "allowed are groups of YN, Y, D, Z and A, as YNd1, YNyn0 and YNa0d1"
         self.one("'YNd1'", "'wye'", f'net.gic line 16, VECGRP: "wye" is no vector group; {allowed}')
-        self.one("0.3,0.1,0.0,0,0", "0.3,0.1,0.0,2,0", "net.gic line 16, GICBDI: it is 2; allowed are 0, and 1 for a "
-                 "blocking device")  # fmt: skip
+        words = "it is 2; allowed are 0, and 1 for a blocking device"
+        self.one("0.3,0.1,0.0,0,0", "0.3,0.1,0.0,2,0", f"net.gic line 16, GICBDI: {words}")
 
     def test_what_one_file_has_and_the_other_has_not(self) -> None:
         self.one("6,2\n", "", "net.raw line 30: the bus 6 is in no substation of net.gic; write its record there")
         words = "there is no substation 4 in this file; write its record"
         self.one("6,2\n", "6,4\n", f"net.gic line 11, SUBSTATION: {words}")
-        self.one(
-            "4,6,0,'1 ',0.3", "4,6,0,'2 ',0.3",
-            "net.raw line 30: the transformer 4-6 '1' has no record in net.gic; write it there",
-        )  # fmt: skip
+        words = "the transformer 4-6 '1' has no record in net.gic; write it there"
+        self.one("4,6,0,'1 ',0.3", "4,6,0,'2 ',0.3", f"net.raw line 30: {words}")
         self.one("1,-7,'1 '", "1,-9,'1 '", "net.raw line 19: there is no bus 9 in net.raw; write its record")
-        self.one(
-            "7,'1 ',1.5", "7,'3 ',1.5",
-            "net.gic line 18: there is no fixed shunt of this bus and id in net.raw; write it there",
-        )  # fmt: skip
+        words = "there is no fixed shunt of this bus and id in net.raw; write it there"
+        self.one("7,'1 ',1.5", "7,'3 ',1.5", f"net.gic line 18: {words}")
         words = "the transformer 4-6 '1' has buses in different substations; a station is one of net.gic"
         self.one("6,2\n", "6,1\n", f"net.raw line 30: {words}")
 
     def test_what_stands_twice(self) -> None:
-        self.one(
-            "2,'NORTH 138'", "1,'NORTH 138'",
-            "net.raw line 5, I: the bus 1 stands in line 4 already; leave one of the two",
-        )  # fmt: skip
+        one = "leave one of the two"
+        self.one("2,'NORTH 138'", "1,'NORTH 138'", f"net.raw line 5, I: the bus 1 stands in line 4 already; {one}")
+        words = f"these buses and this circuit stand in line 21 already; {one}"
+        self.one("5,7,'2 '", "7,5,'1 '", f"net.raw line 22: {words}")
+        self.one("1,2,3,'1 ',0.2", "6,4,0,'1 ',0.2", "net.gic line 16: " + words.replace("21", "15"))
 
     def test_other_files(self) -> None:
         self.told(

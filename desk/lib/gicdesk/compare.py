@@ -183,10 +183,16 @@ def report_text(names: Sequence[str], reports: Sequence[tuple[str, Compared]], c
     text = head_text(names, reports) + sum_text(comparison)
     told = [change for change in comparison.changes if change.told]
     rows = [
-        (change.name, interval_text(change.before.value), interval_text(change.after.value), change_text(change.by),
-         verdict_text(change), change.crossing if " to " not in change.crossing else "")
+        (
+            change.name,
+            interval_text(change.before.value),
+            interval_text(change.after.value),
+            change_text(change.by),
+            verdict_text(change),
+            change.crossing if " to " not in change.crossing else "",
+        )
         for change in told
-    ]  # fmt: skip
+    ]
     if rows:
         heads = ("transformer", "before, A", "after, A", "change, A", "verdict", "crosses")
         text += "\n" + Table(heads, rows).columns(heads[1:4])

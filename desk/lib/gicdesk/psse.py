@@ -17,6 +17,7 @@ from .tables import Table
 from .zones import Override, ZoneFiles, Zones, read_all
 
 SPAN_FROM_MAP_M = 10000  # a span that is given is this near to that of the coordinates
+SHORT_M = 100  # a line whose span is shorter is told
 BLOCKED_MICRO_OHM = 1000000  # of a series capacitor without a resistance: it carries nothing
 NAME_HEADS = ("list", "name", "theirs", "numbers", "circuit")
 
@@ -80,7 +81,7 @@ class Making:
             self.transformer(unit)
         for reactor in self.gic.reactors:
             self.reactor(reactor)
-        self.overrides_used()
+        self.records_used()
         self.buses()
 
     def substation(self, substation: Substation) -> None:
@@ -166,6 +167,8 @@ class Making:
             branch.record.wrong(None, words)
         override = self.zones.of_lines.get((frozenset(branch.ends), branch.circuit))
         north, east = self.span(branch, override)
+        if branch.reactance >= 0 and abs(north) + abs(east) < SHORT_M:
+            self.tell(branch.record, f"{name} has a span of less than {SHORT_M} m: look at the coordinates of its ends")
         fields = [Field("from", self.bus(branch.ends[0])), Field("to", self.bus(branch.ends[1]))]
         fields.append(Field("zone", self.zone(branch, override)))
         fields.append(self.line_resistance(branch))
@@ -275,21 +278,38 @@ class Making:
             self.say_reactor(reactor.record, what, reactor.bus, name, reactor.ohm, "R", reactor.neutral_ohm)
 
     def say_reactor(
-        self, at: Record, what: str, bus: int, name: str, ohm: decimal.Decimal, column: str,
+        self,
+        at: Record,
+        what: str,
+        bus: int,
+        name: str,
+        ohm: decimal.Decimal,
+        column: str,
         neutral_ohm: decimal.Decimal = decimal.Decimal(0),
-    ) -> None:  # fmt: skip
+    ) -> None:
         def row() -> Row:
             return reactor_row(at, self.names.give_like(name), self.bus(bus), ohm, neutral_ohm, column)
 
         for made in self.beyond.say(at, what, "a delta-wye outside of the assessment", row):
             self.add("transformer", made, "", [bus])
 
-    def overrides_used(self) -> None:
-        """A row of the table of lines that is of no line is a finding, since it was meant for one."""
-        keys: set[Key] = {(frozenset(branch.ends), branch.circuit) for branch in self.raw.branches}
+    def records_used(self) -> None:
+        """A row of the table of lines that is of no branch is a finding, since it was meant for one. A record of
+        resistances that is of nothing is told, and so is a reactor without one."""
+        branches: set[Key] = {(frozenset(branch.ends), branch.circuit) for branch in self.raw.branches}
+        units: set[Key] = {(frozenset(unit.buses), unit.circuit) for unit in self.raw.transformers}
         for key, override in self.zones.of_lines.items():
-            if key not in keys:
+            if key not in branches:
                 override.record.wrong("bus_i", f"there is no branch of these buses and this circuit in {self.raw.file}")
+        for what, data, keys in (("branch", self.gic.lines, branches), ("transformer", self.gic.windings, units)):
+            for key, datum in data.items():
+                if key not in keys:
+                    self.tell(datum.record, f"there is no {what} of these buses and this circuit in {self.raw.file}")
+        grounded = {(reactor.bus, reactor.circuit) for reactor in self.gic.reactors}
+        for name, shunt in self.raw.shunts.items():
+            if shunt.reactor and shunt.in_service and name not in grounded:
+                what = f"the reactor {title((shunt.bus,), shunt.circuit)}"
+                self.tell(shunt.record, f"{what} has no record in {self.gic.file}: it is taken as not grounded")
 
     def bus(self, number: int) -> str:
         """The name of the bus that this one is, which is in the case from here on."""

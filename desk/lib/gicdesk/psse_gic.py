@@ -2,11 +2,10 @@
 
 import dataclasses
 import decimal
-from typing import TypeVar
 
 from .files import read_text
 from .findings import Finding, refuse
-from .psse_raw import circuit_of
+from .psse_raw import Key, circuit_of, look_for_twins
 from .psse_text import Layout, read_sections, record, told_skipped
 from .records import Record
 
@@ -74,10 +73,6 @@ class LineData:
     record: Record
 
 
-Key = tuple[frozenset[int], str]  # the buses and the circuit
-Datum = TypeVar("Datum", Windings, LineData)
-
-
 @dataclasses.dataclass(frozen=True)
 class Gic:
     file: str
@@ -121,17 +116,6 @@ def read_line(at: Record) -> tuple[Key, LineData]:
     return (frozenset(ends), circuit_of(at)), LineData(at.number("RBRN", "0"), shunts, at)
 
 
-def by_key(found: list[tuple[Key, Datum]]) -> dict[Key, Datum]:
-    """The data by their buses and circuits, each of which stands once."""
-    data: dict[Key, Datum] = {}
-    for key, datum in found:
-        if key in data:
-            words = f"these buses and this circuit stand in line {data[key].record.line} already; leave one of the two"
-            datum.record.wrong(None, words)
-        data[key] = datum
-    return data
-
-
 def read_gic(file: str, findings: list[Finding], notes: list[Finding]) -> Gic:
     """The data of a file. What is wrong with its fields becomes findings, and what is skipped is told."""
     lines = read_text(file, "latin-1").split("\n")
@@ -165,6 +149,8 @@ def read_gic(file: str, findings: list[Finding], notes: list[Finding]) -> Gic:
         Reactor(at.bus("BUS"), circuit_of(at, "ID"), at.number("R", "0"), at.number("RG", "0"), at)
         for at in records("FIXED SHUNT")
     ]
-    windings = by_key([read_windings(at) for at in records("TRANSFORMER")])
-    branches = by_key([read_line(at) for at in records("BRANCH")])
-    return Gic(file, substations, substation_of, windings, reactors, branches)
+    windings = [read_windings(at) for at in records("TRANSFORMER")]
+    lines_data = [read_line(at) for at in records("BRANCH")]
+    for found in (windings, lines_data):
+        look_for_twins([(key, datum.record) for key, datum in found])
+    return Gic(file, substations, substation_of, dict(windings), reactors, dict(lines_data))

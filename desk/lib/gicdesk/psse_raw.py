@@ -39,6 +39,7 @@ FROM_34 = Layout(
     OTHER_SECTIONS,
 )
 VERSIONS = {30: TO_33, 31: TO_33, 32: TO_33, 33: TO_33, 34: FROM_34, 35: FROM_34, 36: FROM_34}
+Key = tuple[frozenset[int], str]  # the buses and the circuit
 ISOLATED = 4  # the IDE of a bus that stands alone
 
 
@@ -90,9 +91,13 @@ class Transformer:
 
 @dataclasses.dataclass(frozen=True)
 class Shunt:
+    """A fixed shunt; one that takes reactive power is a reactor."""
+
     bus: int
     circuit: str
     in_service: bool
+    reactor: bool
+    record: Record
 
 
 @dataclasses.dataclass(frozen=True)
@@ -104,6 +109,16 @@ class Raw:
     switches: list[Switch]
     transformers: list[Transformer]
     shunts: dict[tuple[int, str], Shunt]
+
+
+def look_for_twins(found: list[tuple[Key, Record]]) -> None:
+    """A finding at each record whose buses and circuit an earlier one has."""
+    earlier: dict[Key, Record] = {}
+    for key, at in found:
+        if key in earlier:
+            line = earlier[key].line
+            at.wrong(None, f"these buses and this circuit stand in line {line} already; leave one of the two")
+        earlier.setdefault(key, at)
 
 
 def circuit_of(at: Record, column: str = "CKT") -> str:
@@ -144,6 +159,10 @@ def read_branch(at: Record) -> Branch:
         at.text("NAME"),
         at,
     )
+
+
+def read_shunt(at: Record) -> Shunt:
+    return Shunt(at.bus("I"), circuit_of(at, "ID"), at.whole("ST", 1) != 0, at.number("BL", "0") < 0, at)
 
 
 def read_switch(at: Record) -> Switch:
@@ -188,15 +207,11 @@ def read_raw(file: str, findings: list[Finding], notes: list[Finding]) -> Raw:
             line = buses[bus.number].record.line
             at.wrong("I", f"the bus {bus.number} stands in line {line} already; leave one of the two")
         buses[bus.number] = bus
-    shunts = [
-        Shunt(at.bus("I"), circuit_of(at, "ID"), at.whole("ST", 1) != 0) for at in records("FIXED SHUNT")
-    ]
-    return Raw(
-        file,
-        base,
-        buses,
-        [read_branch(at) for at in records("BRANCH")],
-        [read_switch(at) for at in records("SYSTEM SWITCHING DEVICE")],
-        read_transformers(file, sections["TRANSFORMER"], layout, findings),
-        {(shunt.bus, shunt.circuit): shunt for shunt in shunts},
-    )
+    branches = [read_branch(at) for at in records("BRANCH")]
+    switches = [read_switch(at) for at in records("SYSTEM SWITCHING DEVICE")]
+    units = read_transformers(file, sections["TRANSFORMER"], layout, findings)
+    shunts = [read_shunt(at) for at in records("FIXED SHUNT")]
+    look_for_twins([((frozenset(branch.ends), branch.circuit), branch.record) for branch in branches])
+    look_for_twins([((frozenset(unit.buses), unit.circuit), unit.record) for unit in units])
+    by_bus = {(shunt.bus, shunt.circuit): shunt for shunt in shunts}
+    return Raw(file, base, buses, branches, switches, units, by_bus)

@@ -201,16 +201,21 @@ class Unit:
     def side(self, end: str, winding: Winding) -> list[Field]:
         return [self.rated(f"{end}_volts", winding), Field(end, self.bus_name(winding.bus))]
 
-    def delta_wye(self, winding: Winding) -> Row:
+    def tell_of_high(self, winding: Winding) -> None:
+        """Tells where the winding that becomes the high side isn't the one of the highest voltage."""
         if winding.kilovolts < self.windings[0].kilovolts:
-            where = f"{self.name} is grounded at the bus {winding.bus} alone, which is not its highest voltage"
-            self.tell(f"{where}: it is delta-wye with this one as its high side, and its verdict means nothing")
+            what = f"the winding at the bus {winding.bus} is its high side here, and its verdict means nothing"
+            self.tell(f"{self.name} isn't grounded at its highest voltage: {what}")
+
+    def delta_wye(self, winding: Winding) -> Row:
+        self.tell_of_high(winding)
         fields = [Field("kind", "delta-wye"), *self.side("high", winding)]
         return Row(
             self.name, [*fields, self.resistance("high_resistance", winding), *self.neutral([winding])], self.note
         )
 
     def wye_wye(self, high: Winding, low: Winding) -> Row:
+        self.tell_of_high(high)
         for winding in (high, low):
             if winding.side.neutral_ohm != 0:
                 column = f"GRDR{winding.name}"
