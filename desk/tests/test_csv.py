@@ -2,6 +2,7 @@
 
 import csv
 import io
+import re
 import unittest
 
 from shared import REPORTS, DeskTest
@@ -273,6 +274,20 @@ class Csv(DeskTest):
             self.assertEqual([cells[0], cells[7]], [words[1], words[11]])
             printed = [words[place] for place in (3, 4, 6, 7, 9, 10)]
             self.assertEqual([str(int(cell.replace(".", ""))) for cell in cells[1:7]], printed)
+
+    def test_semicolons_and_decimal_commas(self) -> None:
+        # A name may have a point, and keeps it.
+        text = "volts\nnorth 1000 east -500\nline L.1 100000000000\nend\n"
+        self.assertEqual(
+            self.table(text, "--comma"),
+            "line;volts_V;north_V_per_km;east_V_per_km\nL.1;100,000000000;1,000;-0,500\n",
+        )
+        for path in sorted(REPORTS.glob("*_*.txt")):
+            point = list(csv.reader(io.StringIO(self.done("csv", path))))
+            comma = list(csv.reader(io.StringIO(self.done("csv", path, "--comma")), delimiter=";"))
+            for row, other in zip(point, comma, strict=True):
+                self.assertEqual([cell.replace(",", ".") for cell in other], row)
+                self.assertFalse([cell for cell in other if re.fullmatch(r"-?[0-9]+\.[0-9]+", cell)])
 
     def test_from_the_standard_input_and_from_windows(self) -> None:
         expected = self.table(SCREEN)

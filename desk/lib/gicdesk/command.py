@@ -33,11 +33,15 @@ def add_output(words: argparse.ArgumentParser, help_text: str) -> None:
     words.add_argument("--force", action="store_true", help="replace what is there already under the name of --out")
 
 
+def add_comma(words: argparse.ArgumentParser) -> None:
+    words.add_argument("--comma", action="store_true", help="semicolons between cells, and decimal commas")
+
+
 def run_csv(options: argparse.Namespace) -> None:
     if options.out is not None:
         refuse_taken([options.out], options.force)
     mode, report = reports.read_report(options.report)
-    text = layouts.table_of(options.report, mode, report, options.part).csv()
+    text = layouts.table_of(options.report, mode, report, options.part).csv(options.comma)
     if options.out is None:
         show(text)
     else:
@@ -51,7 +55,7 @@ def run_compare(options: argparse.Namespace) -> None:
     read = compare.read_compared(names)
     comparison = compare.compare(read[0][1], read[1][1])
     if options.out is not None:
-        write_whole(options.out, compare.comparison_table(comparison).csv(), options.force)
+        write_whole(options.out, compare.comparison_table(comparison).csv(options.comma), options.force)
     show(compare.report_text(names, read, comparison))
 
 
@@ -62,7 +66,7 @@ def run_outages(options: argparse.Namespace) -> None:
     asked = outages.Asked(find_program(options.program), options.case, options.switch, tuple(words))
     found = outages.find_outages(asked, options.events)
     if options.out is not None:
-        write_folder(options.out, outages.files_of(found), options.force)
+        write_folder(options.out, outages.files_of(found, options.comma), options.force)
     show(outages.report_text(asked, found, options.events is not None))
 
 
@@ -84,12 +88,14 @@ def command_words() -> argparse.ArgumentParser:
     one = commands.add_parser("csv", help="any report as CSV, in amperes and volts")
     one.add_argument("report", metavar="REPORT", help="the file of a report; - is the standard input")
     one.add_argument("--part", help="the rows of one kind alone, as node or peaks")
+    add_comma(one)
     add_output(one, "a new file for the table, in place of the standard output")
     one.set_defaults(run=run_csv)
 
     two = commands.add_parser("compare", help="two reports of screen or outage beside each other")
     two.add_argument("before", metavar="BEFORE", help="the file of the first report")
     two.add_argument("after", metavar="AFTER", help="the file of the second report")
+    add_comma(two)
     add_output(two, "a new file for all of it as CSV")
     two.set_defaults(run=run_compare)
 
@@ -101,6 +107,7 @@ def command_words() -> argparse.ArgumentParser:
     three.add_argument("--width", metavar="NUMBER", help="how wide an interval may be, in mA, as screen takes it")
     three.add_argument("--program", metavar="FILE", help="the built program, in place of the one of this repository")
     three.add_argument("--out", metavar="FOLDER", help="a new folder for the tables units, events and currents")
+    add_comma(three)
     three.add_argument("--force", action="store_true", help="replace these tables in a folder that is there already")
     three.set_defaults(run=run_outages)
 

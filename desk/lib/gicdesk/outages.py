@@ -323,10 +323,10 @@ def currents_table(outages: Outages) -> Table:
     return Table(["event", *heads], rows)
 
 
-def files_of(outages: Outages) -> dict[str, str]:
+def files_of(outages: Outages, comma: bool) -> dict[str, str]:
     """The files of --out."""
     return {
-        UNITS: units_table(outages).csv(),
-        EVENTS: events_table(outages).csv(),
-        CURRENTS: currents_table(outages).csv(),
+        UNITS: units_table(outages).csv(comma),
+        EVENTS: events_table(outages).csv(comma),
+        CURRENTS: currents_table(outages).csv(comma),
     }

@@ -3,7 +3,10 @@
 import csv
 import dataclasses
 import io
+import re
 from collections.abc import Sequence
+
+DECIMAL = re.compile(r"(^|_)(A|A_per_phase|V|V_or_A|V_per_km|var|ohm)$")  # the heads of columns with decimal points
 
 
 @dataclasses.dataclass(frozen=True)
@@ -13,12 +16,15 @@ class Table:
     heads: Sequence[str]
     rows: Sequence[Sequence[str]]
 
-    def csv(self) -> str:
-        """The table with commas, one line a row, and quotes where a cell needs them."""
+    def csv(self, comma: bool = False) -> str:
+        """The table with commas, one line a row, and quotes where a cell needs them; or, as spreadsheets of many
+        countries have it, with semicolons and decimal commas."""
         text = io.StringIO()
-        writer = csv.writer(text, lineterminator="\n")
+        writer = csv.writer(text, delimiter=";" if comma else ",", lineterminator="\n")
         writer.writerow(self.heads)
-        writer.writerows(self.rows)
+        decimal = [comma and DECIMAL.search(head) is not None for head in self.heads]
+        for row in self.rows:
+            writer.writerow([cell.replace(".", ",") if here else cell for cell, here in zip(row, decimal)])
         return text.getvalue()
 
     def columns(self, right: Sequence[str] = ()) -> str:
