@@ -161,6 +161,13 @@ class Events(OutagesTest):
             ],
         )
 
+    def test_who_reaches_the_threshold_in_an_event_alone(self) -> None:
+        self.prints("screen", screen(NONE, NONE))
+        self.prints("screen+K", screen("74990 75010 undecided", ONE))
+        shown = self.done(*self.words(self.events(self.ROWS))).splitlines()
+        self.assertEqual(shown[3], "below with no event, and reaches in one: TB")
+        self.assertEqual(shown[4], "below with no event, and undecided in one: TA")
+
     def test_the_switchings_of_an_event_come_behind_those_in_force(self) -> None:
         # K is open already; the event closes it and opens TA: the file has a row for each, with times that don't fall.
         switch = self.file("switch.csv", "time,item,action\r\n5,L,close\r\n+060,K,open")

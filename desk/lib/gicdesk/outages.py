@@ -64,6 +64,13 @@ class Outages:
                 return [row.name for row in result.screen.rows]
         return []
 
+    def crossing(self, verdict: str) -> list[str]:
+        """The transformers that are below the threshold with no event, and have this verdict in one."""
+        if self.whole.screen is None:
+            return []
+        there = {row.name for _, screen in self.solved() for row in screen.rows if row.verdict == verdict}
+        return [row.name for row in self.whole.screen.rows if row.verdict == "below" and row.name in there]
+
     def worsts(self) -> dict[str, Worst]:
         """The worst event of each transformer; none where no event could be solved."""
         rows: dict[str, list[tuple[str, ScreenUnit]]] = {}
@@ -248,7 +255,12 @@ def head_text(asked: Asked, outages: Outages) -> str:
     many = Counter(result.outcome.word for result in outages.results)
     ends = ", ".join(f"{many[word]} {word}" for word in ("solved", "unearthed", "unresolved", "idle") if many[word])
     whole = outcome_text(outages.whole.outcome)
-    return f"{text}\nno event: {whole}\n{plural(len(outages.results), 'event')}: {ends}\n"
+    text += f"\nno event: {whole}\n{plural(len(outages.results), 'event')}: {ends}\n"
+    for verdict in ("reaches", "undecided"):
+        names = outages.crossing(verdict)
+        if names:
+            text += f"below with no event, and {verdict} in one: {' '.join(names)}\n"
+    return text
 
 
 def verdict_text(before: str | None, after: str) -> str:
