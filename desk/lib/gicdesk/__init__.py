@@ -1,0 +1,1 @@
+"""The desk: what a planner does before and after the program `gicstudy`."""

@@ -1,0 +1,84 @@
+"""The text of a case, and the names in it."""
+
+import dataclasses
+import re
+
+LISTS = {
+    "zone": "Zones: where one field, one geomagnetic latitude and one earth hold.",
+    "substation": "Substations: ground grids and their resistance to remote earth.",
+    "bus": "Buses: where lines and windings meet.",
+    "line": "Lines: their resistance, and how far `to` lies from `from`.",
+    "transformer": "Transformers: what of their windings carries direct current.",
+}
+LONGEST_NAME = 32
+
+
+@dataclasses.dataclass(frozen=True)
+class Field:
+    key: str
+    value: int | str | bool
+    comment: str = ""
+
+    def __str__(self) -> str:
+        shown = f'"{self.value}"' if isinstance(self.value, str) else str(self.value).lower()
+        return f"{self.key} = {shown}" + (f"  # {self.comment}" if self.comment else "")
+
+
+@dataclasses.dataclass(frozen=True)
+class Row:
+    """A row of one of the case's lists."""
+
+    name: str
+    fields: list[Field]
+    note: str = ""
+
+    def value(self, key: str) -> int | str | bool | None:
+        return next((field.value for field in self.fields if field.key == key), None)
+
+
+@dataclasses.dataclass
+class Case:
+    """The rows of a case of format 2, list by list."""
+
+    lists: dict[str, list[Row]] = dataclasses.field(default_factory=lambda: {name: [] for name in LISTS})
+
+    def text(self, origin: str) -> str:
+        lines = [f"# {printable(origin)}", "format = 2"]
+        for name, title in LISTS.items():
+            lines += ["", f"# {title}"]
+            for row in self.lists[name]:
+                note = printable(row.note)
+                lines += ["", f"[[{name}]]" + (f"  # {note}" if note else ""), f'name = "{row.name}"']
+                lines += [str(field) for field in row.fields]
+        return "\n".join(lines) + "\n"
+
+
+def printable(text: str) -> str:
+    return "".join(letter for letter in text if letter.isprintable())
+
+
+@dataclasses.dataclass
+class Names:
+    """The names of a case, of which each stands once in all lists together."""
+
+    taken: set[str] = dataclasses.field(default_factory=set)
+
+    def give(self, wanted: str, fallback: str) -> str:
+        """A name after the wanted one; after the other, which is unique in its list, where that is empty or taken."""
+        name = kept(wanted)
+        if not name or name in self.taken:
+            name = kept(fallback)
+            number = 1
+            while name in self.taken:
+                number += 1
+                name = f"{kept(fallback)[: LONGEST_NAME - 6]}_{number}"
+        self.taken.add(name)
+        return name
+
+    def give_like(self, wanted: str) -> str:
+        return self.give(wanted, wanted)
+
+
+def kept(text: str) -> str:
+    """The text with `_` for each run of letters that names can't have, cut to the length of a name."""
+    return re.sub(r"[^A-Za-z0-9_.-]+", "_", text.strip()).strip("_")[:LONGEST_NAME]

@@ -1,0 +1,148 @@
+"""The words of `gicdesk`, and what is done with them."""
+
+import argparse
+import os
+import pathlib
+import sys
+from collections.abc import Sequence
+from typing import Any
+
+from . import compare, layouts, outages, psse, psse_units, reports, zones
+from .files import refuse_folder, refuse_taken, write_folder, write_whole
+from .findings import Refused
+from .program import find_program
+
+DONE, REFUSED, USAGE, STOPPED = 0, 1, 2, 130
+
+
+class Words(argparse.ArgumentParser):
+    """A parser that takes no option by a part of its name."""
+
+    def __init__(self, **options: Any) -> None:
+        super().__init__(allow_abbrev=False, **options)
+
+
+def show(text: str) -> None:
+    """Writes a text to the standard output, whole."""
+    sys.stdout.buffer.write(text.encode())
+    sys.stdout.buffer.flush()
+
+
+def add_output(words: argparse.ArgumentParser, help_text: str) -> None:
+    words.add_argument("--out", metavar="FILE", help=help_text)
+    words.add_argument("--force", action="store_true", help="replace what is there already under the name of --out")
+
+
+def add_comma(words: argparse.ArgumentParser) -> None:
+    words.add_argument("--comma", action="store_true", help="semicolons between cells, and decimal commas")
+
+
+def run_csv(options: argparse.Namespace) -> None:
+    if options.out is not None:
+        refuse_taken([options.out], options.force)
+    mode, report = reports.read_report(options.report)
+    text = layouts.table_of(options.report, mode, report, options.part).csv(options.comma)
+    if options.out is None:
+        show(text)
+    else:
+        write_whole(options.out, text, options.force)
+
+
+def run_compare(options: argparse.Namespace) -> None:
+    if options.out is not None:
+        refuse_taken([options.out], options.force)
+    names = (options.before, options.after)
+    read = compare.read_compared(names)
+    comparison = compare.compare(read[0][1], read[1][1])
+    if options.out is not None:
+        write_whole(options.out, compare.comparison_table(comparison).csv(options.comma), options.force)
+    show(compare.report_text(names, read, comparison))
+
+
+def run_outages(options: argparse.Namespace) -> None:
+    if options.out is not None:
+        refuse_folder(options.out, [outages.UNITS, outages.EVENTS, outages.CURRENTS], options.force)
+    words = [f"--{name}={value}" for name in ("event", "width") if (value := getattr(options, name)) is not None]
+    asked = outages.Asked(find_program(options.program), options.case, options.switch, tuple(words))
+    found = outages.find_outages(asked, options.events)
+    if options.out is not None:
+        write_folder(options.out, outages.files_of(found, options.comma), options.force)
+    show(outages.report_text(asked, found, options.events is not None))
+
+
+def run_psse(options: argparse.Namespace) -> None:
+    names = str(pathlib.Path(options.out).with_suffix(".names.csv"))
+    refuse_taken([options.out, names], options.force)
+    tables = zones.ZoneFiles(options.zones, options.substations, options.polygons, options.lines)
+    made = psse.make_case(options.raw, options.gic, tables, psse.Choices(options.beyond, options.vector))
+    write_whole(names, made.names, options.force)
+    write_whole(options.out, made.case, options.force)
+    told = "".join(f"{note}\n" for note in made.notes)
+    show(f"{told}{options.out} is made, and {names} says what its names stand for\n")
+
+
+def command_words() -> argparse.ArgumentParser:
+    words = Words(prog="gicdesk", description="What a planner does before and after gicstudy; see desk/README.md.")
+    commands = words.add_subparsers(dest="command", required=True, metavar="COMMAND", parser_class=Words)
+
+    one = commands.add_parser("csv", help="any report as CSV, in amperes and volts")
+    one.add_argument("report", metavar="REPORT", help="the file of a report; - is the standard input")
+    one.add_argument("--part", help="the rows of one kind alone, as node or peaks")
+    add_comma(one)
+    add_output(one, "a new file for the table, in place of the standard output")
+    one.set_defaults(run=run_csv)
+
+    two = commands.add_parser("compare", help="two reports of screen or outage beside each other")
+    two.add_argument("before", metavar="BEFORE", help="the file of the first report")
+    two.add_argument("after", metavar="AFTER", help="the file of the second report")
+    add_comma(two)
+    add_output(two, "a new file for all of it as CSV")
+    two.set_defaults(run=run_compare)
+
+    three = commands.add_parser("outages", help="outages of several items, or of each one: the worst of each unit")
+    three.add_argument("case", metavar="CASE", help="the file of the case")
+    three.add_argument("--events", metavar="FILE", help="a table event,item,action; without it each single item is out")
+    three.add_argument("--switch", metavar="FILE", help="switchings that are in force whatever the event")
+    three.add_argument("--event", metavar="WORD", help="benchmark or supplemental, as screen takes it")
+    three.add_argument("--width", metavar="NUMBER", help="how wide an interval may be, in mA, as screen takes it")
+    three.add_argument("--program", metavar="FILE", help="the built program, in place of the one of this repository")
+    three.add_argument("--out", metavar="FOLDER", help="a new folder for the tables units, events and currents")
+    add_comma(three)
+    three.add_argument("--force", action="store_true", help="replace these tables in a folder that is there already")
+    three.set_defaults(run=run_outages)
+
+    four = commands.add_parser("psse", help="a case from the files .raw and .gic of a power-flow program")
+    four.add_argument("raw", metavar="NET.raw", help="the power flow: buses, branches, transformers, fixed shunts")
+    four.add_argument("gic", metavar="NET.gic", help="places, grounds, resistances of windings")
+    four.add_argument("--zones", metavar="FILE", required=True, help="a table name,geomagnetic_latitude,beta")
+    four.add_argument("--substations", metavar="FILE", help="a table substation,zone, with more zones than one")
+    four.add_argument("--polygons", metavar="FILE", help="a table zone,latitude,longitude of corners, in its place")
+    four.add_argument("--lines", metavar="FILE", help="a table bus_i,bus_j,circuit,zone,north_km,east_km")
+    four.add_argument("--beyond", choices=psse_units.CHOICES, help="what becomes of third windings and reactors")
+    four.add_argument("--vector", choices=("volts", "buses"), help="in which order the letters of vector groups stand")
+    four.add_argument("--out", metavar="CASE", required=True, help="a new file for the case, with its names beside")
+    four.add_argument("--force", action="store_true", help="replace what is there already under these names")
+    four.set_defaults(run=run_psse)
+    return words
+
+
+def main(arguments: Sequence[str]) -> int:
+    """Runs the command of the words; what it refuses is told on the error stream, a line for each finding."""
+    try:
+        options = command_words().parse_args(arguments)
+        options.run(options)
+        return DONE
+    except Refused as refused:
+        for line in refused.lines():
+            print(f"gicdesk: {line}", file=sys.stderr)
+        return REFUSED
+    except BrokenPipeError:
+        # Nobody reads any more. The system's own message at the end is kept away as well.
+        os.dup2(os.open(os.devnull, os.O_WRONLY), sys.stdout.fileno())
+        return REFUSED
+    except OSError as error:
+        print(f"gicdesk: {error.filename or 'the output'}: {error.strerror}", file=sys.stderr)
+        return REFUSED
+    except KeyboardInterrupt:
+        print("gicdesk: stopped", file=sys.stderr)
+        return STOPPED

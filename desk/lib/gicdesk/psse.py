@@ -1,0 +1,372 @@
+"""A case from the two files of a power-flow program, `.raw` and `.gic`."""
+
+import dataclasses
+import decimal
+from collections.abc import Sequence
+
+from .cases import Case, Field, Names, Row
+from .decimals import MILLI, shifted
+from .findings import Finding, Refused
+from .places import MOST_KM, span_metres
+from .polygons import zone_of
+from .psse_gic import Gic, Key, LineData, Reactor, Substation, read_gic
+from .psse_raw import Branch, Raw, Switch, Transformer, read_raw
+from .psse_units import Beyond, Unit, micro_ohm, reactor_row, windings_of
+from .records import Record
+from .tables import Table
+from .zones import Override, ZoneFiles, Zones, read_all
+
+SPAN_FROM_MAP_M = 10000  # a span that is given is this near to that of the coordinates
+SHORT_M = 100  # a line whose span is shorter is told
+BLOCKED_MICRO_OHM = 1000000  # of a series capacitor without a resistance: it carries nothing
+NAME_HEADS = ("list", "name", "theirs", "numbers", "circuit")
+
+
+@dataclasses.dataclass(frozen=True)
+class Choices:
+    """What the user says once for all units: what becomes of what has no key, and how vector groups are read."""
+
+    beyond: str | None
+    vector: str | None
+
+
+@dataclasses.dataclass
+class Groups:
+    """Buses that are one, by what ties them together. The first of a group stands for it."""
+
+    first: dict[int, int] = dataclasses.field(default_factory=dict)
+
+    def of(self, bus: int) -> int:
+        while self.first.get(bus, bus) != bus:
+            bus = self.first[bus]
+        return bus
+
+    def join(self, one: int, other: int) -> None:
+        first, second = sorted((self.of(one), self.of(other)))
+        self.first[second] = first
+
+
+class Making:
+    """A case in the making, list by list, with what is wrong and what is told."""
+
+    def __init__(self, raw: Raw, gic: Gic, zones: Zones, choices: Choices, notes: list[Finding]) -> None:
+        self.raw, self.gic, self.zones, self.choices, self.notes = raw, gic, zones, choices, notes
+        self.beyond = Beyond(choices.beyond, self.notes)
+        self.case, self.names, self.groups = Case(), Names(), Groups()
+        self.theirs: list[tuple[str, str, str, str, str]] = []
+        self.substation_names: dict[int, str] = {}
+        self.bus_names: dict[int, str] = {}
+        self.substation_zones: dict[int, str] = {}
+        self.without: set[int] = set()  # buses that were told to be in no substation
+
+    def tell(self, at: Record, words: str) -> None:
+        self.notes.append(Finding(at.file, words, at.line))
+
+    def add(self, list_name: str, row: Row, theirs: str, numbers: Sequence[int], circuit: str = "") -> None:
+        self.case.lists[list_name].append(row)
+        self.theirs.append((list_name, row.name, theirs, " ".join(map(str, numbers)), circuit))
+
+    def make(self) -> None:
+        for row in self.zones.rows:
+            self.names.taken.add(row.name)
+            self.case.lists["zone"].append(row)
+        for substation in self.gic.substations.values():
+            self.substation(substation)
+        for switch in self.raw.switches:
+            self.switch(switch)
+        lines = [branch for branch in self.raw.branches if self.in_service(branch) and not self.tie(branch)]
+        for branch in lines:
+            self.line(branch)
+        for unit in self.raw.transformers:
+            self.transformer(unit)
+        for reactor in self.gic.reactors:
+            self.reactor(reactor)
+        self.records_used()
+        self.buses()
+
+    def substation(self, substation: Substation) -> None:
+        name = self.names.give(substation.name, f"S{substation.number}")
+        self.substation_names[substation.number] = name
+        fields = []
+        if substation.ground is None:
+            self.tell(substation.record, f"{name} has no ground: RG is empty")
+        else:
+            micro = micro_ohm(substation.record, "RG", substation.ground)
+            fields.append(Field("ground", micro, f"{substation.ground:f} ohm to remote earth"))
+        self.add("substation", Row(name, fields), substation.name, [substation.number])
+
+    def known(self, at: Record, buses: Sequence[int]) -> bool:
+        """Whether each bus stands in both files; what is missing is told once."""
+        for bus in buses:
+            if bus not in self.raw.buses and bus not in self.without:
+                at.wrong(None, f"there is no bus {bus} in {self.raw.file}; write its record")
+                self.without.add(bus)
+            elif bus not in self.gic.substation_of and bus not in self.without:
+                at.wrong(None, f"the bus {bus} is in no substation of {self.gic.file}; write its record there")
+                self.without.add(bus)
+        return not self.without.intersection(buses)
+
+    def substations(self, buses: Sequence[int]) -> set[int]:
+        return {self.gic.substation_of[bus] for bus in buses}
+
+    def isolated(self, buses: Sequence[int]) -> bool:
+        return any(bus in self.raw.buses and self.raw.buses[bus].isolated for bus in buses)
+
+    def in_service(self, branch: Branch) -> bool:
+        if branch.in_service and not self.isolated(branch.ends):
+            return self.known(branch.record, branch.ends)
+        self.tell(branch.record, f"the branch {title(branch.ends, branch.circuit)} is out of service: it is left out")
+        return False
+
+    def switch(self, switch: Switch) -> None:
+        """A closed switching device makes one bus of two."""
+        what = f"the switching device {title(switch.ends, switch.circuit)}"
+        if not switch.closed or self.isolated(switch.ends):
+            self.tell(switch.record, f"{what} is open: it is left out")
+        elif self.known(switch.record, switch.ends):
+            if len(self.substations(switch.ends)) > 1:
+                switch.record.wrong(None, f"{what} joins two substations; make one of them in {self.gic.file}")
+            self.join(switch.record, what, switch.ends)
+
+    def join(self, at: Record, what: str, ends: tuple[int, int]) -> None:
+        self.groups.join(*ends)
+        self.tell(at, f"{what} ties two buses of one substation: they are one bus, {self.groups.of(ends[0])}")
+
+    def line_data(self, branch: Branch) -> LineData | None:
+        return self.gic.lines.get((frozenset(branch.ends), branch.circuit))
+
+    def ohm(self, branch: Branch) -> decimal.Decimal:
+        """The resistance of a phase: that of the resistances' file, or else that of the power flow."""
+        data = self.line_data(branch)
+        if data is not None and data.ohm != 0:
+            return data.ohm
+        kilovolts = self.raw.buses[branch.ends[0]].kilovolts
+        return branch.resistance * kilovolts**2 / self.raw.base_mva
+
+    def tie(self, branch: Branch) -> bool:
+        """Whether a branch lies within one substation. It makes one bus of two; a capacitor there is left out."""
+        if len(self.substations(branch.ends)) > 1:
+            return False
+        what = f"the branch {title(branch.ends, branch.circuit)}"
+        if branch.reactance < 0:
+            self.tell(branch.record, f"{what} is a series capacitor within a substation: it is left out")
+            return True
+        kilovolts = [self.raw.buses[bus].kilovolts for bus in branch.ends]
+        if kilovolts[0] != kilovolts[1]:
+            words = f"{what} ties a bus of {kilovolts[0]:f} kV to one of {kilovolts[1]:f} kV; look at BASKV of both"
+            branch.record.wrong(None, words)
+        self.join(branch.record, f"{what} of {self.ohm(branch):f} ohm", branch.ends)
+        return True
+
+    def line(self, branch: Branch) -> None:
+        numbers = "-".join(map(str, branch.ends))
+        name = self.names.give(branch.name, f"L{numbers}-{branch.circuit}")
+        start, end = (self.raw.buses[bus] for bus in branch.ends)
+        if start.kilovolts != end.kilovolts:
+            words = f"it joins a bus of {start.kilovolts:f} kV to one of {end.kilovolts:f} kV; look at BASKV of both"
+            branch.record.wrong(None, words)
+        override = self.zones.of_lines.get((frozenset(branch.ends), branch.circuit))
+        north, east = self.span(branch, override)
+        if branch.reactance >= 0 and abs(north) + abs(east) < SHORT_M:
+            self.tell(branch.record, f"{name} has a span of less than {SHORT_M} m: look at the coordinates of its ends")
+        fields = [Field("from", self.bus(branch.ends[0])), Field("to", self.bus(branch.ends[1]))]
+        fields.append(Field("zone", self.zone(branch, override)))
+        fields.append(self.line_resistance(branch))
+        for key, metres, opposite in (("north", north, "south"), ("east", east, "west")):
+            there = opposite if metres < 0 else key
+            fields.append(Field(key, metres, f"`to` lies {abs(metres) / 1000:g} km to the {there} of `from`"))
+        if branch.reactance < 0:
+            fields.append(Field("blocked", True, "a series capacitor passes no direct current"))
+        self.add("line", Row(name, fields), branch.name, branch.ends, branch.circuit)
+        data = self.line_data(branch)
+        for bus, ohm in ({} if data is None else data.shunts).items():
+            if ohm != 0 and data is not None:
+                column = f"RLNSH{'I' if bus == data.record.bus('I') else 'J'}"
+                what = f"the reactor of {name} at the bus {bus}"
+                self.say_reactor(data.record, what, bus, f"{name}_{bus}", ohm, column)
+
+    def line_resistance(self, branch: Branch) -> Field:
+        ohm = self.ohm(branch)
+        data = self.line_data(branch)
+        from_data = data is not None and data.ohm != 0
+        comment = f"{ohm.normalize():f} ohm per phase" + ("" if from_data else ", from per unit")
+        if branch.reactance < 0 and ohm * 1000 < 1:
+            return Field("resistance", BLOCKED_MICRO_OHM, "of no account: it is blocked")
+        at, column = (data.record, "RBRN") if data is not None and from_data else (branch.record, "R")
+        return Field("resistance", micro_ohm(at, column, ohm), comment)
+
+    def span(self, branch: Branch, override: Override | None) -> tuple[int, int]:
+        """The span of a line: what the table of lines gives, or else that of the coordinates of its substations."""
+        ends = [self.gic.substations[self.gic.substation_of[bus]] for bus in branch.ends]
+        mapped = span_metres(*((end.latitude, end.longitude) for end in ends))
+        for direction, metres in zip(("north", "east"), mapped):
+            if abs(metres) > MOST_KM * 1000:
+                apart = shifted(abs(metres), MILLI)
+                words = f"its ends lie {apart} km apart to the {direction}, and not up to {MOST_KM}"
+                branch.record.wrong(None, f"{words}; look at the coordinates of {ends[0].name} and {ends[1].name}")
+        if override is None or override.span is None:
+            return mapped
+        sign = 1 if override.buses == branch.ends else -1
+        given = (sign * override.span[0], sign * override.span[1])
+        for column, here, there in zip(("north_km", "east_km"), given, mapped):
+            if abs(here - there) > SPAN_FROM_MAP_M:
+                words = f"it is {sign * here / 1000:g}, by the coordinates {sign * there / 1000:g}; is its sign turned?"
+                override.record.wrong(column, words)
+        return given
+
+    def zone(self, branch: Branch, override: Override | None) -> str:
+        """The zone of a line: that of the table of lines, or that of both its substations, or the only one."""
+        if override is not None and override.zone:
+            return override.zone
+        if len(self.zones.rows) == 1:
+            return self.zones.rows[0].name
+        zones = [self.zone_of_substation(self.gic.substation_of[bus]) for bus in branch.ends]
+        if all(zones) and zones[0] != zones[1]:
+            words = f"its ends are in {zones[0]} and in {zones[1]}; write its zone into the table of --lines"
+            branch.record.wrong(None, words)
+        return zones[0]
+
+    def zone_of_substation(self, number: int) -> str:
+        """The zone of a substation: that of the table, or that of the polygons; empty where it has none, told once."""
+        if number not in self.substation_zones:
+            substation = self.gic.substations[number]
+            zone = self.zones.of_substations.get(number, "")
+            if not zone and self.zones.polygons:
+                zone = zone_of(substation.record, (substation.latitude, substation.longitude), self.zones.polygons)
+            elif not zone:
+                words = f"the substation {number} has no zone; write it into the table of --substations"
+                substation.record.wrong(None, f"{words}, or give --polygons")
+            self.substation_zones[number] = zone
+        return self.substation_zones[number]
+
+    def transformer(self, unit: Transformer) -> None:
+        what = f"the transformer {title(unit.buses, unit.circuit)}"
+        if unit.status == 0 or self.isolated(unit.buses):
+            self.tell(unit.record, f"{what} is out of service: it is left out")
+            return
+        if not self.known(unit.record, unit.buses):
+            return
+        data = self.gic.windings.get((frozenset(unit.buses), unit.circuit))
+        if data is None:
+            unit.record.wrong(None, f"{what} has no record in {self.gic.file}; write it there")
+            return
+        if len(self.substations(unit.buses)) > 1:
+            unit.record.wrong(None, f"{what} has buses in different substations; a station is one of {self.gic.file}")
+            return
+        numbers = "-".join(map(str, unit.buses))
+        kilovolts = {bus: self.raw.buses[bus].kilovolts for bus in unit.buses}
+        windings = windings_of(unit, data, kilovolts, self.choices.vector, self.notes)
+        if not windings:
+            return
+        name = self.names.give(unit.name, f"T{numbers}-{unit.circuit}")
+        making = Unit(unit.record, data.record, name, windings, self.bus, self.names.give_like, self.beyond)
+        for row in making.rows():
+            used = [row.value(end) for end in ("high", "low") if row.value(end) is not None]
+            if len(set(used)) < len(used):
+                unit.record.wrong(None, f"{what} has two buses that ties make one; open the tie between them")
+            self.add("transformer", row, unit.name, unit.buses, unit.circuit)
+
+    def reactor(self, reactor: Reactor) -> None:
+        what = f"the reactor {title((reactor.bus,), reactor.circuit)}"
+        shunt = self.raw.shunts.get((reactor.bus, reactor.circuit))
+        if shunt is None:
+            reactor.record.wrong(None, f"there is no fixed shunt of this bus and id in {self.raw.file}; write it there")
+        elif not shunt.in_service or self.isolated([reactor.bus]):
+            self.tell(reactor.record, f"{what} is out of service: it is left out")
+        elif self.known(reactor.record, [reactor.bus]):
+            name = f"R{reactor.bus}-{reactor.circuit}"
+            self.say_reactor(reactor.record, what, reactor.bus, name, reactor.ohm, "R", reactor.neutral_ohm)
+
+    def say_reactor(
+        self,
+        at: Record,
+        what: str,
+        bus: int,
+        name: str,
+        ohm: decimal.Decimal,
+        column: str,
+        neutral_ohm: decimal.Decimal = decimal.Decimal(0),
+    ) -> None:
+        def row() -> Row:
+            return reactor_row(at, self.names.give_like(name), self.bus(bus), ohm, neutral_ohm, column)
+
+        for made in self.beyond.say(at, what, "a delta-wye outside of the assessment", row):
+            self.add("transformer", made, "", [bus])
+
+    def records_used(self) -> None:
+        """A row of the table of lines that is of no branch is a finding, since it was meant for one. A record of
+        resistances that is of nothing is told, and so is a reactor without one."""
+        branches: set[Key] = {(frozenset(branch.ends), branch.circuit) for branch in self.raw.branches}
+        units: set[Key] = {(frozenset(unit.buses), unit.circuit) for unit in self.raw.transformers}
+        for key, override in self.zones.of_lines.items():
+            if key not in branches:
+                override.record.wrong("bus_i", f"there is no branch of these buses and this circuit in {self.raw.file}")
+        for what, data, keys in (("branch", self.gic.lines, branches), ("transformer", self.gic.windings, units)):
+            for key, datum in data.items():
+                if key not in keys:
+                    self.tell(datum.record, f"there is no {what} of these buses and this circuit in {self.raw.file}")
+        grounded = {(reactor.bus, reactor.circuit) for reactor in self.gic.reactors}
+        for name, shunt in self.raw.shunts.items():
+            if shunt.reactor and shunt.in_service and name not in grounded:
+                what = f"the reactor {title((shunt.bus,), shunt.circuit)}"
+                self.tell(shunt.record, f"{what} has no record in {self.gic.file}: it is taken as not grounded")
+
+    def bus(self, number: int) -> str:
+        """The name of the bus that this one is, which is in the case from here on."""
+        first = self.groups.of(number)
+        if first not in self.bus_names:
+            name = f"{first}_{self.raw.buses[first].name}"
+            self.bus_names[first] = self.names.give(name, f"B{first}")
+        return self.bus_names[first]
+
+    def buses(self) -> None:
+        """The buses that a line or a winding is at; the others carry no direct current, and are told as one number."""
+        members: dict[int, list[int]] = {}
+        for number in self.raw.buses:
+            members.setdefault(self.groups.of(number), []).append(number)
+        for first, numbers in members.items():
+            if first in self.bus_names:
+                bus = self.raw.buses[first]
+                station = self.substation_names.get(self.gic.substation_of[first], "")
+                fields = [Field("substation", station, f"{bus.kilovolts:f} kV")]
+                self.add("bus", Row(self.bus_names[first], fields), bus.name, numbers)
+        others = sum(len(numbers) for first, numbers in members.items() if first not in self.bus_names)
+        if others:
+            words = f"{others} of {len(self.raw.buses)} buses have no line and no grounded winding: they are left out"
+            self.notes.append(Finding(self.raw.file, words))
+
+
+def title(buses: Sequence[int], circuit: str) -> str:
+    return "-".join(map(str, buses)) + f" '{circuit}'"
+
+
+@dataclasses.dataclass(frozen=True)
+class Made:
+    case: str
+    names: str
+    notes: list[Finding]
+
+
+def make_case(raw_file: str, gic_file: str, zone_files: ZoneFiles, choices: Choices) -> Made:
+    """The case of the two files and the tables of zones; all that is wrong with any of them is told at once."""
+    findings: list[Finding] = []
+    notes: list[Finding] = []
+    read: list[Raw | Gic | Zones] = []
+    for reader in (
+        lambda: read_raw(raw_file, findings, notes),
+        lambda: read_gic(gic_file, findings, notes),
+        lambda: read_all(zone_files, findings),
+    ):
+        try:
+            read.append(reader())
+        except Refused as refused:
+            findings += refused.findings
+    raw, gic, zones = read if len(read) == 3 else (None, None, None)
+    if findings or not (isinstance(raw, Raw) and isinstance(gic, Gic) and isinstance(zones, Zones)):
+        raise Refused(findings)
+    making = Making(raw, gic, zones, choices, notes)
+    making.make()
+    if findings:
+        raise Refused(findings)
+    origin = f"Made by gicdesk psse of {raw_file} and {gic_file}: change these, and make it again."
+    return Made(making.case.text(origin), Table(NAME_HEADS, making.theirs).csv(), making.notes)

@@ -1,0 +1,156 @@
+"""What of a network stands in a file `.gic` beside a power flow: places, grounds, and resistances of windings."""
+
+import dataclasses
+import decimal
+
+from .files import read_text
+from .findings import Finding, refuse
+from .psse_raw import Key, circuit_of, look_for_twins
+from .psse_text import Layout, read_sections, record, told_skipped
+from .records import Record
+
+LAYOUT = Layout(
+    ["SUBSTATION", "BUS", "TRANSFORMER", "FIXED SHUNT", "BRANCH", "EARTH MODEL"],
+    {
+        "SUBSTATION": "I NAME UNIT LATITUDE LONGITUDE RG EARTHMODEL",
+        "BUS": "BUS SUBSTATION",
+        "TRANSFORMER": "I J K CKT WRI WRJ WRK GICBDI GICBDJ GICBDK VECGRP CORE KFACTOR GRDRI GRDRJ GRDRK TMODEL",
+        "FIXED SHUNT": "BUS ID R RG",
+        "BRANCH": "I J CKT RBRN INDVP INDVQ RLNSHI RLNSHJ",
+    },
+    {
+        "SUBSTATION": "I LATITUDE LONGITUDE RG",
+        "BUS": "BUS SUBSTATION",
+        "TRANSFORMER": "I J CKT WRI WRJ VECGRP",
+        "FIXED SHUNT": "BUS ID R",
+        "BRANCH": "I J CKT RBRN",
+    },
+    {"BUS SUBSTATION": "BUS", "SUBSTATION BUS": "BUS", "BUS SUBSTATIONS": "BUS", "LINE": "BRANCH"},
+)
+SIDES = ("I", "J", "K")
+PASSED = ("EARTH MODEL",)  # what is skipped without a word
+
+
+@dataclasses.dataclass(frozen=True)
+class Substation:
+    number: int
+    name: str
+    latitude: decimal.Decimal
+    longitude: decimal.Decimal
+    ground: decimal.Decimal | None
+    record: Record
+
+
+@dataclasses.dataclass(frozen=True)
+class Side:
+    """What stands of one winding: its resistance, and what lies between its neutral and the ground grid."""
+
+    ohm: decimal.Decimal
+    blocked: bool
+    neutral_ohm: decimal.Decimal
+
+
+@dataclasses.dataclass(frozen=True)
+class Windings:
+    sides: dict[int, Side]  # by the numbers of their buses
+    vector: str
+    record: Record
+
+
+@dataclasses.dataclass(frozen=True)
+class Reactor:
+    bus: int
+    circuit: str
+    ohm: decimal.Decimal
+    neutral_ohm: decimal.Decimal
+    record: Record
+
+
+@dataclasses.dataclass(frozen=True)
+class LineData:
+    ohm: decimal.Decimal  # 0 where it is that of the power flow
+    shunts: dict[int, decimal.Decimal]  # resistances to earth of reactors at its ends, by their buses
+    record: Record
+
+
+@dataclasses.dataclass(frozen=True)
+class Gic:
+    file: str
+    substations: dict[int, Substation]
+    substation_of: dict[int, int]
+    windings: dict[Key, Windings]
+    reactors: list[Reactor]
+    lines: dict[Key, LineData]
+
+
+def read_substation(at: Record) -> Substation:
+    unit = at.whole("UNIT", 0)
+    if unit != 0:
+        at.wrong("UNIT", f"it is {unit}; degrees are read, which is 0")
+    ground = at.number("RG") if at.text("RG") else None
+    latitude, longitude = at.number("LATITUDE"), at.number("LONGITUDE")
+    for column, number, most in (("LATITUDE", latitude, 90), ("LONGITUDE", longitude, 180)):
+        if abs(number) > most:
+            at.wrong(column, f"it is {at.text(column)}, and not {-most} to {most} degrees")
+    return Substation(at.whole("I"), at.text("NAME"), latitude, longitude, ground, at)
+
+
+def read_windings(at: Record) -> tuple[Key, Windings]:
+    sides = {}
+    for side in SIDES:
+        bus = at.bus(side, 0)
+        if bus:
+            blocked = at.whole(f"GICBD{side}", 0)
+            if blocked not in (0, 1):
+                at.wrong(f"GICBD{side}", f"it is {blocked}; allowed are 0, and 1 for a blocking device")
+            sides[bus] = Side(at.number(f"WR{side}", "0"), blocked == 1, at.number(f"GRDR{side}", "0"))
+    return (frozenset(sides), circuit_of(at)), Windings(sides, at.text("VECGRP"), at)
+
+
+def read_line(at: Record) -> tuple[Key, LineData]:
+    ends = (at.bus("I"), at.bus("J"))
+    for column in ("INDVP", "INDVQ"):
+        if at.number(column, "0") != 0:
+            at.wrong(column, f"it is {at.text(column)}; a voltage of its own can't be written in a case. Make it 0")
+    shunts = {end: at.number(f"RLNSH{side}", "0") for end, side in zip(ends, SIDES)}
+    return (frozenset(ends), circuit_of(at)), LineData(at.number("RBRN", "0"), shunts, at)
+
+
+def read_gic(file: str, findings: list[Finding], notes: list[Finding]) -> Gic:
+    """The data of a file. What is wrong with its fields becomes findings, and what is skipped is told."""
+    lines = read_text(file, "latin-1").split("\n")
+    first = 0
+    while first + 1 < len(lines) and (not lines[first].strip() or lines[first].lstrip().startswith(("@!", "/"))):
+        first += 1
+    if not lines[first].replace(" ", "").upper().startswith("GICFILEVRSN="):
+        raise refuse(file, "the first line isn't GICFILEVRSN=..; is it another file?", first + 1)
+    sections = read_sections(file, lines, first + 2, LAYOUT, findings)
+    told_skipped(file, sections, LAYOUT, PASSED, notes)
+
+    def records(section: str) -> list[Record]:
+        return [record(file, line, section, LAYOUT, findings) for line in sections[section]]
+
+    substations: dict[int, Substation] = {}
+    for at in records("SUBSTATION"):
+        substation = read_substation(at)
+        if substation.number in substations:
+            line = substations[substation.number].record.line
+            at.wrong("I", f"the substation {substation.number} stands in line {line} already; leave one of the two")
+        substations[substation.number] = substation
+    substation_of: dict[int, int] = {}
+    for at in records("BUS"):
+        bus, number = at.bus("BUS"), at.whole("SUBSTATION")
+        if substation_of.get(bus, number) != number:
+            at.wrong("BUS", f"the bus {bus} is in the substation {substation_of[bus]} already; leave one of the two")
+        elif number not in substations:
+            at.wrong("SUBSTATION", f"there is no substation {number} in this file; write its record")
+        substation_of[bus] = number
+    reactors = [
+        Reactor(at.bus("BUS"), circuit_of(at, "ID"), at.number("R", "0"), at.number("RG", "0"), at)
+        for at in records("FIXED SHUNT")
+    ]
+    windings = [read_windings(at) for at in records("TRANSFORMER")]
+    lines_data = [read_line(at) for at in records("BRANCH")]
+    for found in (windings, lines_data):
+        look_for_twins([(key, datum.record) for key, datum in found])
+    return Gic(file, substations, substation_of, dict(windings), reactors, dict(lines_data))

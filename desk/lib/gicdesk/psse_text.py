@@ -1,0 +1,131 @@
+"""Text files of records in sections, as power-flow programs write them.
+
+Fields stand between commas (in a line without commas: between blanks), strings in single quotes, and a `/` outside of
+them begins a comment. A section ends with a line whose first field is 0; mostly a comment behind it names the next
+section, as in `0 / END OF BUS DATA, BEGIN LOAD DATA`. A line `Q` ends the file. From version 34 on lines that begin
+with `@!` name the columns of the records below them.
+"""
+
+import csv
+import dataclasses
+import re
+from collections.abc import Sequence
+
+from .counts import plural
+from .findings import Finding, shown
+from .records import Record
+
+BEGIN = re.compile(r"BEGIN\s+(.*?)\s+DATA\b", re.IGNORECASE)
+# What columns are called beside the name that they have here.
+OTHER_NAMES = {"STAT": "ST", "STATUS": "ST", "IBUS": "I", "JBUS": "J", "KBUS": "K"}
+OTHER_NAMES |= {"BUSI": "I", "BUSJ": "J", "BUSK": "K", "CKTID": "CKT"}
+
+
+def uncommented(line: str) -> str | None:
+    """What stands before a comment; None where a string has no end."""
+    quoted = False
+    for place, letter in enumerate(line):
+        if letter == "'":
+            quoted = not quoted
+        elif letter == "/" and not quoted:
+            return line[:place]
+    return None if quoted else line
+
+
+def fields_of(line: str) -> list[str] | None:
+    """The fields of a line without its comment, strings without their quotes; None where there can't be any, as where
+    quotes don't fit."""
+    text = uncommented(line)
+    if text is None:
+        return None
+    fields: list[str] = []
+    for delimiter in (",", " "):
+        words = csv.reader([text.replace("\t", " ").strip()], delimiter=delimiter, quotechar="'", skipinitialspace=True)
+        try:
+            fields = [field.strip() for field in next(words, [""])]
+        except csv.Error:
+            return None
+        if len(fields) > 1:
+            break
+    return fields
+
+
+def column_names(line: str) -> list[str]:
+    """The columns that a line `@! I, J,'CKT', ..` names, without quotes and blanks."""
+    names = [re.sub(r"[\s']", "", name).upper() for name in line.split("@!", 1)[1].split(",")]
+    return [OTHER_NAMES.get(name, name) for name in names]
+
+
+@dataclasses.dataclass(frozen=True)
+class Layout:
+    """The sections of a kind of file in their order; the columns of those that are read, of a record of several lines
+    those of its first; and which of them a line of names must have, or else it doesn't count."""
+
+    order: Sequence[str]
+    columns: dict[str, str]
+    needed: dict[str, str]
+    other_sections: dict[str, str] = dataclasses.field(default_factory=dict)
+
+    def section(self, name: str) -> str:
+        return self.other_sections.get(name, name)
+
+
+@dataclasses.dataclass(frozen=True)
+class SectionLine:
+    """A line of a section: its number in the file, its fields, and the columns that were named last above it."""
+
+    number: int
+    fields: list[str]
+    named: list[str]
+
+
+def read_sections(
+    file: str, lines: Sequence[str], first: int, layout: Layout, findings: list[Finding]
+) -> dict[str, list[SectionLine]]:
+    """The lines of each section from the line of this number on."""
+    sections: dict[str, list[SectionLine]] = {name: [] for name in layout.order}
+    place, section = 0, layout.order[0]
+    named: list[str] = []
+    for number, line in enumerate(lines[first - 1 :], first):
+        if line.lstrip().startswith("@!"):
+            named = named or column_names(line)  # of several in a row the first names the first line of a record
+            continue
+        if not line.strip() or line.lstrip().startswith("/"):
+            continue
+        fields = fields_of(line)
+        if fields is None:
+            words = f"{shown(line.strip())} has no fields that can be read; look at its quotes, two for each string"
+            findings.append(Finding(file, words, number))
+            continue
+        if fields == ["Q"]:
+            break
+        if fields[0] == "0":
+            begun = BEGIN.search(line)
+            place += 1
+            if begun is not None:
+                section = layout.section(re.sub(r"\s+", " ", begun[1]).upper())
+                place = layout.order.index(section) if section in layout.order else place
+            else:
+                section = layout.order[place] if place < len(layout.order) else "BEHIND ALL"
+            named = []
+            continue
+        sections.setdefault(section, []).append(SectionLine(number, fields, named))
+    return sections
+
+
+def told_skipped(
+    file: str, sections: dict[str, list[SectionLine]], layout: Layout, passed: Sequence[str], notes: list[Finding]
+) -> None:
+    """Tells of sections that have lines and are skipped, but for those that say nothing of direct currents."""
+    for name, lines in sections.items():
+        if lines and name not in layout.columns and name not in passed:
+            what = f"the section {name} is skipped, with {plural(len(lines), 'line')}"
+            notes.append(Finding(file, f"{what}; see whether a case needs what stands there", lines[0].number))
+
+
+def record(file: str, line: SectionLine, section: str, layout: Layout, findings: list[Finding]) -> Record:
+    """A line as a record of its section, by the columns that the file names, or else by those of the section."""
+    columns: Sequence[str] = line.named
+    if not set(layout.needed[section].split(" ")) <= set(columns):
+        columns = layout.columns[section].split(" ")
+    return Record(file, line.number, line.fields, columns, findings)

@@ -1,0 +1,267 @@
+"""What a transformer of a power flow is in a case: its kind, its windings, its neutral.
+
+What formats 1 and 2 of a case can't say, a third earthed winding and a shunt reactor, comes to `Beyond` alone.
+"""
+
+import dataclasses
+import decimal
+import re
+from collections.abc import Callable, Sequence
+
+from .cases import Field, Row
+from .findings import Finding
+from .psse_gic import SIDES, Side, Windings
+from .psse_raw import Transformer
+from .records import Record
+
+LETTERS = re.compile(r"(YN|Y|D|A|Z)[0-9]*")
+GROUNDED = "YN"
+REACTOR_VOLTS = 1000
+RATED_FROM_BUS = decimal.Decimal("0.1")  # a rated voltage is mostly within a tenth of that of its bus
+CHOICES = ("leave", "model")
+OUT = {2: 1, 3: 2, 4: 0}  # the place of the winding that is out, by the status of a unit
+
+
+@dataclasses.dataclass(frozen=True)
+class Winding:
+    """A winding at a bus; its letters are YN, Y, D or Z, and A for the lower side of an autotransformer."""
+
+    bus: int
+    kilovolts: decimal.Decimal
+    letters: str
+    side: Side
+    name: str  # I, J or K
+
+
+@dataclasses.dataclass
+class Beyond:
+    """What formats 1 and 2 have no key for: by the user's choice it is left out or written as docs/MODELLING.md says,
+    and told; without a choice it is refused."""
+
+    choice: str | None
+    notes: list[Finding]
+
+    def say(self, at: Record, words: str, written: str, row: Callable[[], Row]) -> list[Row]:
+        if self.choice is None:
+            ways = "--beyond=leave leaves it out, --beyond=model writes it as docs/MODELLING.md says"
+            at.wrong(None, f"{words} has no key in a case; {ways}")
+            return []
+        if self.choice == "leave":
+            self.notes.append(Finding(at.file, f"{words} is left out", at.line))
+            return []
+        made = row()
+        self.notes.append(Finding(at.file, f"{words} is {made.name}, {written}", at.line))
+        return [made]
+
+
+def micro_ohm(at: Record, column: str, ohm: decimal.Decimal) -> int:
+    """A resistance in micro-ohm, rounded to a whole one; what is out of a case's range is a finding."""
+    micro = int((ohm * 10**6).to_integral_value(decimal.ROUND_HALF_EVEN))
+    if not 1000 <= micro <= 10**9:
+        at.wrong(column, f"it is {ohm:f} ohm, and not 0.001 to 1000; write ohm a phase")
+    return micro
+
+
+def volts(at: Record, kilovolts: decimal.Decimal) -> int:
+    whole = int((kilovolts * 1000).to_integral_value(decimal.ROUND_HALF_EVEN))
+    if not 1000 <= whole <= 2000000:
+        at.wrong(None, f"a rated voltage is {kilovolts:f} kV, and not 1 to 2000; look at NOMV, and at BASKV of the bus")
+    return whole
+
+
+def letters_of(vector: str) -> list[str] | None:
+    """The letters of each winding of a vector group, as YN, A and D of YNa0d1; None where it is none."""
+    text = re.sub(r"\s", "", vector).upper()
+    if not re.fullmatch(rf"({LETTERS.pattern})+", text):
+        return None
+    return [found[1] for found in LETTERS.finditer(text)]
+
+
+def by_volts(kilovolts: Sequence[decimal.Decimal]) -> list[int]:
+    """The places of the windings, the highest voltage first, equal ones as they stand."""
+    return sorted(range(len(kilovolts)), key=lambda place: -kilovolts[place])
+
+
+def letters_by_bus(
+    at: Record, vector: str, kilovolts: Sequence[decimal.Decimal], order: str | None
+) -> list[str] | None:
+    """The letters of the winding at each bus. They stand in the order of the voltages, or in that of the buses, as the
+    user says; where it doesn't matter nobody is asked."""
+    letters = letters_of(vector)
+    if letters is None:
+        allowed = "allowed are groups of YN, Y, D, Z and A, as YNd1, YNyn0 and YNa0d1"
+        at.wrong("VECGRP", f'"{vector}" is no vector group; {allowed}')
+        return None
+    many = len(kilovolts)
+    if len(letters) < many:
+        at.wrong("VECGRP", f'"{vector}" is of fewer windings than the unit has buses, {many}; write a letter for each')
+        return None
+    if GROUNDED in letters[many:]:
+        at.wrong("VECGRP", f'"{vector}" has a grounded winding without a bus; write its bus, or its letter without N')
+        return None
+    by_order = {"buses": letters[:many], "volts": [""] * many}
+    for place, letter in zip(by_volts(kilovolts), letters):
+        by_order["volts"][place] = letter
+    if order is None and by_order["buses"] != by_order["volts"]:
+        ways = "--vector=volts takes the first letters for the highest voltage, --vector=buses for bus I"
+        at.wrong("VECGRP", f'"{vector}" can be read in two ways: bus I isn\'t the one of the highest voltage; {ways}')
+        return None
+    return by_order[order or "volts"]
+
+
+def windings_of(
+    unit: Transformer,
+    data: Windings,
+    bus_kilovolts: dict[int, decimal.Decimal],
+    order: str | None,
+    notes: list[Finding],
+) -> list[Winding]:
+    """The windings of a unit, the highest voltage first; none where it has none for a case."""
+    kilovolts = []
+    for bus, rated in zip(unit.buses, unit.rated):
+        own = bus_kilovolts[bus]
+        kilovolts.append(rated if rated > 0 else own)
+        if abs(kilovolts[-1] - own) > RATED_FROM_BUS * own:
+            words = f"a winding rated at {kilovolts[-1]:f} kV is at the bus {bus} of {own:f} kV; look at both"
+            notes.append(Finding(unit.record.file, words, unit.record.line))
+    vector_at = data.record if data.vector else unit.record
+    letters = letters_by_bus(vector_at, data.vector or unit.vector, kilovolts, order)
+    if letters is None:
+        return []
+    out = OUT.get(unit.status)
+    if out is not None and "A" in letters and letters[out] in ("A", "Y", GROUNDED):
+        words = "a winding of the autotransformer is out of service, and with it all of it is left out"
+        notes.append(Finding(unit.record.file, words, unit.record.line))
+        return []
+    windings = []
+    for place in by_volts(kilovolts):
+        bus = unit.buses[place]
+        column = next(name for name in SIDES if data.record.bus(name, 0) == bus)
+        letter = "D" if place == out else letters[place]  # as a delta does, a winding that is out carries nothing here
+        windings.append(Winding(bus, kilovolts[place], letter, data.sides[bus], column))
+    return windings
+
+
+@dataclasses.dataclass
+class Unit:
+    """A unit on its way into a case: its records, its name there, and what is told of it."""
+
+    at: Record  # of the power flow
+    data_at: Record  # of the resistances
+    name: str
+    windings: list[Winding]
+    bus_name: Callable[[int], str]
+    give_name: Callable[[str], str]
+    beyond: Beyond
+    note: str = ""
+
+    def tell(self, words: str) -> None:
+        self.beyond.notes.append(Finding(self.at.file, words, self.at.line))
+
+    def resistance(self, key: str, winding: Winding) -> Field:
+        micro = micro_ohm(self.data_at, f"WR{winding.name}", winding.side.ohm)
+        return Field(key, micro, f"{winding.side.ohm:f} ohm per phase")
+
+    def neutral(self, windings: Sequence[Winding]) -> list[Field]:
+        """What lies between the one neutral of these windings and the ground grid."""
+        if any(winding.side.blocked for winding in windings):
+            return [Field("neutral", "blocked", "a blocking device between the neutral and the ground grid")]
+        ohms = {winding.side.neutral_ohm: winding.name for winding in windings if winding.side.neutral_ohm != 0}
+        if len(ohms) > 1:
+            self.data_at.wrong("GRDRJ", "one neutral has two resistances, GRDRI and GRDRJ; make them equal, or one 0")
+        for ohm, name in list(ohms.items())[:1]:
+            micro = micro_ohm(self.data_at, f"GRDR{name}", ohm)
+            return [Field("neutral", micro, f"a resistor of {ohm:f} ohm to the ground grid")]
+        return []
+
+    def rows(self) -> list[Row]:
+        """The rows of the case for this unit; more than one where the user has a third winding written as its own."""
+        lower = [winding for winding in self.windings if winding.letters == "A"]
+        if lower:
+            return self.auto(lower[0])
+        grounded = [winding for winding in self.windings if winding.letters == GROUNDED]
+        if len(grounded) > 1:
+            for winding in grounded:
+                if winding.side.blocked:
+                    self.tell(f"the winding at the bus {winding.bus} is blocked: it is left out, and the others stay")
+            grounded = [winding for winding in grounded if not winding.side.blocked]
+        if not grounded:
+            return [self.listed()]
+        if len(grounded) == 1:
+            return [self.delta_wye(grounded[0])]
+        return [self.wye_wye(*grounded[:2]), *self.third(grounded[2:])]
+
+    def listed(self) -> Row:
+        self.tell(f"{self.name} has no grounded winding: it is listed as delta-delta")
+        return Row(self.name, [Field("kind", "delta-delta"), self.rated("high_volts", self.windings[0])], self.note)
+
+    def rated(self, key: str, winding: Winding) -> Field:
+        return Field(key, volts(self.at, winding.kilovolts))
+
+    def side(self, end: str, winding: Winding) -> list[Field]:
+        return [self.rated(f"{end}_volts", winding), Field(end, self.bus_name(winding.bus))]
+
+    def tell_of_high(self, winding: Winding) -> None:
+        """Tells where the winding that becomes the high side isn't the one of the highest voltage."""
+        if winding.kilovolts < self.windings[0].kilovolts:
+            what = f"the winding at the bus {winding.bus} is its high side here, and its verdict means nothing"
+            self.tell(f"{self.name} isn't grounded at its highest voltage: {what}")
+
+    def delta_wye(self, winding: Winding) -> Row:
+        self.tell_of_high(winding)
+        fields = [Field("kind", "delta-wye"), *self.side("high", winding)]
+        return Row(
+            self.name, [*fields, self.resistance("high_resistance", winding), *self.neutral([winding])], self.note
+        )
+
+    def wye_wye(self, high: Winding, low: Winding) -> Row:
+        self.tell_of_high(high)
+        for winding in (high, low):
+            if winding.side.neutral_ohm != 0:
+                column = f"GRDR{winding.name}"
+                words = "a resistor in one of two neutrals has no key in a case, which joins the two; make it 0"
+                self.data_at.wrong(column, words)
+        fields = [Field("kind", "wye-wye"), *self.side("high", high), *self.side("low", low)]
+        fields += [self.resistance("high_resistance", high), self.resistance("low_resistance", low)]
+        return Row(self.name, fields, self.note)
+
+    def auto(self, low: Winding) -> list[Row]:
+        high = self.windings[0]
+        if high is low or high.letters not in ("Y", GROUNDED):
+            words = "the letter A is not of the highest voltage, and that one has YN or Y; write YNa.."
+            self.data_at.wrong("VECGRP", words)
+            return []
+        fields = [Field("kind", "auto"), *self.side("high", high), *self.side("low", low)]
+        fields += [self.resistance("series_resistance", high), self.resistance("common_resistance", low)]
+        if high.letters == "Y":
+            fields.append(Field("neutral", "blocked", "its neutral is not grounded"))
+        else:
+            fields += self.neutral([high, low])
+        others = [winding for winding in self.windings[1:] if winding is not low and winding.letters == GROUNDED]
+        return [Row(self.name, fields, self.note), *self.third(others)]
+
+    def third(self, windings: Sequence[Winding]) -> list[Row]:
+        """A third grounded winding, which formats 1 and 2 have no key for."""
+        rows = []
+        for winding in windings:
+            words = f"the third grounded winding of {self.name}, at the bus {winding.bus},"
+            written = f"a delta-wye of its own, and the effective current of {self.name} lacks it"
+            rows += self.beyond.say(self.at, words, written, lambda winding=winding: self.third_row(winding))
+        return rows
+
+    def third_row(self, winding: Winding) -> Row:
+        fields = [Field("kind", "delta-wye"), *self.side("high", winding)]
+        fields += [self.resistance("high_resistance", winding), *self.neutral([winding])]
+        return Row(self.give_name(f"{self.name}_3"), fields, f"the third winding of {self.name}")
+
+
+def reactor_row(
+    at: Record, name: str, bus: str, ohm: decimal.Decimal, neutral_ohm: decimal.Decimal, column: str
+) -> Row:
+    """A shunt reactor as docs/MODELLING.md writes it: a delta-wye that is outside of the assessment."""
+    fields = [Field("kind", "delta-wye"), Field("high_volts", REACTOR_VOLTS, "a reactor: no rated voltage")]
+    fields += [Field("high", bus), Field("high_resistance", micro_ohm(at, column, ohm), f"{ohm:f} ohm per phase")]
+    if neutral_ohm != 0:
+        micro = micro_ohm(at, "RG", neutral_ohm)
+        fields.append(Field("neutral", micro, f"a resistor of {neutral_ohm:f} ohm to the ground grid"))
+    return Row(name, fields, "a shunt reactor")

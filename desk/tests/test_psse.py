@@ -1,0 +1,535 @@
+"""`gicdesk psse`: a case from a pair of files. One pair is made of the sample region by make_pair.py; another is a
+small one of three substations with what a pair can have beside that."""
+
+import csv
+import decimal
+import pathlib
+import subprocess
+import tomllib
+import unittest
+
+import make_pair
+from shared import BUILT, EXAMPLES, REPORTS, TESTS, DeskTest
+
+from gicdesk.polygons import Polygon
+from gicdesk.psse_text import fields_of
+from gicdesk.psse_units import letters_of
+
+PAIR = TESTS / "pair"
+LISTS = ("zone", "substation", "bus", "line", "transformer")
+
+RAW = """\
+0, 100.0, 33, 0, 1, 60.0 / a small network
+first title
+second title
+1,'NORTH 345',345.0,1
+2,'NORTH 138',138.0,1
+3,'NORTH 13 ',13.8,1
+4,'SOUTH A  ',345.0,1
+5,'SOUTH B  ',345.0,1
+6,'SOUTH LV ',138.0,1
+7,'EAST     ',345.0,1
+8,'APART    ',345.0,4
+0 / END OF BUS DATA, BEGIN LOAD DATA
+0 / END OF LOAD DATA, BEGIN FIXED SHUNT DATA
+7,'1 ',1,0.0,-50.0
+7,'2 ',0,0.0,-50.0
+0 / END OF FIXED SHUNT DATA, BEGIN GENERATOR DATA
+0 / END OF GENERATOR DATA, BEGIN BRANCH DATA
+1,4,'1 ',0.0025,0.03,0.1,0,0,0,0,0,0,0,1,1,0
+1,-7,'1 ',0.0025,0.03,0.1,0,0,0,0,0,0,0,1,1,0
+4,5,'1 ',0.0001,0.001,0.0,0,0,0,0,0,0,0,1,1,0
+5,7,'1 ',0.0,-0.02,0.0,0,0,0,0,0,0,0,1,1,0
+5,7,'2 ',0.0025,0.03,0.0,0,0,0,0,0,0,0,0,1,0
+1,8,'1 ',0.0025,0.03,0.0,0,0,0,0,0,0,0,1,1,0
+0 / END OF BRANCH DATA, BEGIN TRANSFORMER DATA
+1,2,3,'1 ',1,1,1,0,0,2,'BANK',1,1,1.0
+0.001,0.02,100,0.001,0.03,100,0.001,0.04,100,1.0,0.0
+1.0,345.0,0.0
+1.0,138.0,0.0
+1.0,13.8,0.0
+4,6,0,'1 ',1,1,1,0,0,2,'',1,1,1.0
+0.001,0.02,100
+1.0,0.0,0.0
+1.0,0.0
+5,6,0,'2 ',1,1,1,0,0,2,'SPARE',0,1,1.0
+0.001,0.02,100
+1.0,0.0,0.0
+1.0,0.0
+0 / END OF TRANSFORMER DATA, BEGIN AREA DATA
+Q
+"""
+GIC = """\
+GICFILEVRSN=3
+1,'NORTH',0,50.0,-100.0,0.2,''
+2,'SOUTH',0,49.0,-100.0,0.3,''
+3,'EAST STATION',0,50.0,-99.0,,''
+0 / END OF SUBSTATION DATA, BEGIN BUS SUBSTATION DATA
+1,1
+2,1
+3,1
+4,2
+5,2
+6,2
+7,3
+8,3
+0 / END OF BUS SUBSTATION DATA, BEGIN TRANSFORMER DATA
+1,2,3,'1 ',0.2,0.1,0.05,0,0,0,'YNa0yn0',1,0.6,0.0,0.0,0.0,0
+4,6,0,'1 ',0.3,0.1,0.0,0,0,0,'YNd1',1,0.6,2.5,0.0,0.0,0
+0 / END OF TRANSFORMER DATA, BEGIN FIXED SHUNT DATA
+7,'1 ',1.5,0.0
+7,'2 ',1.5,0.0
+0 / END OF FIXED SHUNT DATA, BEGIN BRANCH DATA
+1,4,'1 ',3.25,0.0,0.0,0.0,0.0
+0 / END OF BRANCH DATA, BEGIN EARTH MODEL DATA
+'BR1',2
+1.0,2.0
+0
+Q
+"""
+ZONES = "name,geomagnetic_latitude,beta\nall,60,0.81\n"
+
+
+class PsseTest(DeskTest):
+    def words(self, raw: str = RAW, gic: str = GIC, zones: str = ZONES) -> list[object]:
+        self.raw, self.gic = self.file("net.raw", raw), self.file("net.gic", gic)
+        self.out = self.folder / "case.toml"
+        return ["psse", self.raw, self.gic, f"--zones={self.file('zones.csv', zones)}", f"--out={self.out}"]
+
+    def case(self, words: list[object]) -> dict[str, dict[str, dict[str, object]]]:
+        """The lists of the case that is made, each row by its name."""
+        self.shown = self.done(*words).splitlines()
+        read = tomllib.loads(self.out.read_text())
+        self.assertEqual(read["format"], 2)
+        return {name: {row["name"]: row for row in read[name]} for name in LISTS}
+
+    def told(self, words: list[object], *expected: str) -> None:
+        """The words are refused with these lines, without the folder; and nothing is written."""
+        lines = [line.replace(f"{self.folder}/", "") for line in self.refused(*words)]
+        self.assertEqual(lines, list(expected))
+        self.assertEqual(sorted(self.folder.glob("case*")), [])
+
+
+class Region(DeskTest):
+    def pair_case(self, folder: pathlib.Path) -> pathlib.Path:
+        out = self.folder / "region.toml"
+        files = [folder / "region.raw", folder / "region.gic", f"--zones={folder / 'zones.csv'}"]
+        self.done("psse", *files, f"--lines={folder / 'lines.csv'}", f"--out={out}", "--force")
+        return out
+
+    def names(self, out: pathlib.Path, pair: make_pair.Pair) -> dict[str, str]:
+        """Each name of the case with that of the region, by the table of names beside it."""
+        buses = {str(number): name for name, number in pair.buses.items()}
+        lines = {}
+        for row in pair.lines:
+            lines[f"{pair.buses[row['from']]} {pair.buses[row['to']]}", pair.circuit(row)] = row["name"]
+        units = {(" ".join(map(str, pair.ends(unit))), pair.unit_circuit(unit)): unit["name"] for unit in pair.units}
+        names = {}
+        with open(out.with_suffix(".names.csv"), newline="") as file:
+            for row in csv.DictReader(file):
+                key = (row["numbers"], row["circuit"])
+                stations = {str(number): name for name, number in pair.substations.items()}
+                by_list = {"substation": stations.get(key[0]), "bus": buses.get(key[0]), "line": lines.get(key)}
+                names[row["name"]] = units[key] if row["list"] == "transformer" else by_list[row["list"]]
+        return names
+
+    def test_the_pair_that_stands_here_is_the_one_that_is_made(self) -> None:
+        for name, text in make_pair.Pair(33).files().items():
+            self.assertEqual((PAIR / name).read_text(), text, name)
+
+    def test_the_case_of_the_pair_is_the_region_name_for_name(self) -> None:
+        region = tomllib.loads((EXAMPLES / "region.toml").read_text())
+        for version in (33, 34):
+            pair = make_pair.Pair(version)
+            for name, text in pair.files().items():
+                self.file(name, text)
+            out = self.pair_case(self.folder) if version == 34 else self.pair_case(PAIR)
+            made = tomllib.loads(out.read_text())
+            names = self.names(out, pair)
+            for rows in made.values():
+                for row in rows if isinstance(rows, list) else []:
+                    for key in ("name", "substation", "from", "to", "high", "low"):
+                        if key in row:
+                            row[key] = names.get(row[key], row[key])
+            for name in LISTS:
+                self.assertEqual(made[name], region[name], (version, name))
+
+    @unittest.skipUnless(BUILT.is_file(), "no program is built")
+    def test_the_screen_of_the_pair_is_that_of_the_region(self) -> None:
+        out = self.pair_case(PAIR)
+        names = self.names(out, make_pair.Pair(33))
+        printed = subprocess.run([BUILT, "screen", f"--case={out}"], capture_output=True, text=True, check=True).stdout
+        lines = [line.split(" ") for line in printed.splitlines()]
+        for words in lines:
+            if words[0] == "transformer":
+                words[1] = names[words[1]]
+        self.assertEqual(list(map(" ".join, lines)), (REPORTS / "region_screen.txt").read_text().splitlines())
+
+
+class Small(PsseTest):
+    def test_what_the_small_pair_is_as_a_case(self) -> None:
+        case = self.case([*self.words(), "--beyond=model"])
+        self.assertEqual(case["zone"], {"all": {"name": "all", "latitude": 6000, "beta": 81}})
+        self.assertEqual(
+            case["substation"],
+            {
+                "NORTH": {"name": "NORTH", "ground": 200000},
+                "SOUTH": {"name": "SOUTH", "ground": 300000},
+                "EAST_STATION": {"name": "EAST_STATION"},
+            },
+        )
+        stations = {name: row["substation"] for name, row in case["bus"].items()}
+        # The buses 4 and 5 are tied together; the 8 is isolated; of the 6 no winding is grounded.
+        self.assertEqual(
+            stations,
+            {"1_NORTH_345": "NORTH", "2_NORTH_138": "NORTH", "3_NORTH_13": "NORTH", "4_SOUTH_A": "SOUTH"}
+            | {"7_EAST": "EAST_STATION"},
+        )
+        # A degree of latitude at the mean of 49 and 50 degrees is 111.133 - 0.56 cos 99 = 111.2206 km; a degree of
+        # longitude at 50 degrees is (111.5065 - 0.1872 cos 100) cos 50 = 71.6958 km, and at 49.5 it is 72.4367 km.
+        self.assertEqual(
+            case["line"],
+            {
+                "L1-4-1": {"name": "L1-4-1", "from": "1_NORTH_345", "to": "4_SOUTH_A", "zone": "all"}
+                | {"resistance": 3250000, "north": -111221, "east": 0},
+                # 0.0025 per unit on 100 MVA at 345 kV are 0.0025 * 345 * 345 / 100 = 2.975625 ohm.
+                "L1-7-1": {"name": "L1-7-1", "from": "1_NORTH_345", "to": "7_EAST", "zone": "all"}
+                | {"resistance": 2975625, "north": 0, "east": 71696},
+                "L5-7-1": {"name": "L5-7-1", "from": "4_SOUTH_A", "to": "7_EAST", "zone": "all"}
+                | {"resistance": 1000000, "north": 111221, "east": 72437, "blocked": True},
+            },
+        )
+        self.assertEqual(
+            case["transformer"],
+            {
+                "BANK": {"name": "BANK", "kind": "auto", "high_volts": 345000, "high": "1_NORTH_345"}
+                | {"low_volts": 138000, "low": "2_NORTH_138", "series_resistance": 200000, "common_resistance": 100000},
+                "BANK_3": {"name": "BANK_3", "kind": "delta-wye", "high_volts": 13800, "high": "3_NORTH_13"}
+                | {"high_resistance": 50000},
+                "T4-6-1": {"name": "T4-6-1", "kind": "delta-wye", "high_volts": 345000, "high": "4_SOUTH_A"}
+                | {"high_resistance": 300000, "neutral": 2500000},
+                "R7-1": {"name": "R7-1", "kind": "delta-wye", "high_volts": 1000, "high": "7_EAST"}
+                | {"high_resistance": 1500000},
+            },
+        )
+
+    def test_what_is_told(self) -> None:
+        self.case([*self.words(), "--beyond=leave"])
+        names = [line.replace(f"{self.folder}/", "") for line in self.shown]
+        self.assertEqual(
+            names,
+            [
+                "net.gic line 4: EAST_STATION has no ground: RG is empty",
+                # 0.0001 per unit on 100 MVA at 345 kV are 0.119025 ohm.
+                "net.raw line 20: the branch 4-5 '1' of 0.119025 ohm ties two buses of one substation: they are one "
+                "bus, 4",
+                "net.raw line 22: the branch 5-7 '2' is out of service: it is left out",
+                "net.raw line 23: the branch 1-8 '1' is out of service: it is left out",
+                "net.raw line 25: the third grounded winding of BANK, at the bus 3, is left out",
+                "net.raw line 34: the transformer 5-6 '2' is out of service: it is left out",
+                "net.gic line 18: the reactor 7 '1' is left out",
+                "net.gic line 19: the reactor 7 '2' is out of service: it is left out",
+                "net.raw: 3 of 8 buses have no line and no grounded winding: they are left out",
+                "case.toml is made, and case.names.csv says what its names stand for",
+            ],
+        )
+
+    def test_a_section_that_is_skipped_is_told(self) -> None:
+        shunts = "0 / END OF AREA DATA, BEGIN SWITCHED SHUNT DATA\n7,1,0,1\n0 / END OF SWITCHED SHUNT DATA\nQ\n"
+        self.case([*self.words(RAW.replace("Q\n", shunts)), "--beyond=leave"])
+        words = "the section SWITCHED SHUNT is skipped, with 1 line; see whether a case needs what stands there"
+        self.assertEqual(self.shown[0].replace(f"{self.folder}/", ""), f"net.raw line 40: {words}")
+
+    @unittest.skipUnless(BUILT.is_file(), "no program is built")
+    def test_the_program_takes_the_case(self) -> None:
+        self.case([*self.words(), "--beyond=model"])
+        words = [BUILT, "list", f"--case={self.out}"]
+        printed = subprocess.run(words, capture_output=True, text=True, check=True).stdout.splitlines()
+        # Two grounds, two lines without the capacitor, two windings of the auto, three others, and a neutral resistor.
+        self.assertEqual(printed[1], "nodes 9 elements 10")
+        self.assertIn("element L1-7-1 line 1_NORTH_345 7_EAST 3 2975625", printed)
+        self.assertIn("element T4-6-1 neutral T4-6-1 SOUTH 1 2500000", printed)
+
+    def test_what_is_of_nothing_is_told(self) -> None:
+        raw = RAW.replace("7,'2 ',0,0.0,-50.0", "7,'2 ',1,0.0,-50.0")
+        gic = GIC.replace("7,'2 ',1.5,0.0\n", "").replace("1,4,'1 ',3.25", "1,4,'3 ',3.25")
+        gic = gic.replace("3,'EAST STATION',0,50.0,-99.0", "3,'EAST STATION',0,50.0,-100.0")
+        self.case([*self.words(raw, gic), "--beyond=leave"])
+        told = [line.replace(f"{self.folder}/", "") for line in self.shown]
+        for line in (
+            "net.gic line 20: there is no branch of these buses and this circuit in net.raw",
+            "net.raw line 15: the reactor 7 '2' has no record in net.gic: it is taken as not grounded",
+            "net.raw line 19: L1-7-1 has a span of less than 100 m: look at the coordinates of its ends",
+        ):
+            self.assertIn(line, told)
+
+    def test_names_of_another_code_page(self) -> None:
+        words = [*self.words(gic=GIC), "--beyond=leave"]
+        self.gic.write_bytes(GIC.replace("NORTH", "ZÜRICH").encode("latin-1"))
+        self.assertIn("Z_RICH", self.case(words)["substation"])
+        self.assertIn("substation,Z_RICH,ZÜRICH,1,\n", self.out.with_suffix(".names.csv").read_text())
+
+    def test_the_table_of_names(self) -> None:
+        self.case([*self.words(), "--beyond=model"])
+        with open(self.folder / "case.names.csv", newline="") as file:
+            rows = [tuple(row.values()) for row in csv.DictReader(file)]
+        for row in (
+            ("substation", "EAST_STATION", "EAST STATION", "3", ""),
+            ("line", "L1-7-1", "", "1 7", "1"),
+            ("transformer", "BANK_3", "BANK", "1 2 3", "1"),
+            ("transformer", "R7-1", "", "7", ""),
+            ("bus", "4_SOUTH_A", "SOUTH A", "4 5", ""),
+        ):
+            self.assertIn(row, rows)
+
+    def test_what_has_no_key_is_refused_without_a_choice(self) -> None:
+        ways = "--beyond=leave leaves it out, --beyond=model writes it as docs/MODELLING.md says"
+        self.told(
+            self.words(),
+            f"net.raw line 25: the third grounded winding of BANK, at the bus 3, has no key in a case; {ways}",
+            f"net.gic line 18: the reactor 7 '1' has no key in a case; {ways}",
+        )
+
+
+class Groups(PsseTest):
+    """How vector groups become kinds; the unit is the one at the buses 4 and 6."""
+
+    def unit(self, *changes: tuple[str, str], words: tuple[str, ...] = ()) -> dict[str, object]:
+        raw, gic = RAW, GIC
+        for before, after in changes:
+            self.assertTrue((before in raw) != (before in gic), before)
+            raw, gic = raw.replace(before, after), gic.replace(before, after)
+        return self.case([*self.words(raw, gic), "--beyond=leave", "--force", *words])["transformer"]["T4-6-1"]
+
+    RECORD = "0.3,0.1,0.0,0,0,0,'YNd1',1,0.6,2.5"
+
+    def test_kinds(self) -> None:
+        delta_wye = {"name": "T4-6-1", "kind": "delta-wye"}
+        high = {"high_volts": 345000, "high": "4_SOUTH_A", "high_resistance": 300000}
+        low = {"low_volts": 138000, "low": "6_SOUTH_LV", "low_resistance": 100000}
+        auto = {"name": "T4-6-1", "kind": "auto", "high_volts": 345000, "high": "4_SOUTH_A", "low_volts": 138000}
+        auto |= {"low": "6_SOUTH_LV", "series_resistance": 300000, "common_resistance": 100000}
+        own_low = {"high_volts": 138000, "high": "6_SOUTH_LV", "high_resistance": 100000}
+        listed = {"name": "T4-6-1", "kind": "delta-delta", "high_volts": 345000}
+        for record, expected in (
+            ("0.3,0.1,0.0,1,0,0,'YNd1',1,0.6,0.0", delta_wye | high | {"neutral": "blocked"}),
+            ("0.3,0.1,0.0,0,0,0,'YNyn0',1,0.6,0.0", {"name": "T4-6-1", "kind": "wye-wye"} | high | low),
+            ("0.3,0.1,0.0,0,0,0,'YNyn0d1',1,0.6,0.0", {"name": "T4-6-1", "kind": "wye-wye"} | high | low),
+            ("0.3,0.1,0.0,0,0,0,'YNy0',1,0.6,0.0", delta_wye | high),
+            ("0.3,0.1,0.0,0,0,0,'Dyn11',1,0.6,0.0", delta_wye | own_low),
+            ("0.3,0.1,0.0,1,0,0,'YNyn0',1,0.6,0.0", delta_wye | own_low),
+            ("0.3,0.1,0.0,1,1,0,'YNyn0',1,0.6,0.0", listed),
+            ("0.3,0.1,0.0,0,0,0,'YNa0d1',1,0.6,0.0", auto),
+            ("0.3,0.1,0.0,0,1,0,'YNa0',1,0.6,0.0", auto | {"neutral": "blocked"}),
+            ("0.3,0.1,0.0,0,0,0,'Ya0',1,0.6,0.0", auto | {"neutral": "blocked"}),
+            ("0.3,0.1,0.0,0,0,0,'YNa0',1,0.6,1.5", auto | {"neutral": 1500000}),
+            ("0.3,0.1,0.0,0,0,0,'Yd1',1,0.6,0.0", listed),
+            ("0.3,0.1,0.0,0,0,0,'Dd0',1,0.6,0.0", listed),
+        ):
+            self.assertEqual(self.unit((self.RECORD, record)), expected, record)
+
+    def test_the_order_of_the_letters(self) -> None:
+        # The low bus is bus I: by volts YN is of the bus 4, by buses of the bus 6.
+        turned = (("4,6,0,'1 ',1,1", "6,4,0,'1 ',1,1"), (f"4,6,0,'1 ',{self.RECORD}", f"6,4,0,'1 ',{self.RECORD}"))
+        raw, gic = RAW.replace(*turned[0]), GIC.replace(*turned[1])
+        ways = "--vector=volts takes the first letters for the highest voltage, --vector=buses for bus I"
+        self.told(
+            [*self.words(raw, gic), "--beyond=leave"],
+            'net.gic line 16, VECGRP: "YNd1" can be read in two ways: bus I isn\'t the one of the highest voltage; '
+            + ways,
+        )
+        for order, bus, ohm in (("volts", "4_SOUTH_A", 100000), ("buses", "6_SOUTH_LV", 300000)):
+            words = [*self.words(raw, gic), "--beyond=leave", f"--vector={order}", "--force"]
+            unit = self.case(words)["transformer"]["T6-4-1"]
+            self.assertEqual((unit["high"], unit["high_resistance"]), (bus, ohm))
+
+    def test_letters(self) -> None:
+        for vector, letters in (
+            ("YNd1", ["YN", "D"]),
+            ("YNyn0d11", ["YN", "YN", "D"]),
+            ("YNa0yn0", ["YN", "A", "YN"]),
+            ("D yn 11", ["D", "YN"]),
+            ("Dzn0", None),
+            ("", None),
+            ("wye", None),
+        ):
+            self.assertEqual(letters_of(vector), letters, vector)
+
+
+class Refusals(PsseTest):
+    def one(self, before: str, after: str, *expected: str) -> None:
+        """One change of one of the two files is refused so."""
+        self.assertTrue((before in RAW) != (before in GIC), before)
+        self.told([*self.words(RAW.replace(before, after), GIC.replace(before, after)), "--beyond=leave"], *expected)
+
+    def test_fields(self) -> None:
+        write = "write ohm a phase"
+        number = "write one with a decimal point"
+        self.one("2,'NORTH 138',138.0", "2,'NORTH 138',abc", f'net.raw line 5, BASKV: "abc" is no number; {number}')
+        self.one(
+            "2,'SOUTH',0,49.0", "2,'SOUTH',1,49.0", "net.gic line 3, UNIT: it is 1; degrees are read, which is 0"
+        )
+        degrees = "and not -90 to 90 degrees"
+        self.one("2,'SOUTH',0,49.0", "2,'SOUTH',0,94.0", f"net.gic line 3, LATITUDE: it is 94.0, {degrees}")
+        self.one("2,'SOUTH',0,49.0", "2,'SOUTH',0,1e999", f"net.gic line 3, LATITUDE: it is 1e999, {degrees}")
+        # At the mean of 50 and 60 degrees a degree has 111.133 - 0.56 cos 110 = 111.3245 km.
+        words = "its ends lie 1113.245 km apart to the north, and not up to 1000; look at the coordinates of"
+        self.one(
+            "2,'SOUTH',0,49.0",
+            "2,'SOUTH',0,60.0",
+            f"net.raw line 18: {words} NORTH and SOUTH",
+            f"net.raw line 21: {words} SOUTH and EAST STATION",
+        )
+        self.one("-100.0,0.2,''", "-100.0,0,''", f"net.gic line 2, RG: it is 0 ohm, and not 0.001 to 1000; {write}")
+        self.one("3.25,0.0", "3250000,0.0", f"net.gic line 21, RBRN: it is 3250000 ohm, and not 0.001 to 1000; {write}")
+        self.one("'1 ',0.3,0.1", "'1 ',0.0,0.1", f"net.gic line 16, WRI: it is 0.0 ohm, and not 0.001 to 1000; {write}")
+        allowed = "allowed are groups of YN, Y, D, Z and A, as YNd1, YNyn0 and YNa0d1"
+        self.one("'YNd1'", "'wye'", f'net.gic line 16, VECGRP: "wye" is no vector group; {allowed}')
+        words = "it is 2; allowed are 0, and 1 for a blocking device"
+        self.one("0.3,0.1,0.0,0,0", "0.3,0.1,0.0,2,0", f"net.gic line 16, GICBDI: {words}")
+
+    def test_what_one_file_has_and_the_other_has_not(self) -> None:
+        self.one("6,2\n", "", "net.raw line 30: the bus 6 is in no substation of net.gic; write its record there")
+        words = "there is no substation 4 in this file; write its record"
+        self.one("6,2\n", "6,4\n", f"net.gic line 11, SUBSTATION: {words}")
+        words = "the transformer 4-6 '1' has no record in net.gic; write it there"
+        self.one("4,6,0,'1 ',0.3", "4,6,0,'2 ',0.3", f"net.raw line 30: {words}")
+        self.one("1,-7,'1 '", "1,-9,'1 '", "net.raw line 19: there is no bus 9 in net.raw; write its record")
+        words = "there is no fixed shunt of this bus and id in net.raw; write it there"
+        self.one("7,'1 ',1.5", "7,'3 ',1.5", f"net.gic line 18: {words}")
+        words = "the transformer 4-6 '1' has buses in different substations; a station is one of net.gic"
+        self.one("6,2\n", "6,1\n", f"net.raw line 30: {words}")
+
+    def test_what_stands_twice(self) -> None:
+        one = "leave one of the two"
+        self.one("2,'NORTH 138'", "1,'NORTH 138'", f"net.raw line 5, I: the bus 1 stands in line 4 already; {one}")
+        words = f"these buses and this circuit stand in line 21 already; {one}"
+        self.one("5,7,'2 '", "7,5,'1 '", f"net.raw line 22: {words}")
+        self.one("1,2,3,'1 ',0.2", "6,4,0,'1 ',0.2", "net.gic line 16: " + words.replace("21", "15"))
+
+    def test_other_files(self) -> None:
+        self.told(
+            self.words(raw="time,north,east\n", gic="hello\n", zones="zone;beta\n"),
+            "net.raw line 1: the first line isn't IC, SBASE, REV, ..; is it another file, or a binary one? Save it as "
+            ".raw",
+            "net.gic line 1: the first line isn't GICFILEVRSN=..; is it another file?",
+            'zones.csv line 1: the columns are "zone;beta", and not name,geomagnetic_latitude,beta; write these, with '
+            "commas",
+        )
+        words = "the version is 23; 30 to 36 are read. Save it as one of these"
+        self.told(self.words(raw=RAW.replace(" 33,", " 23,")), f"net.raw line 1, REV: {words}")
+
+    def test_zones(self) -> None:
+        heads = "name,geomagnetic_latitude,beta\n"
+        self.told(
+            self.words(zones=f"{heads}a b,60,0.81\nnorth,6000,0.81\nnorth,57.123,1.6\n"),
+            'zones.csv line 2, name: "a b" is no name of a case; allowed are 1 to 32 letters, digits and _ - .',
+            "zones.csv line 3, geomagnetic_latitude: it is 6000, and not 0 to 90 degrees",
+            "zones.csv line 4, name: north stands in the table already; leave one of the two",
+            "zones.csv line 4, geomagnetic_latitude: it is 57.123, which has more digits than a case tells: times 100 "
+            "it is whole",
+            "zones.csv line 4, beta: it is 1.6, and not 0.01 to 1.5 as a factor",
+        )
+        two = f"{heads}north,60,0.81\nsouth,50,0.81\n"
+        words = [*self.words(zones=two), "--beyond=leave"]
+        table = "write it into the table of --substations, or give --polygons"
+        self.told(
+            words,
+            f"net.gic line 2: the substation 1 has no zone; {table}",
+            f"net.gic line 3: the substation 2 has no zone; {table}",
+            f"net.gic line 4: the substation 3 has no zone; {table}",
+        )
+        stations = self.file("stations.csv", "substation,zone\n1,north\n2,south\n3,north\n")
+        self.told(
+            [*words, f"--substations={stations}"],
+            "net.raw line 18: its ends are in north and in south; write its zone into the table of --lines",
+            "net.raw line 21: its ends are in south and in north; write its zone into the table of --lines",
+        )
+        heads = "bus_i,bus_j,circuit,zone,north_km,east_km\n"
+        lines = self.file("lines.csv", f"{heads}4,1,1,north,,\n5,7,1,south,110.5,72\n")
+        case = self.case([*words, f"--substations={stations}", f"--lines={lines}"])
+        found = {name: (row["zone"], row["north"], row["east"]) for name, row in case["line"].items()}
+        self.assertEqual(
+            found,
+            {"L1-4-1": ("north", -111221, 0), "L1-7-1": ("north", 0, 71696), "L5-7-1": ("south", 110500, 72000)},
+        )
+
+    def test_zones_as_polygons(self) -> None:
+        words = [*self.words(zones="name,geomagnetic_latitude,beta\nnorth,60,0.81\nsouth,50,0.81\n"), "--beyond=leave"]
+        heads = "zone,latitude,longitude\n"
+        # The border is the parallel of 49.5 degrees: the stations 1 and 3 lie in the north, and 2 in the south.
+        north = "north,49.5,-101\nnorth,51,-101\nnorth,51,-98\nnorth,49.5,-98\n"
+        south = "south,48,-101\nsouth,49.5,-101\nsouth,49.5,-98\nsouth,48,-98\n"
+        lines = self.file("lines.csv", "bus_i,bus_j,circuit,zone,north_km,east_km\n4,1,1,south,,\n5,7,1,north,,\n")
+        polygons = self.file("polygons.csv", heads + north + south)
+        case = self.case([*words, f"--polygons={polygons}", f"--lines={lines}"])
+        found = {name: row["zone"] for name, row in case["line"].items()}
+        self.assertEqual(found, {"L1-4-1": "south", "L1-7-1": "north", "L5-7-1": "north"})
+        self.out.unlink(), self.out.with_suffix(".names.csv").unlink()
+        self.told(
+            [*words, f"--polygons={self.file('p.csv', heads + north)}"],
+            "net.gic line 3: it lies at 49.0, -100.0, in no polygon; widen one, or look at its coordinates",
+        )
+        table = heads + north + "south,48,-101\nx,48,-100\n"
+        self.told(
+            [*words, f"--polygons={self.file('p.csv', table)}"],
+            'p.csv line 7, zone: "x" is none of north, south; write one of these',
+            "p.csv: south has 1 corner; a polygon has 3 or more, a row for each",
+        )
+        overlapping = heads + north + north.replace("north", "south")
+        self.told(
+            [*words, f"--polygons={self.file('p.csv', overlapping)}"],
+            "net.gic line 2: it lies at 50.0, -100.0, in north and in south; let these polygons not overlap",
+            "net.gic line 3: it lies at 49.0, -100.0, in no polygon; widen one, or look at its coordinates",
+            "net.gic line 4: it lies at 50.0, -99.0, in north and in south; let these polygons not overlap",
+        )
+
+    def test_a_span_whose_sign_is_turned_and_a_line_that_is_none(self) -> None:
+        heads = "bus_i,bus_j,circuit,zone,north_km,east_km\n"
+        words = [*self.words(), "--beyond=leave"]
+        lines = self.file("lines.csv", f"{heads}4,1,1,,-111,0\n5,8,1,,,\n")
+        self.told(
+            [*words, f"--lines={lines}"],
+            "lines.csv line 2, north_km: it is -111, by the coordinates 111.221; is its sign turned?",
+            "lines.csv line 3, bus_i: there is no branch of these buses and this circuit in net.raw",
+        )
+
+    def test_both_files_are_there_already(self) -> None:
+        words = [*self.words(), "--beyond=leave"]
+        self.done(*words)
+        lines = self.refused(*words)
+        more = "it is there already; choose another name, or give --force to replace it"
+        self.assertEqual(lines, [f"{self.folder}/case.toml: {more}", f"{self.folder}/case.names.csv: {more}"])
+
+
+class Polygons(unittest.TestCase):
+    def test_inside_outside_and_on_the_border(self) -> None:
+        def places(*pairs: tuple[str, str]) -> list[tuple[decimal.Decimal, decimal.Decimal]]:
+            return [(decimal.Decimal(north), decimal.Decimal(east)) for north, east in pairs]
+
+        # An L: the square from 0 to 2 without its quarter to the north and the east.
+        shape = Polygon("z", places(("0", "0"), ("0", "2"), ("1", "2"), ("1", "1"), ("2", "1"), ("2", "0")))
+        turned = Polygon("z", shape.corners[::-1])
+        for polygon in (shape, turned):
+            for place in places(("0.5", "0.5"), ("1", "0.5"), ("1.999", "0.999"), ("0.5", "1.5")):
+                self.assertTrue(polygon.inside(place), place)
+            for place in places(("1.5", "1.5"), ("1", "2.5"), ("-0.1", "1"), ("2.1", "0.5"), ("0", "-1"), ("1", "-1")):
+                self.assertFalse(polygon.inside(place) or polygon.on_border(place), place)
+            for place in places(("0", "0"), ("1", "1"), ("1", "1.5"), ("1.5", "1"), ("0", "1"), ("2", "0.5")):
+                self.assertTrue(polygon.on_border(place) and not polygon.inside(place), place)
+
+
+class Fields(unittest.TestCase):
+    def test_a_line(self) -> None:
+        for line, fields in (
+            ("1,'BUS, 1  ', 345.0,, 1 / it's a comment", ["1", "BUS, 1", "345.0", "", "1"]),
+            ("1 'BUS 1'  345.0\t1", ["1", "BUS 1", "345.0", "1"]),
+            ("0 / END OF BUS DATA, BEGIN LOAD DATA", ["0"]),
+            ("1,'it/s'", ["1", "it/s"]),
+            ("1,'no end", None),
+        ):
+            self.assertEqual(fields_of(line), fields, line)
+
+
+if __name__ == "__main__":
+    unittest.main()

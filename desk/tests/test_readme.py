@@ -1,0 +1,72 @@
+"""What desk/README.md shows: each command is run in a folder of its own, and what it prints is what stands there.
+
+    python3 desk/tests/test_readme.py --write PROGRAM
+
+puts what is printed into the document. A block marked `sh` is run, and the block marked `text` behind it is what it
+prints. The folder has the desk, the examples and the program under the names that they have in the repository.
+"""
+
+import os
+import pathlib
+import re
+import shutil
+import subprocess
+import sys
+import tempfile
+import unittest
+
+from shared import BUILT, TOP, DeskTest
+
+README = TOP / "desk" / "README.md"
+BLOCKS = re.compile(r"```sh\n(.*?)```\n\n```text\n(.*?)```\n", re.DOTALL)
+
+
+def furnish(folder: pathlib.Path, program: pathlib.Path) -> None:
+    """Makes of a folder what the commands find at the top of the repository."""
+    for name in ("gicdesk", "lib", "tests/pair"):
+        source, place = TOP / "desk" / name, folder / "desk" / name
+        place.parent.mkdir(parents=True, exist_ok=True)
+        if source.is_dir():
+            shutil.copytree(source, place, ignore=shutil.ignore_patterns("__pycache__"))
+        else:
+            shutil.copy(source, place)
+    (folder / "examples").symlink_to(TOP / "examples")
+    built = folder / "crates" / "gicstudy" / "out" / "gicstudy"
+    built.parent.mkdir(parents=True)
+    for place in (built, folder / "gicstudy"):
+        place.symlink_to(program)
+
+
+def printed(commands: str, folder: pathlib.Path) -> str:
+    words = ["sh", "-eu", "-c", commands]
+    done = subprocess.run(words, cwd=folder, capture_output=True, text=True, stdin=subprocess.DEVNULL, check=False)
+    return done.stdout + done.stderr + (f"status {done.returncode}\n" if done.returncode else "")
+
+
+class Readme(DeskTest):
+    @unittest.skipUnless(BUILT.is_file(), "no program is built")
+    def test_what_is_shown_is_what_is_printed(self) -> None:
+        furnish(self.folder, BUILT.resolve())
+        blocks = BLOCKS.findall(README.read_text())
+        self.assertGreater(len(blocks), 4)
+        for commands, text in blocks:
+            self.assertEqual(printed(commands, self.folder), text, commands)
+
+
+def write(program: str) -> None:
+    with tempfile.TemporaryDirectory() as scratch:
+        folder = pathlib.Path(scratch)
+        furnish(folder, pathlib.Path(os.path.abspath(program)))
+
+        def block(found: re.Match[str]) -> str:
+            return f"```sh\n{found[1]}```\n\n```text\n{printed(found[1], folder)}```\n"
+
+        text = BLOCKS.sub(block, README.read_text())
+    README.write_text(text)
+
+
+if __name__ == "__main__":
+    if sys.argv[1:2] == ["--write"]:
+        write(sys.argv[2])
+    else:
+        unittest.main()
