@@ -1,4 +1,4 @@
--- The first two bytes of a right text tell its mode.
+-- The first three bytes of a right text tell its mode.
 use Rattle.std.proofs.Common.{◌≡◌, ◌∙◌, ℕ, ◌+◌, ◌*◌, ◌==◌, if◌then◌else◌, List, get_or, refl, sym, ap}
 use Rattle.gic_words.specs.Table.{word_of}
 use Rattle.gic_words.specs.declared.mode.NetworkMode.{NetworkMode}
@@ -11,30 +11,31 @@ use Rattle.gic_ask.specs.declared.request.Asked.TheVariants.{Network, Study, Mak
 use Rattle.gic_study.specs.Modes.{Plans, mode_asked, IsRightOverNetwork, IsRightText}
 use Rattle.gic_study.specs.Laws.{TextsTellModes}
 
-first_two : List ℕ → ℕ
-first_two text = 256 * get_or text 0 0 + get_or text 1 0
+first_three : List ℕ → ℕ
+first_three text = 65536 * get_or text 0 0 + 256 * get_or text 1 0 + get_or text 2 0
 
 -- a report begins with the word that asks for it
 abbrev mark_of : Mode → ℕ
-mark_of m = 256 * get_or (word_of m) 0 0 + get_or (word_of m) 1 0
+mark_of m = 65536 * get_or (word_of m) 0 0 + 256 * get_or (word_of m) 1 0 + get_or (word_of m) 2 0
 
-begins_over_network : (m : NetworkMode) (inputs : Inputs) (text : List ℕ) → IsRightOverNetwork m inputs text → first_two text ≡ mark_of (mode.Network m)
-unfolding first_two
-begins_over_network network.Volts inputs text right = ap (λ (t : List ℕ). first_two t) right
-begins_over_network network.List inputs text right = ap (λ (t : List ℕ). first_two t) right
-begins_over_network network.Check inputs text right = ap (λ (t : List ℕ). first_two t) right
-begins_over_network network.Field inputs text right = ap (λ (t : List ℕ). first_two t) right.text_is
-begins_over_network network.Screen inputs text right = ap (λ (t : List ℕ). first_two t) right.text_is
-begins_over_network network.Certify inputs text right = ap (λ (t : List ℕ). first_two t) right.text_is
-begins_over_network network.Outage inputs text right = ap (λ (t : List ℕ). first_two t) right.text_is
+begins_over_network : (m : NetworkMode) (inputs : Inputs) (text : List ℕ) → IsRightOverNetwork m inputs text → first_three text ≡ mark_of (mode.Network m)
+unfolding first_three
+begins_over_network network.Volts inputs text right = ap (λ (t : List ℕ). first_three t) right
+begins_over_network network.List inputs text right = ap (λ (t : List ℕ). first_three t) right
+begins_over_network network.Check inputs text right = ap (λ (t : List ℕ). first_three t) right
+begins_over_network network.Field inputs text right = ap (λ (t : List ℕ). first_three t) right.text_is
+begins_over_network network.Screen inputs text right = ap (λ (t : List ℕ). first_three t) right.text_is
+begins_over_network network.Certify inputs text right = ap (λ (t : List ℕ). first_three t) right.text_is
+begins_over_network network.Outage inputs text right = ap (λ (t : List ℕ). first_three t) right.text_is
+begins_over_network network.Review inputs text right = ap (λ (t : List ℕ). first_three t) right.text_is
 
-begins : (plans : Plans) (asked : Asked) (text : List ℕ) → IsRightText plans asked text → first_two text ≡ mark_of (mode_asked asked)
-unfolding first_two
+begins : (plans : Plans) (asked : Asked) (text : List ℕ) → IsRightText plans asked text → first_three text ≡ mark_of (mode_asked asked)
+unfolding first_three
 begins plans (Network m inputs) text right = begins_over_network m inputs text right
-begins plans (Study inputs detail) text right = ap (λ (t : List ℕ). first_two t) right.text_is
-begins plans (Make seed size) text right = ap (λ (t : List ℕ). first_two t) right.text_is
-begins plans (Recheck inputs certificate) text right = ap (λ (t : List ℕ). first_two t) right.text_is
-begins plans (Series inputs transformer) text right = ap (λ (t : List ℕ). first_two t) right.text_is
+begins plans (Study inputs detail) text right = ap (λ (t : List ℕ). first_three t) right.text_is
+begins plans (Make seed size) text right = ap (λ (t : List ℕ). first_three t) right.text_is
+begins plans (Recheck inputs certificate) text right = ap (λ (t : List ℕ). first_three t) right.text_is
+begins plans (Series inputs transformer) text right = ap (λ (t : List ℕ). first_three t) right.text_is
 
 -- the mode whose word begins so
 abbrev marked : ℕ → Mode
@@ -48,7 +49,8 @@ marked mark = if mark == mark_of (mode.Network network.Volts) then mode.Network 
     else (if mark == mark_of mode.Study then mode.Study
     else (if mark == mark_of mode.Make then mode.Make
     else (if mark == mark_of mode.Recheck then mode.Recheck
-    else mode.Series)))))))))
+    else (if mark == mark_of (mode.Network network.Review) then mode.Network network.Review
+    else mode.Series))))))))))
 
 -- no two modes begin alike
 marked_as : (m : Mode) → marked (mark_of m) ≡ m
@@ -59,6 +61,7 @@ marked_as (mode.Network network.Field) = refl
 marked_as (mode.Network network.Screen) = refl
 marked_as (mode.Network network.Certify) = refl
 marked_as (mode.Network network.Outage) = refl
+marked_as (mode.Network network.Review) = refl
 marked_as mode.Study = refl
 marked_as mode.Make = refl
 marked_as mode.Recheck = refl

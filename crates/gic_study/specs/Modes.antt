@@ -19,6 +19,7 @@ use Rattle.gic_field.specs.RightField.{IsRightField}
 use Rattle.gic_screen_mode.specs.RightScreen.{IsRightScreen}
 use Rattle.gic_certify.specs.RightCertify.{IsRightCertify}
 use Rattle.gic_outage_mode.specs.RightOutage.{IsRightOutage}
+use Rattle.gic_review.specs.RightReview.{IsRightReview}
 use Rattle.gic_cert.specs.Written.{Certificate}
 use Rattle.gic_recheck.specs.Accepted.{IsAccepted, IsRefused}
 use Rattle.gic_recheck.specs.RightRecheck.{IsRightRecheck}
@@ -47,6 +48,7 @@ need_over_network network.Field = Solved
 need_over_network network.Screen = Solved
 need_over_network network.Certify = Solved
 need_over_network network.Outage = Solved
+need_over_network network.Review = Nothing
 
 -- what is needed of the network at each step
 abbrev pub need_of : Asked → Need
@@ -81,6 +83,7 @@ IsRightOverNetwork network.Field = IsRightField
 IsRightOverNetwork network.Screen = IsRightScreen
 IsRightOverNetwork network.Certify = IsRightCertify
 IsRightOverNetwork network.Outage = IsRightOutage
+IsRightOverNetwork network.Review = IsRightReview
 
 -- what monitors would print, in their order, after beginning with a roster and seeing views
 abbrev pub Plans : Type 0

@@ -19,6 +19,7 @@ use gic_make_mode::make;
 use gic_monitor::Monitor;
 use gic_outage_mode::outage;
 use gic_recheck::recheck;
+use gic_review::review;
 use gic_screen_mode::screen;
 use gic_series::series;
 use gic_stand::ReportFault;
@@ -46,6 +47,7 @@ fn serve_network<S: Sink>(
         NetworkMode::Screen => screen(alloc, inputs, out),
         NetworkMode::Certify => certify(alloc, inputs, out),
         NetworkMode::Outage => outage(alloc, inputs, out),
+        NetworkMode::Review => review(alloc, inputs, out),
     }
 }
 

@@ -280,3 +280,15 @@ storm_in_outage = refl
 pub outages : options_of (codes "outage" ∷ codes "--case=p" ∷ codes "--switch=s" ∷ codes "--event=supplemental" ∷ codes "--width=10" ∷ []) ≡ Ok (asked_by mode.Outage (codes "p") (Some (codes "s")) (pos 0) (pos 0) 10 Supplemental)
 unfolding clap_on_literals command_of_words faults_of matches_of_words options_of is_among mode_of use_of read_decimal whole_of
 outages = refl
+
+pub review : options_of (codes "review" ∷ codes "--case=p" ∷ []) ≡ Ok (asked_by mode.Review (codes "p") None (pos 0) (pos 0) 100 Benchmark)
+unfolding clap_on_literals command_of_words faults_of matches_of_words options_of is_among mode_of use_of
+review = refl
+
+pub missing_case_of_review : options_of (codes "review" ∷ codes "--width=9" ∷ []) ≡ Err (usage.Missing Case)
+unfolding clap_on_literals command_of_words faults_of matches_of_words options_of is_among mode_of use_of
+missing_case_of_review = refl
+
+pub switch_in_review : options_of (codes "review" ∷ codes "--case=p" ∷ codes "--switch=s" ∷ []) ≡ Err (usage.Extra Switch)
+unfolding clap_on_literals command_of_words faults_of matches_of_words options_of is_among mode_of use_of
+switch_in_review = refl

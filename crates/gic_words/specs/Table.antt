@@ -85,6 +85,7 @@ network_word_of network.Field = codes "field"
 network_word_of network.Screen = codes "screen"
 network_word_of network.Certify = codes "certify"
 network_word_of network.Outage = codes "outage"
+network_word_of network.Review = codes "review"
 
 -- the word that asks for a mode
 abbrev pub word_of : Mode → List ℕ
@@ -97,7 +98,7 @@ word_of mode.Series = codes "series"
 abbrev pub all_modes : List Mode
 all_modes =
     mode.Network network.Volts ∷ mode.Network network.List ∷ mode.Network network.Check ∷ mode.Network network.Field ∷ mode.Network network.Screen
-    ∷ mode.Network network.Certify ∷ mode.Network network.Outage ∷ mode.Study ∷ mode.Make ∷ mode.Recheck ∷ mode.Series ∷ []
+    ∷ mode.Network network.Certify ∷ mode.Network network.Outage ∷ mode.Study ∷ mode.Make ∷ mode.Recheck ∷ mode.Series ∷ mode.Network network.Review ∷ []
 
 -- the mode that a word names
 unfoldable pub mode_of : List ℕ → Option Mode
@@ -120,6 +121,7 @@ allowed_over_network network.Field = North ∷ East ∷ Switch ∷ Width ∷ Eve
 allowed_over_network network.Screen = Switch ∷ Width ∷ Event ∷ []
 allowed_over_network network.Certify = North ∷ East ∷ Switch ∷ []
 allowed_over_network network.Outage = Switch ∷ Width ∷ Event ∷ []
+allowed_over_network network.Review = []
 
 -- the further options that a mode may have
 abbrev pub allowed_by : Mode → List Opt

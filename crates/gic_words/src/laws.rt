@@ -74,6 +74,8 @@ pub fn refused_words_law()
     ensures missing_case_of_outage { options_of (codes "outage" ∷ codes "--event=storm" ∷ []) ≡ Err (usage.Missing Case) }
     ensures field_in_outage { options_of (codes "outage" ∷ codes "--case=p" ∷ codes "--width=9" ∷ codes "--north=0" ∷ []) ≡ Err (usage.Extra North) }
     ensures storm_in_outage { options_of (codes "outage" ∷ codes "--case=p" ∷ codes "--storm=s" ∷ []) ≡ Err (usage.Extra Storm) }
+    ensures missing_case_of_review { options_of (codes "review" ∷ codes "--width=9" ∷ []) ≡ Err (usage.Missing Case) }
+    ensures switch_in_review { options_of (codes "review" ∷ codes "--case=p" ∷ codes "--switch=s" ∷ []) ≡ Err (usage.Extra Switch) }
     ensures north_before_east { options_of (codes "volts" ∷ codes "--east=x" ∷ codes "--north=x" ∷ codes "--case=p" ∷ []) ≡ Err (usage.Number North) }
 {}
 
@@ -84,6 +86,7 @@ pub fn accepted_words_law()
     ensures mode_last { options_of (codes "--case=p" ∷ codes "volts" ∷ []) ≡ Ok (asked_by mode.Volts (codes "p") None (pos 0) (pos 0) 100 Benchmark) }
     ensures empty_case { options_of (codes "volts" ∷ codes "--case=" ∷ []) ≡ Ok (asked_by mode.Volts [] None (pos 0) (pos 0) 100 Benchmark) }
     ensures list { options_of (codes "list" ∷ codes "--case=p" ∷ []) ≡ Ok (asked_by mode.List (codes "p") None (pos 0) (pos 0) 100 Benchmark) }
+    ensures review { options_of (codes "review" ∷ codes "--case=p" ∷ []) ≡ Ok (asked_by mode.Review (codes "p") None (pos 0) (pos 0) 100 Benchmark) }
     ensures check { options_of (codes "check" ∷ codes "--case=p" ∷ []) ≡ Ok (asked_by mode.Check (codes "p") None (pos 0) (pos 0) 100 Benchmark) }
     ensures switched { options_of (codes "check" ∷ codes "--case=p" ∷ codes "--switch=s" ∷ []) ≡ Ok (asked_by mode.Check (codes "p") (Some (codes "s")) (pos 0) (pos 0) 100 Benchmark) }
     ensures empty_switch { options_of (codes "check" ∷ codes "--switch=" ∷ codes "--case=p" ∷ []) ≡ Ok (asked_by mode.Check (codes "p") (Some []) (pos 0) (pos 0) 100 Benchmark) }

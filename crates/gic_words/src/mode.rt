@@ -21,6 +21,8 @@ pub enum NetworkMode {
     Certify,
     /// The worst orientations once more without each line and without each transformer, one at a time.
     Outage,
+    /// What the case says that its writer may not have meant.
+    Review,
 }
 
 /// What words may ask for.
@@ -49,7 +51,7 @@ pub(crate) enum Use {
     Unused,
 }
 
-static ALL: [Mode; 11] = [
+static ALL: [Mode; 12] = [
     Mode::Network(NetworkMode::Volts),
     Mode::Network(NetworkMode::List),
     Mode::Network(NetworkMode::Check),
@@ -61,6 +63,7 @@ static ALL: [Mode; 11] = [
     Mode::Make,
     Mode::Recheck,
     Mode::Series,
+    Mode::Network(NetworkMode::Review),
 ];
 
 impl NetworkMode {
@@ -76,6 +79,7 @@ impl NetworkMode {
             NetworkMode::Screen => "screen",
             NetworkMode::Certify => "certify",
             NetworkMode::Outage => "outage",
+            NetworkMode::Review => "review",
         }
     }
 
@@ -91,6 +95,7 @@ impl NetworkMode {
             NetworkMode::Screen => &[Opt::Switch, Opt::Width, Opt::Event],
             NetworkMode::Certify => &[Opt::North, Opt::East, Opt::Switch],
             NetworkMode::Outage => &[Opt::Switch, Opt::Width, Opt::Event],
+            NetworkMode::Review => &[],
         }
     }
 }
