@@ -1,0 +1,3 @@
+pub mod FindingText
+pub mod ReviewText
+pub mod RightReview

@@ -1,0 +1,8 @@
+//! The mode `review`: what a case says that its writer may not have meant.
+#![tactic(auto)]
+
+mod mode;
+mod text;
+mod words;
+
+pub use mode::review;
