@@ -1,7 +1,7 @@
 -- Sides that are compared one after another.
-use Rattle.std.proofs.Common.{◌≡◌, ℕ, ◌+◌, ◌<◌, ◌≤◌, List, [], ◌∷◌, ◌++◌, Option, Some, None, length, drop, get_or, set, refl, ap, sym, ◌∙◌, append_assoc, append-nil}
+use Rattle.std.proofs.Common.{◌≡◌, ℕ, ◌+◌, ◌<◌, ◌≤◌, List, ◌++◌, Option, Some, None, length, drop, get_or, set, refl, ap, sym, ◌∙◌, append_assoc, append-nil}
 use Rattle.std.specs.Prelude.{is_some, true, false}
-use Rattle.std.proofs.lemmas.List.{drop_more, drop_all, length-set}
+use Rattle.std.proofs.lemmas.List.{drop_more, drop_all}
 use Rattle.gic_findings.specs.declared.finding.Finding.{Finding}
 use Rattle.gic_findings.specs.declared.sides.RatedSide.{RatedSide}
 use Rattle.gic_findings.specs.Sides.{volts_told, measure_at, measured_by, measures_with, volts_from}

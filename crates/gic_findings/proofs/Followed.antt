@@ -1,20 +1,19 @@
 -- Lines that are followed one after another.
-use Rattle.std.proofs.Common.{◌≡◌, ◌≢◌, ℕ, ◌+◌, ◌<◌, ◌≤◌, ◌==◌, List, [], ◌∷◌, ◌++◌, length, map, drop, get_or, refl, ap, sym, ◌∙◌, subst, arith, inl, inr, append_assoc, append-nil}
+use Rattle.std.proofs.Common.{◌≡◌, ◌≢◌, ℕ, ◌+◌, ◌<◌, List, [], ◌∷◌, ◌++◌, length, drop, get_or, refl, ap, sym, ◌∙◌, subst, arith, inl, inr, append_assoc, append-nil}
 use Rattle.std.proofs.lemmas.Bool.{cases_eq, eq-eqb, ne_eqb}
-use Rattle.std.proofs.lemmas.List.{drop_more, drop_all, get_or-map, length-map}
+use Rattle.std.proofs.lemmas.List.{drop_more, get_or-map, length-map}
 use Rattle.gic_case.specs.declared.item.Bus.{Bus}
 use Rattle.gic_case.specs.declared.item.Line.{Line}
 use Rattle.gic_case.specs.Lists.{Lists, substation_at}
 use Rattle.gic_case.specs.Sound.{IsSound, IsSoundLine}
 use Rattle.gic_winding.proofs.Grids.{substation_within}
 use Rattle.gic_findings.specs.declared.finding.Finding.{Finding}
-use Rattle.gic_findings.specs.declared.span.Span.{Span}
 use Rattle.gic_findings.specs.declared.places.Place.{Place}
 use Rattle.gic_findings.specs.declared.places.Gap.{Gap}
 use Rattle.gic_findings.specs.Spans.{span_of}
-use Rattle.gic_findings.specs.Places.{gap_of, carried, joined}
+use Rattle.gic_findings.specs.Places.{IsNear, gap_of, carried, joined}
 use Rattle.gic_findings.specs.Closures.{place_at, gap_at, closure_told, told_at_line, places_after, closures_from, AreLaidOut}
-use Rattle.gic_findings.proofs.LaidOut.{laid_after}
+use Rattle.gic_findings.proofs.LaidOut.{laid_after, near_at}
 
 -- the substation of a bus that was read
 pub read_substation : (c : Lists) (bus : ℕ) (b : Bus) → bus < length c.buses → b ≡ get_or c.buses bus b → substation_at c.buses bus ≡ b.substation
@@ -22,6 +21,12 @@ read_substation c bus b within is = get_or-map (λ (x : Bus). x.substation) c.bu
 
 pub read_within : (c : Lists) → IsSound c → (bus : ℕ) (b : Bus) → bus < length c.buses → b ≡ get_or c.buses bus b → b.substation < length c.substations
 read_within c sound bus b within is = subst (λ (n : ℕ). n < length c.substations) (read_substation c bus b within is) (substation_within c sound bus within)
+
+-- the place of a bus lies near
+pub place_near : (c : Lists) → IsSound c → (places : List Place) (bus : ℕ) → length places ≡ length c.substations → AreLaidOut places → bus < length c.buses → (p : Place) → p ≡ place_at c.buses places bus → IsNear p
+place_near c sound places bus count h within p is =
+    let inside : substation_at c.buses bus < length places = omega (arith, substation_within c sound bus within, count) in
+    subst IsNear (sym is) (near_at places h (substation_at c.buses bus) inside)
 
 -- a line between two places that were read
 module _ (buses : List Bus) (places : List Place) (l : Line) (from to : Place) (gap : Gap) (from_is : from ≡ place_at buses places l.from) (to_is : to ≡ place_at buses places l.to)
@@ -81,16 +86,12 @@ length_line buses places l = elim (cases_eq (place_at buses places l.from).group
 ]
 
 -- one more line was followed
-pub one_followed : (buses : List Bus) (lines : List Line) (i : ℕ) (d : Line) (places after : List Place) (old new whole : List Finding) → i < length lines
-    → new ≡ old ++ told_at_line buses places (get_or lines i d) → after ≡ places_after buses places (get_or lines i d)
+pub one_followed : (buses : List Bus) (lines : List Line) (i : ℕ) (l : Line) (places after : List Place) (old new whole : List Finding) → i < length lines → l ≡ get_or lines i l
+    → new ≡ old ++ told_at_line buses places l → after ≡ places_after buses places l
     → old ++ closures_from buses places (drop i lines) ≡ whole → new ++ closures_from buses after (drop (i + 1) lines) ≡ whole
-one_followed buses lines i d places after old new whole within told is before =
+one_followed buses lines i l places after old new whole within read told is before =
+    let split : drop i lines ≡ l ∷ drop (i + 1) lines = drop_more lines i l within ∙ ap (λ (x : Line). x ∷ drop (i + 1) lines) (sym read) in
     ap (λ (n : List Finding). n ++ closures_from buses after (drop (i + 1) lines)) told
-    ∙ ap (λ (p : List Place). (old ++ told_at_line buses places (get_or lines i d)) ++ closures_from buses p (drop (i + 1) lines)) is
-    ∙ append_assoc old (told_at_line buses places (get_or lines i d)) (closures_from buses (places_after buses places (get_or lines i d)) (drop (i + 1) lines))
-    ∙ ap (λ (r : List Line). old ++ closures_from buses places r) (sym (drop_more lines i d within)) ∙ before
-
--- and all were
-pub all_followed : (buses : List Bus) (lines : List Line) (i : ℕ) (places : List Place) (now whole : List Finding) → length lines ≤ i → now ++ closures_from buses places (drop i lines) ≡ whole → now ≡ whole
-all_followed buses lines i places now whole past is =
-    sym (append-nil now) ∙ ap (λ (r : List Line). now ++ closures_from buses places r) (sym (drop_all i lines past)) ∙ is
+    ∙ ap (λ (p : List Place). (old ++ told_at_line buses places l) ++ closures_from buses p (drop (i + 1) lines)) is
+    ∙ append_assoc old (told_at_line buses places l) (closures_from buses (places_after buses places l) (drop (i + 1) lines))
+    ∙ ap (λ (r : List Line). old ++ closures_from buses places r) (sym split) ∙ before

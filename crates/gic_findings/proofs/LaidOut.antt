@@ -1,7 +1,6 @@
 -- Places that lie in groups, and what a line between two groups keeps.
-use Rattle.std.proofs.Common.{◌≡◌, ◌≢◌, ◌⊎◌, ℕ, zero, suc, ◌+◌, ◌*◌, ◌<◌, ◌≤◌, ◌==◌, Bool, true, false, cond, List, [], ◌∷◌, ◌++◌, length, map, get_or, All, refl, ap, sym, ◌∙◌, subst, arith, inl, inr}
-use Rattle.std.specs.Prelude.{ℤ, pos, ◌+ℤ◌, ◌-ℤ◌, ◌≤ℤ◌, unsigned_abs, count_by}
-use Rattle.std.specs.List.{range_with_len}
+use Rattle.std.proofs.Common.{◌≡◌, ◌≢◌, ℕ, zero, suc, ◌+◌, ◌<◌, ◌≤◌, ◌==◌, Bool, cond, List, [], ◌∷◌, ◌++◌, length, map, All, refl, ap, sym, ◌∙◌, subst, arith, inl, inr}
+use Rattle.std.specs.Prelude.{ℤ, pos, ◌+ℤ◌, ◌-ℤ◌, unsigned_abs, count_by}
 use Rattle.std.proofs.lemmas.Int.{ints}
 use Rattle.std.proofs.lemmas.Bool.{cases_eq, eq-eqb, ne_eqb}
 use Rattle.std.proofs.lemmas.List.{length-map, get_or-map}
@@ -221,7 +220,7 @@ module _ (places : List Place) (p q : ℕ) (p_in : p < length places) (q_in : q 
 start_at : (count k : ℕ) → k < count → at (start_of count) k ≡ alone k
 start_at count k within = get_or-map-range_with_len alone 0 count k k (alone 0) within (omega arith)
 
-length-start : (count : ℕ) → length (start_of count) ≡ count
+pub length-start : (count : ℕ) → length (start_of count) ≡ count
 length-start count = length-map-range_with_len alone 0 count
 
 -- a place counts in its own group
@@ -287,3 +286,8 @@ all_near places h = All-from_get_or IsNear places (alone 0) (near_at places h)
 -- one more place at the start
 pub start_next : (n : ℕ) → start_of (n + 1) ≡ start_of n ++ alone n ∷ []
 start_next n = map-range_with_len_more alone 0 n n (omega arith)
+
+-- a gap by its two parts
+pub gap_by : (g : Gap) (from : Place) (span : Span) (to : Place) → g.north ≡ (from.north +ℤ span.north) -ℤ to.north → g.east ≡ (from.east +ℤ span.east) -ℤ to.east → g ≡ gap_of from span to
+gap_by g from span to north east =
+    ap (λ (x : ℤ). record { north = x; east = g.east }) north ∙ ap (λ (y : ℤ). record { north = (from.north +ℤ span.north) -ℤ to.north; east = y }) east

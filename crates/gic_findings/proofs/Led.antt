@@ -1,12 +1,12 @@
 -- Pointers that lead to first nodes, and what writing one of them keeps.
-use Rattle.std.proofs.Common.{◌≡◌, ◌⊎◌, ℕ, ◌<◌, ◌≤◌, ◌==◌, List, length, map, get_or, set, refl, ap, sym, ◌∙◌, subst, arith, inl, inr}
+use Rattle.std.proofs.Common.{◌≡◌, ℕ, ◌<◌, ◌≤◌, List, length, set, refl, ap, sym, ◌∙◌, subst, arith, inl, inr}
 use Rattle.std.specs.Prelude.{slice_index, min, max}
 use Rattle.std.specs.List.{range_with_len}
 use Rattle.std.proofs.lemmas.Bool.{cases_eq, cases_lt, eq-eqb, ne_eqb}
-use Rattle.std.proofs.lemmas.List.{length-map, length-set, get_or-set_same, get_or-set_other, ext_get_or}
+use Rattle.std.proofs.lemmas.List.{length-map, length-set, get_or-set_same, get_or-set_other}
 use Rattle.std.proofs.lemmas.List.FromFn.{length-range_with_len, get_or-range_with_len}
 use Rattle.gic_findings.specs.Union.{lowered, united, ArePointers, LeadTo}
-use Rattle.gic_findings.proofs.Firsts.{lowered_at, lowered_both, lowered_le}
+use Rattle.gic_findings.proofs.Firsts.{lowered_at, lowered_both}
 
 -- a pointer to a node that comes no later
 pub pointers_set : (pointers : List ℕ) (node at : ℕ) → ArePointers pointers → at ≤ node → ArePointers (set pointers node at)
@@ -115,6 +115,36 @@ module _ (pointers firsts : List ℕ) (one other a b : ℕ) (h : LeadTo pointers
           united_at k ∙ ap (lowered a b) old ∙ rw (ne_eqb k (max a b) apart) refl
     ];
   }
+
+-- and both nodes point at the first of all
+module _ (pointers : List ℕ) (one other a b low high : ℕ) (one_in : one < length pointers) (other_in : other < length pointers) (a_low : a ≤ one) (b_low : b ≤ other)
+    (low_is : low ≡ min a b) (high_is : high ≡ max a b) where
+  least : (min a b ≤ a) × (min a b ≤ b) × (min a b ≤ max a b)
+  least = elim (cases_lt a b) [ inl less ↦ (omega arith, omega arith, omega arith) | inr more ↦ (omega arith, omega arith, omega arith) ]
+
+  pub united_pointers : ArePointers pointers → ArePointers (set (set (set pointers high low) one low) other low)
+  united_pointers h =
+      let first = pointers_set pointers high low h (omega (arith, low_is, high_is, least.2)) in
+      let second = pointers_set (set pointers high low) one low first (omega (arith, low_is, least.0, a_low)) in
+      pointers_set (set (set pointers high low) one low) other low second (omega (arith, low_is, least.1, b_low))
+
+  pub united_lead : (firsts : List ℕ) → LeadTo pointers firsts → a ≡ slice_index firsts one → b ≡ slice_index firsts other → slice_index pointers a ≡ a → slice_index pointers b ≡ b
+      → LeadTo (set (set (set pointers high low) one low) other low) (united firsts one other)
+  united_lead firsts h a_is b_is a_end b_end =
+      let a_in : a < length pointers = omega (arith, a_low, one_in) in
+      let b_in : b < length pointers = omega (arith, b_low, other_in) in
+      let a_own = h.itself a a_in a_end in
+      let b_own = h.itself b b_in b_end in
+      let base = linked pointers firsts one other a b h a_in b_in a_is b_is a_own b_own in
+      let lowest = low_united pointers firsts one other a b h a_in b_in a_is b_is a_own b_own in
+      let at_one = one_united pointers firsts one other a b h a_in b_in a_is b_is a_own b_own in
+      let at_other = other_united pointers firsts one other a b h a_in b_in a_is b_is a_own b_own in
+      let start : LeadTo (set pointers high low) (united firsts one other) =
+      subst (λ (x : ℕ). LeadTo (set pointers high x) (united firsts one other)) (sym low_is) (subst (λ (y : ℕ). LeadTo (set pointers y (min a b)) (united firsts one other)) (sym high_is) base) in
+      let low_own : slice_index (united firsts one other) low ≡ low = ap (slice_index (united firsts one other)) low_is ∙ lowest ∙ sym low_is in
+      let second = shorter (set pointers high low) (united firsts one other) one low start (omega (arith, length-set pointers high low, one_in)) (at_one ∙ sym low_is) low_own in
+      shorter (set (set pointers high low) one low) (united firsts one other) other low second
+      (omega (arith, length-set (set pointers high low) one low, length-set pointers high low, other_in)) (at_other ∙ sym low_is) low_own
 
 -- each node on its own
 pub own_lead : (nodes : ℕ) → LeadTo (range_with_len 0 nodes) (range_with_len 0 nodes)

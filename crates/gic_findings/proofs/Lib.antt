@@ -11,3 +11,6 @@ pub mod Followed
 pub mod Compared
 pub mod PartsLeft
 pub mod Counting
+pub mod PartSizesBy
+pub mod SidesWithin
+pub mod WrittenBack

@@ -1,11 +1,11 @@
 -- The sizes that are counted are those of the parts, and no others are.
-use Rattle.std.proofs.Common.{◌≡◌, ◌≢◌, ◌⊎◌, ℕ, zero, suc, ◌+◌, ◌<◌, ◌≤◌, Bool, true, false, cond, ◌&&◌, ◌==◌, List, [], ◌∷◌, ◌++◌, length, map, get_or, refl, ap, sym, ◌∙◌, subst, arith, inl, inr, eqb-true}
-use Rattle.std.specs.Prelude.{slice_index, not, IsTrue, ◌↔◌, nat_le, count_by}
+use Rattle.std.proofs.Common.{◌≡◌, ◌≢◌, ◌⊎◌, ℕ, zero, suc, ◌+◌, ◌<◌, ◌≤◌, Bool, true, false, cond, ◌&&◌, ◌||◌, ◌==◌, List, [], ◌∷◌, length, map, refl, ap, sym, ◌∙◌, subst, arith, inl, inr, eqb-true}
+use Rattle.std.specs.Prelude.{slice_index, not, IsTrue, ◌↔◌, count_by}
 use Rattle.std.specs.List.{AllByRecursion, range_with_len, list_any}
-use Rattle.std.proofs.lemmas.Bool.{or_cases, and_parts, and_from, cases_eq, cases_lt, cases_Bool, eq-eqb, ne_eqb, or_left, or_right, le-leb, lt-leb}
+use Rattle.std.proofs.lemmas.Bool.{or_cases, and_parts, and_from, cases_eq, cases_lt, eq-eqb, ne_eqb, or_left, or_right, le-leb, lt-leb}
 use Rattle.std.proofs.lemmas.List.{ext_get_or, length-map}
 use Rattle.std.proofs.lemmas.List.Sums.{sum_by-cons}
-use Rattle.std.proofs.lemmas.List.FromFn.{length-range_with_len, get_or-range_with_len, get_or-map-range_with_len, fill_by_all}
+use Rattle.std.proofs.lemmas.List.FromFn.{length-range_with_len, get_or-map-range_with_len, fill_by_all}
 use Rattle.gic_model.specs.declared.parts.End.{End}
 use Rattle.gic_model.specs.declared.parts.End.TheVariants.{Node, Earth}
 use Rattle.gic_model.specs.declared.parts.Element.{Element}
@@ -14,9 +14,9 @@ use Rattle.gic_model.specs.Limits.{IsWithinLimits, IsElementWithin, IsEndWithin}
 use Rattle.gic_model.specs.Earthing.{is_earth, joins}
 use Rattle.gic_findings.specs.Chains.{IsJoined, IsChain, AreTogether, HasElement}
 use Rattle.gic_findings.specs.Union.{firsts_of}
-use Rattle.gic_findings.specs.PartSizes.{count_of, part_size, sizes_by, sizes_of}
+use Rattle.gic_findings.specs.PartSizes.{count_of, part_size, sizes_of}
 use Rattle.gic_findings.specs.Parts.{IsFirstOfPart, IsSize, ArePartSizes}
-use Rattle.gic_findings.proofs.Chained.{any_weaker, together_itself, together_by, together_then, together_turned, same_together}
+use Rattle.gic_findings.proofs.Chained.{any_weaker, together_itself, together_then, together_turned, same_together}
 use Rattle.gic_findings.proofs.Firsts.{AreFirsts, firsts_found}
 
 no_way : false ≡ true → ⊥
@@ -126,13 +126,21 @@ other_of nodes e k within h = by e.to refl (and_parts (ends_at e k) (not (is_ear
         let there : is_node e.to n.0 ≡ true = ap (λ t. is_node t n.0) is ∙ eq-eqb n.0 n.0 refl in
         elim (or_cases (e.from.0 == k) (is_node e.to k) p.0) [
           | inl at_from ↦
-              let same = eqb-true e.from.0 k at_from in
-              (n.0, or_left ((e.from.0 == k) && is_node e.to n.0) ((e.from.0 == n.0) && is_node e.to k) (and_from (e.from.0 == k) (is_node e.to n.0) at_from there),
-              (λ z. no_way (sym apart ∙ eq-eqb n.0 e.from.0 (z ∙ sym same))), to_in, subst (λ (x : ℕ). x < nodes) same within.from_node)
+              let same = eqb-true e.from.0 k at_from in (
+                n.0,
+                or_left ((e.from.0 == k) && is_node e.to n.0) ((e.from.0 == n.0) && is_node e.to k) (and_from (e.from.0 == k) (is_node e.to n.0) at_from there),
+                (λ z. no_way (sym apart ∙ eq-eqb n.0 e.from.0 (z ∙ sym same))),
+                to_in,
+                subst (λ (x : ℕ). x < nodes) same within.from_node,
+              )
           | inr at_to ↦
-              let same : n.0 ≡ k = eqb-true n.0 k (ap (λ t. is_node t k) (sym is) ∙ at_to) in
-              (e.from.0, or_right ((e.from.0 == k) && is_node e.to e.from.0) ((e.from.0 == e.from.0) && is_node e.to k) (and_from (e.from.0 == e.from.0) (is_node e.to k) (eq-eqb e.from.0 e.from.0 refl) at_to),
-              (λ z. no_way (sym apart ∙ eq-eqb n.0 e.from.0 (same ∙ sym z))), within.from_node, subst (λ (x : ℕ). x < nodes) same to_in)
+              let same : n.0 ≡ k = eqb-true n.0 k (ap (λ t. is_node t k) (sym is) ∙ at_to) in (
+                e.from.0,
+                or_right ((e.from.0 == k) && is_node e.to e.from.0) ((e.from.0 == e.from.0) && is_node e.to k) (and_from (e.from.0 == e.from.0) (is_node e.to k) (eq-eqb e.from.0 e.from.0 refl) at_to),
+                (λ z. no_way (sym apart ∙ eq-eqb n.0 e.from.0 (same ∙ sym z))),
+                within.from_node,
+                subst (λ (x : ℕ). x < nodes) same to_in,
+              )
         ]
 
 other_joined : (nodes : ℕ) (es : List Element) (k : ℕ) → AllByRecursion (IsElementWithin nodes) es → HasElement es k → (m : ℕ) × (IsJoined es k m) × (m ≢ k) × (m < nodes) × (k < nodes)
@@ -246,8 +254,8 @@ module _ (network : Network) (limits : IsWithinLimits network) where
   one_size : (k size other : ℕ) → IsSize network k size → IsSize network k other → size ≡ other
   one_size k size other h t =
       h.counted ∙ counted_alike h.belongs t.belongs 0 network.nodes (λ m from to.
-          let inside : m < network.nodes = omega arith in
-          agree (h.belongs m) (t.belongs m) (AreTogether network.list k m) (h.together m inside) (t.together m inside)) ∙ sym t.counted
+      let inside : m < network.nodes = omega arith in
+      agree (h.belongs m) (t.belongs m) (AreTogether network.list k m) (h.together m inside) (t.together m inside)) ∙ sym t.counted
 
   pub sizes_only : (sizes : List ℕ) → ArePartSizes network sizes → sizes ≡ sizes_of network
   sizes_only sizes h = ext_get_or 0 sizes (sizes_of network) (h.count ∙ sym sizes_right.count) (λ k within.

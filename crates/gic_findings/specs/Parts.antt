@@ -1,5 +1,5 @@
 -- The parts of a network: nodes that belong together, where an element other than an earthing ends at one of them.
-use Rattle.std.specs.Prelude.{ℕ, ◌≡◌, ◌<◌, ◌↔◌, ◌==◌, nat_lt, nat_le, not, Bool, List, [], ◌∷◌, length, flat_map, count_by, slice_index, IsTrue, if◌then◌else◌}
+use Rattle.std.specs.Prelude.{ℕ, ◌≡◌, ◌<◌, ◌↔◌, ◌==◌, nat_le, not, Bool, List, [], ◌∷◌, length, flat_map, count_by, slice_index, IsTrue, if◌then◌else◌}
 use Rattle.std.specs.List.{range_with_len, zip}
 use Rattle.gic_model.specs.Network.{Network}
 use Rattle.gic_findings.specs.declared.finding.Finding.{Finding}

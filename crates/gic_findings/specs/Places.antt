@@ -1,5 +1,5 @@
 -- Where places lie, as far as spans tell it. Places that lines join are one group, in which each lies so far to the north and to the east.
-use Rattle.std.specs.Prelude.{ℕ, ◌+◌, ◌*◌, ◌≤◌, ◌==◌, nat_lt, ◌||◌, Bool, List, map, if◌then◌else◌, ℤ, pos, ◌+ℤ◌, ◌-ℤ◌, unsigned_abs}
+use Rattle.std.specs.Prelude.{ℕ, ◌+◌, ◌*◌, ◌≤◌, ◌==◌, nat_lt, ◌||◌, Bool, List, map, if◌then◌else◌, pos, ◌+ℤ◌, ◌-ℤ◌, unsigned_abs}
 use Rattle.std.specs.List.{range_with_len}
 use Rattle.gic_base.specs.declared.limits.TheConstants.{MOST_SUBSTATIONS}
 use Rattle.gic_findings.specs.declared.span.Span.{Span}

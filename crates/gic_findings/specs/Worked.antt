@@ -3,7 +3,6 @@ use Rattle.std.specs.Prelude.{ℕ, List, [], ◌∷◌, Option, Some, None, true
 use Rattle.gic_scale.specs.ZoneView.{ZoneView}
 use Rattle.gic_case.specs.declared.item.Substation.{Substation}
 use Rattle.gic_case.specs.declared.item.Bus.{Bus}
-use Rattle.gic_case.specs.declared.item.Line.{Line}
 use Rattle.gic_case.specs.declared.item.Kind.TheVariants as kinds
 use Rattle.gic_case.specs.declared.item.Transformer.{Transformer}
 use Rattle.gic_case.specs.Lists.{Lists}
@@ -16,8 +15,8 @@ use Rattle.gic_findings.specs.declared.measured.Measured.TheVariants as values
 abbrev pub zone : List ℕ → (latitude beta : ℕ) → ZoneView
 zone name latitude beta = record { name = name; latitude = latitude; beta = beta }
 
-abbrev pub station : List ℕ → (earthing : Option ℕ) → Substation
-station name earthing = record { name = name; ground = earthing }
+abbrev pub station : List ℕ → (ground : Option ℕ) → Substation
+station name ground = record { name = name; ground = ground }
 
 abbrev pub bus : List ℕ → (substation : ℕ) → Bus
 bus name substation = record { name = name; substation = substation }

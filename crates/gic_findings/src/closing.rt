@@ -1,6 +1,6 @@
 //! Loops of spans, which close where the spans are right.
-ghost use Rattle.std.specs.Prelude.{◌≡◌, ◌<◌, ◌++◌, length, All, OnOk};
-ghost use Rattle.gic_case.specs.Sound.{IsSound, IsSoundLine};
+ghost use Rattle.std.specs.Prelude.{◌≡◌, ◌<◌, ◌++◌, length, OnOk};
+ghost use Rattle.gic_case.specs.Sound.{IsSoundLine};
 ghost use Rattle.gic_findings.specs.Closures.{place_at, closure_told, told_at_line, places_after, closures_from, closures_of, AreLaidOut};
 
 use crate::finding::Finding;
@@ -17,8 +17,8 @@ fn place_at(case: &Case, places: &[Place], bus: u16) -> Place
     requires laid { AreLaidOut places.now }
     ensures { result ≡ place_at case.now.buses places.now bus }
 {
-    let bus = &case.buses()[usize::from(bus)];
-    places[usize::from(bus.substation)]
+    let bus = &case.buses()[bus as usize];
+    places[bus.substation as usize]
 }
 
 /// Adds the gap of the loop that a line closes, where it is more than the loop may have.
@@ -53,6 +53,7 @@ fn follow(
     ensures told { OnOk result (findings.new.items ≡ findings.old.items ++ told_at_line case.now.buses places.old line.now) }
     ensures after { OnOk result (places.new ≡ places_after case.now.buses places.old line.now) }
 {
+    case.keeps_rules();
     let span = span_of(line);
     let from = place_at(case, places, line.from);
     let to = place_at(case, places, line.to);

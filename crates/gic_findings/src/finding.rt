@@ -22,11 +22,20 @@ pub enum Side {
 #[derive(Clone, Copy, Debug)]
 pub enum Finding {
     /// A winding or a neutral resistor ends at the node of this substation, which has no ground.
-    Ungrounded { name: Name },
+    Ungrounded {
+        name: Name,
+    },
     /// The network has this part among others: so many nodes, and the first of them.
-    Part { nodes: u16, first: Name },
+    Part {
+        nodes: u16,
+        first: Name,
+    },
     /// The loop that this line closes has this gap, in metres.
-    Closure { name: Name, north: i64, east: i64 },
+    Closure {
+        name: Name,
+        north: i64,
+        east: i64,
+    },
     /// This value of a row is outside the range that is usual.
     Value {
         list: Listed,
@@ -42,5 +51,7 @@ pub enum Finding {
         measure: u32,
     },
     /// A delta-delta unit above 200 kV, of which no computation says anything.
-    Outside { name: Name },
+    Outside {
+        name: Name,
+    },
 }

@@ -14,8 +14,8 @@ mod places;
 mod reading;
 mod sides;
 mod span;
-mod union;
 mod ungrounded;
+mod union;
 
 pub use finding::{Finding, Listed, Side};
 pub use gathered::findings;

@@ -21,7 +21,7 @@ fn counts(alloc: Global, firsts: &[u16]) -> Result<Vec<u16>, AllocError>
 {
     let mut counts = vec![in alloc; 0u16; firsts.len()]?;
     for first in firsts {
-        counts[usize::from(*first)] += 1;
+        counts[*first as usize] += 1;
     }
     Ok(counts)
 }

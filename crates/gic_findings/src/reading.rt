@@ -48,10 +48,7 @@ fn push_zone(findings: &mut Vec<Finding>, zone: &Zone) -> Result<(), OutOfMemory
 }
 
 /// Adds what is told of the values of a substation.
-fn push_substation(
-    findings: &mut Vec<Finding>,
-    substation: &Substation,
-) -> Result<(), OutOfMemory>
+fn push_substation(findings: &mut Vec<Finding>, substation: &Substation) -> Result<(), OutOfMemory>
     ensures { OnOk result (findings.new.items ≡ findings.old.items ++ substation_told substation.now) }
 {
     match substation.ground {
@@ -130,16 +127,13 @@ fn push_ohm(
 }
 
 /// Adds what is told of the windings of a transformer.
-fn push_windings(
-    findings: &mut Vec<Finding>,
-    name: Name,
-    kind: &Kind,
-) -> Result<(), OutOfMemory>
+fn push_windings(findings: &mut Vec<Finding>, name: Name, kind: &Kind) -> Result<(), OutOfMemory>
     ensures { OnOk result (findings.new.items ≡ findings.old.items ++ values_told lists.Transformer name (winding_readings kind.now)) }
 {
     match *kind {
         Kind::DeltaWye {
-            high_resistance, ..
+            high_resistance,
+            ..
         } => push_ohm(findings, name, Measured::HighResistance, high_resistance),
         Kind::WyeWye {
             high_resistance,

@@ -1,6 +1,6 @@
 //! The rated voltages of the sides of transformers, compared at each bus.
 ghost use Rattle.std.specs.Prelude.{◌≡◌, ◌<◌, ◌++◌, length, flat_map, All, replicate, None, IfOk, OnOk};
-ghost use Rattle.gic_findings.specs.Sides.{RatedSide, rated, sides_of, differs, volts_told, measures_with, volts_from, volts_of};
+ghost use Rattle.gic_findings.specs.Sides.{rated, sides_of, differs, volts_told, measures_with, volts_from, volts_of};
 
 use crate::finding::{Finding, Side};
 use gic_base::{Name, OutOfMemory};
@@ -108,7 +108,7 @@ fn take_measure(measures: &mut [Option<u32>], side: &RatedSide)
     ensures value { measures.new ≡ measures_with measures.old side.now }
     ensures count { length measures.new ≡ length measures.old }
 {
-    let bus = usize::from(side.bus);
+    let bus = side.bus as usize;
     if measures[bus].is_some() {
         return;
     }
@@ -125,7 +125,7 @@ fn push_all_volts(
     ensures { OnOk result (findings.new.items ≡ findings.old.items ++ volts_from measures.old sides.now) }
 {
     for side in sides {
-        push_volts(findings, side, measures[usize::from(side.bus)])?;
+        push_volts(findings, side, measures[side.bus as usize])?;
         take_measure(measures, side);
     }
     Ok(())

@@ -1,6 +1,5 @@
 //! Substations without a ground, to which windings run.
-ghost use Rattle.std.specs.Prelude.{◌≡◌, ◌<◌, ◌++◌, ◌||◌, ◌&&◌, ℕ, false, length, slice_index_or, flat_map, IfOk, OnOk, ◌≤◌};
-ghost use Rattle.std.specs.List.{enumerate_from};
+ghost use Rattle.std.specs.Prelude.{◌≡◌, ◌<◌, ◌≤◌, ◌==◌, ◌++◌, ◌||◌, ℕ, false, length, slice_index_or, IfOk, OnOk};
 ghost use Rattle.gic_model.specs.Network.{is_node};
 ghost use Rattle.gic_model.specs.Limits.{IsElementWithin, IsEndWithin};
 ghost use Rattle.gic_findings.specs.Ungrounded.{is_of_transformer, is_end_of, is_winding_end, ungrounded_told, ungrounded_of};
@@ -28,7 +27,7 @@ fn mark(marks: &mut [bool], node: NodeId)
     ensures marked { (k : ℕ) → k < length marks.old →
         slice_index_or marks.new k false ≡ (slice_index_or marks.old k false || (node.0 == k)) }
 {
-    marks[usize::from(node.0)] = true;
+    marks[node.0 as usize] = true;
 }
 
 /// Marks an end, if it is a node.
@@ -64,7 +63,7 @@ fn winding_ends(alloc: Global, elements: &Elements) -> Result<Vec<bool>, OutOfMe
     ensures marked { IfOk result (λ v. (k : ℕ) → k < elements.now.nodes →
         slice_index_or v.items k false ≡ is_winding_end elements.now.list k) }
 {
-    let mut marks = vec![in alloc; false; usize::from(elements.nodes())]?;
+    let mut marks = vec![in alloc; false; elements.nodes() as usize]?;
     for element in elements.list() {
         mark_winding(&mut marks, element);
     }

@@ -2,6 +2,7 @@
 //! end is the first of those that belong together.
 ghost use Rattle.std.specs.Prelude.{◌≡◌, ◌<◌, ◌≤◌, ℕ, List, length, slice_index, fold, IfOk, All};
 ghost use Rattle.std.specs.List.{range_with_len};
+ghost use Rattle.gic_base.specs.declared.limits.TheConstants.{MOST_NODES};
 ghost use Rattle.gic_model.specs.Limits.{IsElementWithin};
 ghost use Rattle.gic_findings.specs.Union.{ArePointers, LeadTo, united, firsts_with, firsts_of};
 
@@ -13,13 +14,13 @@ use std::alloc::Global;
 fn first_of(pointers: &[u16], node: u16) -> u16
     requires node { node < length pointers.now }
     requires pointers { ArePointers pointers.now }
-    ensures inside { result < length pointers.now }
+    ensures before { result ≤ node }
     ensures itself { slice_index pointers.now result ≡ result }
     ensures first { (firsts : List ℕ) → LeadTo pointers.now firsts → result ≡ slice_index firsts node }
 {
     let mut at = node;
-    while pointers[usize::from(at)] != at {
-        at = pointers[usize::from(at)];
+    while pointers[at as usize] != at {
+        at = pointers[at as usize];
     }
     at
 }
@@ -36,9 +37,9 @@ fn unite(pointers: &mut [u16], one: u16, other: u16)
     let a = first_of(pointers, one);
     let b = first_of(pointers, other);
     let first = a.min(b);
-    pointers[usize::from(a.max(b))] = first;
-    pointers[usize::from(one)] = first;
-    pointers[usize::from(other)] = first;
+    pointers[a.max(b) as usize] = first;
+    pointers[one as usize] = first;
+    pointers[other as usize] = first;
 }
 
 /// Joins what belongs to the two nodes of an element.
@@ -64,7 +65,7 @@ fn point_at_firsts(pointers: &mut [u16])
 {
     for node in 0..pointers.len() {
         let next = pointers[node];
-        pointers[node] = pointers[usize::from(next)];
+        pointers[node] = pointers[next as usize];
     }
 }
 
@@ -90,13 +91,23 @@ fn unite_all(pointers: &mut [u16], elements: &Elements)
     }
 }
 
+/// Points each node at the first of those that belong together with it.
+fn find_firsts(pointers: &mut [u16], elements: &Elements)
+    requires { pointers.old ≡ range_with_len 0 elements.now.nodes }
+    ensures firsts { pointers.new ≡ firsts_of elements.now }
+    ensures pointers { ArePointers pointers.new }
+{
+    unite_all(pointers, elements);
+    point_at_firsts(pointers);
+}
+
 /// For each node the first of those that belong together with it.
 pub(crate) fn firsts(alloc: Global, elements: &Elements) -> Result<Vec<u16>, OutOfMemory>
     ensures firsts { IfOk result (λ v. v.items ≡ firsts_of elements.now) }
-    ensures inside { IfOk result (λ v. All (λ first. first < elements.now.nodes) v.items) }
+    ensures few { IfOk result (λ v. length v.items ≤ MOST_NODES) }
+    ensures inside { IfOk result (λ v. All (λ first. first < length v.items) v.items) }
 {
     let mut pointers = own_pointers(alloc, elements.nodes())?;
-    unite_all(&mut pointers, elements);
-    point_at_firsts(&mut pointers);
+    find_firsts(&mut pointers, elements);
     Ok(pointers)
 }

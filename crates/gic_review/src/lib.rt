@@ -1,6 +1,7 @@
 //! The mode `review`: what a case says that its writer may not have meant.
 #![tactic(auto)]
 
+pub mod laws;
 mod mode;
 mod text;
 mod words;

@@ -1,4 +1,4 @@
-use Rattle.std.proofs.Common.{◌<◌, length, get_or, arith, rules, ◌∙◌}
+use Rattle.std.proofs.Common.{◌<◌, length, get_or, arith, ◌∙◌}
 use Rattle.std.proofs.lemmas.List.{get_or_default}
 use Rattle.gic_findings.proofs.Counting.{count_most, count_there}
 use Rattle.gic_findings.proofs.parts.counts.Goals as goal

@@ -1,4 +1,6 @@
-use Rattle.std.proofs.Common.{◌<◌, length, arith, refl}
+use Rattle.std.proofs.Common.{◌<◌, ◌∙◌, length, arith}
+use Rattle.std.specs.Prelude.{slice_index}
+use Rattle.std.proofs.lemmas.List.{length-set}
 use Rattle.gic_findings.proofs.Pointed.{turned_pointers, turned_ahead, turned_behind, all_turned}
 use Rattle.gic_findings.proofs.union.point_at_firsts.Goals as goal
 
@@ -10,7 +12,7 @@ loop-node-preserved c =
     let h = c.loop-node.invariant in
     let inside : i < length old = omega arith in
     record {
-      count = omega arith;
+      count = length-set now i (slice_index now (slice_index now i)) ∙ h.count;
       pointers = turned_pointers old now i inside h.count h.pointers h.ahead;
       ahead = turned_ahead old now i inside h.count h.pointers h.ahead;
       behind = λ firsts lead. turned_behind old now i inside h.count h.pointers h.ahead firsts lead (h.behind firsts lead);
