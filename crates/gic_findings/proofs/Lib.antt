@@ -1,0 +1,16 @@
+pub mod Chained
+pub mod Firsts
+pub mod PartLaws
+pub mod Led
+pub mod Pointed
+pub mod Changed
+pub mod LaidOut
+pub mod UngroundedLemmas
+pub mod Collected
+pub mod Followed
+pub mod Compared
+pub mod PartsLeft
+pub mod Counting
+pub mod PartSizesBy
+pub mod SidesWithin
+pub mod WrittenBack

@@ -1,0 +1,15 @@
+pub mod Usual
+pub mod Spans
+pub mod Readings
+pub mod Outside
+pub mod Sides
+pub mod Places
+pub mod Closures
+pub mod Ungrounded
+pub mod Union
+pub mod PartSizes
+pub mod Chains
+pub mod Parts
+pub mod Findings
+pub mod Laws
+pub mod Worked

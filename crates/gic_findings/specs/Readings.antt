@@ -1,0 +1,85 @@
+-- Values that are usual hardly anywhere: what is measured of each row, in the order of its fields, and which of it is told.
+use Rattle.std.specs.Prelude.{ℕ, ◌*◌, ◌/◌, nat_le, List, [], ◌∷◌, ◌++◌, flat_map, if◌then◌else◌, Option, Some, None}
+use Rattle.gic_scale.specs.ZoneView.{ZoneView}
+use Rattle.gic_case.specs.declared.item.Substation.{Substation}
+use Rattle.gic_case.specs.declared.item.Line.{Line}
+use Rattle.gic_case.specs.declared.item.Kind.{Kind}
+use Rattle.gic_case.specs.declared.item.Kind.TheVariants as kinds
+use Rattle.gic_case.specs.declared.item.Neutral.{Neutral}
+use Rattle.gic_case.specs.declared.item.Neutral.TheVariants as devices
+use Rattle.gic_case.specs.declared.item.Transformer.{Transformer}
+use Rattle.gic_case.specs.Lists.{Lists}
+use Rattle.gic_findings.specs.declared.finding.Listed.{Listed}
+use Rattle.gic_findings.specs.declared.finding.Listed.TheVariants as lists
+use Rattle.gic_findings.specs.declared.finding.Finding.{Finding}
+use Rattle.gic_findings.specs.declared.finding.Finding.TheVariants.{Value}
+use Rattle.gic_findings.specs.declared.measured.Measured.{Measured}
+use Rattle.gic_findings.specs.declared.measured.Measured.TheVariants as values
+use Rattle.gic_findings.specs.Spans.{span_of, length_of}
+use Rattle.gic_findings.specs.Usual.{is_unusual}
+
+-- what is measured, and the number
+abbrev pub Reading : Type 0
+Reading = Measured × ℕ
+
+abbrev pub zone_readings : ZoneView → List Reading
+zone_readings z = (values.Latitude, z.latitude) ∷ (values.Beta, z.beta) ∷ []
+
+-- an earthing that isn't there has no value
+abbrev pub earthing_readings : Option ℕ → List Reading
+earthing_readings None = []
+earthing_readings (Some ohm) = (values.Ground, ohm) ∷ []
+
+abbrev pub substation_readings : Substation → List Reading
+substation_readings s = earthing_readings s.ground
+
+-- how long a line is that isn't blocked
+abbrev pub span_readings : Line → List Reading
+span_readings l = if l.blocked then [] else (values.Span, length_of (span_of l)) ∷ []
+
+-- the resistance for a kilometre, of a line of a kilometre or more
+abbrev pub kilometre_readings : Line → List Reading
+kilometre_readings l = if nat_le 1000 (length_of (span_of l)) then (values.PerKilometre, l.resistance * 1000 / length_of (span_of l)) ∷ [] else []
+
+abbrev pub line_readings : Line → List Reading
+line_readings l = (values.Resistance, l.resistance) ∷ (span_readings l ++ kilometre_readings l)
+
+-- the windings that a unit of the kind has
+abbrev pub winding_readings : Kind → List Reading
+winding_readings (kinds.DeltaWye high high_resistance) = (values.HighResistance, high_resistance) ∷ []
+winding_readings (kinds.WyeWye high low low_volts high_resistance low_resistance) = (values.HighResistance, high_resistance) ∷ (values.LowResistance, low_resistance) ∷ []
+winding_readings (kinds.Auto high low low_volts series_resistance common_resistance) = (values.SeriesResistance, series_resistance) ∷ (values.CommonResistance, common_resistance) ∷ []
+winding_readings kinds.DeltaDelta = []
+
+-- a resistor in the neutral
+abbrev pub neutral_readings : Option Neutral → List Reading
+neutral_readings None = []
+neutral_readings (Some (devices.Resistor ohm)) = (values.Neutral, ohm) ∷ []
+neutral_readings (Some devices.Blocked) = []
+
+abbrev pub transformer_readings : Transformer → List Reading
+transformer_readings t = (values.HighVolts, t.high_volts) ∷ (winding_readings t.kind ++ neutral_readings t.neutral)
+
+-- a reading of a row of this name is told where it is unusual
+abbrev pub value_told : Listed → List ℕ → Reading → List Finding
+value_told list name r = if is_unusual r.0 r.1 then Value list name r.0 r.1 ∷ [] else []
+
+abbrev pub values_told : Listed → List ℕ → List Reading → List Finding
+values_told list name readings = flat_map (value_told list name) readings
+
+-- what is told of the values of a row of each list
+abbrev pub zone_told : ZoneView → List Finding
+zone_told z = values_told lists.Zone z.name (zone_readings z)
+
+abbrev pub substation_told : Substation → List Finding
+substation_told s = values_told lists.Substation s.name (substation_readings s)
+
+abbrev pub line_told : Line → List Finding
+line_told l = values_told lists.Line l.name (line_readings l)
+
+abbrev pub transformer_told : Transformer → List Finding
+transformer_told t = values_told lists.Transformer t.name (transformer_readings t)
+
+-- what is told of the values of a case: zones, substations, lines, transformers, each in case order
+abbrev pub values_of : Lists → List Finding
+values_of c = flat_map zone_told c.zones ++ (flat_map substation_told c.substations ++ (flat_map line_told c.lines ++ flat_map transformer_told c.transformers))

@@ -1,0 +1,33 @@
+//! Transformers that no computation speaks of.
+ghost use Rattle.std.specs.Prelude.{◌≡◌, ◌++◌, flat_map, OnOk};
+ghost use Rattle.gic_findings.specs.Outside.{is_outside, outside_told};
+
+use crate::finding::Finding;
+use gic_base::OutOfMemory;
+use gic_case::{Kind, Transformer};
+
+/// Whether a transformer is a delta-delta unit above 200 kV.
+fn is_outside(transformer: &Transformer) -> bool
+    ensures { result ≡ is_outside transformer.now.kind transformer.now.high_volts }
+{
+    match transformer.kind {
+        Kind::DeltaWye { .. } | Kind::WyeWye { .. } | Kind::Auto { .. } => false,
+        Kind::DeltaDelta => transformer.high_volts > 200000,
+    }
+}
+
+/// Adds the delta-delta units above 200 kV.
+pub(crate) fn push_outside(
+    findings: &mut Vec<Finding>,
+    transformers: &[Transformer],
+) -> Result<(), OutOfMemory>
+    ensures { OnOk result (findings.new.items ≡ findings.old.items ++ flat_map outside_told transformers.now) }
+{
+    for transformer in transformers {
+        if is_outside(transformer) {
+            let name = transformer.name;
+            findings.push(Finding::Outside { name })?;
+        }
+    }
+    Ok(())
+}

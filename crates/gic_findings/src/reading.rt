@@ -1,0 +1,245 @@
+//! The values of the rows of a case.
+ghost use Rattle.std.specs.Prelude.{◌≡◌, ◌++◌, flat_map, OnOk};
+ghost use Rattle.gic_findings.specs.declared.finding.Listed.TheVariants as lists;
+ghost use Rattle.gic_findings.specs.Readings.{value_told, values_told, span_readings, kilometre_readings, winding_readings, neutral_readings, zone_told, substation_told, line_told, transformer_told, values_of};
+
+use crate::finding::{Finding, Listed};
+use crate::measured::Measured;
+use crate::span::span_of;
+use gic_base::{Name, OutOfMemory};
+use gic_case::{Case, Kind, Line, Neutral, Substation, Transformer};
+use gic_scale::Zone;
+
+/// Adds what is told of a value of a row.
+fn push_value(
+    findings: &mut Vec<Finding>,
+    list: Listed,
+    name: Name,
+    measured: Measured,
+    number: u64,
+) -> Result<(), OutOfMemory>
+    ensures { OnOk result (findings.new.items ≡ findings.old.items ++ value_told list name (measured, number)) }
+{
+    if measured.is_unusual(number) {
+        findings.push(Finding::Value {
+            list,
+            name,
+            measured,
+            number,
+        })?;
+    }
+    Ok(())
+}
+
+/// Adds what is told of the values of a zone.
+fn push_zone(findings: &mut Vec<Finding>, zone: &Zone) -> Result<(), OutOfMemory>
+    ensures { OnOk result (findings.new.items ≡ findings.old.items ++ zone_told zone.now) }
+{
+    let latitude = u64::from(zone.latitude);
+    let beta = u64::from(zone.beta);
+    push_value(
+        findings,
+        Listed::Zone,
+        zone.name,
+        Measured::Latitude,
+        latitude,
+    )?;
+    push_value(findings, Listed::Zone, zone.name, Measured::Beta, beta)
+}
+
+/// Adds what is told of the values of a substation.
+fn push_substation(findings: &mut Vec<Finding>, substation: &Substation) -> Result<(), OutOfMemory>
+    ensures { OnOk result (findings.new.items ≡ findings.old.items ++ substation_told substation.now) }
+{
+    match substation.ground {
+        Some(ohm) => push_value(
+            findings,
+            Listed::Substation,
+            substation.name,
+            Measured::Ground,
+            u64::from(ohm),
+        ),
+        None => Ok(()),
+    }
+}
+
+/// Adds what is told of how long a line is, which a blocked line isn't asked.
+fn push_span(findings: &mut Vec<Finding>, line: &Line) -> Result<(), OutOfMemory>
+    ensures { OnOk result (findings.new.items ≡ findings.old.items ++ values_told lists.Line line.now.name (span_readings line.now)) }
+{
+    if line.blocked {
+        return Ok(());
+    }
+    let length = span_of(line).length();
+    push_value(findings, Listed::Line, line.name, Measured::Span, length)
+}
+
+/// Adds what is told of the resistance of a line for a kilometre.
+fn push_kilometre(findings: &mut Vec<Finding>, line: &Line) -> Result<(), OutOfMemory>
+    ensures { OnOk result (findings.new.items ≡ findings.old.items ++ values_told lists.Line line.now.name (kilometre_readings line.now)) }
+{
+    let length = span_of(line).length();
+    if length < 1000 {
+        return Ok(());
+    }
+    let each = u64::from(line.resistance) * 1000 / length;
+    push_value(
+        findings,
+        Listed::Line,
+        line.name,
+        Measured::PerKilometre,
+        each,
+    )
+}
+
+/// Adds what is told of the values of a line.
+fn push_line(findings: &mut Vec<Finding>, line: &Line) -> Result<(), OutOfMemory>
+    ensures { OnOk result (findings.new.items ≡ findings.old.items ++ line_told line.now) }
+{
+    let resistance = u64::from(line.resistance);
+    push_value(
+        findings,
+        Listed::Line,
+        line.name,
+        Measured::Resistance,
+        resistance,
+    )?;
+    push_span(findings, line)?;
+    push_kilometre(findings, line)
+}
+
+/// Adds what is told of a resistance of a transformer.
+fn push_ohm(
+    findings: &mut Vec<Finding>,
+    name: Name,
+    measured: Measured,
+    ohm: u32,
+) -> Result<(), OutOfMemory>
+    ensures { OnOk result (findings.new.items ≡ findings.old.items ++ value_told lists.Transformer name (measured, ohm)) }
+{
+    push_value(
+        findings,
+        Listed::Transformer,
+        name,
+        measured,
+        u64::from(ohm),
+    )
+}
+
+/// Adds what is told of the windings of a transformer.
+fn push_windings(findings: &mut Vec<Finding>, name: Name, kind: &Kind) -> Result<(), OutOfMemory>
+    ensures { OnOk result (findings.new.items ≡ findings.old.items ++ values_told lists.Transformer name (winding_readings kind.now)) }
+{
+    match *kind {
+        Kind::DeltaWye {
+            high_resistance,
+            ..
+        } => push_ohm(findings, name, Measured::HighResistance, high_resistance),
+        Kind::WyeWye {
+            high_resistance,
+            low_resistance,
+            ..
+        } => {
+            push_ohm(findings, name, Measured::HighResistance, high_resistance)?;
+            push_ohm(findings, name, Measured::LowResistance, low_resistance)
+        }
+        Kind::Auto {
+            series_resistance,
+            common_resistance,
+            ..
+        } => {
+            push_ohm(
+                findings,
+                name,
+                Measured::SeriesResistance,
+                series_resistance,
+            )?;
+            push_ohm(
+                findings,
+                name,
+                Measured::CommonResistance,
+                common_resistance,
+            )
+        }
+        Kind::DeltaDelta => Ok(()),
+    }
+}
+
+/// Adds what is told of the device in a transformer's neutral.
+fn push_neutral(
+    findings: &mut Vec<Finding>,
+    name: Name,
+    neutral: Option<Neutral>,
+) -> Result<(), OutOfMemory>
+    ensures { OnOk result (findings.new.items ≡ findings.old.items ++ values_told lists.Transformer name (neutral_readings neutral)) }
+{
+    match neutral {
+        Some(Neutral::Resistor(ohm)) => push_ohm(findings, name, Measured::Neutral, ohm),
+        Some(Neutral::Blocked) | None => Ok(()),
+    }
+}
+
+/// Adds what is told of the values of a transformer.
+fn push_transformer(
+    findings: &mut Vec<Finding>,
+    transformer: &Transformer,
+) -> Result<(), OutOfMemory>
+    ensures { OnOk result (findings.new.items ≡ findings.old.items ++ transformer_told transformer.now) }
+{
+    let name = transformer.name;
+    push_ohm(findings, name, Measured::HighVolts, transformer.high_volts)?;
+    push_windings(findings, name, &transformer.kind)?;
+    push_neutral(findings, name, transformer.neutral)
+}
+
+fn push_zones(findings: &mut Vec<Finding>, zones: &[Zone]) -> Result<(), OutOfMemory>
+    ensures { OnOk result (findings.new.items ≡ findings.old.items ++ flat_map zone_told zones.now) }
+{
+    for zone in zones {
+        push_zone(findings, zone)?;
+    }
+    Ok(())
+}
+
+fn push_substations(
+    findings: &mut Vec<Finding>,
+    substations: &[Substation],
+) -> Result<(), OutOfMemory>
+    ensures { OnOk result (findings.new.items ≡ findings.old.items ++ flat_map substation_told substations.now) }
+{
+    for substation in substations {
+        push_substation(findings, substation)?;
+    }
+    Ok(())
+}
+
+fn push_lines(findings: &mut Vec<Finding>, lines: &[Line]) -> Result<(), OutOfMemory>
+    ensures { OnOk result (findings.new.items ≡ findings.old.items ++ flat_map line_told lines.now) }
+{
+    for line in lines {
+        push_line(findings, line)?;
+    }
+    Ok(())
+}
+
+fn push_transformers(
+    findings: &mut Vec<Finding>,
+    transformers: &[Transformer],
+) -> Result<(), OutOfMemory>
+    ensures { OnOk result (findings.new.items ≡ findings.old.items ++ flat_map transformer_told transformers.now) }
+{
+    for transformer in transformers {
+        push_transformer(findings, transformer)?;
+    }
+    Ok(())
+}
+
+/// Adds what is told of the values of a case, list after list.
+pub(crate) fn push_values(findings: &mut Vec<Finding>, case: &Case) -> Result<(), OutOfMemory>
+    ensures { OnOk result (findings.new.items ≡ findings.old.items ++ values_of case.now) }
+{
+    push_zones(findings, case.zones())?;
+    push_substations(findings, case.substations())?;
+    push_lines(findings, case.lines())?;
+    push_transformers(findings, case.transformers())
+}

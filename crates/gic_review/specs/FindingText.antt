@@ -1,0 +1,48 @@
+-- The lines of findings.
+use Rattle.std.specs.Prelude.{ℕ, List, [], ◌∷◌, codes, decimal}
+use Rattle.std.specs.Fmt.{signed_decimal}
+use Rattle.gic_findings.specs.declared.finding.Finding.{Finding}
+use Rattle.gic_findings.specs.declared.finding.Finding.TheVariants.{Ungrounded, Part, Closure, Value, Volts, Outside}
+use Rattle.gic_findings.specs.declared.finding.Listed.{Listed}
+use Rattle.gic_findings.specs.declared.finding.Listed.TheVariants as lists
+use Rattle.gic_findings.specs.declared.finding.Side.{Side}
+use Rattle.gic_findings.specs.declared.finding.Side.TheVariants.{High, Low}
+use Rattle.gic_findings.specs.declared.measured.Measured.{Measured}
+use Rattle.gic_findings.specs.declared.measured.Measured.TheVariants as values
+use Rattle.gic_report.specs.SharedLines.{Words}
+
+-- the word of a list
+abbrev pub list_word : Listed → List ℕ
+list_word lists.Zone = codes "zone"
+list_word lists.Substation = codes "substation"
+list_word lists.Line = codes "line"
+list_word lists.Transformer = codes "transformer"
+
+-- what is measured goes by the key of a case, or by a word of its own
+abbrev pub field_word : Measured → List ℕ
+field_word values.Latitude = codes "latitude"
+field_word values.Beta = codes "beta"
+field_word values.Ground = codes "ground"
+field_word values.Resistance = codes "resistance"
+field_word values.Span = codes "span"
+field_word values.PerKilometre = codes "perkm"
+field_word values.HighVolts = codes "high_volts"
+field_word values.HighResistance = codes "high_resistance"
+field_word values.LowResistance = codes "low_resistance"
+field_word values.SeriesResistance = codes "series_resistance"
+field_word values.CommonResistance = codes "common_resistance"
+field_word values.Neutral = codes "neutral"
+
+-- the rated voltage of a side goes by the key of a case
+abbrev pub side_word : Side → List ℕ
+side_word High = codes "high_volts"
+side_word Low = codes "low_volts"
+
+-- the line of a finding
+unfoldable pub finding_line : Finding → Words
+finding_line (Ungrounded name) = codes "ungrounded" ∷ name ∷ []
+finding_line (Part nodes first) = codes "part" ∷ decimal nodes ∷ first ∷ []
+finding_line (Closure name north east) = codes "closure" ∷ name ∷ signed_decimal north ∷ signed_decimal east ∷ []
+finding_line (Value list name measured number) = codes "value" ∷ list_word list ∷ name ∷ field_word measured ∷ decimal number ∷ []
+finding_line (Volts name side volts measure) = codes "volts" ∷ name ∷ side_word side ∷ decimal volts ∷ decimal measure ∷ []
+finding_line (Outside name) = codes "outside" ∷ name ∷ []

@@ -1,0 +1,4 @@
+pub mod FindingText
+pub mod ReviewText
+pub mod RightReview
+pub mod Determines

@@ -1,0 +1,9 @@
+//! The mode `review`: what a case says that its writer may not have meant.
+#![tactic(auto)]
+
+pub mod laws;
+mod mode;
+mod text;
+mod words;
+
+pub use mode::review;

@@ -1,0 +1,131 @@
+//! The report of what is found in a case.
+ghost use Rattle.std.specs.Prelude.{length, map, OnOk};
+ghost use Rattle.std.specs.Io.KnownBytes.{Appends};
+ghost use Rattle.gic_base.specs.Causes.{HasCause};
+ghost use Rattle.gic_base.specs.Pieces.{AppendsPart};
+ghost use Rattle.gic_text.specs.Lines.{line_text, lines_text};
+ghost use Rattle.gic_review.specs.FindingText.{finding_line};
+ghost use Rattle.gic_review.specs.ReviewText.{findings_line, review_report};
+
+use crate::words::{field_word, list_word, side_word};
+use gic_base::{Sink, WriteFailed, write_all};
+use gic_findings::Finding;
+use gic_report::write_word;
+use gic_text::LineBuilder;
+
+/// Writes the line of a finding.
+#[tactic(auto, using(gic_text::proofs::Sizes::line_room), unfolding(crate::specs::FindingText::finding_line))]
+fn write_finding<S: Sink>(
+    finding: &Finding,
+    line: &mut LineBuilder,
+    out: &mut S,
+) -> Result<(), WriteFailed>
+    ensures all { OnOk result (Appends (S.written out.old) (S.written out.new)
+        (line_text (finding_line finding.now))) }
+    ensures part { AppendsPart (S.written out.old) (S.written out.new)
+        (line_text (finding_line finding.now)) }
+    ensures cause { HasCause (S.faults out.old) (S.faults out.new) result }
+{
+    line.start();
+    match finding {
+        Finding::Ungrounded { name } => {
+            line.word(b"ungrounded");
+            line.word(name.as_bytes());
+        }
+        Finding::Part { nodes, first } => {
+            line.word(b"part");
+            line.number(i128::from(*nodes));
+            line.word(first.as_bytes());
+        }
+        Finding::Closure { name, north, east } => {
+            line.word(b"closure");
+            line.word(name.as_bytes());
+            line.number(i128::from(*north));
+            line.number(i128::from(*east));
+        }
+        Finding::Value {
+            list,
+            name,
+            measured,
+            number,
+        } => {
+            line.word(b"value");
+            line.word(list_word(*list).as_bytes());
+            line.word(name.as_bytes());
+            line.word(field_word(*measured).as_bytes());
+            line.number(i128::from(*number));
+        }
+        Finding::Volts {
+            name,
+            side,
+            volts,
+            measure,
+        } => {
+            line.word(b"volts");
+            line.word(name.as_bytes());
+            line.word(side_word(*side).as_bytes());
+            line.number(i128::from(*volts));
+            line.number(i128::from(*measure));
+        }
+        Finding::Outside { name } => {
+            line.word(b"outside");
+            line.word(name.as_bytes());
+        }
+    }
+    write_all(out, line.finish())
+}
+
+/// Writes a line for each finding.
+fn write_each<S: Sink>(
+    findings: &[Finding],
+    line: &mut LineBuilder,
+    out: &mut S,
+) -> Result<(), WriteFailed>
+    ensures all { OnOk result (Appends (S.written out.old) (S.written out.new)
+        (lines_text (map finding_line findings.now))) }
+    ensures part { AppendsPart (S.written out.old) (S.written out.new)
+        (lines_text (map finding_line findings.now)) }
+    ensures cause { HasCause (S.faults out.old) (S.faults out.new) result }
+{
+    for finding in findings {
+        write_finding(finding, line, out)?;
+    }
+    Ok(())
+}
+
+/// Writes how many findings there are.
+#[tactic(auto, using(gic_text::proofs::Sizes::line_room))]
+fn write_count<S: Sink>(
+    count: usize,
+    line: &mut LineBuilder,
+    out: &mut S,
+) -> Result<(), WriteFailed>
+    ensures all { OnOk result (Appends (S.written out.old) (S.written out.new)
+        (line_text (findings_line count))) }
+    ensures part { AppendsPart (S.written out.old) (S.written out.new)
+        (line_text (findings_line count)) }
+    ensures cause { HasCause (S.faults out.old) (S.faults out.new) result }
+{
+    line.start();
+    line.word(b"findings");
+    line.number(count as i128);
+    write_all(out, line.finish())
+}
+
+/// Writes the whole report.
+pub(crate) fn write_review<S: Sink>(
+    findings: &[Finding],
+    line: &mut LineBuilder,
+    out: &mut S,
+) -> Result<(), WriteFailed>
+    ensures all { OnOk result (Appends (S.written out.old) (S.written out.new)
+        (lines_text (review_report findings.now))) }
+    ensures part { AppendsPart (S.written out.old) (S.written out.new)
+        (lines_text (review_report findings.now)) }
+    ensures cause { HasCause (S.faults out.old) (S.faults out.new) result }
+{
+    write_word(b"review", line, out)?;
+    write_each(findings, line, out)?;
+    write_count(findings.len(), line, out)?;
+    write_word(b"end", line, out)
+}
