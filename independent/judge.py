@@ -132,7 +132,7 @@ class Element(NamedTuple):
 
 
 def elements_of(case: Case) -> list[Element]:
-    """All elements, in the order of their lines in a report of `field`. Lines and windings have a path for each phase."""
+    """All elements, in the order of their lines in a report of `field`; of lines and windings there is one a phase."""
     found = []
     for row in case["substation"]:
         if "ground" in row:
@@ -230,6 +230,7 @@ NOTHING = Interval(ZERO, ZERO)  # the current of a transformer of which no windi
 ANYTHING = Interval(ZERO, Fraction(10**40))  # a worst current of which no certificate says anything
 NUMBER = "([-+]?[0-9]{1,38})"
 MILLIVOLT = 10**6 * 2**36  # in grains
+RANGES = range(1, 4097), range(-(2**95), 2**95 + 1), range(2**126 + 1)  # of the three numbers of a node
 
 
 class Certificate:
@@ -239,16 +240,15 @@ class Certificate:
         self.rows = read_file(name).decode("latin-1").split("\n")  # what stands behind the last line feed is no row
         self.numbers(1, "certificate")
         only = [range(number, number + 1) for number in (len(nodes), *field)]
-        self.numbers(2, f"nodes {NUMBER} north {NUMBER} east {NUMBER}", *only)
+        self.numbers(2, "nodes", f" {NUMBER} north {NUMBER} east {NUMBER}", *only)
         entries, self.guesses, radii = {EARTH: 0}, {EARTH: ZERO}, {}
         for row, node in enumerate(nodes, 3):
-            form = f"cert {re.escape(node)} " + (f"{NUMBER} {NUMBER} {NUMBER}" if node in network.leaving else "dead")
-            numbers = self.numbers(row, form, range(1, 4097), range(-(2**95), 2**95 + 1), range(2**126 + 1))
-            if numbers:
+            form = f" {NUMBER} {NUMBER} {NUMBER}" if node in network.leaving else " dead"
+            if numbers := self.numbers(row, f"cert {node}", form, *RANGES):
                 entries[node], *grains = numbers
                 self.guesses[node], radii[node] = (Fraction(number, MILLIVOLT) for number in grains)
         self.numbers(len(nodes) + 3, "end")
-        self.need(self.rows[len(nodes) + 3 :] == [""], "something follows its end")
+        need(self.rows[len(nodes) + 3 :] == [""], 13, f"cert: {name}: something follows its end")
 
         self.reaches: dict[Node, Fraction] = {EARTH: ZERO}
         for island in network.islands:
@@ -260,21 +260,19 @@ class Certificate:
                     own += element.conductance
                     rise += element.conductance * (entries[node] - entries[other])
                     left += element.conductance * (self.guesses[node] - self.guesses[other] + voltage)
-                self.need(rise >= own, f"the entry of node {node} is too low beside its neighbours")
+                need(rise >= own, 13, f"cert: {name}: the entry of node {node} is too low beside its neighbours")
                 step = max(step, abs(left) / rise)
             for node in island:
                 self.reaches[node] = entries[node] * step
-                self.need(radii[node] >= self.reaches[node], f"the radius of node {node} is too small for the guesses")
+                need(radii[node] >= self.reaches[node], 13, f"cert: {name}: the radius of node {node} is too small")
 
-    def need(self, is_so: object, reason: str) -> None:
-        need(is_so, 13, f"cert: {self.name}: {reason}")
-
-    def numbers(self, row: int, form: str, *ranges: range) -> list[int]:
-        """The numbers of a row of this form, each in its range."""
-        found = re.fullmatch(form, self.rows[row - 1]) if row < len(self.rows) else None
+    def numbers(self, row: int, head: str, form: str = "", *ranges: range) -> list[int]:
+        """The numbers of a row that has this head, and behind it this form. Each is in its range."""
+        text = self.rows[row - 1] if row < len(self.rows) else ""
+        found = re.fullmatch(form, text[len(head) :]) if text.startswith(head) else None
         numbers = [int(word) for word in found.groups()] if found else []
         is_right = found and all(number in allowed for number, allowed in zip(numbers, ranges))
-        self.need(is_right, f"row {row} is not what it has to be in this network and field")
+        need(is_right, 13, f"cert: {self.name}: row {row} is not what it has to be in this network and field")
         return numbers
 
     def voltage(self, element: Element) -> Fraction:
@@ -319,26 +317,27 @@ class Judge:
         self.outside = [unit["kind"] == "delta-delta" or unit["high_volts"] <= 200000 for unit in self.units]
         self.lines, self.row, self.text = text.decode("latin-1").split("\n"), 0, ""
         self.shown = {"interval": 0, "verdict": 0}
-        self.refuted = self.open = 0
-        self.told: list[str] = []
+        self.refuted, self.open, self.told = 0, 0, []
 
     def line(self, head: str, *forms: str) -> list[Any]:
         """The words of the next line that stand for capitals. It has the head, and behind it one of the forms."""
         self.row += 1
         self.text = self.lines[self.row - 1] if self.row < len(self.lines) else ""
         for form in forms or [""]:
-            words = [re.escape(word) for word in head.split()] + [WORDS.get(word, word) for word in form.split()]
-            if found := re.fullmatch(" ".join(words), self.text):
+            found = re.fullmatch("".join(f" {WORDS.get(word, word)}" for word in form.split()), self.text[len(head) :])
+            if found and self.text.startswith(head):
                 return [int(word) if re.fullmatch("-?[0-9]+", word) else word for word in found.groups()]
-        raise Refused(14, f"report: line {self.row} is {self.text!r}, and has to be {head} {' or '.join(forms)}")
+        raise Refused(14, f"report: line {self.row} is {self.text[:200]!r}, and has to be: {head} {' or '.join(forms)}")
 
-    def begin(self, mode: str, form: str) -> list[int]:
-        """The numbers of the first two lines, but for the width and the threshold."""
+    def begin(self, mode: str, *names: str) -> list[int]:
+        """The numbers of these names in the second line, but for the width and the threshold."""
         self.line(mode)
-        numbers = dict(zip(form.split()[::2], self.line("", form)))
+        form = " ".join(f"{name} SIGNED" for name in names).removeprefix(names[0])
+        numbers = dict(zip(names, self.line(names[0], form)))
         self.width, self.threshold = numbers.pop("width"), numbers.pop("threshold")
         is_event = self.threshold in EVENTS and numbers.get("field") in (None, EVENTS[self.threshold])
-        need(is_event and 10 <= self.width <= 10000, 14, "report: line 2 has a width or an event that there is not")
+        is_right = is_event and 10 <= self.width <= 10000 and max(map(abs, numbers.values())) <= 20000
+        need(is_right, 14, "report: line 2 has a number that may not stand there")
         return list(numbers.values())
 
     def settle(self, kind: str, holds: bool, fails: bool, reason: object) -> None:
@@ -365,7 +364,7 @@ class Judge:
         self.settle("verdict", holds, fails or verdict != own, f"{own} by {low} {high}, and {exact} is shown")
 
     def counts(self, counts: list[int], worsts: list[Interval]) -> tuple[bool, bool]:
-        """Whether the counts of an outage hold, and whether they fail: those of some intervals of the worst currents."""
+        """Whether the counts of an outage hold, and whether they fail, with intervals around the worst currents."""
         limit, width, (below, reaches, _, outside) = self.threshold, self.width, counts
         assessed = [exact for exact, is_outside in zip(worsts, self.outside) if not is_outside]
         lows, highs = [exact.low for exact in assessed], [exact.high for exact in assessed]
@@ -378,10 +377,8 @@ class Judge:
         adds_up = sum(counts) == len(self.units) and outside == len(self.units) - len(assessed)
         return adds_up and fit(lows, highs), not adds_up or not fit(highs, lows)
 
-    # The reports of the three modes.
-
     def field(self, cert: str) -> None:
-        north, east = self.begin("field", "north SIGNED east SIGNED width SIZE threshold SIZE")
+        north, east = self.begin("field", "north", "east", "width", "threshold")
         network, certificate = self.network, Certificate(self.network, cert, north, east)
         for node in network.nodes:
             if node in network.leaving:
@@ -405,7 +402,7 @@ class Judge:
             self.transformer(is_outside, low, high, verdict, exact.size())
 
     def screen(self, north: str, east: str) -> None:
-        [field] = self.begin("screen", "width SIZE threshold SIZE field SIZE")
+        [field] = self.begin("screen", "width", "threshold", "field")
         pair = [Certificate(self.network, north, field, 0), Certificate(self.network, east, 0, field)]
         for unit, is_outside in zip(self.units, self.outside):
             form = "north SIGNED SIGNED east SIGNED SIGNED worst SIZE SIZE VERDICT"
@@ -415,7 +412,7 @@ class Judge:
             self.transformer(is_outside, low, high, verdict, worst(pair, unit))
 
     def outage(self, folder: str) -> None:
-        [field] = self.begin("outage", "width SIZE threshold SIZE field SIZE")
+        [field] = self.begin("outage", "width", "threshold", "field")
         need(os.path.isdir(folder), 3, f"cannot read {folder}")
         network, counted = self.network, []  # the worst currents in each outage with counts
         need(not network.unearthed, 14, f"report: there is none, since node {network.unearthed} is not earthed")
@@ -432,7 +429,8 @@ class Judge:
                 if has_certs:
                     pair = [Certificate(less, names[0], field, 0), Certificate(less, names[1], 0, field)]
                     worsts = [worst(pair, unit) for unit in self.units]
-                holds, fails = False, words != ["unresolved"] or has_certs or self.text.split(" ")[-1] not in less.leaving
+                *_, last = self.text.split(" ")
+                holds, fails = False, words != ["unresolved"] or has_certs or last not in less.leaving
                 if len(words) == 4:
                     holds, fails = self.counts(words, worsts)
                 self.settle("verdict", holds and has_certs, fails, f"it has {'' if has_certs else 'no '}certificates")
@@ -459,11 +457,12 @@ def read_file(name: str) -> bytes:
     except (OSError, ValueError):
         raise Refused(3, f"cannot read {name}") from None
     need(len(content) <= 2**24, 10, f"too long: {name}")
-    print(sha256(content).hexdigest(), "", name)
+    print(sha256(content).hexdigest(), "", name.encode(errors="backslashreplace").decode())
     return content
 
 
 def run(words: list[str]) -> int:
+    need(sys.stdout, 4, "cannot write")
     given = {option: value for option, _, value in (word.partition("=") for word in words)}
     certs = next((certs for certs in MODES if {"--case", "--report", *certs} == given.keys() - {"--switch"}), ())
     is_usage = certs and len(given) == len(words) and all("=" in word for word in words)
@@ -487,7 +486,7 @@ def main(words: list[str]) -> int:
         status, reason = refused.args
     except MemoryError:
         status, reason = 11, "out of memory"
-    except OSError:
+    except (OSError, UnicodeError):
         os.dup2(os.open(os.devnull, os.O_WRONLY), 1)
         status, reason = 4, "cannot write"
     print(f"judge: {reason}", file=sys.stderr)
@@ -495,5 +494,4 @@ def main(words: list[str]) -> int:
 
 
 if __name__ == "__main__":
-    sys.stdout.reconfigure(errors="backslashreplace")
     sys.exit(main(sys.argv[1:]))
