@@ -5,10 +5,10 @@
     python3 independent/judge.py --case=C [--switch=S] --report=SCREEN --north=FILE --east=FILE
     python3 independent/judge.py --case=C [--switch=S] --report=OUTAGE --certs=FOLDER
 
-It prints the SHA-256 of each file that it reads, then a line for each interval and each verdict that is refuted or left
-open, and then the figures. The status is 0 where all is shown, 15 where something is refuted, else 16 where something
-is open; 14 where the report is not whole, or not of this case; and 2, 3, 4, 5, 7, 10, 11 and 13 as of gicstudy.
-README.md has the argument. Potentials are in millivolts, currents in milliamperes, conductances in siemens.
+It prints the SHA-256 of each file that it reads, then the head of the report, then a line for each interval and each
+verdict that is refuted or left open, and then the figures. The status is 0 where all is shown, 15 where something is
+refuted, else 16 where something is open; 14 where the report is not whole or not of this case; 2, 3, 4, 5, 7, 10, 11
+and 13 as of gicstudy. Potentials are in millivolts, currents in milliamperes, conductances in siemens.
 """
 
 import csv
@@ -338,6 +338,7 @@ class Judge:
         is_event = self.threshold in EVENTS and numbers.get("field") in (None, EVENTS[self.threshold])
         is_right = is_event and 10 <= self.width <= 10000 and max(map(abs, numbers.values())) <= 20000
         need(is_right, 14, "report: line 2 has a number that may not stand there")
+        self.told.append(f"{mode} {self.text}")
         return list(numbers.values())
 
     def settle(self, kind: str, holds: bool, fails: bool, reason: object) -> None:
@@ -361,7 +362,7 @@ class Judge:
         own = "outside" if is_outside else "reaches" if limit <= low else "below" if high < limit else "undecided"
         reaches, below = limit <= exact.low, exact.high < limit
         holds, fails = {"reaches": (reaches, below), "below": (below, reaches)}.get(verdict, (True, False))
-        self.settle("verdict", holds, fails or verdict != own, f"{own} by {low} {high}, and {exact} is shown")
+        self.settle("verdict", holds, fails or verdict != own, f"by {low} {high} {own}, and {exact} is shown")
 
     def counts(self, counts: list[int], worsts: list[Interval]) -> tuple[bool, bool]:
         """Whether the counts of an outage hold, and whether they fail, with intervals around the worst currents."""
@@ -369,13 +370,14 @@ class Judge:
         assessed = [exact for exact, is_outside in zip(worsts, self.outside) if not is_outside]
         lows, highs = [exact.low for exact in assessed], [exact.high for exact in assessed]
 
-        def fit(lows: list[Any], highs: list[Any]) -> bool:
-            least, most = sum(low < limit - width for low in lows), sum(high > limit + width - 1 for high in highs)
-            may_be_below, may_reach = sum(high < limit for high in highs), sum(low >= limit for low in lows)
-            return least <= below <= may_be_below and most <= reaches <= may_reach
+        def fit(lows: list[Fraction], highs: list[Fraction]) -> bool:
+            must_be_below, can_be_below = sum(low < limit - width for low in lows), sum(high < limit for high in highs)
+            must_reach, can_reach = sum(high > limit + width - 1 for high in highs), sum(low >= limit for low in lows)
+            return must_be_below <= below <= can_be_below and must_reach <= reaches <= can_reach
 
         adds_up = sum(counts) == len(self.units) and outside == len(self.units) - len(assessed)
-        return adds_up and fit(lows, highs), not adds_up or not fit(highs, lows)
+        holds, may_hold = fit(lows, highs), fit(highs, lows)  # at the ends that are worst, and best, for the counts
+        return adds_up and holds, not (adds_up and may_hold)
 
     def field(self, cert: str) -> None:
         north, east = self.begin("field", "north", "east", "width", "threshold")
