@@ -147,10 +147,11 @@ def report(command, item):
 def main():
     sizes = [("field", 300), ("screen", 300), ("outage", 60), ("changed", 3000)]
     given = shared.arguments(__doc__, 60, sizes)
-    asked = [mode for mode in MODES for _ in range(getattr(given, mode))]
-    share = -(-given.changed // max(1, len(asked)))
+    # The modes are mixed, so that a run that is cut by its minutes has seen all of them.
+    parts = sorted((part / getattr(given, mode), mode) for mode in MODES for part in range(getattr(given, mode)))
+    share = -(-given.changed // max(1, len(parts)))
     items = [
-        (given.seed * 10**6 + place, mode, KINDS[place % len(KINDS)], share) for place, mode in enumerate(asked)
+        (given.seed * 10**6 + place, mode, KINDS[place % len(KINDS)], share) for place, (_, mode) in enumerate(parts)
     ]
     faults, clock = shared.Faults(), shared.Clock(given.minutes)
     reports_of, shown, ends = collections.Counter(), collections.defaultdict(lambda: [0, 0, 0, 0]), collections.Counter()
