@@ -308,6 +308,7 @@ EVENTS = {75000: 8000, 85000: 12000}  # the field of each event in mV/km, by its
 # What a word of a form in capitals stands for; any other word stands for itself.
 WORDS = {"SIGNED": "(0|-?[1-9][0-9]{0,37})", "SIZE": "(0|[1-9][0-9]{0,37})", "NODE": NAME,
          "FAULT": "(unearthed|unresolved)", "VERDICT": "(below|reaches|undecided|outside)"}
+COUNTS = "below SIZE reaches SIZE undecided SIZE outside SIZE"
 
 
 class Judge:
@@ -360,7 +361,7 @@ class Judge:
         self.interval(low, high, exact)
         limit = self.threshold
         own = "outside" if is_outside else "reaches" if limit <= low else "below" if high < limit else "undecided"
-        reaches, below = limit <= exact.low, exact.high < limit
+        reaches, below = limit <= exact.low, exact.high < limit  # surely; the other two verdicts say nothing of it
         holds, fails = {"reaches": (reaches, below), "below": (below, reaches)}.get(verdict, (True, False))
         self.settle("verdict", holds, fails or verdict != own, f"by {low} {high} {own}, and {exact} is shown")
 
@@ -419,8 +420,7 @@ class Judge:
         network, counted = self.network, []  # the worst currents in each outage with counts
         need(not network.unearthed, 14, f"report: there is none, since node {network.unearthed} is not earthed")
         for name in [row["name"] for row in [*network.case["line"], *self.units]]:
-            counts = "below SIZE reaches SIZE undecided SIZE outside SIZE"
-            words = self.line(f"outage {name}", "idle", "FAULT NODE", counts)
+            words = self.line(f"outage {name}", "idle", "FAULT NODE", COUNTS)
             less = Network(network.case, network.elements, network.switched_off | {name})
             names = [os.path.join(folder, f"{name}.{side}.cert") for side in ("north", "east")]
             worsts, has_certs = [ANYTHING] * len(self.units), any(map(os.path.exists, names))
@@ -431,10 +431,8 @@ class Judge:
                 if has_certs:
                     pair = [Certificate(less, names[0], field, 0), Certificate(less, names[1], 0, field)]
                     worsts = [worst(pair, unit) for unit in self.units]
-                *_, last = self.text.split(" ")
-                holds, fails = False, words != ["unresolved"] or has_certs or last not in less.leaving
-                if len(words) == 4:
-                    holds, fails = self.counts(words, worsts)
+                is_open = words == ["unresolved"] and not has_certs and self.text.split(" ")[3] in less.leaving
+                holds, fails = self.counts(words, worsts) if len(words) == 4 else (False, not is_open)
                 self.settle("verdict", holds and has_certs, fails, f"it has {'' if has_certs else 'no '}certificates")
             if len(words) == 4:
                 counted.append(worsts)
@@ -477,13 +475,16 @@ def run(words: list[str]) -> int:
     judge.line("end")
     need(judge.lines[judge.row :] == [""], 14, f"report: something follows line {judge.row}")
     shown = f"{judge.shown['interval']} intervals and {judge.shown['verdict']} verdicts shown"
-    print(*judge.told, f"{shown}, {judge.refuted} refuted, {judge.open} open", sep="\n", flush=True)
+    print(*judge.told, f"{shown}, {judge.refuted} refuted, {judge.open} open", sep="\n")
     return 15 if judge.refuted else 16 if judge.open else 0
 
 
 def main(words: list[str]) -> int:
     try:
-        return run(words)
+        try:
+            return run(words)
+        finally:
+            print(end="", flush=True)
     except Refused as refused:
         status, reason = refused.args
     except MemoryError:

@@ -4,11 +4,11 @@
 #
 #     independent/outages.sh --case=C [--switch=S] --report=R --certs=FOLDER [--program=P] [ITEM ..]
 #
-# With ITEMs only those are made. C and S are the files of the report R; P is the built program, and stands in this
-# repository where it is not given. The certificates of an item are FOLDER/ITEM.north.cert and FOLDER/ITEM.east.cert.
+# With ITEMs only those are made. C and S are the files of the report R. P is the program; where it is not given it is
+# ../gicstudy. The certificates of an item are FOLDER/ITEM.north.cert and FOLDER/ITEM.east.cert.
 set -eu
 here=$(cd "$(dirname "$0")" && pwd)
-program=$here/../crates/gicstudy/out/gicstudy
+program=$here/../gicstudy
 case='' switch='' report='' folder='' items=()
 for word in "$@"; do
     case $word in
