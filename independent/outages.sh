@@ -8,7 +8,7 @@
 # ../gicstudy. The certificates of an item are FOLDER/ITEM.north.cert and FOLDER/ITEM.east.cert.
 set -eu
 here=$(cd "$(dirname "$0")" && pwd)
-program=$here/../gicstudy
+program=${here%/*}/gicstudy
 case='' switch='' report='' folder='' items=()
 for word in "$@"; do
     case $word in
