@@ -223,7 +223,7 @@ class Interval(NamedTuple):
 
     def __str__(self) -> str:
         ends = floor(self.low * 10**9), ceil(self.high * 10**9)
-        return " to ".join("any" if n > 10**48 else f"{'-' * (n < 0)}{abs(n) // 10**9}.{abs(n) % 10**9:09}" for n in ends)
+        return " to ".join("any" if n > 1e48 else f"{'-' * (n < 0)}{abs(n) // 10**9}.{abs(n) % 10**9:09}" for n in ends)
 
 
 NOTHING = Interval(ZERO, ZERO)  # the current of a transformer of which no winding stands
