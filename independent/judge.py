@@ -136,8 +136,7 @@ def elements_of(case: Case) -> list[Element]:
     found = []
     for row in case["substation"]:
         if "ground" in row:
-            name, conductance = row["name"], Fraction(10**6, row["ground"])
-            found.append(Element(f"ground {name}", name, name, EARTH, conductance))
+            found.append(Element(f"ground {row['name']}", row["name"], row["name"], EARTH, Fraction(10**6, row["ground"])))
     factor = {}
     for row in case["zone"]:
         factor[row["name"]] = row["beta"] * next(tenths for most, tenths in ALPHA if row["latitude"] <= most)
@@ -203,11 +202,12 @@ class Network:
         seen = {EARTH}
         for node in self.nodes:
             if node in self.leaving and node not in seen:
+                seen.add(node)
                 self.islands.append(island := [node])
                 for one in island:  # it grows meanwhile
-                    seen.add(one)
-                    island += {other for _, other in self.leaving[one]} - seen
-                    seen.update(island)
+                    more = {other for _, other in self.leaving[one]} - seen
+                    seen |= more
+                    island += more
                 if not any(other is EARTH for one in island for _, other in self.leaving[one]):
                     self.unearthed = self.unearthed or node
 
