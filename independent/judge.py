@@ -134,9 +134,9 @@ class Element(NamedTuple):
 def elements_of(case: Case) -> list[Element]:
     """All elements, in the order of their lines in a report of `field`; of lines and windings there is one a phase."""
     found = []
-    for row in case["substation"]:
-        if "ground" in row:
-            found.append(Element(f"ground {row['name']}", row["name"], row["name"], EARTH, Fraction(10**6, row["ground"])))
+    for name, ground in ((row["name"], row.get("ground")) for row in case["substation"]):
+        if ground:
+            found.append(Element(f"ground {name}", name, name, EARTH, Fraction(10**6, ground)))
     factor = {}
     for row in case["zone"]:
         factor[row["name"]] = row["beta"] * next(tenths for most, tenths in ALPHA if row["latitude"] <= most)
