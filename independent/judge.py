@@ -191,7 +191,7 @@ class Network:
         with_nodes = [*case["substation"], *case["bus"], *(unit for unit in case["transformer"] if "neutral" in unit)]
         self.nodes = [row["name"] for row in with_nodes]  # in node order
         self.of_item: dict[str, list[Element]] = defaultdict(list)  # the standing elements
-        self.leaving: dict[Node, list[tuple[Element, Node]]] = defaultdict(list)  # by a node: these, with the other end
+        self.leaving: dict[Node, list[tuple[Element, Node]]] = defaultdict(list)  # by a live node: with the other ends
         for element in elements:
             if element.conductance and element.item not in switched_off:
                 self.of_item[element.item].append(element)
