@@ -8,7 +8,6 @@ pub mod LaidOut
 pub mod UngroundedLemmas
 pub mod Collected
 pub mod Followed
-pub mod Compared
 pub mod PartsLeft
 pub mod Counting
 pub mod PartSizesBy
