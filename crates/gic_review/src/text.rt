@@ -1,17 +1,29 @@
 //! The report of what is found in a case.
-ghost use Rattle.std.specs.Prelude.{length, map, OnOk};
+ghost use Rattle.std.specs.Prelude.{◌≡◌, ◌≤◌, ◌+◌, [], ◌∷◌, length, map, OnOk};
 ghost use Rattle.std.specs.Io.KnownBytes.{Appends};
 ghost use Rattle.gic_base.specs.Causes.{HasCause};
 ghost use Rattle.gic_base.specs.Pieces.{AppendsPart};
-ghost use Rattle.gic_text.specs.Lines.{line_text, lines_text};
-ghost use Rattle.gic_review.specs.FindingText.{finding_line};
+ghost use Rattle.gic_text.specs.Lines.{with_words, line_text, lines_text};
+ghost use Rattle.gic_review.specs.FindingText.{list_word, field_word, finding_line};
 ghost use Rattle.gic_review.specs.ReviewText.{findings_line, review_report};
 
 use crate::words::{field_word, list_word, side_word};
-use gic_base::{Sink, WriteFailed, write_all};
-use gic_findings::Finding;
+use gic_base::{Name, Sink, WriteFailed, write_all};
+use gic_findings::{Finding, Listed, Measured};
 use gic_report::write_word;
 use gic_text::LineBuilder;
+
+/// Adds to the line of which row a value is, and which of its values.
+#[tactic(auto, using(gic_text::proofs::Sizes::line_room))]
+fn add_value(list: Listed, name: &Name, measured: Measured, line: &mut LineBuilder)
+    requires { length line.old.bytes ≤ 400 }
+    ensures words { line.new ≡ with_words line.old (list_word list ∷ name.now ∷ field_word measured ∷ []) }
+    ensures size { length line.new.bytes ≤ length line.old.bytes + 69 }
+{
+    line.word(list_word(list).as_bytes());
+    line.word(name.as_bytes());
+    line.word(field_word(measured).as_bytes());
+}
 
 /// Writes the line of a finding.
 #[tactic(auto, using(gic_text::proofs::Sizes::line_room), unfolding(crate::specs::FindingText::finding_line))]
@@ -50,9 +62,7 @@ fn write_finding<S: Sink>(
             number,
         } => {
             line.word(b"value");
-            line.word(list_word(*list).as_bytes());
-            line.word(name.as_bytes());
-            line.word(field_word(*measured).as_bytes());
+            add_value(*list, name, *measured, line);
             line.number(i128::from(*number));
         }
         Finding::Volts {
