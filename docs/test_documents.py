@@ -52,6 +52,25 @@ class Definitions(unittest.TestCase):
         parts = definitions.in_parts(self.top, self.crates, self.found)
         self.assertEqual(parts, [["gic_study/Near", "gic_low/Far"], ["gic_low/Law"], ["gic_low/Own"]])
 
+    def test_behind_the_headline_a_crate_has_one_row(self) -> None:
+        laws = ["gic_low/Law", "gic_low/Far"]
+        rows = definitions.crate_rows(self.found, laws)
+        told = "**Far**: What is far (Law, gic_study/Near). **Law**: What the law says (laws.rt)."
+        self.assertEqual(rows, [f"| gic_low | {told} |"])
+        index = definitions.index_of(self.found, [["gic_study/Near"], laws, []])
+        self.assertIn("| gic_study/Near | What is near | gic_study/study.rt |\n\n## ", index)
+        self.assertIn(rows[0], index.split("\n"))
+
+    def test_crates_of_which_the_same_is_told_have_one_row(self) -> None:
+        found = {
+            name: definitions.Definition(name, "What it shows", [], [f"{name.partition('/')[0]}/laws.rt"])
+            for name in ("gic_low/Shows", "gic_high/Shows")
+        }
+        self.assertEqual(
+            definitions.crate_rows(found, list(found)),
+            ["| gic_low, gic_high | **Shows**: What it shows (laws.rt). |"],
+        )
+
     def test_where_a_definition_is_cited(self) -> None:
         self.assertEqual(self.found["gic_low/Far"].cited_in, ["gic_low/Law", "gic_study/Near"])
 
