@@ -52,14 +52,18 @@ class Definitions(unittest.TestCase):
         parts = definitions.in_parts(self.top, self.crates, self.found)
         self.assertEqual(parts, [["gic_study/Near", "gic_low/Far"], ["gic_low/Law"], ["gic_low/Own"]])
 
-    def test_behind_the_headline_a_crate_has_one_row(self) -> None:
-        laws = ["gic_low/Law", "gic_low/Far"]
-        rows = definitions.crate_rows(self.found, laws)
-        told = "**Far**: What is far (Law, gic_study/Near). **Law**: What the law says (laws.rt)."
-        self.assertEqual(rows, [f"| gic_low | {told} |"])
-        index = definitions.index_of(self.found, [["gic_study/Near"], laws, []])
-        self.assertIn("| gic_study/Near | What is near | gic_study/study.rt |\n\n## ", index)
-        self.assertIn(rows[0], index.split("\n"))
+    def test_a_crate_has_one_row_in_each_part(self) -> None:
+        low = "**Law**: What the law says (laws.rt)."
+        far = "**Far**: What is far (Law, gic_study/Near)."
+        near = "**Near**: What is near (study.rt)."
+        names = ["gic_low/Law", "gic_study/Near", "gic_low/Far"]
+        self.assertEqual(
+            definitions.crate_rows(self.found, names, True),
+            [f"| gic_low | 1 {low} 3 {far} |", f"| gic_study | 2 {near} |"],
+        )
+        index = definitions.index_of(self.found, [["gic_study/Near"], ["gic_low/Law", "gic_low/Far"], []])
+        self.assertIn(f"| gic_study | 1 {near} |\n\n## What laws", index)
+        self.assertIn(f"\n| gic_low | {far} {low} |\n\n## What other", index)
 
     def test_crates_of_which_the_same_is_told_have_one_row(self) -> None:
         found = {
@@ -67,7 +71,7 @@ class Definitions(unittest.TestCase):
             for name in ("gic_low/Shows", "gic_high/Shows")
         }
         self.assertEqual(
-            definitions.crate_rows(found, list(found)),
+            definitions.crate_rows(found, list(found), False),
             ["| gic_low, gic_high | **Shows**: What it shows (laws.rt). |"],
         )
 
