@@ -3,10 +3,10 @@
 
     python3 docs/definitions.py [--write]
 
-The index has each file of definitions, `crates/NAME/specs/FILE.antt`, once: first those that the headline leads to, in
-the order in which a reader comes to them who follows what is cited, step by step; then those that laws lead to; then
-the others, crate by crate. Behind each stand the first sentence of its head, and where it is cited: in definitions
-(`specs/`) and in contracts (`src/`); proofs aren't counted.
+The index has each file of definitions, `crates/NAME/specs/FILE.antt`, once: first those that the headline leads to,
+numbered in the order in which a reader comes to them who follows what is cited, step by step; then those that laws lead
+to; then the others. A crate has one row in each of the three. With each file stand the first sentence of its head, and
+where it is cited: in definitions (`specs/`) and in contracts (`src/`); proofs aren't counted.
 
 Without --write it compares docs/INDEX.md with what it makes. It also looks whether each file begins with a remark,
 whether each is cited, whether docs/DEFINITIONS.md names none that isn't there, and whether each crate of crates.txt
@@ -31,12 +31,13 @@ NAMED = re.compile(r"`(\w+\.antt)`")
 HEAD = """# Index of the definitions
 
 Made by `python3 docs/definitions.py --write`, which without `--write` checks it.
-[DEFINITIONS.md](DEFINITIONS.md) says how to read them. A file `gic_x/Y` is `crates/gic_x/specs/Y.antt`.
+[DEFINITIONS.md](DEFINITIONS.md) says how to read them. `Y` in the row of `gic_x`, and `gic_x/Y` elsewhere, is the file
+`crates/gic_x/specs/Y.antt`. In brackets stands where it is cited.
 """
 PARTS = (
-    "What the headline leads to, in reading order",
+    "What the headline leads to, numbered in reading order",
     "What laws lead to besides",
-    "What other contracts cite, crate by crate",
+    "What other contracts cite",
 )
 
 
@@ -131,12 +132,31 @@ def places(cited_in: list[str]) -> str:
     return f"{len(cited_in)} files of {len(counts)} crates"
 
 
+def crate_rows(found: dict[str, Definition], names: list[str], numbered: bool) -> list[str]:
+    """A row for each crate, with those of its definitions that are named, crates and definitions in the order of names.
+
+    Where they are numbered each has its place among the names. Crates of which the same is told have one row.
+    """
+    cells: dict[str, list[str]] = {}
+    for place, name in enumerate(names, 1):
+        crate, _, file = name.partition("/")
+        cited = places(found[name].cited_in).replace(f"{crate}/", "")
+        number = f"{place} " if numbered else ""
+        cells.setdefault(crate, []).append(f"{number}**{file}**: {found[name].says} ({cited}).")
+    rows: dict[str, list[str]] = {}
+    for crate, told in cells.items():
+        rows.setdefault(" ".join(told), []).append(crate)
+    return [f"| {', '.join(alike)} | {told} |" for told, alike in rows.items()]
+
+
 def index_of(found: dict[str, Definition], parts: list[list[str]]) -> str:
     """The text of the index."""
     lines = [HEAD]
     for title, names in zip(PARTS, parts):
-        lines.append(f"## {title}\n\n| definition | says | cited in |\n|---|---|---|")
-        lines.extend(f"| {name} | {found[name].says} | {places(found[name].cited_in)} |" for name in names)
+        in_reading_order = title == PARTS[0]
+        order = names if in_reading_order else [name for name in found if name in names]
+        lines.append(f"## {title}\n\n| crate | definitions, and where each is cited |\n|---|---|")
+        lines.extend(crate_rows(found, order, in_reading_order))
         lines.append("")
     return "\n".join(lines)
 

@@ -52,6 +52,29 @@ class Definitions(unittest.TestCase):
         parts = definitions.in_parts(self.top, self.crates, self.found)
         self.assertEqual(parts, [["gic_study/Near", "gic_low/Far"], ["gic_low/Law"], ["gic_low/Own"]])
 
+    def test_a_crate_has_one_row_in_each_part(self) -> None:
+        low = "**Law**: What the law says (laws.rt)."
+        far = "**Far**: What is far (Law, gic_study/Near)."
+        near = "**Near**: What is near (study.rt)."
+        names = ["gic_low/Law", "gic_study/Near", "gic_low/Far"]
+        self.assertEqual(
+            definitions.crate_rows(self.found, names, True),
+            [f"| gic_low | 1 {low} 3 {far} |", f"| gic_study | 2 {near} |"],
+        )
+        index = definitions.index_of(self.found, [["gic_study/Near"], ["gic_low/Law", "gic_low/Far"], []])
+        self.assertIn(f"| gic_study | 1 {near} |\n\n## What laws", index)
+        self.assertIn(f"\n| gic_low | {far} {low} |\n\n## What other", index)
+
+    def test_crates_of_which_the_same_is_told_have_one_row(self) -> None:
+        found = {
+            name: definitions.Definition(name, "What it shows", [], [f"{name.partition('/')[0]}/laws.rt"])
+            for name in ("gic_low/Shows", "gic_high/Shows")
+        }
+        self.assertEqual(
+            definitions.crate_rows(found, list(found), False),
+            ["| gic_low, gic_high | **Shows**: What it shows (laws.rt). |"],
+        )
+
     def test_where_a_definition_is_cited(self) -> None:
         self.assertEqual(self.found["gic_low/Far"].cited_in, ["gic_low/Law", "gic_study/Near"])
 

@@ -48,7 +48,8 @@ class Readme(DeskTest):
     def test_what_is_shown_is_what_is_printed(self) -> None:
         furnish(self.folder, BUILT.resolve())
         blocks = BLOCKS.findall(README.read_text())
-        self.assertGreater(len(blocks), 4)
+        shown = set(re.findall(r"desk/gicdesk (\w+)", "".join(commands for commands, _ in blocks)))
+        self.assertEqual(shown, {"csv", "compare", "outages", "psse"})
         for commands, text in blocks:
             self.assertEqual(printed(commands, self.folder), text, commands)
 
