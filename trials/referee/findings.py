@@ -17,6 +17,12 @@ USUAL = {
 KILOMETRE = 1000
 GAP, SPAN_FOR_A_METRE = 2000, 20
 WINDINGS = ("high_resistance", "low_resistance", "series_resistance", "common_resistance")
+# The fields of each list but the lines, in their order.
+FIELDS = {
+    "zone": ("latitude", "beta"),
+    "substation": ("ground",),
+    "transformer": ("high_volts", *WINDINGS, "neutral"),
+}
 SIDES = (("high", "high_volts"), ("low", "low_volts"))
 ASSESSED_ABOVE = 200000
 
@@ -27,6 +33,9 @@ class Place(NamedTuple):
     group: int
     north: int
     east: int
+
+    def moved(self, group, north, east):
+        return Place(group, self.north + north, self.east + east)
 
 
 def length(line):
@@ -72,9 +81,7 @@ def closures(case):
         start, end = (places[case.buses[line[key]]["substation"]] for key in ("from", "to"))
         north, east = start.north + line["north"] - end.north, start.east + line["east"] - end.east
         if start.group != end.group:
-            places = [
-                Place(start.group, one.north + north, one.east + east) if one.group == end.group else one for one in places
-            ]
+            places = [one.moved(start.group, north, east) if one.group == end.group else one for one in places]
         elif max(abs(north), abs(east)) > GAP + length(line) // SPAN_FOR_A_METRE:
             yield "closure", line["name"], north, east
 
@@ -88,16 +95,15 @@ def measured(kind, row):
         if length(row) >= KILOMETRE:
             yield "perkm", USUAL["perkm"], row["resistance"] * KILOMETRE // length(row)
         return
-    fields = {"zone": ("latitude", "beta"), "substation": ("ground",), "transformer": ("high_volts", *WINDINGS, "neutral")}
-    for field in fields[kind]:
+    for field in FIELDS[kind]:
         if type(row.get(field)) is int:
             yield field, USUAL["winding" if field in WINDINGS else field], row[field]
 
 
 def values(case):
     """The values that are usual hardly anywhere."""
-    lists = (("zone", case.zones), ("substation", case.substations), ("line", case.lines), ("transformer", case.transformers))
-    for kind, rows in lists:
+    lists = {"zone": case.zones, "substation": case.substations, "line": case.lines, "transformer": case.transformers}
+    for kind, rows in lists.items():
         for row in rows:
             for field, usual, number in measured(kind, row):
                 if not is_usual(number, *usual):
