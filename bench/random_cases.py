@@ -4,8 +4,8 @@
     python3 bench/random_cases.py DIR [COUNT] [SEED] [NODES] [--mode=MODE] [--limits]
 
 Each folder of DIR has the case `p`, often a list of switchings `s`, and the file `words` with the words of one run of
-MODE (`field` where it is not given, or `screen`, or `outage`, or `study` or `series` with a storm `t` besides), one word
-a line.
+MODE (`field` where it is not given, or `screen`, or `outage`, or `review`, or `study` or `series` with a storm `t`
+besides), one word a line.
 COUNT networks are written (100), the same ones for the same SEED (1), each of at most NODES nodes (200).
 Transformers are of all four kinds, with and without neutral resistors and blocking devices; some lines are blocked, some
 substations have no ground, and some networks are not earthed, or not well enough to be solved: then the answer is a
@@ -19,7 +19,7 @@ import re
 import sys
 
 AT_LIMITS = "--limits" in sys.argv
-MODES = ["field", "screen", "outage", "study", "series"]
+MODES = ["field", "screen", "outage", "study", "series", "review"]
 OVER_STORMS = ["study", "series"]
 KINDS = ["delta-wye", "wye-wye", "auto", "delta-delta"]
 
@@ -143,6 +143,8 @@ def storm(draw, zones):
 def words_of(draw, mode, steps, units):
     """The words of a run, but for the switchings."""
     words = [mode, "--case=p"]
+    if mode == "review":
+        return words
     if mode == "field":
         words += [f"--north={draw.randint(-20000, 20000)}", f"--east={draw.randint(-20000, 20000)}"]
     if mode in OVER_STORMS:
@@ -166,7 +168,7 @@ def run(draw, mode, nodes):
     if mode in OVER_STORMS:
         files["t"], steps = storm(draw, sorted(set(re.findall(r'"(Z[0-9]+)"', text))))
     words = words_of(draw, mode, steps, sorted(set(re.findall(r'"(T[0-9]+)"', text))))
-    if items and draw.random() < (0.7 if mode in OVER_STORMS else 0.4):
+    if items and mode != "review" and draw.random() < (0.7 if mode in OVER_STORMS else 0.4):
         files["s"] = switchings(draw, items, resistors, 150 if mode in OVER_STORMS else 60)
         words.append("--switch=s")
     files["words"] = "\n".join(words) + "\n"

@@ -30,7 +30,10 @@ sys.path.insert(0, os.path.join(shared.TOP, "independent"))
 import recheck  # noqa: E402
 
 NUMBER = re.compile(r"-?[0-9]+\Z")
-WORDS_OF_ITEMS = ("live", "dead", "open", "blocked", "high", "low", "series", "common", "line", "neutral", "*")
+WORDS_OF_ITEMS = (
+    "live", "dead", "open", "blocked", "high", "low", "series", "common", "line", "neutral", "*", "zone", "substation",
+    "transformer", "resistance", "perkm", "high_volts", "low_volts",
+)
 # Lines whose numbers are intervals or counts that may be wider.
 WIDE = {"node", "ground", "line", "winding", "neutral", "effective", "transformer", "dwell", "earth", "loss", "step"}
 MOST_RADIUS = 2**31

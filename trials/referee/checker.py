@@ -4,6 +4,7 @@ import re
 from fractions import Fraction
 
 from certificate import GRAINS_PER_MILLIVOLT, check_certificate, read_certificate
+from findings import lines_of
 from outcome import Epoch
 from report_text import Unreadable
 from study import Study
@@ -169,6 +170,10 @@ class Checker:
             ends = case.nodes[element.start], end
             self.text.line("element", element.name, element.role, *ends, element.paths, element.resistance)
         self.text.line("end")
+
+    def check_review(self):
+        for words in lines_of(self.case):
+            self.text.line(*words)
 
     def check_check(self):
         self.text.line("check")

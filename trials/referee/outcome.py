@@ -76,7 +76,7 @@ class Prediction:
             outcome.storm = read_storm(self.load("storm"), outcome.case)
         if outcome.asked["switch"] is not None:
             outcome.switchings = read_switchings(self.load("switch"), outcome.case)
-        if outcome.mode not in ("volts", "list"):
+        if outcome.mode not in ("volts", "list", "review"):
             self.stand()
         if outcome.mode == "recheck":
             self.recheck()

@@ -20,6 +20,7 @@ sys.path.insert(0, os.path.dirname(os.path.abspath(__file__)))
 from certificate import GRAINS_PER_MILLIVOLT, Node, check_certificate  # noqa: E402
 from checker import MADE_FIELD, MADE_WIDTH, VERDICTS, magnitude  # noqa: E402
 from earthing import CAP, least_capped, unearthed  # noqa: E402
+from findings import lines_of  # noqa: E402
 from outcome import Epoch, predict  # noqa: E402
 from storm import standing  # noqa: E402
 from study import Study  # noqa: E402
@@ -147,6 +148,10 @@ class Report:
             ends = case.nodes[element.start], end
             self.say("element", element.name, element.role, *ends, element.paths, element.resistance)
         self.say("end")
+
+    def say_review(self):
+        for words in lines_of(self.case):
+            self.say(*words)
 
     def say_check(self):
         self.say("check")

@@ -19,8 +19,11 @@ MODES = {
     "recheck": (["case", "cert"], ["switch"]),
     "outage": (["case"], ["switch", "width", "event"]),
     "series": (["case", "storm", "transformer"], ["switch", "width"]),
+    "review": (["case"], []),
 }
-BUILT = ("volts", "list", "check", "field", "study", "screen", "make", "certify", "recheck", "series", "outage")
+BUILT = (
+    "volts", "list", "check", "field", "study", "screen", "make", "certify", "recheck", "series", "outage", "review",
+)
 OPTIONS = [
     "case", "storm", "switch", "north", "east", "width", "detail", "seed", "size", "event", "cert", "transformer",
 ]
