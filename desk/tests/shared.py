@@ -23,8 +23,8 @@ FAKE = TESTS / "fake"
 class Stream(io.TextIOWrapper):
     """A stream in memory, as the system's are."""
 
-    def __init__(self) -> None:
-        super().__init__(io.BytesIO(), encoding="utf-8", write_through=True)
+    def __init__(self, errors: str = "strict") -> None:
+        super().__init__(io.BytesIO(), encoding="utf-8", errors=errors, write_through=True)
 
     def text(self) -> str:
         self.flush()
@@ -33,7 +33,7 @@ class Stream(io.TextIOWrapper):
 
 def desk(*words: object, stdin: bytes = b"") -> tuple[int, str, str]:
     """Runs the command with these words: its status, and what it writes on its two streams."""
-    out, err, given = Stream(), Stream(), io.TextIOWrapper(io.BytesIO(stdin))
+    out, err, given = Stream(), Stream("backslashreplace"), io.TextIOWrapper(io.BytesIO(stdin))
     kept, sys.stdin = sys.stdin, given
     try:
         with contextlib.redirect_stdout(out), contextlib.redirect_stderr(err):

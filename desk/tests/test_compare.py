@@ -1,9 +1,14 @@
 """`gicdesk compare`: two reports beside each other."""
 
 import csv
+import os
+import subprocess
+import sys
 import unittest
 
-from shared import REPORTS, DeskTest
+from shared import REPORTS, TOP, DeskTest
+
+GICDESK = TOP / "desk" / "gicdesk"
 
 
 def screen(*units: str, head: str = "width 100 threshold 75000 field 8000") -> str:
@@ -13,6 +18,26 @@ def screen(*units: str, head: str = "width 100 threshold 75000 field 8000") -> s
         name, low, high, verdict = unit.split(" ")
         text += f"transformer {name} north 0 1 east 0 1 worst {low} {high} {verdict}\n"
     return text + "end\n"
+
+
+class Output(DeskTest):
+    def test_a_name_of_a_file_that_is_no_utf_8(self) -> None:
+        before, after = (self.file(os.fsdecode(name), screen("T 1 2 below")) for name in (b"\xff.txt", b"after.txt"))
+        self.assertIn(f"before: {self.folder}/\\udcff.txt: report screen", self.done("compare", before, after))
+        before.unlink()
+        (line,) = self.refused("compare", before, after)
+        self.assertTrue(line.startswith(f"{self.folder}/\\udcff.txt: it can't be read (No such file"), line)
+
+    def test_streams_that_are_closed(self) -> None:
+        report = self.file("report.txt", screen("T 1 2 below"))
+        for closed, status, out, err in (
+            (">&-", 1, "", "gicdesk: the output: it can't be written (it is closed); see where the output goes\n"),
+            ("2>&-", 1, "", ""),
+        ):
+            words = "none.txt" if closed == "2>&-" else str(report)
+            command = ["sh", "-c", f'exec "$@" {closed}', "sh", sys.executable, str(GICDESK), "csv", words]
+            done = subprocess.run(command, cwd=self.folder, capture_output=True, text=True, check=False)
+            self.assertEqual((done.returncode, done.stdout, done.stderr), (status, out, err))
 
 
 class Compare(DeskTest):

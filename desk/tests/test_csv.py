@@ -185,6 +185,33 @@ class Csv(DeskTest):
             chosen = [row for row in whole if row["block"] == part]
             self.assertEqual(list(map(filled, rows(self.table(STUDY, f"--part={part}")))), chosen)
 
+    def test_lines_of_monitors_that_are_not_known(self) -> None:
+        # The byte 0xb2 is a raised 2 in Latin-1, and no digit; a number of the program has no 0 in front, and the low
+        # end of an interval isn't above its high one.
+        lines = [
+            b"dwell A \xb2 1",
+            b"dwell A 0 1 2",
+            b"earth A -\xb2 1",
+            b"earth A 2 1",
+            b"loss 01 2 step 1",
+            b"table 1 \xb2 step 1",
+            b"table 1 2 step \xb2",
+            b"loss open",
+        ]
+        text = b"".join(line + b"\n" for line in lines)
+        head = b"study\nwidth 100 threshold 75000 steps 2\npeaks\nmonitor 1 %d\n" % len(text)
+        found = rows(self.done("csv", self.file("report.txt", head + text + b"end\n"), "--part=text"))
+        told = [line.decode("utf-8", "replace") for line in lines]
+        self.assertEqual([(row["kind"], row["text"]) for row in found], [("text", line) for line in told])
+
+    def test_the_lines_of_the_monitor_of_a_table(self) -> None:
+        text = "table -1500 2500 step 2\ntable none\n"
+        head = f"study\nwidth 100 threshold 75000 steps 2\npeaks\nmonitor 1 {len(text)}\n"
+        found = rows(self.table(f"{head}{text}end\n", "--part=table"))
+        self.assertEqual([row["low_var"] for row in found], ["-1.500", ""])
+        self.assertEqual([row["high_var"] for row in found], ["2.500", ""])
+        self.assertEqual([(row["step"], row["state"]) for row in found], [("2", ""), ("", "none")])
+
     def test_cells_are_quoted_as_csv_needs(self) -> None:
         self.assertIn(',"said ""a, b""",', self.table(STUDY))
 
@@ -386,6 +413,17 @@ class Refusals(DeskTest):
         twice = SCREEN.replace("TB", "TA")
         words = "TA has 2 lines of one kind above here, and a report has one; take one report alone"
         self.told(twice, f" line 4: {words}")
+
+    def test_a_name_that_stands_twice(self) -> None:
+        words = "has 2 lines of one kind above here, and a report has one; take one report alone"
+        zone = "zone Z north 1000 east 0\n"
+        for text, line, name in (
+            ("check\nnode A live\nnode A dead\nlive 1\nend\n", 3, "A"),
+            ("certificate\nnodes 2 north 1000 east 0\ncert A 31 -5 0\ncert A dead\nend\n", 4, "A"),
+            ("recheck\nnorth 1000 east 0\nnode B 1 2\nnode B 1 2\nend\n", 4, "B"),
+            (f"study\nwidth 100 threshold 75000 steps 2\nstep 1 time 0\n{zone * 2}peaks\nend\n", 5, "Z"),
+        ):
+            self.told(text, f" line {line}: {name} {words}")
 
     def test_only_so_many_findings_are_told(self) -> None:
         lines = self.refused("csv", self.file("report.txt", "volts\nnorth 1 east 1\n" + "line L x\n" * 25 + "end\n"))

@@ -347,6 +347,19 @@ class Bars(unittest.TestCase):
             self.assertEqual(written, bars if terminal else [])
 
 
+    def test_the_bar_is_taken_away_where_the_work_is_stopped(self) -> None:
+        stream = mock.Mock()
+        stream.isatty.return_value = True
+        with self.assertRaises(KeyboardInterrupt), Progress(1, stream):
+            raise KeyboardInterrupt
+        self.assertEqual([call.args[0] for call in stream.write.call_args_list], ["\r\x1b[K"])
+
+    def test_no_error_stream(self) -> None:
+        with Progress(1, None) as progress:
+            progress.next("K")
+        self.assertEqual(progress.done, 1)
+
+
 @unittest.skipUnless(BUILT.is_file(), "no program is built")
 class OverTheProgram(DeskTest):
     def tables(self, case: str, *words: object) -> dict[str, list[dict[str, str]]]:

@@ -406,6 +406,9 @@ class Refusals(PsseTest):
         words = f"these buses and this circuit stand in line 21 already; {one}"
         self.one("5,7,'2 '", "7,5,'1 '", f"net.raw line 22: {words}")
         self.one("1,2,3,'1 ',0.2", "6,4,0,'1 ',0.2", "net.gic line 16: " + words.replace("21", "15"))
+        words = f"net.gic line 3, I: the substation 1 stands in line 2 already; {one}"
+        lines = self.refused(*self.words(gic=GIC.replace("2,'SOUTH'", "1,'SOUTH'")))
+        self.assertTrue(any(line.endswith(words) for line in lines), lines)
 
     def test_other_files(self) -> None:
         self.told(
@@ -418,6 +421,8 @@ class Refusals(PsseTest):
         )
         words = "the version is 23; 30 to 36 are read. Save it as one of these"
         self.told(self.words(raw=RAW.replace(" 33,", " 23,")), f"net.raw line 1, REV: {words}")
+        (line,) = self.refused(*self.words(raw=RAW.replace(" 33,", " 3\u00b2,")))  # a raised 2 is no digit
+        self.assertIn("the first line isn't IC, SBASE, REV, ..", line)
 
     def test_zones(self) -> None:
         heads = "name,geomagnetic_latitude,beta\n"

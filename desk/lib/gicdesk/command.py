@@ -1,6 +1,7 @@
 """The words of `gicdesk`, and what is done with them."""
 
 import argparse
+import contextlib
 import os
 import pathlib
 import sys
@@ -9,7 +10,7 @@ from typing import Any
 
 from . import compare, layouts, outages, psse, psse_units, reports, zones
 from .files import refuse_folder, refuse_taken, write_folder, write_whole
-from .findings import Refused
+from .findings import Refused, refuse
 from .program import find_program
 
 DONE, REFUSED, USAGE, STOPPED = 0, 1, 2, 130
@@ -22,10 +23,24 @@ class Words(argparse.ArgumentParser):
         super().__init__(allow_abbrev=False, **options)
 
 
+def unwritten(reason: str | None) -> str:
+    return f"it can't be written ({reason}); see where the output goes"
+
+
 def show(text: str) -> None:
-    """Writes a text to the standard output, whole."""
-    sys.stdout.buffer.write(text.encode())
+    """Writes a text to the standard output, whole. Names of files that aren't in UTF-8 stand in it as on the error
+    stream, with a backslash."""
+    if sys.stdout is None:
+        raise refuse("the output", unwritten("it is closed"))
+    sys.stdout.buffer.write(text.encode(errors="backslashreplace"))
     sys.stdout.buffer.flush()
+
+
+def tell(words: str) -> None:
+    """Writes a line to the error stream, where there is one."""
+    if sys.stderr is not None:
+        with contextlib.suppress(OSError):
+            print(f"gicdesk: {words}", file=sys.stderr)
 
 
 def add_output(words: argparse.ArgumentParser, help_text: str) -> None:
@@ -134,15 +149,16 @@ def main(arguments: Sequence[str]) -> int:
         return DONE
     except Refused as refused:
         for line in refused.lines():
-            print(f"gicdesk: {line}", file=sys.stderr)
+            tell(line)
         return REFUSED
     except BrokenPipeError:
         # Nobody reads any more. The system's own message at the end is kept away as well.
-        os.dup2(os.open(os.devnull, os.O_WRONLY), sys.stdout.fileno())
+        if sys.stdout is not None:
+            os.dup2(os.open(os.devnull, os.O_WRONLY), sys.stdout.fileno())
         return REFUSED
     except OSError as error:
-        print(f"gicdesk: {error.filename or 'the output'}: {error.strerror}", file=sys.stderr)
+        tell(f"{error.filename}: {error.strerror}" if error.filename else f"the output: {unwritten(error.strerror)}")
         return REFUSED
     except KeyboardInterrupt:
-        print("gicdesk: stopped", file=sys.stderr)
+        tell("stopped")
         return STOPPED

@@ -173,9 +173,9 @@ def sum_text(comparison: Comparison) -> str:
     return "\n".join(lines) + "\n"
 
 
-def verdict_text(change: Change) -> str:
-    before, after = change.before.verdict, change.after.verdict
-    return before if before == after else f"{before} to {after}"
+def verdict_text(before: str | None, after: str) -> str:
+    """A verdict, and in front of it an earlier one, where there is one and it was another."""
+    return after if before in (None, after) else f"{before} to {after}"
 
 
 def report_text(names: Sequence[str], reports: Sequence[tuple[str, Compared]], comparison: Comparison) -> str:
@@ -188,7 +188,7 @@ def report_text(names: Sequence[str], reports: Sequence[tuple[str, Compared]], c
             interval_text(change.before.value),
             interval_text(change.after.value),
             change_text(change.by),
-            verdict_text(change),
+            verdict_text(change.before.verdict, change.after.verdict),
             change.crossing if " to " not in change.crossing else "",
         )
         for change in told

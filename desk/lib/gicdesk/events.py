@@ -12,7 +12,7 @@ from .records import read_table
 
 HEADS = ["event", "item", "action"]
 ACTIONS = ("open", "close", "block", "unblock")
-LONGEST_NAME = 64
+LONGEST_EVENT_NAME = 64
 MOST_ROWS = 4096  # of a file of switchings
 
 
@@ -59,8 +59,8 @@ def one_event(item: str) -> Event:
 def name_fault(name: str) -> str | None:
     if not name:
         return "it is empty; give each event a name"
-    if len(name) > LONGEST_NAME or not name.isprintable():
-        return f"{shown(name)} is no name; allowed are 1 to {LONGEST_NAME} printable letters"
+    if len(name) > LONGEST_EVENT_NAME or not name.isprintable():
+        return f"{shown(name)} is no name; allowed are 1 to {LONGEST_EVENT_NAME} printable letters"
     return None
 
 

@@ -14,6 +14,8 @@ LONGEST = 64 * 1024 * 1024  # no report or table is as long
 def read_bytes(name: str) -> bytes:
     """The bytes of a file; `-` is the standard input."""
     try:
+        if name == "-" and sys.stdin is None:
+            raise ValueError("it is closed")
         if name == "-":
             data = sys.stdin.buffer.read(LONGEST + 1)
         else:

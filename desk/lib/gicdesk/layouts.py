@@ -10,7 +10,7 @@ from collections.abc import Callable, Sequence
 
 from .decimals import MICRO, MILLI, NANO, shifted
 from .findings import refuse
-from .forms import Interval
+from .forms import Interval, read_line
 from .reports import (
     VERDICTS,
     Certificate,
@@ -36,6 +36,16 @@ from .tables import Table
 Cells = dict[str, str]
 BLOCKS = ("step", "peaks", "monitor")
 PER_PHASE = ("effective", "transformer")
+# The lines of the program's own monitors.
+MONITOR_FORMS = (
+    "dwell NAME COUNT COUNT",
+    "earth NAME LO HI",
+    "earth NAME open",
+    "loss LO HI step COUNT",
+    "loss none",
+    "table LO HI step COUNT",
+    "table none",
+)
 
 
 @dataclasses.dataclass(frozen=True)
@@ -199,24 +209,21 @@ def review_rows(report: Review) -> list[Cells]:
 
 def monitor_cells(number: int, line: str) -> Cells:
     """A line of a monitor's text. Those of the program's own monitors have columns; any other stands as it is."""
-    cells = {"block": "monitor", "monitor": str(number)}
-    match line.split(" "):
-        case ["dwell", name, certain, possible] if certain.isdigit() and possible.isdigit():
-            return cells | {"kind": "dwell", "name": name, "certain_steps": certain, "possible_steps": possible}
-        case ["earth", name, "open"]:
-            return cells | {"kind": "earth", "name": name, "state": "open"}
-        case ["earth", name, low, high] if whole(low) and whole(high):
-            return cells | {"kind": "earth", "name": name} | ends("", "A", Interval(int(low), int(high)))
-        case ["loss" | "table" as kind, "none"]:
-            return cells | {"kind": kind, "state": "none"}
-        case ["loss" | "table" as kind, low, high, "step", step] if whole(low) and whole(high):
-            return cells | {"kind": kind, "step": step} | ends("", "var", Interval(int(low), int(high)))
+    cells = {"block": "monitor", "monitor": str(number), "kind": line.split(" ")[0]}
+    for form in MONITOR_FORMS:
+        match read_line(form, line):
+            case [str(name), int(certain), int(possible)]:
+                return cells | {"name": name, "certain_steps": str(certain), "possible_steps": str(possible)}
+            case [str(name), Interval() as value]:
+                return cells | {"name": name} | ends("", "A", value)
+            case [str(name)]:
+                return cells | {"name": name, "state": "open"}
+            case [Interval() as value, int(step)]:
+                return cells | {"step": str(step)} | ends("", "var", value)
+            case []:
+                return cells | {"state": "none"}
     # The letters of a report are its bytes; here they are a text again.
     return cells | {"kind": "text", "text": line.encode("latin-1").decode("utf-8", "replace")}
-
-
-def whole(word: str) -> bool:
-    return word.removeprefix("-").isdigit() and len(word) < 60
 
 
 def study_rows(report: Study) -> list[Cells]:

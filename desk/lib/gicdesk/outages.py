@@ -10,7 +10,7 @@ from collections import Counter
 from collections.abc import Callable, Sequence
 from typing import TypeVar
 
-from .compare import ends_or_nothing, interval_text, outcome_text
+from .compare import ends_or_nothing, interval_text, outcome_text, verdict_text
 from .counts import plural
 from .decimals import MILLI, shifted
 from .events import MOST_ROWS, BaseSwitchings, Event, Items, one_event, read_events
@@ -231,17 +231,16 @@ def find_outages(asked: Asked, file: str | None) -> Outages:
     with tempfile.TemporaryDirectory(prefix="gicdesk.") as folder:
         runner = Runner(asked, base, file or asked.case, pathlib.Path(folder, "event.csv"))
         if file is None:
-            progress = Progress(1)
-            progress.next("the report of outage")
-            outage = outage_report(asked)
-            progress = Progress(len(outage.outcomes))
-            results = single_results(runner, outage, progress.next)
+            with Progress(1) as progress:
+                progress.next("the report of outage")
+                outage = outage_report(asked)
+            with Progress(len(outage.outcomes)) as progress:
+                results = single_results(runner, outage, progress.next)
         else:
             events = read_events(file, known_items(asked, whole))
             look_for_room(file, base, events)
-            progress = Progress(len(events))
-            results = listed_results(runner, events, progress.next)
-        progress.end()
+            with Progress(len(events)) as progress:
+                results = listed_results(runner, events, progress.next)
     return Outages(whole, results)
 
 
@@ -261,10 +260,6 @@ def head_text(asked: Asked, outages: Outages) -> str:
         if names:
             text += f"below with no event, and {verdict} in one: {' '.join(names)}\n"
     return text
-
-
-def verdict_text(before: str | None, after: str) -> str:
-    return after if before in (None, after) else f"{before} to {after}"
 
 
 def report_text(asked: Asked, outages: Outages, listed: bool) -> str:

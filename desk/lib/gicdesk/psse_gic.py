@@ -2,11 +2,12 @@
 
 import dataclasses
 import decimal
+import functools
 
 from .files import read_text
 from .findings import Finding, refuse
 from .psse_raw import Key, circuit_of, look_for_twins
-from .psse_text import Layout, read_sections, record, told_skipped
+from .psse_text import Layout, by_number, read_sections, records_of, told_skipped
 from .records import Record
 
 LAYOUT = Layout(
@@ -126,17 +127,8 @@ def read_gic(file: str, findings: list[Finding], notes: list[Finding]) -> Gic:
         raise refuse(file, "the first line isn't GICFILEVRSN=..; is it another file?", first + 1)
     sections = read_sections(file, lines, first + 2, LAYOUT, findings)
     told_skipped(file, sections, LAYOUT, PASSED, notes)
-
-    def records(section: str) -> list[Record]:
-        return [record(file, line, section, LAYOUT, findings) for line in sections[section]]
-
-    substations: dict[int, Substation] = {}
-    for at in records("SUBSTATION"):
-        substation = read_substation(at)
-        if substation.number in substations:
-            line = substations[substation.number].record.line
-            at.wrong("I", f"the substation {substation.number} stands in line {line} already; leave one of the two")
-        substations[substation.number] = substation
+    records = functools.partial(records_of, file, sections, LAYOUT, findings)
+    substations = by_number("substation", map(read_substation, records("SUBSTATION")))
     substation_of: dict[int, int] = {}
     for at in records("BUS"):
         bus, number = at.bus("BUS"), at.whole("SUBSTATION")

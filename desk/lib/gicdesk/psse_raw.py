@@ -2,11 +2,12 @@
 
 import dataclasses
 import decimal
+import functools
 
 from .files import read_text
 from .findings import Finding, refuse, shown
-from .psse_text import Layout, SectionLine, fields_of, read_sections, record, told_skipped
-from .records import Record
+from .psse_text import Layout, SectionLine, by_number, fields_of, read_sections, record, records_of, told_skipped
+from .records import WHOLE, Record
 
 RATES = " ".join(f"RATE{number}" for number in range(1, 13))
 COLUMNS = {
@@ -131,7 +132,7 @@ def read_head(file: str, lines: list[str]) -> tuple[int, decimal.Decimal, Layout
     while place < len(lines) and lines[place].lstrip().startswith("@!"):
         place += 1
     head = fields_of(lines[place]) if place < len(lines) else None
-    if head is None or len(head) < 3 or not head[2].isdigit():
+    if head is None or len(head) < 3 or not WHOLE.fullmatch(head[2]):
         words = "the first line isn't IC, SBASE, REV, ..; is it another file, or a binary one? Save it as .raw"
         raise refuse(file, words, place + 1)
     version = int(head[2])
@@ -196,17 +197,8 @@ def read_raw(file: str, findings: list[Finding], notes: list[Finding]) -> Raw:
     first, base, layout = read_head(file, lines)
     sections = read_sections(file, lines, first, layout, findings)
     told_skipped(file, sections, layout, PASSED, notes)
-
-    def records(section: str) -> list[Record]:
-        return [record(file, line, section, layout, findings) for line in sections.get(section, [])]
-
-    buses: dict[int, Bus] = {}
-    for at in records("BUS"):
-        bus = read_bus(at)
-        if bus.number in buses:
-            line = buses[bus.number].record.line
-            at.wrong("I", f"the bus {bus.number} stands in line {line} already; leave one of the two")
-        buses[bus.number] = bus
+    records = functools.partial(records_of, file, sections, layout, findings)
+    buses = by_number("bus", map(read_bus, records("BUS")))
     branches = [read_branch(at) for at in records("BRANCH")]
     switches = [read_switch(at) for at in records("SYSTEM SWITCHING DEVICE")]
     units = read_transformers(file, sections["TRANSFORMER"], layout, findings)

@@ -9,7 +9,8 @@ with `@!` name the columns of the records below them.
 import csv
 import dataclasses
 import re
-from collections.abc import Sequence
+from collections.abc import Iterable, Sequence
+from typing import Protocol, TypeVar
 
 from .counts import plural
 from .findings import Finding, shown
@@ -129,3 +130,34 @@ def record(file: str, line: SectionLine, section: str, layout: Layout, findings:
     if not set(layout.needed[section].split(" ")) <= set(columns):
         columns = layout.columns[section].split(" ")
     return Record(file, line.number, line.fields, columns, findings)
+
+
+def records_of(
+    file: str, sections: dict[str, list[SectionLine]], layout: Layout, findings: list[Finding], section: str
+) -> list[Record]:
+    """The lines of a section as records; none where the file doesn't have it."""
+    return [record(file, line, section, layout, findings) for line in sections.get(section, [])]
+
+
+class Numbered(Protocol):
+    """What has a number of its own in a file, in the column I."""
+
+    @property
+    def number(self) -> int: ...
+
+    @property
+    def record(self) -> Record: ...
+
+
+Kind = TypeVar("Kind", bound=Numbered)
+
+
+def by_number(what: str, found: Iterable[Kind]) -> dict[int, Kind]:
+    """What was found by its numbers, with a finding at each whose number an earlier one has."""
+    numbered: dict[int, Kind] = {}
+    for one in found:
+        if one.number in numbered:
+            line = numbered[one.number].record.line
+            one.record.wrong("I", f"the {what} {one.number} stands in line {line} already; leave one of the two")
+        numbered[one.number] = one
+    return numbered

@@ -275,11 +275,10 @@ def read_list(lines: Lines) -> Elements:
 def read_check(lines: Lines) -> Check:
     rows = lines.rows(("node NAME live", "node NAME dead"), ("live",))
     look_for_twins(lines, [name for _, (name,) in rows])
-    nodes = {name: state_of(form) for form, (name,) in rows}
     (live,) = lines.line("live COUNT")
-    look_for_count(lines, "live nodes", live, list(nodes.values()).count("live"))
+    look_for_count(lines, "live nodes", live, [state_of(form) for form, _ in rows].count("live"))
     lines.end()
-    return Check(nodes)
+    return Check({name: state_of(form) for form, (name,) in rows})
 
 
 def read_field(lines: Lines) -> Field:
@@ -294,6 +293,7 @@ def read_detail(lines: Lines) -> Detail:
     step, time = lines.line("step COUNT time COUNT")
     zone_form = "zone NAME north NUMBER east NUMBER"
     rows = lines.rows((zone_form, *ITEM_FORMS, EFFECTIVE_FORM), ("peaks", "end"))
+    look_for_twins(lines, [values[0] for form, values in rows if form == zone_form])
     zones = {values[0]: (values[1], values[2]) for form, values in rows if form == zone_form}
     items = [item_of(form, values) for form, values in rows if form != zone_form]
     return Detail(step, time, zones, items)
@@ -368,6 +368,7 @@ def read_make(lines: Lines) -> Make:
 def read_certificate(lines: Lines) -> Certificate:
     many, north, east = lines.line("nodes COUNT north NUMBER east NUMBER")
     rows = [values for _, values in lines.rows(("cert NAME COUNT NUMBER COUNT", "cert NAME dead"))]
+    look_for_twins(lines, [values[0] for values in rows])
     look_for_count(lines, "nodes", many, len(rows))
     lines.end()
     return Certificate(north, east, {values[0]: tuple(values[1:]) or None for values in rows})
@@ -376,6 +377,7 @@ def read_certificate(lines: Lines) -> Certificate:
 def read_recheck(lines: Lines) -> Recheck:
     north, east = lines.line("north NUMBER east NUMBER")
     rows = [values for _, values in lines.rows(("node NAME LO HI",))]
+    look_for_twins(lines, [name for name, _ in rows])
     lines.end()
     return Recheck(north, east, dict(rows))
 
