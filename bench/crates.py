@@ -54,9 +54,12 @@ def anew(stands_on: dict[str, set[str]], changed: str) -> set[str]:
 
 
 def main(names: list[str]) -> int:
+    if names in (["--help"], ["-h"]):
+        print((__doc__ or "").strip())
+        return 0
     try:
-        stands_on = below(read_crates(CRATES.read_text()))
-    except (OSError, BadList) as error:
+        stands_on = below(read_crates(CRATES.read_text(encoding="utf-8")))
+    except (OSError, UnicodeDecodeError, BadList) as error:
         print(f"crates.py: {error}", file=sys.stderr)
         return 1
     unknown = [name for name in names if name not in stands_on]

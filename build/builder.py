@@ -6,7 +6,7 @@ from dataclasses import dataclass, field
 from pathlib import Path
 
 import machine
-from crates import PROGRAM, Crate, Fault, below
+from crates import PROGRAM, Crate, Fault, below, read_text
 from plan import Start, chains, longest_chain, read_table, starts, weigh
 from rooms import Room, clear_rooms, is_proved, out_of, rooms_of
 from runs import Ended, Run, was_interrupted, was_killed
@@ -58,6 +58,10 @@ class Builder:
         # Crates whose run was killed: each is tried once more, with nothing beside it.
         self.killed: list[str] = []
         self.ended: dict[str, tuple[Start, Ended]] = {}
+
+    def left(self) -> int:
+        """How many crates aren't proved yet."""
+        return len(self.crates) - len(self.proved)
 
     def build(self) -> None:
         """Proves all that isn't proved, and links the program."""
@@ -176,7 +180,7 @@ def builder_for(top: Path, rt: str, toolchain: str, sources: Sources, teller: Te
         toolchain,
         sources,
         teller,
-        read_table(table.read_text(encoding="utf-8")) if table.is_file() else {},
+        read_table(read_text(table)) if table.is_file() else {},
         machine.processors(),
         max(machine.free_memory() / machine.PROOF_MEMORY, 1.0),
     )

@@ -2,6 +2,7 @@
 
 import re
 from dataclasses import dataclass
+from pathlib import Path
 
 PROGRAM = "gicstudy"
 LINE = re.compile(r"(\w+)([^:]*):(.*)")
@@ -9,6 +10,14 @@ LINE = re.compile(r"(\w+)([^:]*):(.*)")
 
 class Fault(Exception):
     """What the user is told in one line, before the build ends with status 1."""
+
+
+def read_text(file: Path) -> str:
+    """The text of a file that somebody wrote."""
+    try:
+        return file.read_text(encoding="utf-8")
+    except UnicodeDecodeError:
+        raise Fault(f"{file} isn't text in UTF-8") from None
 
 
 @dataclass(frozen=True)

@@ -6,8 +6,9 @@ from pathlib import Path
 
 # The memory that the proof of a crate is given, and what a further job of it takes of that.
 PROOF_MEMORY = 2_500_000_000
-# A build from nothing needs this on the disk.
+# A build from nothing needs this on the disk, and one of a few crates its share of it, but no less than the second.
 DISK = 3_000_000_000
+LEAST_DISK = 300_000_000
 
 GROUP = Path("/sys/fs/cgroup")
 
@@ -36,6 +37,11 @@ def free_memory() -> int:
     if limit is not None and held is not None:
         found.append(limit - held)
     return min(found)
+
+
+def disk_for(left: int, crates: int) -> int:
+    """What a build needs on the disk where so many of the crates aren't proved yet."""
+    return max(DISK * left // crates, LEAST_DISK)
 
 
 def free_disk(folder: Path) -> int:

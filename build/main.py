@@ -47,18 +47,44 @@ def reason(top: Path, sources: Sources) -> str | None:
     program, record = program_of(top), record_of(top)
     if not os.access(program, os.X_OK):
         return "the program isn't built yet"
-    if not record.is_file():
+    kept = text_of(record)
+    if kept is None:
         return "nothing tells of which sources the program was built"
-    differs = first_difference(record.read_text(encoding="utf-8"), sources.record(program.read_bytes()))
+    differs = first_difference(kept, sources.record(program.read_bytes()))
     return None if differs is None else f"{differs} isn't as it was when the program was built"
 
 
-def keep(top: Path, sources: Sources) -> None:
+def text_of(record: Path) -> str | None:
+    """The record that is kept, or None where there is none, or another file in its place."""
+    try:
+        return record.read_text(encoding="utf-8") if record.is_file() else None
+    except UnicodeDecodeError:
+        return None
+
+
+def put(file: Path, content: bytes, at: float | None = None) -> None:
+    """Puts a file there whole, and with its time where one is given: another beside it takes its place."""
+    beside = file.with_name(f"{file.name}.{os.getpid()}")
+    try:
+        beside.write_bytes(content)
+        if at is not None:
+            os.utime(beside, (at, at))
+        os.replace(beside, file)
+    except BaseException:
+        beside.unlink(missing_ok=True)
+        raise
+
+
+def keep(top: Path, sources: Sources, record: str | None = None) -> None:
     """Keeps beside the program what the script looks at: the places of its sources, and when they were read, which is the
-    time that the record and the program get."""
-    places_of(top).write_bytes(b"".join(it.encode() + b"\0" for it in sources.places(top)))
-    for it in (program_of(top), record_of(top)):
-        os.utime(it, (sources.read_at, sources.read_at))
+    time that the program and the record get. The record, which is another one where it is given, comes last: until then
+    the program is newer than the record that stands there, and is looked at."""
+    put(places_of(top), b"".join(os.fsencode(it) + b"\0" for it in sources.places(top)))
+    os.utime(program_of(top), (sources.read_at, sources.read_at))
+    if record is None:
+        os.utime(record_of(top), (sources.read_at, sources.read_at))
+    else:
+        put(record_of(top), record.encode(), sources.read_at)
 
 
 def toolchain_of(rt: str) -> str:
@@ -67,8 +93,8 @@ def toolchain_of(rt: str) -> str:
 
 
 @contextmanager
-def locked(folder: Path, teller: Teller, why: str) -> Iterator[bool]:
-    """Keeps others out of the folder, and gives whether it waited for them."""
+def locked(folder: Path, teller: Teller, why: str) -> Iterator[None]:
+    """Keeps others out of the folder, once they have left it."""
     held = os.open(folder, os.O_RDONLY)
     has_waited = False
     try:
@@ -84,7 +110,7 @@ def locked(folder: Path, teller: Teller, why: str) -> Iterator[bool]:
             except OSError:
                 # (some file systems have no locks)
                 break
-        yield has_waited
+        yield
     finally:
         os.close(held)
 
@@ -114,28 +140,26 @@ def make_folders(top: Path, sources: Sources) -> None:
 
 
 def build(top: Path, teller: Teller, why: str, sources: Sources) -> None:
-    """Builds the program, unless another call has built it meanwhile."""
+    """Builds the program, unless another call has built it since it was looked at."""
     rt = found_rt(top, why)
     make_folders(top, sources)
     with ExitStack() as held:
-        has_waited = held.enter_context(locked(top / "crates", teller, "waits for another build of this checkout to end"))
+        held.enter_context(locked(top / "crates", teller, "waits for another build of this checkout to end"))
         for crate in sources.crates:
             waits = f"waits for rt, which works in crates/{crate.name}, to end"
             held.enter_context(locked(top / "crates" / crate.name, teller, waits))
         sources = read_sources(top)
-        if has_waited and reason(top, sources) is None:
+        if reason(top, sources) is None:
             keep(top, sources)
             return
         teller.say("builds the program; what isn't proved yet is proved first")
         clear_rooms(top)
-        if machine.free_disk(top) < machine.DISK:
-            raise Fault(
-                f"a build needs {machine.DISK // 10**9} GB on the disk, and {top} has {machine.free_disk(top) / 1e9:.1f} GB left"
-            )
         builder = builder_for(top, rt, toolchain_of(rt), sources, teller)
+        needed, free = machine.disk_for(builder.left(), len(sources.crates)), machine.free_disk(top)
+        if free < needed:
+            raise Fault(f"this build needs {needed / 1e9:.1f} GB on the disk, and {top} has {free / 1e9:.1f} GB left")
         builder.build()
-        record_of(top).write_text(sources.record(program_of(top).read_bytes()), encoding="utf-8")
-        keep(top, sources)
+        keep(top, sources, sources.record(program_of(top).read_bytes()))
         teller.say(f"the program is built, {teller.minutes()}")
 
 

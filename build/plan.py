@@ -1,20 +1,28 @@
 """The plan: which crate is proved next, and with how many jobs."""
 
+import re
 from collections.abc import Iterable, Mapping, Sequence
 from dataclasses import dataclass
 
-from crates import Crate
+from crates import Crate, Fault
 
 # More jobs than this help a proof no further.
 MOST_JOBS = 4
 # What each further job of a proof takes of the memory of the first.
 FURTHER_JOB = 0.6
+ROW = re.compile(r"(\w+)\s+([0-9]+(?:\.[0-9]+)?)")
 
 
 def read_table(text: str) -> dict[str, float]:
     """The processor seconds that the proofs of the crates took when they were measured last."""
-    rows = [line.split() for line in text.splitlines() if line.strip() and not line.startswith("#")]
-    return {name: float(seconds) for name, seconds in rows}
+    found: dict[str, float] = {}
+    for line in text.splitlines():
+        if line.strip() and not line.startswith("#"):
+            row = ROW.fullmatch(line.strip())
+            if row is None:
+                raise Fault(f"build/seconds.txt has the line '{line}', which isn't a crate and its seconds")
+            found[row[1]] = float(row[2])
+    return found
 
 
 def weigh(lines: Mapping[str, int], table: Mapping[str, float]) -> dict[str, float]:

@@ -47,7 +47,7 @@ def is_proved(top: Path, name: str, sum: str) -> bool:
     """Whether the library that stands there was built of the sources with this sum."""
     library = out_of(top, name) / LIBRARY
     mark = library / MARK
-    return (library / f"{name}.rlib").is_dir() and mark.is_file() and mark.read_text(encoding="utf-8") == sum
+    return (library / f"{name}.rlib").is_dir() and mark.is_file() and mark.read_bytes() == sum.encode()
 
 
 def move_out(room: Path, top: Path, name: str, entries: Sequence[str]) -> None:
@@ -65,9 +65,10 @@ def clear_rooms(top: Path) -> None:
     """Removes the rooms, and gives back first what checks kept in them, also those of a build that was killed."""
     rooms = rooms_of(top)
     for kept in rooms.glob(f"*/crates/*/out/{KEPT}"):
-        name = kept.parent.parent.name
-        if not (out_of(top, name) / KEPT).exists():
-            os.replace(kept, out_of(top, name) / KEPT)
+        out = out_of(top, kept.parent.parent.name)
+        if out.parent.is_dir() and not (out / KEPT).exists():
+            out.mkdir(exist_ok=True)
+            os.replace(kept, out / KEPT)
     remove(rooms)
 
 

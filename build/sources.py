@@ -6,7 +6,7 @@ import time
 from dataclasses import dataclass
 from pathlib import Path
 
-from crates import PROGRAM, Crate, below, read_crates
+from crates import PROGRAM, Crate, below, read_crates, read_text
 
 LIST = "crates.txt"
 PARTS = ("src", "specs", "proofs")
@@ -57,7 +57,9 @@ class Sources:
         """The sums of the sources and of the program that was built of them, as sha256sum writes them."""
         lines = [f"{sum_of(' '.join(it.line for it in self.crates).encode())}  {LIST}, the lines of these crates"]
         for crate in self.crates:
-            lines += [f"{sum_of(content)}  {path}" for path, content in self.of(crate.name).items()]
+            # (a name that isn't UTF-8 is shown)
+            shown = {os.fsencode(path).decode(errors="backslashreplace"): it for path, it in self.of(crate.name).items()}
+            lines += [f"{sum_of(content)}  {path}" for path, content in shown.items()]
         lines.append(f"{sum_of(program)}  crates/{PROGRAM}/out/{PROGRAM}")
         return "".join(f"{line}\n" for line in lines)
 
@@ -76,7 +78,7 @@ def read_sources(top: Path) -> Sources:
     """Reads the sources of the program's crates."""
     # A save within the last moments may bear the time of now: one second back it counts as later, and is looked at.
     read_at = time.time() - 1
-    listed = read_crates((top / LIST).read_text(encoding="utf-8"))
+    listed = read_crates(read_text(top / LIST))
     crates = (*below(listed, PROGRAM), listed[PROGRAM])
     files: dict[str, bytes] = {}
     for crate in crates:

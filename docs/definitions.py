@@ -78,7 +78,7 @@ def definitions(top: Path, crates: list[str]) -> dict[str, Definition]:
     for crate in crates:
         for path in sorted((top / "crates" / crate / "specs").glob("*.antt")):
             if path.stem != "Lib":
-                text = path.read_text()
+                text = path.read_text(encoding="utf-8")
                 name = f"{crate}/{path.stem}"
                 found[name] = Definition(name, sentence_of(text), [other for other in cited_by(text) if other != name])
     for definition in found.values():
@@ -87,7 +87,7 @@ def definitions(top: Path, crates: list[str]) -> dict[str, Definition]:
                 found[other].cited_in.append(definition.name)
     for crate in crates:
         for path in sorted((top / "crates" / crate / "src").glob("**/*.rt")):
-            for other in cited_by(path.read_text()):
+            for other in cited_by(path.read_text(encoding="utf-8")):
                 if other in found:
                     found[other].cited_in.append(f"{crate}/{path.name}")
     return found
@@ -111,9 +111,9 @@ def reached(found: dict[str, Definition], first: list[str], known: set[str]) -> 
 
 def in_parts(top: Path, crates: list[str], found: dict[str, Definition]) -> list[list[str]]:
     """The names of all definitions, in the three parts of the index."""
-    headline = reached(found, cited_by((top / HEADLINE).read_text()), set())
+    headline = reached(found, cited_by((top / HEADLINE).read_text(encoding="utf-8")), set())
     files = [top / "crates" / crate / "src" / "laws.rt" for crate in crates]
-    laws = [other for path in files if path.exists() for other in cited_by(path.read_text())]
+    laws = [other for path in files if path.exists() for other in cited_by(path.read_text(encoding="utf-8"))]
     by_laws = reached(found, laws, set(headline))
     rest = [name for name in found if name not in set(headline) | set(by_laws)]
     return [headline, by_laws, rest]
@@ -186,14 +186,14 @@ def main(words: list[str]) -> int:
         print(__doc__.strip(), file=sys.stdout if words in (["--help"], ["-h"]) else sys.stderr)
         return 0 if words in (["--help"], ["-h"]) else 2
     try:
-        crates = crate_names((TOP / "crates.txt").read_text())
+        crates = crate_names((TOP / "crates.txt").read_text(encoding="utf-8"))
         found = definitions(TOP, crates)
         index = index_of(found, in_parts(TOP, crates, found))
         if words:
-            (TOP / INDEX).write_text(index)
-        shown = (TOP / INDEX).read_text() if (TOP / INDEX).exists() else ""
-        faults = faults_of(found, index, shown, (TOP / WORDS).read_text())
-        faults += odd_crates((TOP / MAP).read_text(), crates)
+            (TOP / INDEX).write_text(index, encoding="utf-8")
+        shown = (TOP / INDEX).read_text(encoding="utf-8") if (TOP / INDEX).exists() else ""
+        faults = faults_of(found, index, shown, (TOP / WORDS).read_text(encoding="utf-8"))
+        faults += odd_crates((TOP / MAP).read_text(encoding="utf-8"), crates)
     except (OSError, UnicodeDecodeError) as error:
         print(f"definitions.py: {error}", file=sys.stderr)
         return 1

@@ -60,7 +60,7 @@ def dead(document: Path, text: str, top: Path, ends: set[str]) -> Iterator[tuple
         target = (top / document).parent / place if place else top / document
         is_dead = not target.exists()
         if part and not is_dead:
-            is_dead = part not in anchors(target.read_text())
+            is_dead = part not in anchors(target.read_text(encoding="utf-8"))
         yield link, is_dead
     for name in NAME.findall(plain):
         if not PLACEHOLDER.search(name):
@@ -75,7 +75,7 @@ def main(words: list[str]) -> int:
         files = files_below(TOP)
         ends = endings(files)
         documents = [path for path in files if path.suffix == ".md"]
-        looked = [(path, found) for path in documents for found in dead(path, (TOP / path).read_text(), TOP, ends)]
+        looked = [(path, found) for path in documents for found in dead(path, (TOP / path).read_text(encoding="utf-8"), TOP, ends)]
     except (OSError, UnicodeDecodeError) as error:
         print(f"links.py: {error}", file=sys.stderr)
         return 1

@@ -22,6 +22,7 @@ import os
 import pathlib
 import re
 import shutil
+import signal
 import sys
 from collections.abc import Callable, Iterator
 from fractions import Fraction
@@ -347,19 +348,21 @@ def write_whole(path: pathlib.Path, content: bytes) -> None:
         if target.exists():
             shutil.copymode(target, beside)
         beside.replace(target)
-    except OSError:
+    except BaseException:
         beside.unlink(missing_ok=True)
         raise
 
 
 def write_out(content: bytes) -> None:
     """Writes to the standard output."""
+    if sys.stdout is None:
+        raise Fault("cannot write: the output is closed")
     try:
         sys.stdout.buffer.write(content)
         sys.stdout.flush()
-    except OSError:
+    except OSError as error:
         os.dup2(os.open(os.devnull, os.O_WRONLY), 1)  # what is left is written to nowhere
-        raise
+        raise Fault(f"cannot write: {error.strerror}") from error
 
 
 def main() -> int:
@@ -378,8 +381,11 @@ def main() -> int:
         else:
             write_whole(pathlib.Path(given.out[0]), content)
     except (Fault, OSError) as fault:
-        print(fault, file=sys.stderr)
+        if sys.stderr is not None:
+            print(fault, file=sys.stderr)
         return 1
+    except KeyboardInterrupt:
+        return 128 + signal.SIGINT
     return 0
 
 

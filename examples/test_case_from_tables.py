@@ -13,6 +13,7 @@ import sys
 import tempfile
 import tomllib
 import unittest
+import unittest.mock
 
 import case_from_tables
 
@@ -214,6 +215,20 @@ class Output(Tables):
                 [sys.executable, "-B", str(SCRIPT), str(self.folder)], stdout=full, stderr=subprocess.PIPE, check=False
             )
         self.assertEqual((ran.returncode, ran.stderr.count(b"\n")), (1, 1))
+        self.assertTrue(ran.stderr.startswith(b"cannot write: "), ran.stderr)
+
+    def test_an_output_that_is_closed(self) -> None:
+        words = ["sh", "-c", 'exec "$@" >&-', "sh", sys.executable, "-B", str(SCRIPT), str(self.folder)]
+        ran = subprocess.run(words, capture_output=True, check=False)
+        self.assertEqual((ran.returncode, ran.stdout, ran.stderr), (1, b"", b"cannot write: the output is closed\n"))
+
+    def test_out_that_is_stopped_leaves_nothing_beside_it(self) -> None:
+        out = self.work / "my.toml"
+        out.write_text("mine")
+        with unittest.mock.patch("pathlib.Path.replace", side_effect=KeyboardInterrupt):
+            with unittest.mock.patch("sys.argv", [str(SCRIPT), f"--out={out}", str(self.folder)]):
+                self.assertEqual(case_from_tables.main(), 130)
+        self.assertEqual((out.read_text(), sorted(os.listdir(self.work))), ("mine", ["my.toml", "tables"]))
 
 
 if __name__ == "__main__":

@@ -3,6 +3,7 @@
 import os
 import shutil
 import subprocess
+import sys
 import tempfile
 import time
 from pathlib import Path
@@ -60,8 +61,17 @@ class Checkout:
     def call(self, *words: str, has_rt: bool = True) -> tuple[int, str, str]:
         """Status, output and what was said of a call that was waited for."""
         started = self.start(*words, has_rt=has_rt)
-        out, said = started.communicate(timeout=60)
+        out, said = started.communicate(timeout=300)
         return started.returncode, out, said
+
+    def build_again(self) -> tuple[int, str]:
+        """Status and what was said of a build that begins where the program is built already."""
+        words = "import sys; sys.path.insert(0, sys.argv[1]); import main; top = main.Path(sys.argv[1]).parent"
+        words += "; main.build(top, main.Teller(), 'it was looked at before', main.read_sources(top))"
+        ran = subprocess.run(
+            [sys.executable, "-B", "-c", words, self.top / "build"], env=self.environment(), capture_output=True, text=True
+        )
+        return ran.returncode, ran.stderr
 
     def noted(self, verb: str = "begin") -> list[str]:
         """The crates at which `rt` was called since the last look, or has ended, in their order."""
@@ -73,7 +83,7 @@ class Checkout:
 
     def wait_for(self, name: str) -> None:
         """Waits until `rt` is called for a crate."""
-        for _ in range(200):
+        for _ in range(2000):
             if name in self.noted():
                 return
             time.sleep(0.05)

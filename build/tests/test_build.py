@@ -1,6 +1,7 @@
 """Whole builds of a small checkout with a toolchain that only looks like one."""
 
 import os
+import shutil
 import signal
 import sys
 import time
@@ -42,6 +43,54 @@ class Builds(unittest.TestCase):
     def test_a_built_program_starts_without_python(self) -> None:
         self.build()
         self.assertFalse(self.at.is_looked_at())
+
+    def test_without_its_list_of_places_or_find_it_is_looked_at(self) -> None:
+        self.build()
+        (self.at.top / "crates/gicstudy/out/gicstudy.places").write_bytes(b"")
+        self.assertTrue(self.at.is_looked_at())
+        self.assertEqual(self.at.call(has_rt=False)[0], 0)
+        self.assertFalse(self.at.is_looked_at())
+        (Path(self.at.path_without_python()) / "find").unlink()
+        self.assertTrue(self.at.is_looked_at())
+
+    def test_an_older_python_is_told(self) -> None:
+        older = Path(self.at.path_without_python()) / "python3"
+        older.write_text("#!/bin/sh\nexit 1\n", encoding="utf-8")
+        older.chmod(0o755)
+        self.assertTrue(self.at.is_looked_at())
+
+    def test_a_build_that_another_has_made_meanwhile_is_none(self) -> None:
+        self.build()
+        self.assertEqual(self.at.build_again(), (0, ""))
+        self.assertEqual(self.at.noted(), [])
+
+    def test_a_record_that_is_put_has_its_time_from_the_first(self) -> None:
+        self.build()
+        out = self.at.top / "crates/gicstudy/out"
+        program, record = out / "gicstudy", out / "gicstudy.sources"
+        self.assertEqual(program.stat().st_mtime, record.stat().st_mtime)
+        self.at.write("high", "high again")
+        self.at.call()
+        self.assertEqual(program.stat().st_mtime, record.stat().st_mtime)
+        self.assertLess(record.stat().st_mtime, self.at.source("high").stat().st_mtime)
+
+    def test_a_record_that_is_no_text_tells_nothing(self) -> None:
+        self.build()
+        (self.at.top / "crates/gicstudy/out/gicstudy.sources").write_bytes(b"\xff\n")
+        status, _, said = self.at.call(has_rt=False)
+        self.assertEqual(status, 1)
+        self.assertRegex(said, r"\Agicstudy: nothing tells of which sources the program was built, .*\n\Z")
+        self.assertEqual(self.at.call()[0], 0)
+
+    def test_lists_that_cannot_be_read_are_told_in_a_line(self) -> None:
+        seconds = self.at.top / "build/seconds.txt"
+        for line, told in ((b"low 1 2\n", "has the line 'low 1 2'"), (b"low nan\n", "has the line"), (b"\xff\n", "UTF-8")):
+            seconds.write_bytes(line)
+            status, _, said = self.at.call()
+            self.assertEqual(status, 1)
+            self.assertRegex(said.splitlines()[-1], rf"\Agicstudy: .*seconds.txt .*{told}")
+        (self.at.top / "crates.txt").write_bytes(b"\xff:\n")
+        self.assertEqual(self.at.call(), (1, "", f"gicstudy: {self.at.top / 'crates.txt'} isn't text in UTF-8\n"))
 
     def test_a_saved_source_has_its_crate_and_those_above_built(self) -> None:
         self.build()
@@ -104,7 +153,7 @@ class Builds(unittest.TestCase):
         started = self.at.start()
         self.at.wait_for("high")
         self.at.write("left", "left again")
-        self.assertEqual(started.communicate(timeout=60)[0], "gicstudy: \n")
+        self.assertEqual(started.communicate(timeout=300)[0], "gicstudy: \n")
         self.at.forget()
         self.assertEqual(self.at.call()[0], 0)
         self.assertEqual(self.at.noted(), ["left", "high", "gicstudy"])
@@ -144,7 +193,7 @@ class Builds(unittest.TestCase):
             started = self.at.start()
             self.at.wait_for("high")
             started.send_signal(number)
-            said = started.communicate(timeout=2)[1]
+            said = started.communicate(timeout=30)[1]
             self.assertEqual(started.returncode, -number)
             self.assertIn("gicstudy: stopped; the next call goes on from here\n", said)
             self.assertNotIn("gicstudy/out/rooms", self.at.left())
@@ -158,9 +207,10 @@ class Builds(unittest.TestCase):
         started = self.at.start()
         self.at.wait_for("high")
         started.kill()
-        started.communicate(timeout=10)
+        started.communicate(timeout=300)
         self.assertIn("gicstudy/out/rooms", self.at.left())
         self.at.forget()
+        shutil.rmtree(self.at.top / "crates/high/out")
         self.assertEqual(self.at.call()[0], 0)
         self.assertEqual(self.at.noted(), ["high", "gicstudy"])
         self.assertNotIn("gicstudy/out/rooms", self.at.left())
@@ -172,7 +222,7 @@ class Builds(unittest.TestCase):
         status, out, said = self.at.call("second")
         self.assertEqual((status, out), (0, "gicstudy: second\n"))
         self.assertEqual(said, "gicstudy: waits for another build of this checkout to end\n")
-        self.assertEqual(first.communicate(timeout=60)[0], "gicstudy: first\n")
+        self.assertEqual(first.communicate(timeout=300)[0], "gicstudy: first\n")
         self.assertEqual(sorted(self.at.noted()), sorted(PROVED))
 
     def test_messages_that_nobody_reads_end_nothing(self) -> None:
@@ -180,7 +230,7 @@ class Builds(unittest.TestCase):
         assert started.stderr is not None and started.stdout is not None
         started.stderr.close()
         self.assertEqual(started.stdout.read(), "gicstudy: \n")
-        self.assertEqual(started.wait(60), 0)
+        self.assertEqual(started.wait(300), 0)
         started.stdout.close()
 
     def test_a_checkout_that_cannot_be_written_is_told(self) -> None:
