@@ -5,16 +5,17 @@
     python3 independent/judge.py --case=C [--switch=S] --report=SCREEN --north=FILE --east=FILE
     python3 independent/judge.py --case=C [--switch=S] --report=OUTAGE --certs=FOLDER
 
-It prints the SHA-256 of each file that it reads, then the head of the report, then a line for each interval and each
-verdict that is refuted or left open, and then the figures. The status is 0 where all is shown, 15 where something is
-refuted, else 16 where something is open; 14 where the report is not whole or not of this case; 2, 3, 4, 5, 7, 10, 11
-and 13 as of gicstudy. Potentials are in millivolts, currents in milliamperes, conductances in siemens.
+It prints the SHA-256 of each file, the head of the report, a line for each interval and verdict that is refuted or left
+open, and the figures. The status is 0 where all is shown, 15 where something is refuted, else 16 where something is
+open; 14 where the report is not whole or not of this case; 2, 3, 4, 5, 7, 10, 11 and 13 as of gicstudy. Potentials are
+in millivolts, currents in milliamperes, conductances in siemens.
 """
 
 import csv
 import io
 import os
 import re
+import signal
 import sys
 import tomllib
 from collections import Counter, defaultdict
@@ -65,7 +66,7 @@ OPTIONAL = ["ground", "blocked", "neutral"]
 def read_case(text: bytes) -> Case:
     """The lists of a case that breaks no rule."""
     try:
-        document = tomllib.loads(text.decode())
+        document = tomllib.loads(text.decode("utf-8-sig"))
     except (ValueError, RecursionError):
         raise Refused(5, "case: no TOML 1.0 in UTF-8") from None
     version = document.pop("format", None)
@@ -133,13 +134,10 @@ class Element(NamedTuple):
 
 def elements_of(case: Case) -> list[Element]:
     """All elements, in the order of their lines in a report of `field`; of lines and windings there is one a phase."""
-    found = []
-    for name, ground in ((row["name"], row.get("ground")) for row in case["substation"]):
-        if ground:
-            found.append(Element(f"ground {name}", name, name, EARTH, Fraction(10**6, ground)))
-    factor = {}
-    for row in case["zone"]:
-        factor[row["name"]] = row["beta"] * next(tenths for most, tenths in ALPHA if row["latitude"] <= most)
+    grounds = [(row["name"], row["ground"]) for row in case["substation"] if "ground" in row]
+    found = [Element(f"ground {name}", name, name, EARTH, Fraction(10**6, ground)) for name, ground in grounds]
+    alphas = {row["name"]: next(tenths for most, tenths in ALPHA if row["latitude"] <= most) for row in case["zone"]}
+    factor = {row["name"]: row["beta"] * alphas[row["name"]] for row in case["zone"]}
     for row in case["line"]:
         induced = row["north"] * factor[row["zone"]], row["east"] * factor[row["zone"]]
         conductance = ZERO if row.get("blocked", False) else Fraction(3 * 10**6, row["resistance"])
@@ -219,7 +217,7 @@ class Interval(NamedTuple):
 
     def size(self) -> "Interval":
         """That of the absolute value."""
-        return Interval(max(self.low, -self.high, ZERO), max(-self.low, self.high))
+        return self if self is NOTHING else Interval(max(self.low, -self.high, ZERO), max(-self.low, self.high))
 
     def __str__(self) -> str:
         ends = floor(self.low * 10**9), ceil(self.high * 10**9)
@@ -241,7 +239,7 @@ class Certificate:
         self.numbers(1, "certificate")
         only = [range(number, number + 1) for number in (len(nodes), *field)]
         self.numbers(2, "nodes", f" {NUMBER} north {NUMBER} east {NUMBER}", *only)
-        entries, self.guesses, radii = {EARTH: 0}, {EARTH: ZERO}, {}
+        entries, self.guesses, self.reaches, radii = {EARTH: 0}, {EARTH: ZERO}, {EARTH: ZERO}, {}
         for row, node in enumerate(nodes, 3):
             form = f" {NUMBER} {NUMBER} {NUMBER}" if node in network.leaving else " dead"
             if numbers := self.numbers(row, f"cert {node}", form, *RANGES):
@@ -249,18 +247,19 @@ class Certificate:
                 self.guesses[node], radii[node] = (Fraction(number, MILLIVOLT) for number in grains)
         self.numbers(len(nodes) + 3, "end")
         need(self.rows[len(nodes) + 3 :] == [""], 13, f"cert: {name}: something follows its end")
-
-        self.reaches: dict[Node, Fraction] = {EARTH: ZERO}
+        self.is_bound = True  # whether its rows hold with each part rounded down too: then no node is unresolved
         for island in network.islands:
             step = ZERO  # the greatest error of a guess, divided by the entry
             for node in island:
-                own, rise, left = ZERO, ZERO, ZERO
+                own, rise, left, rounded = ZERO, ZERO, ZERO, 0
                 for element, other in network.leaving[node]:
                     voltage = self.voltage(element) if node == element.start else -self.voltage(element)
                     own += element.conductance
                     rise += element.conductance * (entries[node] - entries[other])
+                    rounded += floor(2**20 * element.conductance * (entries[node] - entries[other] - 1))
                     left += element.conductance * (self.guesses[node] - self.guesses[other] + voltage)
                 need(rise >= own, 13, f"cert: {name}: the entry of node {node} is too low beside its neighbours")
+                self.is_bound = self.is_bound and rounded >= 0
                 step = max(step, abs(left) / rise)
             for node in island:
                 self.reaches[node] = entries[node] * step
@@ -295,12 +294,19 @@ class Certificate:
         return self.around(weights) if weights else NOTHING
 
 
-def worst(pair: list[Certificate], unit: Row) -> Interval:
-    """The root of the sum of the squares of the effective currents in two fields, outward to 10^-12 mA."""
-    lows, highs = zip(*(certificate.effective(unit).size() for certificate in pair))
-    low, high = (10**24 * sum(end**2 for end in ends) for ends in (lows, highs))
-    root = isqrt(ceil(high))
-    return Interval(Fraction(isqrt(floor(low)), 10**12), Fraction(root + (root**2 < high), 10**12))
+def root(pair: list[Interval], parts: int) -> Interval:
+    """The root of the sum of the squares of two currents, outward to so many parts of a milliampere."""
+    lows, highs = zip(*(current.size() for current in pair))
+    low, high = (parts**2 * sum(end**2 for end in ends) for ends in (lows, highs))
+    most = isqrt(ceil(high))
+    return Interval(Fraction(isqrt(floor(low)), parts), Fraction(most + (most**2 < high), parts))
+
+
+def worst(network: Network, pair: list[Certificate], unit: Row) -> Interval:
+    """The worst current of a transformer, by the certificates in two fields, if there are any."""
+    if not network.of_item.get(unit["name"]):
+        return NOTHING
+    return root([certificate.effective(unit) for certificate in pair], 10**12) if pair else ANYTHING
 
 
 # The report and its statements ----------------------------------------------------------------------------------------
@@ -317,8 +323,7 @@ class Judge:
         self.network, self.units = network, network.case["transformer"]
         self.outside = [unit["kind"] == "delta-delta" or unit["high_volts"] <= 200000 for unit in self.units]
         self.lines, self.row, self.text = text.decode("latin-1").split("\n"), 0, ""
-        self.shown = {"interval": 0, "verdict": 0}
-        self.refuted, self.open, self.told = 0, 0, []
+        self.shown, self.refuted, self.open, self.told = Counter(), 0, 0, []
 
     def line(self, head: str, *forms: str) -> list[Any]:
         """The words of the next line that stand for capitals. It has the head, and behind it one of the forms."""
@@ -350,17 +355,18 @@ class Judge:
             self.refuted, self.open = self.refuted + fails, self.open + (not fails)
             self.told.append(f"{'refuted' if fails else 'open'}: line {self.row}: {self.text}: {kind}: {reason}")
 
-    def interval(self, low: int, high: int, exact: Interval) -> None:
-        """It has to hold the exact value, within the width. Where no winding stands it has to be 0 0."""
+    def interval(self, low: int, high: int, exact: Interval, *made: Interval) -> None:
+        """It has to hold the exact value, within the width; to be 0 0 where no winding stands; and to be as `made`."""
         fails = exact.high < low or high < exact.low or not 0 <= high - low <= self.width
-        fails = fails or exact is NOTHING and low != high
-        self.settle("interval", low <= exact.low and exact.high <= high, fails, f"{low} {high}, and {exact} is shown")
+        fails = fails or exact is NOTHING and low != high or any(other != (low, high) for other in made)
+        reason = f"{low} {high}, and {exact} is shown" + "".join(f", and the others make {other}" for other in made)
+        self.settle("interval", low <= exact.low and exact.high <= high, fails, reason)
 
-    def transformer(self, is_outside: bool, low: int, high: int, verdict: str, exact: Interval) -> None:
+    def transformer(self, outside: bool, low: int, high: int, verdict: str, exact: Interval, *made: Interval) -> None:
         """An interval, and a verdict: that of the interval, and true of the current if it says anything of it."""
-        self.interval(low, high, exact)
+        self.interval(low, high, exact, *made)
         limit = self.threshold
-        own = "outside" if is_outside else "reaches" if limit <= low else "below" if high < limit else "undecided"
+        own = "outside" if outside else "reaches" if limit <= low else "below" if high < limit else "undecided"
         reaches, below = limit <= exact.low, exact.high < limit  # surely; the other two verdicts say nothing of it
         holds, fails = {"reaches": (reaches, below), "below": (below, reaches)}.get(verdict, (True, False))
         self.settle("verdict", holds, fails or verdict != own, f"by {low} {high} {own}, and {exact} is shown")
@@ -375,7 +381,6 @@ class Judge:
             must_be_below, can_be_below = sum(low < limit - width for low in lows), sum(high < limit for high in highs)
             must_reach, can_reach = sum(high > limit + width - 1 for high in highs), sum(low >= limit for low in lows)
             return must_be_below <= below <= can_be_below and must_reach <= reaches <= can_reach
-
         adds_up = sum(counts) == len(self.units) and outside == len(self.units) - len(assessed)
         holds, may_hold = fit(lows, highs), fit(highs, lows)  # at the ends that are worst, and best, for the counts
         return adds_up and holds, not (adds_up and may_hold)
@@ -384,17 +389,13 @@ class Judge:
         north, east = self.begin("field", "north", "east", "width", "threshold")
         network, certificate = self.network, Certificate(self.network, cert, north, east)
         for node in network.nodes:
-            if node in network.leaving:
-                self.interval(*self.line(f"node {node}", "SIGNED SIGNED"), certificate.around({node: Fraction(1)}))
-            else:
-                self.line(f"node {node}", "dead")
+            if ends := self.line(f"node {node}", "SIGNED SIGNED" if node in network.leaving else "dead"):
+                self.interval(*ends, certificate.around({node: Fraction(1)}))
         for element in network.elements:
-            if element.conductance and element.item not in network.switched_off:
-                by_potential = {element.start: element.conductance, element.end: -element.conductance}  # Ohm's law
-                exact = certificate.around(by_potential, element.conductance * certificate.voltage(element))
-                self.interval(*self.line(element.label, "SIGNED SIGNED"), exact)
-            else:
-                self.line(element.label, "open" if element.conductance else "blocked")
+            out = "blocked" if not element.conductance else "open" if element.item in network.switched_off else ""
+            if ends := self.line(element.label, out or "SIGNED SIGNED"):
+                weights = {element.start: element.conductance, element.end: -element.conductance}  # Ohm's law
+                self.interval(*ends, certificate.around(weights, element.conductance * certificate.voltage(element)))
         currents, printed = [certificate.effective(unit) for unit in self.units], []
         for unit, exact in zip(self.units, currents):
             printed.append(self.line(f"effective {unit['name']}", "SIGNED SIGNED"))
@@ -410,9 +411,10 @@ class Judge:
         for unit, is_outside in zip(self.units, self.outside):
             form = "north SIGNED SIGNED east SIGNED SIGNED worst SIZE SIZE VERDICT"
             *ends, low, high, verdict = self.line(f"transformer {unit['name']}", form)
-            self.interval(*ends[:2], pair[0].effective(unit))
-            self.interval(*ends[2:], pair[1].effective(unit))
-            self.transformer(is_outside, low, high, verdict, worst(pair, unit))
+            printed = [Interval(*ends[:2]), Interval(*ends[2:])]
+            for one, certificate in zip(printed, pair):
+                self.interval(*one, certificate.effective(unit))
+            self.transformer(is_outside, low, high, verdict, worst(self.network, pair, unit), root(printed, 1))
 
     def outage(self, folder: str) -> None:
         [field] = self.begin("outage", "width", "threshold", "field")
@@ -422,27 +424,24 @@ class Judge:
         for name in [row["name"] for row in [*network.case["line"], *self.units]]:
             words = self.line(f"outage {name}", "idle", "FAULT NODE", COUNTS)
             less = Network(network.case, network.elements, network.switched_off | {name})
-            names = [os.path.join(folder, f"{name}.{side}.cert") for side in ("north", "east")]
-            worsts, has_certs = [ANYTHING] * len(self.units), any(map(os.path.exists, names))
-            if name not in network.of_item or less.unearthed:
-                own = f"unearthed {less.unearthed}" if name in network.of_item else "idle"
+            own = "idle" if name not in network.of_item else f"unearthed {less.unearthed}" if less.unearthed else ""
+            certs, pair = [os.path.join(folder, f"{name}.{side}.cert") for side in ("north", "east")], []
+            if not own and any(map(os.path.exists, certs)):
+                pair = [Certificate(less, certs[0], field, 0), Certificate(less, certs[1], 0, field)]
+            worsts = [worst(less, pair, unit) for unit in self.units]
+            if own:
                 self.settle("verdict", True, self.text != f"outage {name} {own}", f"it is {own}")
             else:
-                if has_certs:
-                    pair = [Certificate(less, names[0], field, 0), Certificate(less, names[1], 0, field)]
-                    worsts = [worst(pair, unit) for unit in self.units]
-                is_open = words == ["unresolved"] and not has_certs and self.text.split(" ")[3] in less.leaving
+                is_resolved = any(certificate.is_bound for certificate in pair)
+                is_open = words == ["unresolved"] and not is_resolved and self.text.split(" ")[3] in less.leaving
                 holds, fails = self.counts(words, worsts) if len(words) == 4 else (False, not is_open)
-                self.settle("verdict", holds and has_certs, fails, f"it has {'' if has_certs else 'no '}certificates")
+                self.settle("verdict", holds and is_resolved, fails, f"{'' if is_resolved else 'maybe not '}resolved")
             if len(words) == 4:
                 counted.append(worsts)
         for unit, is_outside, *currents in zip(self.units, self.outside, *counted):
-            if counted:
-                low, high, verdict = self.line(f"transformer {unit['name']}", "worst SIZE SIZE VERDICT")
-                lows, highs = zip(*currents)
-                self.transformer(is_outside, low, high, verdict, Interval(max(lows), max(highs)))
-            else:
-                self.line(f"transformer {unit['name']}", "none")
+            if words := self.line(f"transformer {unit['name']}", "worst SIZE SIZE VERDICT" if counted else "none"):
+                is_nothing = all(exact is NOTHING for exact in currents)
+                self.transformer(is_outside, *words, NOTHING if is_nothing else Interval(*map(max, zip(*currents))))
 
 
 # The whole ------------------------------------------------------------------------------------------------------------
@@ -466,7 +465,7 @@ def run(words: list[str]) -> int:
     given = {option: value for option, _, value in (word.partition("=") for word in words)}
     certs = next((certs for certs in MODES if {"--case", "--report", *certs} == given.keys() - {"--switch"}), ())
     is_usage = certs and len(given) == len(words) and all("=" in word for word in words)
-    need(is_usage, 2, "usage: the first lines of judge.py have the options, each of which is given once")
+    need(is_usage, 2, "usage: --case=C [--switch=S] --report=R with --cert=F, or --north=F --east=F, or --certs=FOLDER")
     case = read_case(read_file(given["--case"]))
     elements = elements_of(case)
     switched_off = open_items(case, elements, read_file(given["--switch"])) if "--switch" in given else set()
@@ -492,9 +491,10 @@ def main(words: list[str]) -> int:
     except (OSError, UnicodeError):
         os.dup2(os.open(os.devnull, os.O_WRONLY), 1)
         status, reason = 4, "cannot write"
-    print(f"judge: {reason}", file=sys.stderr)
+    print(f"judge: {reason}", file=sys.stderr or io.StringIO())
     return status
 
 
 if __name__ == "__main__":
+    signal.signal(signal.SIGINT, signal.SIG_DFL)  # Ctrl-C ends it without a traceback
     sys.exit(main(sys.argv[1:]))

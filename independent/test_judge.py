@@ -55,6 +55,16 @@ transformer TA worst 0 2 below
 transformer TB worst 0 2 below
 end
 """
+# A unit without a winding, behind the two of the loop.
+WITH_DELTA = LOOP.replace(
+    "300000 },\n]", '300000 },\n  { name = "TD", kind = "delta-delta", high_volts = 345000 },\n]'
+)
+SCREEN_WITH_DELTA = SCREEN.replace("end\n", "transformer TD north 0 0 east 0 0 worst 0 0 outside\nend\n")
+OUTAGE_WITH_DELTA = (
+    OUTAGE.replace("outside 0", "outside 1")
+    .replace("transformer TA", "outage TD idle\ntransformer TA")
+    .replace("end\n", "transformer TD worst 0 0 outside\nend\n")
+)
 ALL_OF_FIELD = "13 intervals and 2 verdicts shown, 0 refuted, 0 open"
 
 
@@ -65,6 +75,52 @@ def certificate(north: int, east: int, entries: list[int], millivolts: list[int]
         for node, entry, guess in zip("ABab", entries, millivolts)
     ]
     return "\n".join(["certificate", f"nodes 4 north {north} east {east}", *rows, "end", ""])
+
+
+def chain(resistance: int) -> dict[str, str]:
+    """The files of 64 nodes in a row, A and 63 buses, whose elements have so many micro-ohm each, and B at its far end.
+
+    Without TB only the ground of A earths the row. The entries are then k(128 - k) at its k-th node, 4096 at the last.
+    """
+    buses = [f"b{place}" for place in range(1, 64)]
+    lines = [
+        f'{{ name = "L{start}", from = "{start}", to = "{end}", zone = "Z", resistance = {3 * resistance}, '
+        "north = 0, east = 0 },"
+        for start, end in zip(buses, buses[1:])
+    ]
+    case = [
+        "format = 1",
+        'zone = [{ name = "Z", latitude = 6000, beta = 100 }]',
+        f'substation = [{{ name = "A", ground = {resistance} }}, {{ name = "B", ground = {resistance} }}]',
+        "bus = [",
+        *(f'{{ name = "{bus}", substation = "{"B" if bus == "b63" else "A"}" }},' for bus in buses),
+        "]\nline = [",
+        *lines,
+        "]\ntransformer = [",
+        *(
+            f'{{ name = "{name}", kind = "delta-wye", high_volts = 345000, high = "{bus}", '
+            f"high_resistance = {3 * resistance} }},"
+            for name, bus in (("TA", "b1"), ("TB", "b63"))
+        ),
+        "]",
+    ]
+    counts = "below 2 reaches 0 undecided 0 outside 0"
+    report = [
+        "outage",
+        "width 100 threshold 75000 field 8000",
+        *(f"outage L{bus} {counts}" for bus in buses[:-1]),
+        f"outage TA {counts}",
+        "outage TB unresolved b63",
+        "transformer TA worst 0 2 below",
+        "transformer TB worst 0 2 below",
+        "end",
+    ]
+    entries = {"A": 127, "B": 1} | {bus: place * (128 - place) for place, bus in enumerate(buses, 2)}
+    rows = [f"cert {node} {entry} 0 0" for node, entry in entries.items()]
+    files = {"case": "\n".join(case), "outage": "\n".join([*report, ""])}
+    for side, field in (("north", "north 8000 east 0"), ("east", "north 0 east 8000")):
+        files[f"certs/TB.{side}.cert"] = "\n".join(["certificate", f"nodes 65 {field}", *rows, "end", ""])
+    return files
 
 
 FILES = {
@@ -141,12 +197,48 @@ class Judging(unittest.TestCase):
         self.refused(13, [*OF_OUTAGE, "--switch=s"], s="time,item,action\n0,L,open\n")
         alone = LOOP.replace('{ name = "B", ground = 1000000 }', '{ name = "B" }')
         report = OUTAGE.replace(f"L {counts}", "L unearthed B").replace(f"TA {counts}", "TA unearthed B")
+        report = report.replace("TB worst 0 2", "TB worst 0 0")  # no winding of it stands there
         only_a = {side: certificate(*field, [21, 1, 22, 23], [0, 0, 0, volts]).replace("cert B 1 0 0", "cert B dead")
                   for side, field, volts in (("north", (8000, 0), 480000), ("east", (0, 8000), 640000))}
         files = {f"certs/TB.{side}.cert": text.replace("A 21", "A 31").replace("a 22", "a 33").replace("b 23", "b 34")
                  for side, text in only_a.items()}
         status, last, _ = self.judged(OF_OUTAGE, case=alone, outage=report, **files)
         self.assertEqual((status, last), (0, "2 intervals and 5 verdicts shown, 0 refuted, 0 open"))
+
+    def test_unresolved_is_refuted_where_the_rounded_rows_hold(self) -> None:
+        counts = "below 2 reaches 0 undecided 0 outside 0"
+        whole, rounded = chain(1000000), chain(1000003)  # of 1 siemens each nothing is lost by rounding
+        for files, word, status, last in [
+            (whole, "unresolved b63", 15, "0 intervals and 0 verdicts shown, 1 refuted, 67 open"),
+            (whole, counts, 16, "0 intervals and 1 verdicts shown, 0 refuted, 67 open"),
+            (rounded, "unresolved b63", 16, "0 intervals and 0 verdicts shown, 0 refuted, 68 open"),
+            (rounded, counts, 16, "0 intervals and 0 verdicts shown, 0 refuted, 68 open"),
+            (rounded, "unresolved TB", 15, "0 intervals and 0 verdicts shown, 1 refuted, 67 open"),
+        ]:
+            files = files | {"outage": files["outage"].replace("TB unresolved b63", f"TB {word}")}
+            with unittest.mock.patch.dict(FILES, files, clear=True):
+                self.assertEqual(self.judged(OF_OUTAGE), (status, last, ""), word)
+
+    def test_where_no_winding_stands_the_worst_current_is_0(self) -> None:
+        status, last, _ = self.judged(OF_SCREEN, case=WITH_DELTA, screen=SCREEN_WITH_DELTA)
+        self.assertEqual((status, last), (0, "9 intervals and 3 verdicts shown, 0 refuted, 0 open"))
+        status, last, _ = self.judged(OF_OUTAGE, case=WITH_DELTA, outage=OUTAGE_WITH_DELTA)
+        self.assertEqual((status, last), (0, "3 intervals and 7 verdicts shown, 0 refuted, 0 open"))
+        wide = OUTAGE_WITH_DELTA.replace("worst 0 0 outside", "worst 0 100 outside")
+        status, last, _ = self.judged(OF_OUTAGE, case=WITH_DELTA, outage=wide)
+        self.assertEqual((status, last), (15, "2 intervals and 7 verdicts shown, 1 refuted, 0 open"))
+        wide = SCREEN_WITH_DELTA.replace("worst 0 0 outside", "worst 0 100 outside")
+        status, last, _ = self.judged(OF_SCREEN, case=WITH_DELTA, screen=wide)
+        self.assertEqual((status, last), (15, "8 intervals and 3 verdicts shown, 1 refuted, 0 open"))
+
+    def test_the_third_interval_is_made_of_the_first_two(self) -> None:
+        for old, new in [("83332 83335", "83331 83335"), ("83332 83335", "83332 83336"), ("-50001 -4", "-50010 -4")]:
+            status, last, _ = self.judged(OF_SCREEN, screen=SCREEN.replace(old, new, 1))
+            self.assertEqual((status, last), (15, "5 intervals and 2 verdicts shown, 1 refuted, 0 open"))
+
+    def test_a_byte_order_mark_in_front_of_the_case_is_dropped(self) -> None:
+        self.assertEqual(self.judged(OF_FIELD, case="\ufeff" + LOOP), (0, ALL_OF_FIELD, ""))
+        self.refused(5, OF_FIELD, case="\ufeff\ufeff" + LOOP)
 
     def test_counts_have_to_be_those_of_the_currents(self) -> None:
         for below, reaches, undecided in ((1, 1, 0), (1, 0, 1), (2, 1, 0)):
