@@ -98,14 +98,16 @@ def certified(command, folder, mode, values):
     if mode == "outage":
         script = ["bash", os.path.join(INDEPENDENT, "outages.sh"), f"--program={command[-1]}"]
         answer = shared.run([*script, "--case=p", "--switch=s", "--report=r", "--certs=certs"], folder, seconds=600)
-        assert answer.status == 0, answer
+        if answer.status != 0:
+            raise RuntimeError(f"outages.sh: {answer}")
         return ["--certs=certs"]
     strength = FIELDS[values["event"]]
     fields = [values] if mode == "field" else [{"north": strength, "east": 0}, {"north": 0, "east": strength}]
     options = []
     for name, field in zip(["cert"] if mode == "field" else ["north", "east"], fields):
         answer = shared.run(command + shared.words_of("certify", north=field["north"], east=field["east"]), folder)
-        assert answer.status == 0, answer
+        if answer.status != 0:
+            raise RuntimeError(f"certify: {answer}")
         shared.write(folder, name, answer.output)
         options.append(f"--{name}={name}")
     return options
@@ -117,9 +119,13 @@ def report(command, item):
     draw, ends, opened, faults = random.Random(seed), collections.Counter(), [], []
     with shared.scratch() as folder:
         words, values = solved_network(draw, command, folder, mode, kind)
-        options = certified(command, folder, mode, values)
-        status, output, told = judged(folder, options)
         label = f"seed {seed} {kind}: {' '.join(words)}"
+        try:
+            options = certified(command, folder, mode, values)
+        except RuntimeError as error:
+            faults.append(f"{label}: {error}")
+            return mode, kind, [0, 0, 0, 0], opened, ends, faults
+        status, output, told = judged(folder, options)
         figures = FIGURES.fullmatch(output[-1]) if output else None
         if status not in (0, 16) or not figures:
             faults.append(f"{label}: status {status} {told}: {[line for line in output if 'refuted: ' in line][:1]}")
@@ -134,13 +140,15 @@ def report(command, item):
                 continue
             content = ("\n".join(after) + "\n").encode()
             shared.write(folder, "r", content)
-            changed_status, _, told = judged(folder, options)
+            changed_status, output, told = judged(folder, options)
             end = ENDS.get(changed_status, f"status {changed_status}")
-            wrong = report_faults(outcome, content)
+            # (the referee doesn't ask that the third interval of a screen is made of the other two)
+            made = any("the others make" in line for line in output)
+            wrong = report_faults(outcome, content) or made
             ends[change.__name__, end, "wrong" if wrong else "right"] += 1
             if bool(wrong) == (end == "shown") and end != "open" or changed_status not in ENDS:
                 pairs = [pair for pair in zip(lines, after) if pair[0] != pair[1]][:1]
-                faults.append(f"{label}: {change.__name__}: {end} {told}, and the referee has {wrong[:1]}: {pairs}")
+                faults.append(f"{label}: {change.__name__}: {end} {told}, and the referee has {wrong if made else wrong[:1]}: {pairs}")
     return mode, kind, figures, opened, ends, faults
 
 
