@@ -144,11 +144,11 @@ def report(command, item):
             end = ENDS.get(changed_status, f"status {changed_status}")
             # (the referee doesn't ask that the third interval of a screen is made of the other two)
             made = any("the others make" in line for line in output)
-            wrong = report_faults(outcome, content) or made
+            wrong = list(report_faults(outcome, content)) + ["the third interval"] * made
             ends[change.__name__, end, "wrong" if wrong else "right"] += 1
             if bool(wrong) == (end == "shown") and end != "open" or changed_status not in ENDS:
                 pairs = [pair for pair in zip(lines, after) if pair[0] != pair[1]][:1]
-                faults.append(f"{label}: {change.__name__}: {end} {told}, and the referee has {wrong if made else wrong[:1]}: {pairs}")
+                faults.append(f"{label}: {change.__name__}: {end} {told}, and the referee has {wrong[:1]}: {pairs}")
     return mode, kind, figures, opened, ends, faults
 
 
