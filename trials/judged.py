@@ -32,7 +32,9 @@ INDEPENDENT = os.path.join(shared.TOP, "independent")
 KINDS = studies.KINDS[:3]
 MODES = ("field", "screen", "outage")
 FIELDS = {"benchmark": 8000, "supplemental": 12000}
-ENDS = {0: "shown", 14: "refused", 15: "refuted", 16: "open"}
+ENDS = {0: "shown", 13: "refused", 14: "refused", 15: "refuted", 16: "open"}
+# What FORMATS fixes and the referee doesn't ask: the third interval of a screen, and the 0 0 of a unit without a winding.
+FIXED = re.compile(r"refuted: .*(the others make|and 0\.0+ to 0\.0+ is shown)")
 FIGURES = re.compile(r"(\d+) intervals and (\d+) verdicts shown, (\d+) refuted, (\d+) open")
 
 
@@ -142,9 +144,7 @@ def report(command, item):
             shared.write(folder, "r", content)
             changed_status, output, told = judged(folder, options)
             end = ENDS.get(changed_status, f"status {changed_status}")
-            # (the referee doesn't ask that the third interval of a screen is made of the other two)
-            made = any("the others make" in line for line in output)
-            wrong = list(report_faults(outcome, content)) + ["the third interval"] * made
+            wrong = [*report_faults(outcome, content), *filter(FIXED.match, output)]
             ends[change.__name__, end, "wrong" if wrong else "right"] += 1
             if bool(wrong) == (end == "shown") and end != "open" or changed_status not in ENDS:
                 pairs = [pair for pair in zip(lines, after) if pair[0] != pair[1]][:1]

@@ -76,7 +76,9 @@ class Builds(unittest.TestCase):
 
     def test_a_record_that_is_no_text_tells_nothing(self) -> None:
         self.build()
-        (self.at.top / "crates/gicstudy/out/gicstudy.sources").write_bytes(b"\xff\n")
+        record = self.at.top / "crates/gicstudy/out/gicstudy.sources"
+        record.write_bytes(b"\xff\n")
+        os.utime(record, (1, 1))
         status, _, said = self.at.call(has_rt=False)
         self.assertEqual(status, 1)
         self.assertRegex(said, r"\Agicstudy: nothing tells of which sources the program was built, .*\n\Z")
