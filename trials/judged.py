@@ -1,14 +1,16 @@
 #!/usr/bin/env python3
 """Sets `independent/judge.py` beside the program: it shows all of a report, and nothing that was made wrong.
 
-    python3 trials/judged.py PROGRAM [--minutes M] [--seed S] [--jobs N] [--field N] [--screen N] [--outage N] [--changed N]
+    python3 trials/judged.py PROGRAM [--minutes M] [--seed S] [--jobs N] [--field N] [--screen N] [--outage N]
+        [--changed N]
 
 So many reports of `field` (300), `screen` (300) and `outage` (60) of random networks of 2 to 40 nodes are judged by the
 certificates that the program makes, those of `outage` by `independent/outages.sh` for all items. A third of the networks
 is usual, a third has its resistances at both ends of their range, and a third is just within 4096; all have switchings.
 No statement may be refuted, and what is left open is printed with its reason. Then about so many reports (3000) with one
 change each are judged: those of `reports.py`, a number that is off by much, and another verdict. The referee says
-whether such a report is still right. One that is wrong may not be shown, and one that is right not be refuted.
+whether such a report is still right, of the width and the event that its second line names. One that is wrong may not be
+shown, and one that is right not be refuted.
 """
 
 import collections
@@ -115,6 +117,16 @@ def certified(command, folder, mode, values):
     return options
 
 
+def faults_by_head(folder, mode, values, lines, content):
+    """The faults of a report with another second line, as one with the width and of the event that are named there."""
+    words = lines[1].split(" ") if len(lines) > 1 else []
+    named = dict(zip(words[::2], words[1::2]))
+    event = "supplemental" if named.get("threshold") == "85000" else "benchmark"
+    asked = shared.words_of(mode, **{**values, "width": named.get("width", "0"), "event": event})
+    outcome = predict([os.fsencode(word) for word in asked], folder)
+    return report_faults(outcome, content) if outcome.status == 0 else ["no words ask for it"]
+
+
 def report(command, item):
     """One network and its report in one mode: the figures of the judge, what came of changed reports, and the faults."""
     seed, mode, kind, changed = item
@@ -144,7 +156,11 @@ def report(command, item):
             shared.write(folder, "r", content)
             changed_status, output, told = judged(folder, options)
             end = ENDS.get(changed_status, f"status {changed_status}")
-            wrong = [*report_faults(outcome, content), *filter(FIXED.match, output)]
+            if after[1:2] == lines[1:2]:
+                wrong = report_faults(outcome, content)
+            else:
+                wrong = faults_by_head(folder, mode, values, after, content)
+            wrong = [*wrong, *filter(FIXED.match, output)]
             ends[change.__name__, end, "wrong" if wrong else "right"] += 1
             if bool(wrong) == (end == "shown") and end != "open" or changed_status not in ENDS:
                 pairs = [pair for pair in zip(lines, after) if pair[0] != pair[1]][:1]
