@@ -12,6 +12,7 @@ the same files. README.md says what it shows, and what it takes for granted.
 import argparse
 import os
 import re
+import signal
 import sys
 from collections.abc import Iterable
 from fractions import Fraction
@@ -29,7 +30,7 @@ MILLIVOLT = 10**6 * GRAIN  # grains in a millivolt
 # Latitudes in hundredths of a degree, each with the scaling alpha, in tenths, of a zone up to there.
 ALPHA = [(4000, 1), (4500, 2), (5000, 3), (5400, 5), (5600, 6), (5700, 7), (5800, 8), (5900, 9), (6000, 10)]
 MOST_ENDS = 256  # elements that may end at one node
-CANNOT_WRITE, REFUSED = 4, 13  # statuses; the others stand in rules.py
+CANNOT_WRITE, OUT_OF_MEMORY, REFUSED = 4, 11, 13  # statuses; the others stand in rules.py
 
 
 def refused(words: str) -> Refused:
@@ -268,17 +269,27 @@ def main(words: list[str]) -> int:
     try:
         report = report_of(words)
     except Refused as fault:
-        sys.stderr.write(f"gicstudy: {fault}\n")
-        return fault.status
+        return told(str(fault), fault.status)
+    except MemoryError:
+        return told("out of memory", OUT_OF_MEMORY)
+    if sys.stdout is None:
+        return told("cannot write", CANNOT_WRITE)
     try:
         sys.stdout.write(report)
         sys.stdout.flush()
     except OSError:
-        sys.stderr.write("gicstudy: cannot write\n")
         os.dup2(os.open(os.devnull, os.O_WRONLY), 1)  # what is left is written to nowhere
-        return CANNOT_WRITE
+        return told("cannot write", CANNOT_WRITE)
     return 0
 
 
+def told(line: str, status: int) -> int:
+    """Writes the fault line, where there is an error stream, and answers the status."""
+    if sys.stderr is not None:
+        sys.stderr.write(f"gicstudy: {line}\n")
+    return status
+
+
 if __name__ == "__main__":
+    signal.signal(signal.SIGINT, signal.SIG_DFL)
     sys.exit(main(sys.argv[1:]))
