@@ -391,8 +391,10 @@ class Refusals(DeskTest):
         faulty = SCREEN.replace("83332 83335", "83,332 83335", 1).replace("TB north", "TB nord")
         self.told(
             faulty,
-            ' line 3: "transformer TA north -50001 -49999 east -66667 -66666 wor.." is not of the form ' + form,
-            ' line 4: "transformer TB nord 49999 50001 east 66666 66667 worst 83.." is not of the form ' + form,
+            ' line 3: "transformer TA north -50001 -49999 east -66667 -66666 worst 83,332 83335 reaches" is not of the '
+            "form " + form,
+            ' line 4: "transformer TB nord 49999 50001 east 66666 66667 worst 83332 83335 reaches" is not of the form '
+            + form,
         )
         for text, number, line, forms in (
             ("recheck\nnorth 1000 east 0\nnode A 1 0\nend\n", 3, "node A 1 0", '"node NAME LO HI"'),
@@ -426,8 +428,17 @@ class Refusals(DeskTest):
             self.told(text, f" line {line}: {name} {words}")
 
     def test_only_so_many_findings_are_told(self) -> None:
-        lines = self.refused("csv", self.file("report.txt", "volts\nnorth 1 east 1\n" + "line L x\n" * 25 + "end\n"))
+        rows = "".join(f"line L{place} x\n" for place in range(25))
+        lines = self.refused("csv", self.file("report.txt", f"volts\nnorth 1 east 1\n{rows}end\n"))
         self.assertEqual([len(lines), lines[-1]], [21, "and 5 more"])
+
+    def test_findings_that_differ_in_their_lines_alone_are_told_together(self) -> None:
+        twelve = ", ".join(map(str, range(4, 16)))
+        for many, also in ((2, "line 4"), (3, "lines 4, 5"), (25, f"lines {twelve} and 12 more")):
+            text = "volts\nnorth 1 east 1\n" + "line L x\n" * many + "end\n"
+            (line,) = self.refused("csv", self.file("report.txt", text))
+            self.assertIn('report.txt line 3: "line L x" is not of the form', line)
+            self.assertTrue(line.endswith(f"; so also in {also}"), line)
 
     def test_a_part_that_is_none(self) -> None:
         path = self.file("report.txt", SCREEN)

@@ -121,6 +121,11 @@ class Events(OutagesTest):
         self.assertEqual([units["TA"]["worst_event"], units["TA"]["worst_high_A_per_phase"]], ["one line", "83.335"])
         self.assertEqual([units["D"]["worst_verdict"], units["D"]["perhaps_as_bad"]], ["outside", "one line; the unit"])
 
+    def test_a_table_of_semicolons(self) -> None:
+        rows = (HEADS + self.ROWS).replace(",", ";")
+        shown = self.done(*self.words(f"--events={self.file('semicolons.csv', rows)}"))
+        self.assertEqual(shown, self.done(*self.words(self.events(self.ROWS))))
+
     def test_how_each_event_ends(self) -> None:
         self.prints("screen+TA", "gicstudy: unearthed: step 1 node B\n")
         self.prints("screen+K+L", "gicstudy: unresolved: step 1 node a\n")
@@ -257,8 +262,8 @@ class Refusals(OutagesTest):
         )
 
     def test_another_table(self) -> None:
-        words = "and not event,item,action; write these, with commas"
-        self.told("event;item;action\ne;K;open\n", f'line 1: the columns are "event;item;action", {words}')
+        words = "and not event,item,action; write these, with commas or semicolons"
+        self.told("event\titem\taction\ne\tK\topen\n", f'line 1: the columns are "event\\x09item\\x09action", {words}')
         self.told("", f'line 1: the columns are "", {words}')
         self.told(HEADS, "line 1: it has no event; write a row for each switching of an event")
         self.told(
@@ -383,8 +388,8 @@ class OverTheProgram(DeskTest):
         self.assertEqual(worst, [(words[1], *words[3:5]) for words in lines if words[0] == "transformer"])
 
     def test_outages_of_the_region(self) -> None:
-        # docs/RECIPES.md, "Which outage brings it", has these: the transformers that are below the threshold in the
-        # whole network and reach it without the item, with the high end of their current.
+        # One screen for each item, made by hand, has these: the transformers that are below the threshold in the whole
+        # network and reach it without the item, with the high end of their current.
         recipe = {
             ("LK-IB", "IB-A1"): "155.8",
             ("LK-IB", "IB-A2"): "155.8",

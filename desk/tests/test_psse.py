@@ -225,6 +225,7 @@ class Small(PsseTest):
                 "bus, 4",
                 "net.raw line 22: the branch 5-7 '2' is out of service: it is left out",
                 "net.raw line 23: the branch 1-8 '1' is out of service: it is left out",
+                "net.raw line 21: L5-7-1 has a negative X: it is a series capacitor, and blocked",
                 "net.raw line 25: the third grounded winding of BANK, at the bus 3, is left out",
                 "net.raw line 34: the transformer 5-6 '2' is out of service: it is left out",
                 "net.gic line 18: the reactor 7 '1' is left out",
@@ -239,6 +240,14 @@ class Small(PsseTest):
         self.case([*self.words(RAW.replace("Q\n", shunts)), "--beyond=leave"])
         words = "the section SWITCHED SHUNT is skipped, with 1 line; see whether a case needs what stands there"
         self.assertEqual(self.shown[0].replace(f"{self.folder}/", ""), f"net.raw line 40: {words}")
+
+    def test_other_names_of_sections(self) -> None:
+        made = self.case([*self.words(), "--beyond=model"])
+        for shunts, earth in (("BUS FIXED SHUNT", "USER EARTH MODEL"), ("FIXED BUS SHUNT", "EARTH MODEL")):
+            gic = GIC.replace("FIXED SHUNT DATA", f"{shunts} DATA").replace("BEGIN EARTH MODEL", f"BEGIN {earth}")
+            shown = self.shown
+            self.assertEqual(self.case([*self.words(gic=gic), "--beyond=model", "--force"]), made)
+            self.assertEqual(self.shown, shown)
 
     @unittest.skipUnless(BUILT.is_file(), "no program is built")
     def test_the_program_takes_the_case(self) -> None:
@@ -380,7 +389,8 @@ class Refusals(PsseTest):
             f"net.raw line 18: {words} NORTH and SOUTH",
             f"net.raw line 21: {words} SOUTH and EAST STATION",
         )
-        self.one("-100.0,0.2,''", "-100.0,0,''", f"net.gic line 2, RG: it is 0 ohm, and not 0.001 to 1000; {write}")
+        ground = "it is 0 ohm, and not 0.001 to 1000; write ohm, or nothing where it has no ground"
+        self.one("-100.0,0.2,''", "-100.0,0,''", f"net.gic line 2, RG: {ground}")
         self.one("3.25,0.0", "3250000,0.0", f"net.gic line 21, RBRN: it is 3250000 ohm, and not 0.001 to 1000; {write}")
         self.one("'1 ',0.3,0.1", "'1 ',0.0,0.1", f"net.gic line 16, WRI: it is 0.0 ohm, and not 0.001 to 1000; {write}")
         allowed = "allowed are groups of YN, Y, D, Z and A, as YNd1, YNyn0 and YNa0d1"
@@ -416,8 +426,8 @@ class Refusals(PsseTest):
             "net.raw line 1: the first line isn't IC, SBASE, REV, ..; is it another file, or a binary one? Save it as "
             ".raw",
             "net.gic line 1: the first line isn't GICFILEVRSN=..; is it another file?",
-            'zones.csv line 1: the columns are "zone;beta", and not name,geomagnetic_latitude,beta; write these, with '
-            "commas",
+            'zones.csv line 1: it has no column name, geomagnetic_latitude, and "zone" is none of its columns; allowed '
+            "are name,geomagnetic_latitude,beta, and note",
         )
         words = "the version is 23; 30 to 36 are read. Save it as one of these"
         self.told(self.words(raw=RAW.replace(" 33,", " 23,")), f"net.raw line 1, REV: {words}")

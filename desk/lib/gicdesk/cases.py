@@ -2,6 +2,7 @@
 
 import dataclasses
 import re
+from fractions import Fraction
 
 LISTS = {
     "zone": "Zones: where one field, one geomagnetic latitude and one earth hold.",
@@ -22,6 +23,17 @@ class Field:
     def __str__(self) -> str:
         shown = f'"{self.value}"' if isinstance(self.value, str) else str(self.value).lower()
         return f"{self.key} = {shown}" + (f"  # {self.comment}" if self.comment else "")
+
+
+def span_fields(north: int, east: int, factor: Fraction = Fraction(1)) -> list[Field]:
+    """The span of a line in metres, each part times the factor of its zone."""
+    fields = []
+    times = "" if factor == 1 else f", times {float(factor):.6f}"
+    for key, metres, opposite in (("north", north, "south"), ("east", east, "west")):
+        there = opposite if metres < 0 else key
+        comment = f"`to` lies {abs(metres) / 1000:g} km to the {there} of `from`{times}"
+        fields.append(Field(key, round(metres * factor), comment))
+    return fields
 
 
 @dataclasses.dataclass(frozen=True)

@@ -8,10 +8,12 @@ import sys
 from collections.abc import Sequence
 from typing import Any
 
-from . import compare, layouts, outages, psse, psse_units, reports, zones
+from . import case, case_tables, compare, layouts, outages, psse, psse_units, reports, zones
 from .files import refuse_folder, refuse_taken, write_folder, write_whole
 from .findings import Refused, refuse
 from .program import find_program
+from .study import OPTIONS, Request, make_study, sum_text
+from .study_files import page_of, refuse_study, write_study
 
 DONE, REFUSED, USAGE, STOPPED = 0, 1, 2, 130
 
@@ -85,6 +87,30 @@ def run_outages(options: argparse.Namespace) -> None:
     show(outages.report_text(asked, found, options.events is not None))
 
 
+def run_study(options: argparse.Namespace) -> None:
+    refuse_study(options.out, options.force)
+    given = {name: getattr(options, name) for name in OPTIONS}
+    made = make_study(Request(find_program(options.program), options.case, **given))
+    write_study(made, options.out, options.force, options.comma)
+    show(sum_text(made, page_of(options.out)))
+
+
+def add_study(commands: Any) -> None:
+    words = commands.add_parser("study", help="the whole study of a case: every report, each as a table, and one page")
+    words.add_argument("case", metavar="CASE", help="the file of the case")
+    words.add_argument("--storm", metavar="FILE", help="a storm, for study and for the series of units")
+    words.add_argument("--switch", metavar="FILE", help="switchings: by their times in a storm; else in all reports")
+    words.add_argument("--factors", metavar="FILE", help="a table transformer,mvar_per_ampere,at_kv, for losses")
+    words.add_argument("--events", metavar="FILE", help="a table event,item,action of outages of several items")
+    words.add_argument("--places", metavar="FILE", help="a table with name, latitude and longitude, for the map")
+    words.add_argument("--width", metavar="NUMBER", help="how wide an interval may be, in mA")
+    words.add_argument("--program", metavar="FILE", help="the built program, in place of the one of this repository")
+    words.add_argument("--out", metavar="FOLDER", required=True, help="a new folder for all of it")
+    add_comma(words)
+    words.add_argument("--force", action="store_true", help="replace an earlier study in that folder")
+    words.set_defaults(run=run_study)
+
+
 def run_psse(options: argparse.Namespace) -> None:
     names = str(pathlib.Path(options.out).with_suffix(".names.csv"))
     refuse_taken([options.out, names], options.force)
@@ -94,6 +120,31 @@ def run_psse(options: argparse.Namespace) -> None:
     write_whole(options.out, made.case, options.force)
     told = "".join(f"{note}\n" for note in made.notes)
     show(f"{told}{options.out} is made, and {names} says what its names stand for\n")
+
+
+def run_case(options: argparse.Namespace) -> None:
+    refuse_taken([options.out], options.force)
+    made = case.make_case(options.tables, case.Choices(options.alpha, tuple(options.accept)))
+    write_whole(options.out, made.case, options.force)
+    show("".join(f"{note}\n" for note in made.notes) + f"{options.out} is made\n")
+
+
+def add_case(commands: Any) -> None:
+    words = commands.add_parser("case", help="a case from tables of ohm, kilovolts, kilometres and degrees")
+    words.add_argument("tables", metavar="TABLES", help="a folder with zones, substations, buses, lines, transformers")
+    words.add_argument(
+        "--alpha", metavar="WAY", default=case.TABLE, help="table, formula or a number: alpha of the zones; it is table"
+    )
+    words.add_argument(
+        "--accept",
+        metavar="NAME",
+        action="append",
+        default=[],
+        help=f"take all findings of a kind as they are: {', '.join(case_tables.KINDS)}; or that of one row, as winding:T1",
+    )
+    words.add_argument("--out", metavar="CASE", required=True, help="a new file for the case")
+    words.add_argument("--force", action="store_true", help="replace what is there already under this name")
+    words.set_defaults(run=run_case)
 
 
 def command_words() -> argparse.ArgumentParser:
@@ -126,6 +177,8 @@ def command_words() -> argparse.ArgumentParser:
     three.add_argument("--force", action="store_true", help="replace these tables in a folder that is there already")
     three.set_defaults(run=run_outages)
 
+    add_study(commands)
+
     four = commands.add_parser("psse", help="a case from the files .raw and .gic of a power-flow program")
     four.add_argument("raw", metavar="NET.raw", help="the power flow: buses, branches, transformers, fixed shunts")
     four.add_argument("gic", metavar="NET.gic", help="places, grounds, resistances of windings")
@@ -138,6 +191,8 @@ def command_words() -> argparse.ArgumentParser:
     four.add_argument("--out", metavar="CASE", required=True, help="a new file for the case, with its names beside")
     four.add_argument("--force", action="store_true", help="replace what is there already under these names")
     four.set_defaults(run=run_psse)
+
+    add_case(commands)
     return words
 
 

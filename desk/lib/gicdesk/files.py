@@ -61,7 +61,12 @@ def refuse_taken(names: list[str], force: bool) -> None:
         raise Refused(findings)
 
 
-def write_whole(name: str, text: str, force: bool) -> None:
+def bytes_of(text: str | bytes) -> bytes:
+    """The bytes of a file; a name in a text that isn't in UTF-8 stands in it with a backslash."""
+    return text if isinstance(text, bytes) else text.encode(errors="backslashreplace")
+
+
+def write_whole(name: str, text: str | bytes, force: bool) -> None:
     """Writes a file under a new name, or with force in place of an earlier file: whole, or not at all."""
     refuse_taken([name], force)
     path = pathlib.Path(name).resolve()
@@ -69,7 +74,7 @@ def write_whole(name: str, text: str, force: bool) -> None:
         handle, scratch = tempfile.mkstemp(prefix=f".{path.name}.", dir=path.parent)
         try:
             with os.fdopen(handle, "wb") as file:
-                file.write(text.encode())
+                file.write(bytes_of(text))
                 file.flush()
                 os.fsync(file.fileno())
             mask = os.umask(0)
@@ -114,3 +119,45 @@ def refuse_folder(folder: str, names: list[str], force: bool) -> None:
         raise refuse(folder, f"it is there already{way}")
     elif not path.resolve().parent.is_dir():
         raise refuse(folder, "there is no folder to make it in; make that first")
+
+
+def write_tree(folder: str, texts: Mapping[str, str | bytes], force: bool, listed: str) -> None:
+    """Makes a folder with files and folders of files in it, whole or not at all. With force an earlier one gives way as a
+    whole, of which the file `listed` names all that is in it."""
+    refuse_tree(folder, force, listed)
+    path = pathlib.Path(folder).resolve()
+    try:
+        with tempfile.TemporaryDirectory(prefix=f".{path.name}.", dir=path.parent) as scratch:
+            made, earlier = pathlib.Path(scratch, "made"), pathlib.Path(scratch, "earlier")
+            for name, text in texts.items():
+                (made / name).parent.mkdir(parents=True, exist_ok=True)
+                (made / name).write_bytes(bytes_of(text))
+            replaced = path.exists()
+            if replaced:
+                path.rename(earlier)
+            try:
+                made.rename(path)
+            except BaseException:
+                if replaced:
+                    earlier.rename(path)
+                raise
+    except OSError as error:
+        raise refuse(folder, f"it can't be written ({error.strerror}); nothing of it was") from None
+
+
+def refuse_tree(folder: str, force: bool, listed: str) -> None:
+    """Refuses a folder that is there, unless by force and where it is an earlier one with nothing else in it."""
+    refuse_folder(folder, [], force)
+    path = pathlib.Path(folder)
+    if not path.is_dir():
+        return
+    there = {str(file.relative_to(path)) for file in path.rglob("*") if not file.is_dir()} - {listed}
+    if not there and not (path / listed).exists():
+        return
+    if not (path / listed).is_file():
+        words = f"it has no {listed}, so it is no earlier study, and --force doesn't replace it; choose another name"
+        raise refuse(folder, words)
+    names = {line.partition("  ")[2] for line in read_text(str(path / listed)).splitlines()}
+    others = sorted(there - names)
+    if others:
+        raise Refused([Finding(str(path / name), "it isn't of the earlier study; move it elsewhere") for name in others])

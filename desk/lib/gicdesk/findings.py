@@ -4,6 +4,7 @@ import dataclasses
 from collections.abc import Sequence
 
 SHOWN = 20  # so many findings of a file are told
+ALSO = 12  # so many lines are named of findings that say the same
 
 
 @dataclasses.dataclass(frozen=True)
@@ -32,11 +33,23 @@ class Refused(Exception):
         self.findings = findings
 
     def lines(self) -> list[str]:
-        """A line for each finding, as far as they are told."""
-        lines = [str(finding) for finding in self.findings[:SHOWN]]
-        if len(self.findings) > SHOWN:
-            lines.append(f"and {len(self.findings) - SHOWN} more")
-        return lines
+        """A line for each finding, as far as they are told; those that differ in their lines alone have one together."""
+        alike: dict[Finding, list[Finding]] = {}
+        for finding in self.findings:
+            alike.setdefault(dataclasses.replace(finding, line=None), []).append(finding)
+        groups = list(alike.values())
+        lines = [str(first) + also(rest) for first, *rest in groups[:SHOWN]]
+        left = sum(len(group) for group in groups[SHOWN:])
+        return [*lines, f"and {left} more"] if left else lines
+
+
+def also(rest: Sequence[Finding]) -> str:
+    """The lines of further findings that say the same; nothing where there are none."""
+    numbers = [str(finding.line) for finding in rest if finding.line is not None]
+    if not numbers:
+        return ""
+    more = f" and {len(numbers) - ALSO} more" if len(numbers) > ALSO else ""
+    return f"; so also in {'line' if len(numbers) == 1 else 'lines'} {', '.join(numbers[:ALSO])}{more}"
 
 
 def refuse(file: str, words: str, line: int | None = None, column: str | None = None) -> Refused:
@@ -44,7 +57,7 @@ def refuse(file: str, words: str, line: int | None = None, column: str | None = 
     return Refused([Finding(file, words, line, column)])
 
 
-def shown(value: str) -> str:
-    """A value of a file as findings tell it: in quotes, cut where it is long, and printable."""
-    cut = value if len(value) <= 60 else value[:57] + ".."
+def shown(value: str, longest: int = 60) -> str:
+    """A value of a file as findings tell it: in quotes, cut where it is longer, and printable."""
+    cut = value if len(value) <= longest else value[: longest - 3] + ".."
     return '"' + "".join(letter if letter.isprintable() else f"\\x{ord(letter):02x}" for letter in cut) + '"'

@@ -28,6 +28,7 @@ PLACES = {
     "LIST": re.compile("zone|substation|bus|line|transformer"),
     "FIELD": re.compile("[a-z_]+"),
 }
+LONGEST_LINE = 120  # of a line that is shown whole
 NUMBERS = ("LO", "HI", "NUMBER", "OTHER", "COUNT")
 
 
@@ -154,4 +155,4 @@ class Lines:
 
 def not_of(line: str, forms: Sequence[str]) -> str:
     allowed = " or ".join(f'"{form}"' for form in forms)
-    return f"{shown(line)} is not of the form {allowed}; take the report as it was printed"
+    return f"{shown(line, LONGEST_LINE)} is not of the form {allowed}; take the report as it was printed"

@@ -7,7 +7,7 @@ import dataclasses
 import pathlib
 import tempfile
 from collections import Counter
-from collections.abc import Callable, Sequence
+from collections.abc import Callable, Iterable, Sequence
 from typing import TypeVar
 
 from .compare import ends_or_nothing, interval_text, outcome_text, verdict_text
@@ -19,7 +19,7 @@ from .findings import Finding, Refused, refuse
 from .layouts import LAYOUTS, screen_rows
 from .program import Program, Run, ending
 from .progress import Progress
-from .reports import VERDICTS, Elements, Outage, Outcome, Screen, ScreenUnit, Volts, parse_report
+from .reports import VERDICTS, Element, Elements, Outage, Outcome, Screen, ScreenUnit, Volts, parse_report
 from .tables import Table
 
 Kind = TypeVar("Kind")
@@ -113,13 +113,15 @@ def checked(kind: type[Kind], data: bytes, mode: str) -> Kind:
     return report
 
 
+def solved_result(event: Event, screen: Screen) -> Result:
+    many = Counter(row.verdict for row in screen.rows)
+    return Result(event, Outcome(event.name, "solved", "", tuple(many[verdict] for verdict in VERDICTS)), screen)
+
+
 def screen_result(event: Event, run: Run) -> Result | None:
     """What a run of `screen` says of an event; None where it says nothing of the network."""
     if run.status == 0:
-        screen = checked(Screen, run.report, "screen")
-        many = Counter(row.verdict for row in screen.rows)
-        counts = tuple(many[verdict] for verdict in VERDICTS)
-        return Result(event, Outcome(event.name, "solved", "", counts), screen)
+        return solved_result(event, checked(Screen, run.report, "screen"))
     if run.network_fault is not None:
         word, node = run.network_fault
         return Result(event, Outcome(event.name, word, node), None)
@@ -136,8 +138,8 @@ def whole_result(asked: Asked) -> Result:
     return result
 
 
-def base_switchings(asked: Asked) -> BaseSwitchings:
-    return BaseSwitchings() if asked.switch is None else BaseSwitchings(read_bytes(asked.switch))
+def base_switchings(switch: str | None) -> BaseSwitchings:
+    return BaseSwitchings() if switch is None else BaseSwitchings(read_bytes(switch))
 
 
 def known_items(asked: Asked, whole: Result) -> Items:
@@ -148,6 +150,11 @@ def known_items(asked: Asked, whole: Result) -> Items:
     if screen is None and asked.switch is not None:
         result = screen_result(whole.event, asked.run("screen", None))
         screen = None if result is None else result.screen
+    return items_of(elements, lines, screen)
+
+
+def items_of(elements: Sequence[Element], lines: Iterable[str], screen: Screen | None) -> Items:
+    """The items by the program's reports of a case."""
     return Items(
         frozenset(lines),
         frozenset(element.name for element in elements if element.role == "ground"),
@@ -178,8 +185,15 @@ class Runner:
     switchings: pathlib.Path  # the file that each event has its switchings in
 
     def result(self, event: Event) -> Result:
+        self.write(event)
+        return self.told(event, self.asked.run("screen", str(self.switchings)))
+
+    def write(self, event: Event) -> None:
+        """Writes the switchings of an event."""
         self.switchings.write_bytes(self.base.with_event(event))
-        run = self.asked.run("screen", str(self.switchings))
+
+    def told(self, event: Event, run: Run) -> Result:
+        """What a run says of an event; a refusal where it says nothing of the network."""
         result = screen_result(event, run)
         if result is None:
             raise refuse(self.file, f"{event.name}: {ending(run)}", self.line_of(event, run))
@@ -227,7 +241,7 @@ def outage_report(asked: Asked) -> Outage:
 def find_outages(asked: Asked, file: str | None) -> Outages:
     """The outages of the events of a file; or, without one, of each single line and each single transformer."""
     whole = whole_result(asked)
-    base = base_switchings(asked)
+    base = base_switchings(asked.switch)
     with tempfile.TemporaryDirectory(prefix="gicdesk.") as folder:
         runner = Runner(asked, base, file or asked.case, pathlib.Path(folder, "event.csv"))
         if file is None:

@@ -37,6 +37,13 @@ class Run:
         return int(found[1]) if found and self.status == 7 else None
 
 
+# What the first line of a file has to be, where the program tells that it isn't that.
+HEADS = {
+    "gicstudy: storm: shape in row 0": "a storm begins with time,north,east or time,zone,north,east, and ",
+    "gicstudy: switch: shape in row 0": "switchings begin with time,item,action, and ",
+}
+
+
 @dataclasses.dataclass(frozen=True)
 class Program:
     """The program under the name by which it is run."""
@@ -58,13 +65,33 @@ class Program:
             raise refuse(" ".join(["gicstudy", *words]), ending(run))
         return run.report
 
+    def commit(self) -> str | None:
+        """The commit of this repository where the program is its own, told where files are changed; None where it isn't
+        known."""
+        if not pathlib.Path(self.path).resolve().is_relative_to(TOP) or not (TOP / ".git").exists():
+            return None
+        try:
+            commit, changes = git("rev-parse", "HEAD"), git("status", "--porcelain", "--untracked-files=no")
+        except (OSError, subprocess.CalledProcessError):
+            return None
+        return f"{commit}, with changes" if changes else commit
+
+
+def git(*words: str) -> str:
+    """What git says of this repository."""
+    done = subprocess.run(
+        ["git", "-C", str(TOP), *words], capture_output=True, text=True, stdin=subprocess.DEVNULL, check=True
+    )
+    return done.stdout.strip()
+
 
 def ending(run: Run) -> str:
     """How a run without a report ended, in words."""
     if run.status < 0:
         return f"the program was ended by the signal {-run.status}; is there too little memory?"
     line = shown(run.line) if run.line else "no line"
-    return f"the program ended with status {run.status} and {line}; docs/FAULTS.md says what it comes from"
+    heads = HEADS.get(run.line, "")
+    return f"the program ended with status {run.status} and {line}; {heads}docs/FAULTS.md says what it comes from"
 
 
 def find_program(given: str | None) -> Program:

@@ -2,22 +2,23 @@
 
 import dataclasses
 import decimal
+import math
 from collections.abc import Sequence
 
-from .cases import Case, Field, Names, Row
+from .beyond import REACTOR_WORDS, reactor_row
+from .cases import Case, Field, Names, Row, span_fields
 from .decimals import MILLI, shifted
 from .findings import Finding, Refused
-from .places import MOST_KM, span_metres
+from .places import MOST_KM, SHORT_M, SPAN_FROM_MAP_M, span_metres
 from .polygons import zone_of
 from .psse_gic import Gic, Key, LineData, Reactor, Substation, read_gic
 from .psse_raw import Branch, Raw, Switch, Transformer, read_raw
-from .psse_units import Beyond, Unit, micro_ohm, reactor_row, windings_of
+from .psse_units import Beyond, Unit, micro_ohm, neutral_field, windings_of
 from .records import Record
 from .tables import Table
+from .usual import GROUNDS, REACTORS, unusual, unusual_line, usual_at
 from .zones import Override, ZoneFiles, Zones, read_all
 
-SPAN_FROM_MAP_M = 10000  # a span that is given is this near to that of the coordinates
-SHORT_M = 100  # a line whose span is shorter is told
 BLOCKED_MICRO_OHM = 1000000  # of a series capacitor without a resistance: it carries nothing
 NAME_HEADS = ("list", "name", "theirs", "numbers", "circuit")
 
@@ -91,9 +92,22 @@ class Making:
         if substation.ground is None:
             self.tell(substation.record, f"{name} has no ground: RG is empty")
         else:
-            micro = micro_ohm(substation.record, "RG", substation.ground)
+            ways = "write ohm, or nothing where it has no ground"
+            micro = micro_ohm(substation.record, "RG", substation.ground, ways)
+            kilovolts = self.highest(substation.number)
+            usual, what = usual_at(GROUNDS, kilovolts), f"grounds at {kilovolts:f} kV"
+            self.tell_unusual(substation.record, "RG", unusual(substation.ground, usual, what, kilovolts))
             fields.append(Field("ground", micro, f"{substation.ground:f} ohm to remote earth"))
         self.add("substation", Row(name, fields), substation.name, [substation.number])
+
+    def highest(self, substation: int) -> decimal.Decimal:
+        """The highest voltage in a substation, in kV."""
+        buses = (bus for bus, here in self.gic.substation_of.items() if here == substation and bus in self.raw.buses)
+        return max((self.raw.buses[bus].kilovolts for bus in buses), default=decimal.Decimal(0))
+
+    def tell_unusual(self, at: Record, column: str, found: tuple[str, str] | None) -> None:
+        if found is not None:
+            self.notes.append(Finding(at.file, "".join(found), at.line, column))
 
     def known(self, at: Record, buses: Sequence[int]) -> bool:
         """Whether each bus stands in both files; what is missing is told once."""
@@ -172,11 +186,16 @@ class Making:
         fields = [Field("from", self.bus(branch.ends[0])), Field("to", self.bus(branch.ends[1]))]
         fields.append(Field("zone", self.zone(branch, override)))
         fields.append(self.line_resistance(branch))
-        for key, metres, opposite in (("north", north, "south"), ("east", east, "west")):
-            there = opposite if metres < 0 else key
-            fields.append(Field(key, metres, f"`to` lies {abs(metres) / 1000:g} km to the {there} of `from`"))
+        if branch.reactance >= 0 and abs(north) + abs(east) >= SHORT_M:
+            data = self.line_data(branch)
+            at, column = (branch.record, "R") if data is None or data.ohm == 0 else (data.record, "RBRN")
+            found = unusual_line(self.ohm(branch), math.hypot(north, east), start.kilovolts)
+            self.tell_unusual(at, column, found)
+        fields += span_fields(north, east)
         if branch.reactance < 0:
             fields.append(Field("blocked", True, "a series capacitor passes no direct current"))
+            words = f"{name} has a negative X: it is a series capacitor, and blocked"
+            self.tell(branch.record, words)
         self.add("line", Row(name, fields), branch.name, branch.ends, branch.circuit)
         data = self.line_data(branch)
         for bus, ohm in ({} if data is None else data.shunts).items():
@@ -288,9 +307,14 @@ class Making:
         neutral_ohm: decimal.Decimal = decimal.Decimal(0),
     ) -> None:
         def row() -> Row:
-            return reactor_row(at, self.names.give_like(name), self.bus(bus), ohm, neutral_ohm, column)
+            given = self.names.give_like(name)
+            resistance = Field("high_resistance", micro_ohm(at, column, ohm), f"{ohm:f} ohm per phase")
+            kilovolts = self.raw.buses[bus].kilovolts
+            self.tell_unusual(at, column, unusual(ohm, usual_at(REACTORS, kilovolts), "reactors", kilovolts))
+            neutral = [neutral_field(at, "RG", neutral_ohm)] if neutral_ohm != 0 else []
+            return reactor_row(given, self.bus(bus), resistance, neutral)
 
-        for made in self.beyond.say(at, what, "a delta-wye outside of the assessment", row):
+        for made in self.beyond.say(at, what, REACTOR_WORDS, row):
             self.add("transformer", made, "", [bus])
 
     def records_used(self) -> None:

@@ -26,7 +26,10 @@ LAYOUT = Layout(
         "FIXED SHUNT": "BUS ID R",
         "BRANCH": "I J CKT RBRN",
     },
-    {"BUS SUBSTATION": "BUS", "SUBSTATION BUS": "BUS", "BUS SUBSTATIONS": "BUS", "LINE": "BRANCH"},
+    {
+        **{"BUS SUBSTATION": "BUS", "SUBSTATION BUS": "BUS", "BUS SUBSTATIONS": "BUS", "LINE": "BRANCH"},
+        **{"BUS FIXED SHUNT": "FIXED SHUNT", "FIXED BUS SHUNT": "FIXED SHUNT", "USER EARTH MODEL": "EARTH MODEL"},
+    },
 )
 SIDES = ("I", "J", "K")
 PASSED = ("EARTH MODEL",)  # what is skipped without a word

@@ -5,18 +5,17 @@ What formats 1 and 2 of a case can't say, a third earthed winding and a shunt re
 
 import dataclasses
 import decimal
-import re
 from collections.abc import Callable, Sequence
 
+from .beyond import third_row, third_words
 from .cases import Field, Row
-from .findings import Finding
+from .findings import Finding, shown
 from .psse_gic import SIDES, Side, Windings
 from .psse_raw import Transformer
 from .records import Record
+from .usual import NEUTRALS, WINDINGS, Number, short, unusual, usual_at
+from .vectors import GROUNDED, GROUPS, letters_of
 
-LETTERS = re.compile(r"(YN|Y|D|A|Z)[0-9]*")
-GROUNDED = "YN"
-REACTOR_VOLTS = 1000
 RATED_FROM_BUS = decimal.Decimal("0.1")  # a rated voltage is mostly within a tenth of that of its bus
 CHOICES = ("leave", "model")
 OUT = {2: 1, 3: 2, 4: 0}  # the place of the winding that is out, by the status of a unit
@@ -54,12 +53,16 @@ class Beyond:
         return [made]
 
 
-def micro_ohm(at: Record, column: str, ohm: decimal.Decimal) -> int:
+def micro_ohm(at: Record, column: str, ohm: decimal.Decimal, ways: str = "write ohm a phase") -> int:
     """A resistance in micro-ohm, rounded to a whole one; what is out of a case's range is a finding."""
     micro = int((ohm * 10**6).to_integral_value(decimal.ROUND_HALF_EVEN))
     if not 1000 <= micro <= 10**9:
-        at.wrong(column, f"it is {ohm:f} ohm, and not 0.001 to 1000; write ohm a phase")
+        at.wrong(column, f"it is {shown(f'{ohm:f}')[1:-1]} ohm, and not 0.001 to 1000; {ways}")
     return micro
+
+
+def neutral_field(at: Record, column: str, ohm: decimal.Decimal) -> Field:
+    return Field("neutral", micro_ohm(at, column, ohm, "write ohm"), f"a resistor of {ohm:f} ohm to the ground grid")
 
 
 def volts(at: Record, kilovolts: decimal.Decimal) -> int:
@@ -67,14 +70,6 @@ def volts(at: Record, kilovolts: decimal.Decimal) -> int:
     if not 1000 <= whole <= 2000000:
         at.wrong(None, f"a rated voltage is {kilovolts:f} kV, and not 1 to 2000; look at NOMV, and at BASKV of the bus")
     return whole
-
-
-def letters_of(vector: str) -> list[str] | None:
-    """The letters of each winding of a vector group, as YN, A and D of YNa0d1; None where it is none."""
-    text = re.sub(r"\s", "", vector).upper()
-    if not re.fullmatch(rf"({LETTERS.pattern})+", text):
-        return None
-    return [found[1] for found in LETTERS.finditer(text)]
 
 
 def by_volts(kilovolts: Sequence[decimal.Decimal]) -> list[int]:
@@ -89,8 +84,8 @@ def letters_by_bus(
     user says; where it doesn't matter nobody is asked."""
     letters = letters_of(vector)
     if letters is None:
-        allowed = "allowed are groups of YN, Y, D, Z and A, as YNd1, YNyn0 and YNa0d1"
-        at.wrong("VECGRP", f'"{vector}" is no vector group; {allowed}')
+        what = f'"{vector}" is no vector group' if vector else "it is empty, and so is that of the other file"
+        at.wrong("VECGRP", f"{what}; allowed are {GROUPS}")
         return None
     many = len(kilovolts)
     if len(letters) < many:
@@ -158,8 +153,21 @@ class Unit:
     def tell(self, words: str) -> None:
         self.beyond.notes.append(Finding(self.at.file, words, self.at.line))
 
+    def tell_unusual(self, column: str, found: tuple[str, str] | None) -> None:
+        if found is not None:
+            self.beyond.notes.append(Finding(self.data_at.file, "".join(found), self.data_at.line, column))
+
     def resistance(self, key: str, winding: Winding) -> Field:
-        micro = micro_ohm(self.data_at, f"WR{winding.name}", winding.side.ohm)
+        """The resistance of a winding, of which it is told where few have it."""
+        column = f"WR{winding.name}"
+        micro = micro_ohm(self.data_at, column, winding.side.ohm)
+        kilovolts = winding.kilovolts
+        least, most = usual_at(WINDINGS, kilovolts)
+        if key == "series_resistance":  # its voltage is a difference
+            least = min(least, Number(WINDINGS[1].least))
+        found = unusual(winding.side.ohm, (least, most), f"windings of {short(kilovolts)} kV", kilovolts)
+        if 1000 <= micro <= 10**9:
+            self.tell_unusual(column, found)
         return Field(key, micro, f"{winding.side.ohm:f} ohm per phase")
 
     def neutral(self, windings: Sequence[Winding]) -> list[Field]:
@@ -170,8 +178,8 @@ class Unit:
         if len(ohms) > 1:
             self.data_at.wrong("GRDRJ", "one neutral has two resistances, GRDRI and GRDRJ; make them equal, or one 0")
         for ohm, name in list(ohms.items())[:1]:
-            micro = micro_ohm(self.data_at, f"GRDR{name}", ohm)
-            return [Field("neutral", micro, f"a resistor of {ohm:f} ohm to the ground grid")]
+            self.tell_unusual(f"GRDR{name}", unusual(ohm, usual_at(NEUTRALS, Number(0)), "neutrals", Number(0)))
+            return [neutral_field(self.data_at, f"GRDR{name}", ohm)]
         return []
 
     def rows(self) -> list[Row]:
@@ -245,23 +253,11 @@ class Unit:
         rows = []
         for winding in windings:
             words = f"the third grounded winding of {self.name}, at the bus {winding.bus},"
-            written = f"a delta-wye of its own, and the effective current of {self.name} lacks it"
-            rows += self.beyond.say(self.at, words, written, lambda winding=winding: self.third_row(winding))
+            rows += self.beyond.say(
+                self.at, words, third_words(self.name), lambda winding=winding: self.third_row(winding)
+            )
         return rows
 
     def third_row(self, winding: Winding) -> Row:
-        fields = [Field("kind", "delta-wye"), *self.side("high", winding)]
-        fields += [self.resistance("high_resistance", winding), *self.neutral([winding])]
-        return Row(self.give_name(f"{self.name}_3"), fields, f"the third winding of {self.name}")
-
-
-def reactor_row(
-    at: Record, name: str, bus: str, ohm: decimal.Decimal, neutral_ohm: decimal.Decimal, column: str
-) -> Row:
-    """A shunt reactor as docs/MODELLING.md writes it: a delta-wye that is outside of the assessment."""
-    fields = [Field("kind", "delta-wye"), Field("high_volts", REACTOR_VOLTS, "a reactor: no rated voltage")]
-    fields += [Field("high", bus), Field("high_resistance", micro_ohm(at, column, ohm), f"{ohm:f} ohm per phase")]
-    if neutral_ohm != 0:
-        micro = micro_ohm(at, "RG", neutral_ohm)
-        fields.append(Field("neutral", micro, f"a resistor of {neutral_ohm:f} ohm to the ground grid"))
-    return Row(name, fields, "a shunt reactor")
+        name, resistance = self.give_name(f"{self.name}_3"), self.resistance("high_resistance", winding)
+        return third_row(name, self.name, self.side("high", winding), resistance, self.neutral([winding]))

@@ -6,7 +6,8 @@ import io
 import re
 from collections.abc import Sequence
 
-DECIMAL = re.compile(r"(^|_)(A|A_per_phase|V|V_or_A|V_per_km|var|ohm)$")  # the heads of columns with decimal points
+# The heads of columns with decimal points.
+DECIMAL = re.compile(r"(^|_)(A|A_per_phase|V|V_or_A|V_per_km|var|ohm|kV|Mvar|mvar_per_ampere)$")
 
 
 @dataclasses.dataclass(frozen=True)

@@ -1,0 +1,254 @@
+"""A case from tables of ohm, kilovolts, kilometres and degrees."""
+
+import dataclasses
+import decimal
+from fractions import Fraction
+
+from .alpha import Scale, by_formula, by_table, scale_for
+from .case_tables import (
+    ALPHA,
+    BETA,
+    BUSES,
+    COLUMNS,
+    GEOMAGNETIC,
+    GROUND_OHM,
+    KILOVOLT,
+    LATITUDE,
+    LINES,
+    LONGITUDE,
+    MOST_ROWS,
+    OHM,
+    PARALLEL,
+    SUBSTATIONS,
+    TRANSFORMERS,
+    ZONES,
+    Number,
+    Questions,
+    Tables,
+    bare,
+    check_accepted,
+    number_in,
+    read_tables,
+    whole,
+)
+from .case_lines import Line, Network
+from .case_units import Unit
+from .cases import LISTS, Case, Field, Names, Row
+from .findings import Finding, Refused, shown
+from .forms import NAME
+from .records import Record
+from .usual import GROUNDS, short, unusual, usual_at
+
+TABLE, FORMULA = "table", "formula"
+
+
+@dataclasses.dataclass(frozen=True)
+class Choices:
+    """What the user says once: alpha of all zones without one of their own, and the findings that are accepted."""
+
+    alpha: str
+    accepted: tuple[str, ...]
+
+
+def read_alpha(word: str) -> Fraction | None:
+    """The alpha of --alpha, where it is a number; None for the words table and formula."""
+    if word in (TABLE, FORMULA):
+        return None
+    allowed = f"allowed are {TABLE}, {FORMULA} and numbers from {ALPHA.least} to {ALPHA.most}"
+    try:
+        number = Number(word)
+    except decimal.InvalidOperation:
+        number = Number("NaN")
+    if not number.is_finite() or not Number(ALPHA.least) <= number <= Number(ALPHA.most):
+        raise Refused([Finding(f"--alpha={bare(word)}", allowed)])
+    return Fraction(number)
+
+
+class Making:
+    """A case in the making, list by list, with what is wrong and what is told."""
+
+    def __init__(self, tables: Tables, choices: Choices) -> None:
+        self.tables, self.findings, self.notes = tables, tables.findings, list[Finding]()
+        self.questions = Questions(choices.accepted, self.findings, self.notes)
+        self.way, self.number = choices.alpha, read_alpha(choices.alpha)
+        self.case, self.names = Case(), Names({name for rows in tables.rows.values() for name in rows})
+        self.network = Network()
+        self.made_substations: list[Row] = []  # at borders
+
+    def make(self) -> None:
+        for table, make in (
+            (ZONES, self.zone),
+            (SUBSTATIONS, self.place),
+            (BUSES, self.bus),
+            (LINES, self.line),
+            (TRANSFORMERS, self.transformer),
+            (SUBSTATIONS, self.substation),
+            (BUSES, self.unused),
+        ):
+            for at in self.tables.rows[table].values():
+                make(at)
+        self.case.lists["substation"] += self.made_substations
+        for table, list_name in zip(COLUMNS, LISTS):
+            many, most = len(self.case.lists[list_name]), MOST_ROWS[table]
+            if many > most:
+                file = next(iter(self.tables.rows[table].values())).file
+                self.findings.append(Finding(file, f"a case of it has {many} rows {list_name}, and at most {most}"))
+
+    def add(self, list_name: str, name: str, fields: list[Field], at: Record) -> None:
+        self.case.lists[list_name].append(Row(name, fields, at.text("note")))
+
+    # Zones
+
+    def zone(self, at: Record) -> None:
+        name = at.text("name")
+        latitude, beta = number_in(at, "geomagnetic_latitude", GEOMAGNETIC), number_in(at, "beta", BETA)
+        own = number_in(at, "alpha", ALPHA) if at.text("alpha") else None
+        if latitude is None or beta is None:
+            return
+        if own is None and self.way == TABLE:
+            self.zone_by_table(at, latitude, beta)
+            return
+        alpha, origin = self.number, "as given"
+        if own is not None:
+            alpha = Fraction(own)
+        elif alpha is None:
+            alpha, origin = by_formula(latitude), "by the formula"
+        hundredths = whole(latitude, GEOMAGNETIC)
+        scale = scale_for(hundredths, alpha * Fraction(beta))
+        self.network.scales[name] = scale
+        where = "hundredths of a degree, geomagnetic"
+        if scale.latitude != hundredths:
+            where += f", in place of {latitude:f} degrees"
+        met = f"alpha {float(by_table(scale.latitude)):g} of the table, and spans times {float(scale.factor):.6f}"
+        meant = f"with {met}: alpha {float(alpha):.6f} {origin}, times beta {bare(at.text('beta'))}"
+        self.add("zone", name, [Field("latitude", scale.latitude, where), Field("beta", scale.beta, meant)], at)
+
+    def zone_by_table(self, at: Record, latitude: Number, beta: Number) -> None:
+        """A zone with the program's own alpha, which has its latitude and its beta in whole hundredths."""
+        for column, number in (("geomagnetic_latitude", latitude), ("beta", beta)):
+            if number * 100 != int(number * 100):
+                words = f"it is {bare(at.text(column))}, and a case has two decimals of it"
+                at.wrong(column, f"{words}; round it the way that you mean, or choose --alpha={FORMULA} or a number")
+        hundredths = whole(latitude, GEOMAGNETIC)
+        table, formula = by_table(hundredths), by_formula(latitude)
+        if table < formula:
+            words = f"alpha is {float(table):g} by the program's table, and {float(formula):.4f} by the formula"
+            ways = f"currents come out too small; choose --alpha={FORMULA}, or write a column alpha"
+            self.questions.ask(f"alpha:{at.text('name')}", at, "geomagnetic_latitude", words, ways)
+        scale = Scale(hundredths, whole(beta, BETA))
+        self.network.scales[at.text("name")] = scale
+        fields = [
+            Field("latitude", scale.latitude, "hundredths of a degree, geomagnetic"),
+            Field("beta", scale.beta, "hundredths: the scaling for the conductivity of the earth"),
+        ]
+        self.add("zone", at.text("name"), fields, at)
+
+    # Substations and buses
+
+    def place(self, at: Record) -> None:
+        latitude, longitude = number_in(at, "latitude", LATITUDE), number_in(at, "longitude", LONGITUDE)
+        if latitude is not None and longitude is not None:
+            self.network.places[at.text("name")] = (latitude, longitude)
+
+    def substation(self, at: Record) -> None:
+        """A substation; it comes behind the windings, which decide whether it has to have a ground."""
+        name, fields = at.text("name"), list[Field]()
+        highest = self.network.highest.get(name, Number(0))
+        if at.text("ground_ohm"):
+            ohm = number_in(at, "ground_ohm", GROUND_OHM)
+            if ohm is not None:
+                found = unusual(ohm, usual_at(GROUNDS, highest), f"grounds at {short(highest)} kV", highest)
+                self.questions.ask_unusual(f"ground:{name}", at, "ground_ohm", found)
+                fields.append(Field("ground", whole(ohm, OHM), f"{bare(at.text('ground_ohm'))} ohm to remote earth"))
+        elif name in self.network.earthing:
+            words = "it is empty, and a winding is earthed here, so that no current can flow in it to the earth"
+            self.questions.ask(f"ground:{name}", at, "ground_ohm", words, "write its resistance")
+        if name not in self.network.used:
+            words, ways = "no bus is in it", "look at the column substation of the buses, or leave the row out"
+            self.questions.ask(f"unused:{name}", at, None, words, ways)
+        self.add("substation", name, fields, at)
+
+    def bus(self, at: Record) -> None:
+        station = self.tables.refer(at, "substation", SUBSTATIONS)
+        kilovolts = number_in(at, "kv", KILOVOLT)
+        if kilovolts is not None:
+            self.network.kilovolts[at.text("name")] = kilovolts
+        if station is not None:
+            name = station.text("name")
+            self.network.used.add(name)
+            self.network.highest[name] = max(self.network.highest.get(name, Number(0)), kilovolts or Number(0))
+        fields = [Field("substation", at.text("substation"), f"{bare(at.text('kv'))} kV")]
+        self.add("bus", at.text("name"), fields, at)
+
+    def unused(self, at: Record) -> None:
+        if at.text("name") not in self.network.used:
+            words, ways = "no line and no transformer is at it", "look at their buses, or leave the row out"
+            self.questions.ask(f"unused:{at.text('name')}", at, None, words, ways)
+
+    # Lines and transformers
+
+    def copies(self, at: Record) -> list[str]:
+        """The names of the rows in the case for a row of a table: so many as it has equal ones side by side."""
+        name, text = at.text("name"), at.text("parallel")
+        if not text:
+            return [name]
+        if text not in PARALLEL:
+            words = f"it is {bare(text)}, and not a whole number from 1 to {PARALLEL[-1]}"
+            at.wrong("parallel", f"{words}; write how many equal ones the row stands for")
+        if text not in PARALLEL[1:]:
+            return [name]
+        names = [f"{name}-{place}" for place in range(1, int(text) + 1)]
+        odd = [made for made in names if made in self.names.taken or not NAME.fullmatch(made)]
+        if odd:
+            at.wrong("parallel", f"{shown(odd[0])} is taken, or longer than 32 letters; give the row another name")
+        self.names.taken.update(names)
+        return names
+
+    def line(self, at: Record) -> None:
+        line = Line(at, self.copies(at), self.tables, self.network, self.questions, self.names.give_like)
+        self.case.lists["line"] += line.rows()
+        self.case.lists["bus"] += line.made_buses
+        self.made_substations += line.made_substations
+        self.network.used.update(line.buses)
+
+    def transformer(self, at: Record) -> None:
+        for name in self.copies(at):
+            unit = Unit(at, name, self.tables, self.network.kilovolts, self.questions, self.names.give_like)
+            self.case.lists["transformer"] += unit.rows()
+            self.network.used.update(unit.buses)
+            self.network.earthing.update(unit.earthed)
+
+
+@dataclasses.dataclass(frozen=True)
+class Made:
+    case: str
+    notes: list[Finding]
+
+
+def in_order(tables: Tables, findings: list[Finding]) -> list[Finding]:
+    """The findings in the order of the tables, and in each of its lines, each once."""
+    files: dict[str, int] = {}
+    for rows in tables.rows.values():
+        for at in rows.values():
+            files.setdefault(at.file, len(files))
+    once = list(dict.fromkeys(findings))
+    return sorted(once, key=lambda finding: (files.get(finding.file, len(files)), finding.line or 0))
+
+
+def make_case(folder: str, choices: Choices) -> Made:
+    """The case of the tables of a folder; all that is wrong with any of them is told at once."""
+    check_accepted(choices.accepted)
+    read_alpha(choices.alpha)
+    tables = read_tables(folder)
+    making = Making(tables, choices)
+    making.make()
+    if tables.findings:
+        raise Refused(in_order(tables, tables.findings))
+    notes = in_order(tables, making.notes)
+    left = "it takes nothing away; leave it out"
+    notes += [Finding(f"--accept={name}", left) for name in making.questions.left()]
+    origin = "Made by gicdesk case: change the tables, and make it again."
+    accepted = sorted(making.questions.taken)
+    if accepted:
+        origin += f" Accepted: {', '.join(accepted)}."
+    return Made(making.case.text(origin), notes)

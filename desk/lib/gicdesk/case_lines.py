@@ -1,0 +1,249 @@
+"""A row of the table of lines: what it is in a case."""
+
+import dataclasses
+import math
+from collections.abc import Callable, Sequence
+from fractions import Fraction
+
+from .alpha import Scale
+from .borders import Stretch
+from .case_tables import BUSES, KILOMETRE, OHM, PER_UNIT, ZONES, Number, Questions, Tables, bare, number_in, whole
+from .cases import Field, Row, span_fields
+from .decimals import MICRO, MILLI, shifted
+from .findings import shown
+from .places import MOST_KM, SHORT_M, SPAN_FROM_MAP_M, Place, span_metres
+from .records import Record
+from .usual import BASE_MVA, short, unusual_line
+
+CAPACITOR = "yes"
+LEAST_MICRO_OHM = 1000  # of a line in a case
+
+Span = tuple[int, int]  # metres to the north and to the east
+
+
+@dataclasses.dataclass
+class Network:
+    """What is known of the tables' rows by their names."""
+
+    scales: dict[str, Scale] = dataclasses.field(default_factory=dict)  # of zones
+    places: dict[str, Place] = dataclasses.field(default_factory=dict)  # of substations
+    kilovolts: dict[str, Number] = dataclasses.field(default_factory=dict)  # of buses
+    highest: dict[str, Number] = dataclasses.field(default_factory=dict)  # of substations, the kilovolts of their buses
+    used: set[str] = dataclasses.field(default_factory=set)  # buses with a line or a unit, and substations with a bus
+    earthing: set[str] = dataclasses.field(default_factory=set)  # substations where a winding is earthed
+
+
+@dataclasses.dataclass(frozen=True)
+class Piece:
+    """A line in a case, or one of the parts that it is cut into: up to a share of its way."""
+
+    zone: str
+    suffix: str = ""  # of its name
+    until: Fraction = Fraction(1)
+
+
+@dataclasses.dataclass
+class Line:
+    """A line on its way into a case, under one name or several; what is wrong with its row becomes a finding."""
+
+    at: Record
+    names: Sequence[str]
+    tables: Tables
+    network: Network
+    questions: Questions
+    give_name: Callable[[str], str]
+    buses: set[str] = dataclasses.field(default_factory=set)
+    made_buses: list[Row] = dataclasses.field(default_factory=list)  # at borders
+    made_substations: list[Row] = dataclasses.field(default_factory=list)
+
+    def ask(self, kind: str, column: str | None, words: str, ways: str) -> None:
+        self.questions.ask(f"{kind}:{self.at.text('name')}", self.at, column, words, ways)
+
+    def rows(self) -> list[Row]:
+        """Its rows in the case: one for each name, or for each piece of each."""
+        ends = [self.tables.refer(self.at, column, BUSES) for column in ("from", "to")]
+        self.buses.update(end.text("name") for end in ends if end is not None)
+        kilovolts = self.same_kilovolts()
+        ohm = self.ohm(kilovolts)
+        capacitor = self.at.text("capacitor")
+        if capacitor not in ("", CAPACITOR):
+            self.at.wrong("capacitor", f"{shown(capacitor)} is neither yes nor empty; write one of these")
+        stations = [end.text("substation") for end in ends if end is not None]
+        places = [self.network.places[station] for station in stations if station in self.network.places]
+        if len(places) < 2:
+            self.zone_cell()
+            return []
+        span = self.span(places)
+        pieces = self.pieces(places, span)
+        if span is None or ohm is None or not pieces:
+            return []
+        if kilovolts is not None and stations[0] != stations[1]:
+            self.ask_usual(ohm, kilovolts, span)
+        return [row for name in self.names for row in self.rows_of(name, pieces, ohm, span)]
+
+    def ohm(self, kilovolts: Number | None) -> Number | None:
+        """The resistance of a phase, written in ohm or per unit; None where it isn't one, which is a finding."""
+        text = self.at.text("per_unit")
+        if not text:
+            return number_in(self.at, "ohm", OHM)
+        if self.at.text("ohm"):
+            words = f"it is {bare(text)}, and ohm is {bare(self.at.text('ohm'))}; leave one of the two empty"
+            self.at.wrong("per_unit", words)
+            return None
+        per_unit = number_in(self.at, "per_unit", PER_UNIT)
+        if per_unit is None or kilovolts is None:
+            return None
+        ohm = per_unit * kilovolts**2 / BASE_MVA
+        if not Number(OHM.least) <= ohm <= Number(OHM.most):
+            base = f"on {BASE_MVA} MVA at {short(kilovolts)} kV"
+            words = f"it is {bare(text)}, which {base} is {short(ohm)} ohm, and not {OHM.least} to {OHM.most}"
+            self.at.wrong("per_unit", f"{words}; is it in ohm, or on another base?")
+            return None
+        return ohm
+
+    def same_kilovolts(self) -> Number | None:
+        """The voltage of both buses in kV; None where it isn't one, which is a finding, or isn't known."""
+        start, end = self.at.text("from"), self.at.text("to")
+        if start == end and start:
+            self.at.wrong("to", f"it is {shown(end)}, as from is; write the bus at the other end")
+            return None
+        first, second = self.network.kilovolts.get(start), self.network.kilovolts.get(end)
+        if first is None or second is None:
+            return None
+        if first != second:
+            joined = f"a bus of {short(first)} kV to one of {short(second)} kV"
+            self.at.wrong("to", f"the line joins {joined}; write another bus, or mend kv in {BUSES}.csv")
+            return None
+        return first
+
+    def span(self, places: Sequence[Place]) -> Span | None:
+        """The span of a line: what the table gives, or else that of the coordinates of its ends."""
+        mapped = span_metres(places[0], places[1])
+        given = [column for column in ("north_km", "east_km") if self.at.text(column)]
+        if not given:
+            return self.span_of_map(mapped)
+        if len(given) == 1:
+            column = "east_km" if given == ["north_km"] else "north_km"
+            self.at.wrong(column, "it is empty, and the other part of the span is given; write both or neither")
+            return None
+        north, east = (number_in(self.at, column, KILOMETRE) for column in given)
+        if north is None or east is None:
+            return None
+        span = whole(north, KILOMETRE), whole(east, KILOMETRE)
+        for column, here, there in zip(("north_km", "east_km"), span, mapped):
+            if abs(here - there) > SPAN_FROM_MAP_M:
+                words = f"it is {here / 1000:g}, and by the coordinates {there / 1000:g}"
+                self.ask("span", column, words, "look at its sign, and at from and to")
+        return span
+
+    def span_of_map(self, mapped: Span) -> Span | None:
+        for direction, metres in zip(("north", "east"), mapped):
+            if abs(metres) > MOST_KM * 1000:
+                words = f"its ends lie {shifted(abs(metres), MILLI)} km apart to the {direction}, and not up to {MOST_KM}"
+                self.at.wrong(None, f"{words}; look at the signs and the coordinates of both substations")
+                return None
+        return mapped
+
+    def ask_usual(self, ohm: Number, kilovolts: Number, span: Span) -> None:
+        """Asks about ends at one place, and about ohm per km."""
+        if abs(span[0]) + abs(span[1]) < SHORT_M:
+            ways = "look at the coordinates of both substations"
+            self.ask("span", None, f"its ends lie less than {SHORT_M} m apart", ways)
+            return
+        found = unusual_line(ohm, math.hypot(*span), kilovolts)
+        column = "per_unit" if self.at.text("per_unit") else "ohm"
+        if found is not None and column == "per_unit":
+            found = found[0], f", or change it to {BASE_MVA} MVA"
+        self.questions.ask_unusual(f"line:{self.at.text('name')}", self.at, column, found)
+
+    def zone_cell(self) -> str:
+        """The zone that the row names; empty where it names none of the table."""
+        if not self.at.text("zone"):
+            return ""
+        row = self.tables.refer(self.at, "zone", ZONES)
+        return "" if row is None else row.text("name")
+
+    def pieces(self, places: Sequence[Place], span: Span | None) -> list[Piece]:
+        """The line as it is in the case: whole in the zone that is written, or in the only one, or in the one that
+        its way lies in; and else cut at the borders of the zones."""
+        zones = list(self.tables.rows[ZONES])
+        borders = self.tables.borders
+        way = [] if borders is None else borders.stretches(places[0], places[1])
+        if self.at.text("zone"):
+            return self.written(way)
+        if len(zones) == 1:
+            return [Piece(zones[0])]
+        if not way:
+            allowed = f"write one of {', '.join(zones[:9])}, or add a table polygons.csv"
+            self.at.wrong("zone", f"it is empty; {allowed}")
+            return []
+        odd = next((stretch for stretch in way if len(stretch.zones) != 1), None)
+        if odd is not None:
+            where = f"in {' and in '.join(odd.zones)}" if odd.zones else "in no polygon"
+            ways = "mend the polygons, or write its zone"
+            self.at.wrong("zone", f"it is empty, and a part of the line lies {where}; {ways}")
+            return []
+        if len(way) == 1 or self.at.text("capacitor"):
+            return [Piece(way[0].zones[0])]
+        return self.cut(way, span)
+
+    def written(self, way: Sequence[Stretch]) -> list[Piece]:
+        """The line in the zone of its cell, through which its way goes where there are polygons."""
+        zone = self.zone_cell()
+        crossed = {crossed for stretch in way for crossed in stretch.zones}
+        if zone and crossed and zone not in crossed:
+            words = f"it is {zone}, and by the polygons the line lies in {' and '.join(sorted(crossed))}"
+            self.ask("zone", "zone", words, "write its zone, or leave the cell empty")
+        return [Piece(zone)] if zone else []
+
+    def cut(self, way: Sequence[Stretch], span: Span | None) -> list[Piece]:
+        pieces = [Piece(part.zones[0], f"_{number}", part.until) for number, part in enumerate(way, 1)]
+        length = 0.0 if span is None else math.hypot(*span) / 1000
+        parts = ", ".join(f"{piece.zone} to {float(piece.until) * length:.1f} km" for piece in pieces)
+        words = f"it is empty, and the line crosses borders: {parts}; it is cut into {len(pieces)} lines there"
+        self.ask("cut", "zone", words, "write the one zone that it is to have")
+        return pieces
+
+    def rows_of(self, name: str, pieces: Sequence[Piece], ohm: Number, span: Span) -> list[Row]:
+        """The rows under a name: one, or one for each piece with a made bus between two of them. Resistance and span
+        are shared out by length, and add up."""
+        rows: list[Row] = []
+        here, share = self.at.text("from"), Fraction(0)
+        for piece in pieces:
+            there = self.at.text("to") if piece is pieces[-1] else self.made_bus(name, len(rows) + 1)
+            micro_ohm, north, east = (
+                round(total * piece.until) - round(total * share) for total in (whole(ohm, OHM), *span)
+            )
+            resistance = f"{bare(self.at.text('ohm'))} ohm per phase"
+            if self.at.text("per_unit"):
+                ohms = shifted(whole(ohm, OHM), MICRO)
+                resistance = f"{ohms} ohm per phase, from {bare(self.at.text('per_unit'))} per unit"
+            if piece.suffix:
+                resistance = f"{shifted(micro_ohm, MICRO)} of {resistance}"
+                if micro_ohm < LEAST_MICRO_OHM:
+                    words = f"its part in {piece.zone} has less than 0.001 ohm; write the one zone of the line"
+                    self.at.wrong("zone", words)
+            fields = [Field("from", here), Field("to", there), Field("zone", piece.zone)]
+            fields += [Field("resistance", micro_ohm, resistance), *self.span_fields(piece.zone, (north, east))]
+            if self.at.text("capacitor"):
+                fields.append(Field("blocked", True, "a series capacitor passes no direct current"))
+            own_name = self.give_name(f"{name}{piece.suffix}") if piece.suffix else name
+            rows.append(Row(own_name, fields, self.at.text("note")))
+            here, share = there, piece.until
+        return rows
+
+    def span_fields(self, zone: str, span: Span) -> list[Field]:
+        scale = self.network.scales.get(zone)
+        factor = Fraction(1) if scale is None else scale.factor
+        if any(abs(metres * factor) > MOST_KM * 1000 for metres in span):
+            words = f"its span times {float(factor):.6f} is above {MOST_KM} km"
+            self.at.wrong(None, f"{words}; cut it in two, with a substation without a ground between them")
+        return span_fields(*span, factor)
+
+    def made_bus(self, line: str, number: int) -> str:
+        """A bus at a border, in a substation of its own without a ground."""
+        station, bus = self.give_name(f"{line}_at{number}"), self.give_name(f"{line}_bus{number}")
+        note = f"made where {line} crosses a border of zones"
+        self.made_substations.append(Row(station, [], note))
+        self.made_buses.append(Row(bus, [Field("substation", station)], note))
+        return bus

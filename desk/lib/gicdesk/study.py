@@ -1,0 +1,572 @@
+"""The whole study of a case: each report of the program, kept as it came, and what the page is made of."""
+
+import contextlib
+import dataclasses
+import datetime
+import hashlib
+import math
+import pathlib
+import tempfile
+from collections.abc import Iterable, Iterator, Mapping
+from typing import TypeVar
+
+from . import outages
+from .counts import plural
+from .events import Event, Items, one_event, read_events
+from .factors import Factor, read_factors, size, total
+from .files import read_bytes
+from .findings import Finding, Refused, refuse
+from .forms import Interval
+from .network import Network, Place, laid_out, network_of, read_places
+from .outages import Asked, Outages, Result, Worst, worst_of
+from .program import Program, Run, ending
+from .progress import Progress
+from .questions import question_text
+from .reports import (
+    Check,
+    Elements,
+    Field,
+    Outage,
+    Report,
+    Review,
+    Screen,
+    ScreenUnit,
+    Series,
+    Unit,
+    Volts,
+    parse_report,
+)
+from .reports import Study as StormReport
+from .storms import Seconds, StormStep, seconds_above, storm_steps, switching_rows
+
+Kind = TypeVar("Kind")
+OPTIONS = ("storm", "switch", "factors", "events", "places", "width")
+SHOWN = 40  # units and questions on the terminal
+MUST = ("reaches", "undecided")  # the verdicts of a unit that must be assessed
+
+
+@dataclasses.dataclass(frozen=True)
+class Request:
+    """What is asked: the program, and the names of the files as they were given."""
+
+    program: Program
+    case: str
+    storm: str | None = None
+    switch: str | None = None
+    factors: str | None = None
+    events: str | None = None
+    places: str | None = None
+    width: str | None = None
+
+    @property
+    def standing_switch(self) -> str | None:
+        """The switchings that are in force in every report. Those of a storm have their times in it alone."""
+        return self.switch if self.storm is None else None
+
+    @property
+    def words(self) -> tuple[str, ...]:
+        return () if self.width is None else (f"--width={self.width}",)
+
+    @property
+    def standing_words(self) -> tuple[str, ...]:
+        return () if self.standing_switch is None else (f"--switch={self.standing_switch}",)
+
+    @property
+    def screen_words(self) -> tuple[str, ...]:
+        """The words of a screen of the whole network, of its outages, and of a field."""
+        return (*self.standing_words, *self.words)
+
+    def files(self) -> dict[str, str]:
+        names = {name: getattr(self, name) for name in ("case", *OPTIONS) if name != "width"}
+        return {name: file for name, file in names.items() if file is not None}
+
+
+@dataclasses.dataclass(frozen=True)
+class Input:
+    role: str
+    name: str
+    data: bytes
+
+    @property
+    def checksum(self) -> str:
+        return hashlib.sha256(self.data).hexdigest()
+
+
+@dataclasses.dataclass(frozen=True)
+class Kept:
+    """A run with its words as they can be given again, and its report where there is one."""
+
+    name: str
+    words: tuple[str, ...]
+    run: Run
+    mode: str
+    report: Report | None
+
+
+@dataclasses.dataclass(frozen=True)
+class Storm:
+    """A storm: its report, or the line of the program where it has none, and what goes on in it."""
+
+    report: StormReport | None
+    fault: str
+    steps: list[StormStep]
+    switchings: list[tuple[int, str, str]]
+    series: dict[str, Series]
+
+
+@dataclasses.dataclass(frozen=True)
+class Losses:
+    """What the units with a factor draw: in the direction of the field in which they draw most together."""
+
+    factors: dict[str, Factor]
+    bearing: int
+    field: Field
+
+
+@dataclasses.dataclass(frozen=True)
+class UnitFacts:
+    """A transformer in all reports."""
+
+    benchmark: ScreenUnit
+    supplemental: ScreenUnit
+    outage: Unit
+    worst_outage: Worst | None
+    worst_event: Worst | None
+    peak: Unit | None  # over the storm
+    seconds: Seconds | None
+    bearing: int | None  # in degrees from the north over the east, from 0 to 179
+
+    @property
+    def name(self) -> str:
+        return self.benchmark.name
+
+    @property
+    def verdicts(self) -> list[str]:
+        """Those of the benchmark event: of the whole network, with one item out, and of the worst event."""
+        event = [] if self.worst_event is None else [self.worst_event.unit.verdict]
+        return [self.benchmark.verdict, self.outage.verdict, *event]
+
+    @property
+    def must_be_assessed(self) -> bool:
+        return any(verdict in MUST for verdict in self.verdicts)
+
+
+@dataclasses.dataclass(frozen=True)
+class Study:
+    request: Request
+    began: datetime.datetime
+    commit: str | None
+    program_checksum: str
+    inputs: list[Input]
+    kept: list[Kept]
+    review: Review
+    check: Check
+    screen: Screen
+    supplemental: Screen
+    outage: Outage
+    units: list[UnitFacts]  # the greatest worst current first
+    events: Outages | None
+    network: Network | None
+    places: dict[str, Place]
+    placed: int  # of these so many by the table
+    parts: int  # of the network that were set beside the others on the map
+    storm: Storm | None
+    losses: Losses | None
+
+    @property
+    def has_storm_report(self) -> bool:
+        return self.storm is not None and self.storm.report is not None
+
+    @property
+    def assessed(self) -> list[UnitFacts]:
+        """The units that reach the threshold or may, in the order of `units`."""
+        return [unit for unit in self.units if unit.must_be_assessed]
+
+
+def middle(value: Interval) -> float:
+    return (value.low + value.high) / 2
+
+
+def bearing_of(row: ScreenUnit) -> int | None:
+    """The direction of the field that is worst, by the middles of the two currents; None where they may be 0."""
+    if row.worst.low <= 0:
+        return None
+    return round(math.degrees(math.atan2(middle(row.east), middle(row.north)))) % 180
+
+
+def current_at(row: ScreenUnit, bearing: float) -> Interval:
+    """The absolute current in the event's field of this bearing, in milliamperes: cosine times the one to the north and
+    sine times the one to the east, with the ends rounded outward."""
+    factors = math.cos(math.radians(bearing)), math.sin(math.radians(bearing))
+    low = high = 0.0
+    for factor, value in zip(factors, (row.north, row.east)):
+        ends = sorted((factor * value.low, factor * value.high))
+        low, high = low + ends[0], high + ends[1]
+    least, most = 0.0 if low <= 0 <= high else min(abs(low), abs(high)), max(abs(low), abs(high))
+    slack = 1e-6 + 1e-12 * most  # for the rounding of the floating-point numbers
+    return Interval(max(0, math.floor(least - slack)), math.ceil(most + slack))
+
+
+def worst_losses(factors: Mapping[str, Factor], screen: Screen) -> int:
+    """The bearing from 0 to 179 at which the units draw most together, by the high ends of their currents."""
+    rows = [row for row in screen.rows if row.name in factors]
+
+    def drawn(bearing: int) -> float:
+        return float(total(factors, {row.name: current_at(row, bearing).high for row in rows}))
+
+    return max(range(180), key=drawn)
+
+
+@dataclasses.dataclass
+class Runs:
+    """Runs the program, counts the runs, and keeps what came of them."""
+
+    request: Request
+    progress: Progress
+    kept: list[Kept] = dataclasses.field(default_factory=list)
+
+    def run(self, name: str, mode: str, *words: str, shown: tuple[str, ...] | None = None) -> Run:
+        """A run of the case that is kept under a name. Words that name a file which won't be there are shown
+        otherwise."""
+        self.progress.next(name)
+        case = f"--case={self.request.case}"
+        run = self.request.program.run(mode, case, *words)
+        report = parse_report(f"the report of gicstudy {mode}", run.report)[1] if run.status == 0 else None
+        self.kept.append(Kept(name, (mode, case, *(shown or words)), run, mode, report))
+        return run
+
+    def report(self, kind: type[Kind], name: str, mode: str, *words: str) -> Kind:
+        """The report of a run that must have one; else its line is the refusal, of the file that it speaks of."""
+        run = self.run(name, mode, *words)
+        report = self.kept[-1].report
+        if run.status != 0:
+            raise refuse(file_of(self.request, run.line), ending(run))
+        if not isinstance(report, kind):
+            raise refuse(f"the report of gicstudy {mode}", "it is one of another mode; is --program another program?")
+        return report
+
+
+def file_of(request: Request, line: str) -> str:
+    """The file that a fault line speaks of."""
+    for role in ("storm", "switch"):
+        file = getattr(request, role)
+        if file is not None and role in line:
+            return str(file)
+    return request.case
+
+
+def file_name(name: str) -> str:
+    """The name of a file as the program takes it: to it `-` is a file as any other."""
+    return "./-" if name == "-" else name
+
+
+def read_inputs(request: Request) -> list[Input]:
+    """The files, with what they hold; all that can't be read are told at once."""
+    inputs: list[Input] = []
+    findings: list[Finding] = []
+    for role, name in request.files().items():
+        try:
+            inputs.append(Input(role, name, read_bytes(file_name(name))))
+        except Refused as refused:
+            findings += refused.findings
+    if findings:
+        raise Refused(findings)
+    return inputs
+
+
+def look_for_changes(inputs: Iterable[Input]) -> None:
+    """Refuses a study of which a file has changed since it began."""
+    changed = [given for given in inputs if read_bytes(file_name(given.name)) != given.data]
+    if changed:
+        words = "it has changed while the study ran, so the reports are of several files; run it again"
+        raise Refused([Finding(given.name, words) for given in changed])
+
+
+def first_screen(runs: Runs, words: tuple[str, ...], review: Review) -> Screen:
+    """The screen of the benchmark event. Where the network can't be solved, what the review asks is told beside it."""
+    try:
+        return runs.report(Screen, "screen", "screen", *words)
+    except Refused as refused:
+        if runs.kept[-1].run.network_fault is None:
+            raise
+        questions = [Finding(runs.request.case, question_text(question)) for question in review.questions]
+        raise Refused([*refused.findings, *questions]) from None
+
+
+@dataclasses.dataclass(frozen=True)
+class Tables:
+    """What the tables beside the case say."""
+
+    events: list[Event]
+    factors: dict[str, Factor]
+    places: dict[str, Place]
+
+
+def read_tables(request: Request, network: Network | None, items: Items) -> Tables:
+    """The tables of events, factors and places; all that is wrong with any of them is told at once."""
+    findings: list[Finding] = []
+    events: list[Event] = []
+    factors: dict[str, Factor] = {}
+    places: dict[str, Place] = {}
+    unread = "it needs the case, which is in TOML 1.1; write the case without what only TOML 1.1 has"
+    with collected(findings):
+        if request.events is not None:
+            events = read_events(request.events, items)
+    with collected(findings):
+        if request.factors is not None and network is None:
+            raise refuse(request.factors, unread)
+        if request.factors is not None and network is not None:
+            factors = read_factors(request.factors, network.volts, findings)
+    with collected(findings):
+        if request.places is not None and network is None:
+            raise refuse(request.places, unread)
+        if request.places is not None and network is not None:
+            places = read_places(request.places, network.stations, findings)
+    if findings:
+        raise Refused(findings)
+    return Tables(events, factors, places)
+
+
+@contextlib.contextmanager
+def collected(findings: list[Finding]) -> Iterator[None]:
+    """Adds what is refused within to the findings."""
+    try:
+        yield
+    except Refused as refused:
+        findings += refused.findings
+
+
+def worst_outages(runner: outages.Runner, outage: Outage, progress: Progress) -> dict[str, Worst]:
+    """The worst outage of a single item for each transformer that has a current in one."""
+    found: dict[str, list[tuple[str, ScreenUnit]]] = {}
+    least: dict[str, int] = {}
+    for outcome in outage.outcomes:
+        if outcome.word != "solved":
+            continue
+        progress.next(f"without {outcome.item}")
+        screen = runner.result(one_event(outcome.item)).screen
+        for row in screen.rows if screen is not None else []:
+            if row.worst.high > 0 and row.worst.high >= least.get(row.name, 0):
+                found.setdefault(row.name, []).append((outcome.item, row))
+                if row.worst.low > least.get(row.name, 0):
+                    least[row.name] = row.worst.low
+                    found[row.name] = [pair for pair in found[row.name] if pair[1].worst.high >= row.worst.low]
+    return {name: worst_of(rows) for name, rows in found.items()}
+
+
+def event_results(runs: Runs, runner: outages.Runner, events: list[Event], words: tuple[str, ...]) -> list[Result]:
+    """A screen of each event, kept with its switchings. What the program refuses of several is told at once."""
+    results: list[Result] = []
+    findings: list[Finding] = []
+    for number, event in enumerate(events, 1):
+        name = f"event_{number}"
+        runner.write(event)
+        shown = (*words, f"--switch=reports/{name}.csv")
+        run = runs.run(name, "screen", *words, f"--switch={runner.switchings}", shown=shown)
+        with collected(findings):
+            results.append(runner.told(event, run))
+    if findings:
+        raise Refused(findings)
+    return results
+
+
+def run_storm(runs: Runs, request: Request, inputs: Mapping[str, Input], zones: list[str]) -> Storm | None:
+    """The storm; its series come later. A network that can't be solved at a step is told, and the study goes on."""
+    if request.storm is None:
+        return None
+    words = storm_words(request)
+    run = runs.run("study", "study", *words, *request.words)
+    report = runs.kept[-1].report
+    if report is None and run.network_fault is None:
+        raise refuse(file_of(request, run.line), ending(run))
+    switchings = switching_rows(inputs["switch"].data) if request.switch is not None else []
+    steps = storm_steps(inputs["storm"].data, zones)
+    return Storm(report if isinstance(report, StormReport) else None, run.line, steps, switchings, {})
+
+
+def storm_words(request: Request) -> tuple[str, ...]:
+    switch = () if request.switch is None else (f"--switch={request.switch}",)
+    return (f"--storm={request.storm}", *switch)
+
+
+def run_series(runs: Runs, storm: Storm | None, names: Iterable[str]) -> None:
+    """The current of each of these transformers over the storm."""
+    if storm is None or storm.report is None:
+        return
+    names = list(names)
+    runs.progress.total += len(names)
+    for name in names:
+        words = (*storm_words(runs.request), f"--transformer={name}", *runs.request.words)
+        storm.series[name] = runs.report(Series, f"series_{name}", "series", *words)
+
+
+def run_losses(runs: Runs, factors: dict[str, Factor], screen: Screen, words: tuple[str, ...]) -> Losses | None:
+    if not factors:
+        return None
+    bearing = worst_losses(factors, screen)
+    north = round(screen.field * math.cos(math.radians(bearing)))
+    east = round(screen.field * math.sin(math.radians(bearing)))
+    return Losses(
+        factors, bearing, runs.report(Field, "field", "field", f"--north={north}", f"--east={east}", *words)
+    )
+
+
+def facts_of(
+    screen: Screen,
+    supplemental: Screen,
+    outage: Outage,
+    worst: Mapping[str, Worst],
+    events: Outages | None,
+    storm: Storm | None,
+) -> list[UnitFacts]:
+    """What all reports say of each transformer, the greatest worst current first."""
+    beyond = {row.name: row for row in supplemental.rows}
+    without = {unit.name: unit for unit in outage.units}
+    in_events = {} if events is None else events.worsts()
+    report = None if storm is None else storm.report
+    peaks = {} if report is None else {unit.name: unit for unit in report.units}
+    series = {} if storm is None else storm.series
+    facts = [
+        UnitFacts(
+            row,
+            beyond[row.name],
+            without[row.name],
+            worst.get(row.name),
+            in_events.get(row.name),
+            peaks.get(row.name),
+            seconds_above(series[row.name].steps, screen.threshold) if row.name in series else None,
+            bearing_of(row),
+        )
+        for row in screen.rows
+    ]
+    return sorted(facts, key=lambda unit: (-unit.benchmark.worst.high, unit.name))
+
+
+@dataclasses.dataclass(frozen=True)
+class Basis:
+    """What the reports say of the case without a storm and without outages."""
+
+    network: Network | None
+    review: Review
+    check: Check
+    items: Items
+    screen: Screen
+    supplemental: Screen
+
+
+def look_at_case(runs: Runs, case: Input) -> Basis:
+    words = runs.request.screen_words
+    review = runs.report(Review, "review", "review")
+    check = runs.report(Check, "check", "check", *runs.request.standing_words)
+    elements = runs.report(Elements, "list", "list").elements
+    lines = runs.report(Volts, "volts", "volts", "--north=8000").lines
+    screen = first_screen(runs, words, review)
+    supplemental = runs.report(Screen, "supplemental", "screen", "--event=supplemental", *words)
+    items = outages.items_of(elements, lines, screen)
+    return Basis(network_of(case.data), review, check, items, screen, supplemental)
+
+
+def expect_runs(runs: Runs, basis: Basis, tables: Tables) -> int:
+    """Counts the runs that are still to come: as many single outages as there are items, and series as there are units
+    in question so far. The answer is how many series these are."""
+    in_question = {row.name for row in basis.screen.rows if row.verdict in MUST} | set(tables.factors)
+    storm = runs.request.storm is not None
+    expected = len(in_question) if storm else 0
+    runs.progress.total += storm + len(tables.events) + bool(tables.factors)
+    runs.progress.total += len(basis.items.lines) + len(basis.screen.rows) + expected
+    return expected
+
+
+def run_outages(
+    runs: Runs, basis: Basis, events: list[Event], outage: Outage, folder: str
+) -> tuple[Outages | None, dict[str, Worst]]:
+    """The events of the list, and the worst single outage of each transformer."""
+    request = runs.request
+    runs.progress.total -= sum(outcome.word != "solved" for outcome in outage.outcomes)
+    asked = Asked(request.program, request.case, request.standing_switch, request.words)
+    base = outages.base_switchings(request.standing_switch)
+    runner = outages.Runner(asked, base, request.events or request.case, pathlib.Path(folder, "event.csv"))
+    found = None
+    if request.events is not None:
+        outages.look_for_room(request.events, base, events)
+        whole = outages.solved_result(Event("", ()), basis.screen)
+        found = Outages(whole, event_results(runs, runner, events, request.words))
+    return found, worst_outages(runner, outage, runs.progress)
+
+
+def look_for_one_case(inputs: Iterable[Input], reports: Iterable[Screen | Outage | StormReport | None]) -> None:
+    """Refuses reports of several cases: their transformers are the same ones, unless a file has changed meanwhile."""
+    names = {tuple(unit.name for unit in report.units) for report in reports if report is not None}
+    look_for_changes(inputs)
+    if len(names) > 1:
+        raise refuse("the reports of gicstudy", "they are of several cases; is --program another program?")
+
+
+def make_study(request: Request) -> Study:
+    """Runs all that is asked, in the order in which faults of the files come early."""
+    began = datetime.datetime.now().astimezone()
+    inputs = {given.role: given for given in read_inputs(request)}
+    with Progress(7) as progress, tempfile.TemporaryDirectory(prefix="gicdesk.") as folder:
+        runs = Runs(request, progress)
+        basis = look_at_case(runs, inputs["case"])
+        network, screen, supplemental = basis.network, basis.screen, basis.supplemental
+        tables = read_tables(request, network, basis.items)
+        expected = expect_runs(runs, basis, tables)
+        storm = run_storm(runs, request, inputs, network.zones if network is not None else ["*"])
+        outage = runs.report(Outage, "outage", "outage", *request.screen_words)
+        look_for_one_case(inputs.values(), (screen, supplemental, outage, None if storm is None else storm.report))
+        losses = run_losses(runs, tables.factors, screen, request.screen_words)
+        events, worst = run_outages(runs, basis, tables.events, outage, folder)
+        units = facts_of(screen, supplemental, outage, worst, events, storm)
+        progress.total -= expected
+        run_series(runs, storm, [unit.name for unit in units if wants_series(unit) or unit.name in tables.factors])
+        units = facts_of(screen, supplemental, outage, worst, events, storm)
+    look_for_changes(inputs.values())
+    places, parts = ({}, 0) if network is None else laid_out(network, tables.places)
+    return Study(
+        request=request,
+        began=began,
+        commit=request.program.commit(),
+        program_checksum=hashlib.sha256(pathlib.Path(request.program.path).read_bytes()).hexdigest(),
+        inputs=list(inputs.values()),
+        kept=runs.kept,
+        review=basis.review,
+        check=basis.check,
+        screen=screen,
+        supplemental=supplemental,
+        outage=outage,
+        units=units,
+        events=events,
+        network=network,
+        places=places,
+        placed=len(tables.places),
+        parts=parts,
+        storm=storm,
+        losses=losses,
+    )
+
+
+def wants_series(unit: UnitFacts) -> bool:
+    """Whether the unit reaches a threshold or may, in the event or in the storm."""
+    return unit.must_be_assessed or (unit.peak is not None and unit.peak.verdict in MUST)
+
+
+def shown_current(value: Interval) -> int:
+    """The end of an interval that is further from 0, with its sign."""
+    return value.high if size(value) == value.high else value.low
+
+
+def sum_text(study: Study, page: str) -> str:
+    """What is shown of a study: the questions, which units must be assessed, and where the page is."""
+    questions = study.review.questions
+    lines = [f"question: {question_text(question)}" for question in questions[:SHOWN]]
+    if len(questions) > SHOWN:
+        lines.append(f"and {plural(len(questions) - SHOWN, 'question')} more")
+    lines.append(f"{len(study.assessed)} of {plural(len(study.units), 'unit')} must be assessed")
+    whole = [unit.name for unit in study.assessed if unit.benchmark.verdict in MUST]
+    without = [unit.name for unit in study.assessed if unit.benchmark.verdict not in MUST]
+    for names, when in ((whole, "in the network as it stands"), (without, "with something out, and not before")):
+        more = [f"and {len(names) - SHOWN} more"] if len(names) > SHOWN else []
+        if names:
+            lines.append(f"{len(names)} {when}: {' '.join([*names[:SHOWN], *more])}")
+    return "\n".join([*lines, f"{page} is made"]) + "\n"

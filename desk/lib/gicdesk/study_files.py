@@ -1,0 +1,139 @@
+"""The files of a study's folder: the page, its numbers as tables, each report as it came and as a table, and what was
+run."""
+
+import hashlib
+import os
+import shlex
+from collections.abc import Mapping
+
+from . import outages
+from .compare import ends_or_nothing
+from .decimals import MILLI, shifted
+from .files import bytes_of, refuse_tree, write_tree
+from .forms import Interval
+from .layouts import table_of
+from .outages import Worst
+from .study import Study, UnitFacts
+from .study_page import page
+from .tables import Table
+
+PAGE, UNITS, LOSSES, COMMANDS, CHECKSUMS = "study.html", "units.csv", "losses.csv", "commands.txt", "checksums.txt"
+
+
+def interval_heads(name: str) -> list[str]:
+    return [f"{name}_low_A_per_phase", f"{name}_high_A_per_phase"]
+
+
+def worst_cells(worst: Worst | None) -> list[str]:
+    if worst is None:
+        return ["", "", "", "", ""]
+    return [worst.event, *ends_or_nothing(worst.unit.worst), worst.unit.verdict, "; ".join(worst.perhaps)]
+
+
+def page_of(folder: str) -> str:
+    """The name of the page in a folder."""
+    return os.path.join(folder, PAGE)
+
+
+def refuse_study(folder: str, force: bool) -> None:
+    """Refuses a folder that a study can't be written as, before any work."""
+    refuse_tree(folder, force, CHECKSUMS)
+
+
+def write_study(study: Study, folder: str, force: bool, comma: bool) -> None:
+    """Makes the folder, whole or not at all."""
+    write_tree(folder, files_of(study, comma), force, CHECKSUMS)
+
+
+def unit_cells(study: Study, unit: UnitFacts) -> list[str]:
+    network = study.network
+    row = unit.benchmark
+    peak: Interval | None = None if unit.peak is None else unit.peak.value
+    return [
+        unit.name,
+        "" if network is None else network.station_of.get(unit.name, ""),
+        "" if network is None else shifted(network.volts[unit.name], MILLI),
+        *ends_or_nothing(row.north),
+        *ends_or_nothing(row.east),
+        *ends_or_nothing(row.worst),
+        "" if unit.bearing is None else str(unit.bearing),
+        row.verdict,
+        *ends_or_nothing(unit.supplemental.worst),
+        unit.supplemental.verdict,
+        *ends_or_nothing(unit.outage.value),
+        unit.outage.verdict,
+        *worst_cells(unit.worst_outage),
+        *worst_cells(unit.worst_event),
+        *ends_or_nothing(peak),
+        "" if unit.peak is None else unit.peak.verdict,
+        *(("", "") if unit.seconds is None else (str(unit.seconds.certain), str(unit.seconds.possible))),
+        "yes" if unit.must_be_assessed else "no",
+    ]
+
+
+def units_table(study: Study) -> Table:
+    """Each transformer with all that the page says of it, in the order of the page."""
+    heads = [
+        "transformer",
+        "station",
+        "high_kV",
+        *interval_heads("north"),
+        *interval_heads("east"),
+        *interval_heads("worst"),
+        "bearing_degrees",
+        "verdict",
+        *interval_heads("supplemental"),
+        "supplemental_verdict",
+        *interval_heads("outage"),
+        "outage_verdict",
+    ]
+    for name in ("worst_outage", "worst_event"):
+        heads += [name, *interval_heads(name), f"{name}_verdict", f"{name}_perhaps_as_bad"]
+    heads += [*interval_heads("storm"), "storm_verdict", "certain_seconds", "possible_seconds", "must_be_assessed"]
+    return Table(heads, [unit_cells(study, unit) for unit in study.units])
+
+
+def losses_table(study: Study) -> Table:
+    """The losses at the bearing at which the units draw most together, by both ends of the currents."""
+    heads = ["transformer", "mvar_per_ampere", "at_kV", "high_kV", *interval_heads("current"), "low_Mvar", "high_Mvar"]
+    rows = []
+    if study.losses is not None:
+        found = {unit.name: unit.value for unit in study.losses.field.units}
+        for name, factor in study.losses.factors.items():
+            value = found[name] or Interval(0, 0)
+            kilovolts = [f"{factor.at_kv:f}", shifted(factor.volts, MILLI)]
+            mvar = [f"{factor.mvar(end):.3f}" for end in (value.low, value.high)]
+            rows.append([name, f"{factor.given:f}", *kilovolts, *ends_or_nothing(value), *mvar])
+    return Table(heads, rows)
+
+
+def commands_text(study: Study) -> str:
+    """Each run: its status, the name of its report, and its words as a shell takes them."""
+    lines = []
+    for kept in study.kept:
+        told = f"  # {kept.run.line}" if kept.run.line else ""
+        lines.append(f"{kept.run.status} {kept.name} {shlex.join(('gicstudy', *kept.words))}{told}")
+    return "\n".join(["# status, report, words", *lines]) + "\n"
+
+
+def files_of(study: Study, comma: bool) -> dict[str, str | bytes]:
+    """The files by their names in the folder."""
+    files: dict[str, str | bytes] = {PAGE: page(study), COMMANDS: commands_text(study)}
+    files[UNITS] = units_table(study).csv(comma)
+    if study.losses is not None:
+        files[LOSSES] = losses_table(study).csv(comma)
+    for kept in study.kept:
+        if kept.report is not None:
+            files[f"reports/{kept.name}.txt"] = kept.run.report
+            files[f"tables/{kept.name}.csv"] = table_of(kept.name, kept.mode, kept.report).csv(comma)
+    if study.events is not None:
+        base = outages.base_switchings(study.request.standing_switch)
+        for number, result in enumerate(study.events.results, 1):
+            files[f"reports/event_{number}.csv"] = base.with_event(result.event)
+        files["tables/events.csv"] = outages.events_table(study.events).csv(comma)
+    return files | {CHECKSUMS: checksums_text(files)}
+
+
+def checksums_text(files: Mapping[str, str | bytes]) -> str:
+    """The sha256 of each file, as `sha256sum --check` reads it."""
+    return "".join(f"{hashlib.sha256(bytes_of(text)).hexdigest()}  {name}\n" for name, text in sorted(files.items()))

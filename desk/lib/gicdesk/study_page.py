@@ -1,0 +1,293 @@
+"""The page of a study: one file of HTML, without a script and without a request to anywhere."""
+
+import hashlib
+import pathlib
+from collections.abc import Iterable, Sequence
+
+from .compare import outcome_text
+from .counts import plural
+from .decimals import MILLI, shifted
+from .markup import Markup, joined, table, tag
+from .outages import Worst
+from .questions import question_text
+from .reports import Screen
+from .study import MUST, Study, UnitFacts
+from .study_map import AT_BORDER, map_section
+from .study_storm import losses_section, storm_section
+from .study_style import STYLE
+from .study_units import directions_section, units_section
+from .study_words import TITLES, amperes, made, names_text, peak_of, section, threshold_of, words_of
+
+# A browser that reads it asks for nothing, whatever stands in the page.
+POLICY = "default-src 'none'; style-src 'unsafe-inline'; img-src data:"
+COMMIT_UNKNOWN = "not known: the program isn't that of a repository with its history"
+UNSOLVED = {
+    "unearthed": "without the item a part is live and hangs in the air, and nothing is said of any current",
+    "unresolved": "without the item a part is earthed too poorly, and nothing is said of any current",
+    "idle": "there is nothing to take out, which doesn't mean that the item is harmless: a capacitor that is bypassed "
+    "closes its line",
+}
+KEPT_NOTE = (
+    "Each of these commands was run, and its report stands beside this page as it came, in reports/, and as a table in "
+    "tables/; checksums.txt has the sha256 of each file in full, and commands.txt all words."
+)
+PROVED_NOTE = (
+    "What the program proves holds from the bytes of the case to its reports: each interval holds the exact value. Nothing "
+    "of this page is proved. Each of its numbers is one that the program printed, with its point moved, or is said to be "
+    "made of such."
+)
+
+
+def event_text(name: str, screen: Screen, what: str) -> str:
+    field, threshold = shifted(screen.field, MILLI), shifted(screen.threshold, MILLI)
+    return f"{name}: {field} V/km and {threshold} A per phase; {what}"
+
+
+def switch_text(study: Study) -> str:
+    if study.request.switch is None:
+        return "none"
+    if study.request.storm is None:
+        return "all rows are in force in each report"
+    return "in force by their times in the storm, and in no other report"
+
+
+def asked_section(study: Study) -> Markup:
+    events = (
+        event_text("benchmark", study.screen, "for the network, its outages and the events of a list"),
+        event_text("supplemental", study.supplemental, "for the network as it stands"),
+    )
+    facts = {
+        "Date": study.began.strftime("%d %B %Y, %H:%M %z"),
+        "Commit of the program": study.commit or COMMIT_UNKNOWN,
+        "Events": joined((events[0], tag("br"), events[1])),
+        "Width of intervals": f"{shifted(study.screen.width, MILLI)} A at most",
+        "Switchings": switch_text(study),
+    }
+    rows = [(given.role, given.name, str(len(given.data)), given.checksum) for given in study.inputs]
+    rows.append(("program", study.request.program.path, "", study.program_checksum))
+    return section(
+        "asked",
+        tag("table", *[tag("tr", tag("td", name, class_="name"), tag("td", words)) for name, words in facts.items()]),
+        table(("file", "name", "bytes", "sha256"), rows, ("name", "wrap", "n", "sum")),
+    )
+
+
+def questions_section(study: Study) -> Markup:
+    questions = study.review.questions
+    if not questions:
+        words = (
+            "The review finds nothing that is unusual. What it can't see, as a line that is missing in a loop, it doesn't "
+            "ask."
+        )
+        return section("questions", tag("p", words))
+    words = f"The review has {plural(len(questions), 'finding')}. Each is a question, and no fault: write down the answer."
+    items = [tag("li", question_text(question), tag("span", class_="write")) for question in questions]
+    return section("questions", tag("p", words), tag("ol", *items))
+
+
+def group(words: str, units: Iterable[tuple[str, str]]) -> Markup:
+    """A group of units of the answer; nothing where there is none."""
+    items = [tag("li", tag("b", name), f" {current}") for name, current in units]
+    return joined((tag("h3", f"{words}: {len(items)}"), tag("ul", *items, class_="list"))) if items else Markup("")
+
+
+def whole_words(unit: UnitFacts) -> str:
+    """The worst current of a unit, and a word where the interval doesn't tell whether it reaches the threshold."""
+    return amperes(unit.benchmark.worst) + (", perhaps" if unit.benchmark.verdict == "undecided" else "")
+
+
+def outage_words(unit: UnitFacts) -> str:
+    without = "" if unit.worst_outage is None else f" without {unit.worst_outage.event}"
+    return f"{amperes(unit.outage.value)}{without}"
+
+
+def event_words(worst: Worst | None) -> str:
+    return "" if worst is None else f"{amperes(worst.unit.worst)} in {worst.event}"
+
+
+def lead_text(study: Study) -> str:
+    """The answer in a sentence or two."""
+    units, field, threshold = plural(len(study.units), "unit"), shifted(study.screen.field, MILLI), threshold_of(study)
+    outside = sum(unit.benchmark.verdict == "outside" for unit in study.units)
+    end = f"{outside} {'is' if outside == 1 else 'are'} outside of the assessment."
+    if study.assessed:
+        return (
+            f"{len(study.assessed)} of {units} must be assessed: in some direction of a uniform field of {field} V/km they "
+            f"have {threshold} A a phase or more, or may have it, in the network as it stands or with something out. {end}"
+        )
+    return (
+        f"None of {units} must be assessed: all that are judged stay under {threshold} A a phase in every direction of a "
+        f"uniform field of {field} V/km, also with each single item out whose network can be solved. {end}"
+    )
+
+
+def answer_groups(study: Study) -> list[Markup]:
+    """The units that must be assessed, by what brings them to the threshold."""
+    rest = [unit for unit in study.assessed if unit.benchmark.verdict not in MUST]
+    by_outage = [unit for unit in rest if unit.outage.verdict in MUST]
+    by_event = [unit for unit in rest if unit.outage.verdict not in MUST]
+    whole = [unit for unit in study.units if unit.benchmark.verdict in MUST]
+    return [
+        group("In the network as it stands", [(unit.name, whole_words(unit)) for unit in whole]),
+        group("With one item out, and not before", [(unit.name, outage_words(unit)) for unit in by_outage]),
+        group("In an event of the list, and not before", [(one.name, event_words(one.worst_event)) for one in by_event]),
+    ]
+
+
+def groups_beside(study: Study) -> list[Markup]:
+    """What the supplemental event and the storm bring to a threshold."""
+    beyond = [unit for unit in study.units if unit.supplemental.verdict in MUST and not unit.must_be_assessed]
+    storm = [
+        unit
+        for unit in study.units
+        if unit.peak is not None and unit.peak.verdict in MUST and unit.benchmark.verdict == "below"
+    ]
+    threshold = shifted(study.supplemental.threshold, MILLI)
+    words = "Below the threshold in the network as it stands, and at it or above in the storm"
+    return [
+        group(
+            f"Of the others these reach {threshold} A in the supplemental event",
+            [(unit.name, amperes(unit.supplemental.worst)) for unit in beyond],
+        ),
+        group(words, [(unit.name, amperes(peak_of(unit))) for unit in storm]),
+    ]
+
+
+def answer_section(study: Study) -> Markup:
+    outcomes = [*study.outage.outcomes]
+    if study.events is not None:
+        outcomes += [result.outcome for result in study.events.results]
+    unsolved = sum(outcome.word in ("unearthed", "unresolved") for outcome in outcomes)
+    notes = []
+    if unsolved:
+        words = f"Nothing is said of the currents in {plural(unsolved, 'outage')}, whose network can't be solved: see "
+        notes.append(tag("p", words, tag("a", TITLES["left"], href="#left"), "."))
+    questions = plural(len(study.review.questions), "question")
+    if study.review.questions:
+        notes.append(tag("p", f"All of it is said of the case as it is written; {questions} of the review stand above."))
+    note = (
+        "Beside each name stands the high end of its worst current, in amperes a phase, as the program printed it. What "
+        "below doesn't say stands in README.md of the program."
+    )
+    answer = tag("div", tag("p", tag("b", lead_text(study))), *answer_groups(study), class_="answer")
+    return section("answer", answer, *groups_beside(study), *notes, made(note))
+
+
+def outage_items(study: Study) -> list[str]:
+    """The outages of which nothing is said."""
+    found: dict[str, list[str]] = {}
+    for outcome in study.outage.outcomes:
+        found.setdefault(outcome.word, []).append(outcome.item + (f" (at {outcome.node})" if outcome.node else ""))
+    items = [
+        f"{plural(len(found[word]), 'outage')} {word}: {names_text(found[word])}; {why}."
+        for word, why in UNSOLVED.items()
+        if word in found
+    ]
+    if study.events is None:
+        return [*items, "Outages of several items at once: no list of events was given."]
+    unsolved = [result for result in study.events.results if result.screen is None]
+    return items + [
+        f"The event {result.event.name}: {outcome_text(result.outcome)}; nothing is said of its currents."
+        for result in unsolved
+    ]
+
+
+def network_items(study: Study) -> list[str]:
+    """What of the network has no current here."""
+    items = []
+    outside = [unit.name for unit in study.units if unit.benchmark.verdict == "outside"]
+    if outside:
+        why = "since the high side has 200 kV or less or the unit carries nothing here"
+        items.append(f"{plural(len(outside), 'unit')} outside, {why}: {names_text(outside)}.")
+    dead = [name for name, state in study.check.nodes.items() if state == "dead"]
+    cuts = [name for name in dead if AT_BORDER.search(name)]
+    if cuts:
+        dead = [name for name in dead if name not in cuts]
+        items.append(f"{plural(len(cuts), 'point')} without a ground, where lines are cut at borders: {names_text(cuts)}.")
+    if dead:
+        items.append(f"{plural(len(dead), 'node')} at which nothing ends, without a potential: {names_text(dead)}.")
+    blocked = [] if study.network is None else [link.name for link in study.network.links if link.blocked]
+    if blocked:
+        lines = plural(len(blocked), "line")
+        items.append(f"{lines} with a series capacitor, which pass no direct current: {names_text(blocked)}.")
+    return items
+
+
+def left_section(study: Study) -> Markup:
+    """What no number of the page speaks of."""
+    items = [*network_items(study), *outage_items(study), "Outages and events in the supplemental event."]
+    if study.storm is None:
+        items.append("The current over time: no storm was given.")
+    if study.losses is None:
+        items.append("Losses: no factors were given.")
+    elif len(study.losses.factors) < len(study.units):
+        items.append(f"Losses of {plural(len(study.units) - len(study.losses.factors), 'unit')} without a factor.")
+    items.append(
+        "Power flow, alternating voltages, temperatures, harmonics and protection. Networks beyond the case, and fields "
+        "that aren't uniform within a zone."
+    )
+    return section("left", tag("ul", *[tag("li", words) for words in items]))
+
+
+def events_table(study: Study) -> Sequence[Markup]:
+    if study.events is None:
+        return []
+    rows = [
+        (f"event_{number}", result.event.name, str(result.event), outcome_text(result.outcome))
+        for number, result in enumerate(study.events.results, 1)
+    ]
+    heads = ("report", "event", "switchings", "ends")
+    return [tag("h3", "The events of the list"), table(heads, rows, ("name", "", "wrap", "wrap"))]
+
+
+def made_section(study: Study) -> Markup:
+    series = [kept for kept in study.kept if kept.mode == "series"]
+    rows = []
+    for kept in study.kept:
+        if kept.mode != "series":
+            digest = hashlib.sha256(kept.run.report).hexdigest()
+            rows.append((kept.name, words_of(("gicstudy", *kept.words)), str(kept.run.status), digest[:32]))
+    single = plural(sum(outcome.word == "solved" for outcome in study.outage.outcomes), "screen")
+    more = f"The worst outages have their names from {single}, each with one item open, whose reports aren't kept."
+    if series:
+        more += f" The series of {plural(len(series), 'unit')} are kept too, and stand in commands.txt."
+    heads = ("report", "words", "status", "sha256, first half")
+    return section(
+        "made",
+        tag("p", KEPT_NOTE),
+        table(heads, rows, ("name", "wrap", "n", "sum")),
+        tag("p", more),
+        *events_table(study),
+        tag("p", PROVED_NOTE),
+    )
+
+
+def page(study: Study) -> str:
+    """The page as one text."""
+    title = f"Study of {pathlib.PurePath(study.request.case).name}"
+    head = tag(
+        "head",
+        tag("meta", charset="utf-8"),
+        tag("meta", http_equiv="Content-Security-Policy", content=POLICY),
+        tag("meta", name="viewport", content="width=device-width, initial-scale=1"),
+        tag("link", rel="icon", href="data:,"),
+        tag("title", title),
+        tag("style", Markup(STYLE)),
+    )
+    lead = "Geomagnetically induced currents: which transformers must be assessed, and what that rests on."
+    links = [tag("a", words, href=f"#{key}") for key, words in TITLES.items()]
+    sections = (
+        asked_section(study),
+        questions_section(study),
+        answer_section(study),
+        units_section(study),
+        directions_section(study),
+        map_section(study),
+        storm_section(study),
+        losses_section(study),
+        left_section(study),
+        made_section(study),
+    )
+    header = tag("header", tag("h1", title), tag("p", lead, class_="faint"), tag("nav", *links))
+    body = tag("body", header, "\n", *[Markup(part + "\n") for part in sections])
+    return f"<!DOCTYPE html>\n{tag('html', head, Markup(chr(10)), body, lang='en')}\n"

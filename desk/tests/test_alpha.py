@@ -1,0 +1,172 @@
+"""Alpha by the formula, the table and a number: what is written of it, and the currents that come of it."""
+
+import decimal
+import math
+import subprocess
+import tomllib
+import unittest
+from collections.abc import Callable
+from fractions import Fraction
+
+import plain
+from shared import BUILT, EXAMPLES, DeskTest
+from test_case import POLYGONS, CaseTest
+
+from gicdesk.alpha import by_formula, by_table, scale_for
+
+PART = 1e-4  # alpha times beta is met to this part, and so are the currents
+
+
+def formula(latitude: float) -> float:
+    return min(max(0.001 * math.exp(0.115 * latitude), 0.1), 1.0)
+
+
+def written(case: plain.Case) -> Callable[[str], float]:
+    """Alpha times beta of the zones of a case, as the program takes it."""
+    zones = {row["name"]: float(by_table(row["latitude"])) * row["beta"] / 100 for row in case["zone"]}
+    return zones.__getitem__
+
+
+class Scales(unittest.TestCase):
+    def test_the_table_is_that_of_the_program(self) -> None:
+        steps = ((0, 1), (4000, 1), (4001, 2), (4500, 2), (5000, 3), (5001, 5), (5400, 5), (5401, 6), (5600, 6))
+        for latitude, tenths in (*steps, (5700, 7), (5701, 8), (5800, 8), (5900, 9), (5901, 10), (9000, 10)):
+            self.assertEqual(by_table(latitude), Fraction(tenths, 10), latitude)
+
+    def test_the_formula_is_between_a_tenth_and_one(self) -> None:
+        for latitude in ("0", "40", "40.1", "49.8", "57.3", "60.06", "60.07", "90"):
+            self.assertAlmostEqual(float(by_formula(decimal.Decimal(latitude))), formula(float(latitude)), 14)
+
+    def test_every_product_is_met(self) -> None:
+        """Alpha times beta of the case times the factor of the spans is what is meant, and the factor is near 1."""
+        for latitude in range(0, 9001, 75):
+            for beta in range(1, 151, 7):
+                product = by_formula(decimal.Decimal(latitude) / 100) * Fraction(beta, 100)
+                scale = scale_for(latitude, product)
+                self.assertEqual(by_table(scale.latitude) * Fraction(scale.beta, 100) * scale.factor, product)
+                self.assertTrue(1 <= scale.beta <= 150)
+                if product >= Fraction(1, 20):
+                    self.assertLessEqual(abs(scale.factor - 1), Fraction(1, 100))
+
+
+class Written(CaseTest):
+    SPANS = {"N-S": -111221, "low": -111221}  # to the north
+
+    def product(self, zone: str, line: str, *words: object) -> float:
+        """Alpha times beta times the span of a line as it is in the case, over its span by the coordinates."""
+        made = self.made(*words)
+        scale = written({"zone": list(made["zone"].values())})
+        return scale(zone) * made["line"][line]["north"] / self.SPANS[line]
+
+    def test_by_the_table(self) -> None:
+        zones = self.made()["zone"]
+        self.assertEqual(zones["upland"], {"name": "upland", "latitude": 5730, "beta": 85})
+
+    def test_by_the_formula(self) -> None:
+        product = self.product("upland", "N-S", "--alpha=formula")
+        self.assertAlmostEqual(product / (formula(57.3) * 0.85), 1, delta=PART)
+        self.assertIn("alpha 0.727417 by the formula, times beta 0.85\n", self.out.read_text())
+
+    def test_with_more_decimals_than_a_case_has(self) -> None:
+        self.change("zones", "57.30,0.85", "49.8123,0.80733")
+        product = self.product("upland", "N-S", "--alpha=formula")
+        self.assertAlmostEqual(product / (formula(49.8123) * 0.80733), 1, delta=PART)
+
+    def test_a_number_for_all_zones_and_one_of_a_zone(self) -> None:
+        self.assertAlmostEqual(self.product("upland", "N-S", "--alpha=1") / 0.85, 1, delta=PART)
+        self.change("zones", "geomagnetic_latitude,beta,", "geomagnetic_latitude,beta,alpha,")
+        self.change("zones", "0.85,", "0.85,0.4321,")
+        self.change("zones", "0.79,", "0.79,,")
+        self.assertAlmostEqual(self.product("upland", "N-S", "--alpha=1") / (0.85 * 0.4321), 1, delta=PART)
+        self.assertAlmostEqual(self.product("coast", "low", "--alpha=1") / 0.79, 1, delta=PART)
+
+    def test_other_words(self) -> None:
+        for word in ("formulas", "0", "NaN", "2.5", ""):
+            (line,) = self.findings(f"--alpha={word}")
+            self.assertEqual(line, f"--alpha={word}: allowed are table, formula and numbers from 0.01 to 2")
+
+    def test_a_span_that_the_factor_takes_beyond_a_case(self) -> None:
+        self.change("zones", "0.85,", "1.5,")
+        self.change("substations", "49.0,-100.0", "42.0,-100.0")
+        self.change("lines", "3.25", "30")
+        (line,) = self.findings("--alpha=1.7", "--accept=line", "--accept=span")[:1]
+        self.assertEqual(
+            line,
+            "lines.csv line 2: its span times 1.700000 is above 1000 km; cut it in two, with a substation without a "
+            "ground between them",
+        )
+
+
+class Cut(CaseTest):
+    def test_a_cut_line_has_the_currents_of_the_whole_one(self) -> None:
+        """Where both zones have the same alpha and beta, a line that is cut at their border carries what it did."""
+        self.change("zones", "55.40,0.79", "57.30,0.85")
+        self.change("lines", "upland,3.25", ",3.25")
+        self.change("lines", ",3.25,,", ",3.25,-110.5,9.3")
+        self.texts["polygons"] = POLYGONS
+        found = []
+        for words in (["--accept=cut"], []):
+            self.made(*words)
+            case = tomllib.loads(self.out.read_text())
+            found.append((len(case["line"]), plain.effective_currents(case, written(case))))
+            self.texts["lines"] = self.texts["lines"].replace(",,3.25", ",upland,3.25")
+        self.assertEqual([many for many, _ in found], [5, 4])
+        for name, currents in found[0][1].items():
+            for here, there in zip(currents, found[1][1][name]):
+                self.assertAlmostEqual(here, there, delta=1e-6, msg=name)
+
+
+class Currents(DeskTest):
+    """The currents of the sample region with the formula's alpha, against those of a plain solver."""
+
+    def setUp(self) -> None:
+        super().setUp()
+        self.out = self.folder / "formula.toml"
+        self.done("case", EXAMPLES / "tables", "--alpha=formula", f"--out={self.out}")
+        self.case = tomllib.loads(self.out.read_text())
+        # The plain network: the region with its own spans, latitudes and betas, and alpha from the formula in doubles.
+        region = tomllib.loads((EXAMPLES / "region.toml").read_text())
+        zones = {row["name"]: formula(row["latitude"] / 100) * row["beta"] / 100 for row in region["zone"]}
+        self.plain = plain.effective_currents(region, zones.__getitem__)
+
+    def test_the_written_case_has_the_currents_of_the_formula(self) -> None:
+        made = plain.effective_currents(self.case, written(self.case))
+        for name, currents in self.plain.items():
+            bound = PART * plain.worst(currents)
+            for here, there in zip(made[name], currents):
+                self.assertLessEqual(abs(here - there), bound, name)
+
+    @unittest.skipUnless(BUILT.is_file(), "no program is built")
+    def test_the_program_prints_them(self) -> None:
+        words = [str(BUILT), "screen", f"--case={self.out}"]
+        report = subprocess.run(words, capture_output=True, text=True, check=True).stdout
+        seen = 0
+        for line in report.splitlines():
+            match line.split(" "):
+                case ["transformer", name, "north", *_, "worst", low, high, _]:
+                    seen += 1
+                    expected = 1000 * plain.worst(self.plain[name])
+                    self.assertLessEqual(int(low) - PART * expected, expected, name)
+                    self.assertGreaterEqual(int(high) + PART * expected, expected, name)
+        self.assertEqual(seen, len(self.plain))
+
+    @unittest.skipUnless(BUILT.is_file(), "no program is built")
+    def test_loops_through_both_zones_close_in_review(self) -> None:
+        words = [str(BUILT), "review", f"--case={self.out}"]
+        report = subprocess.run(words, capture_output=True, text=True, check=True).stdout
+        self.assertEqual(report, "review\nfindings 0\nend\n")
+
+    def test_the_plain_solver_has_the_currents_of_the_sample_report(self) -> None:
+        region = tomllib.loads((EXAMPLES / "region.toml").read_text())
+        currents = plain.effective_currents(region, written(region))
+        for line in (EXAMPLES / "reports" / "region_screen.txt").read_text().splitlines():
+            cells = line.split(" ")
+            if cells[0] == "transformer":
+                milli = [1000 * value for value in (*currents[cells[1]], plain.worst(currents[cells[1]]))]
+                for value, low, high in zip(milli, cells[3::3], cells[4::3]):
+                    self.assertLessEqual(int(low) - 0.01, value, line)
+                    self.assertGreaterEqual(int(high) + 0.01, value, line)
+
+
+if __name__ == "__main__":
+    unittest.main()

@@ -1,0 +1,432 @@
+"""`gicdesk case`: a case from tables. The tables are those of the sample region, and of a small network of small.py."""
+
+import decimal
+import shutil
+import tomllib
+import unittest
+from unittest import mock
+
+from shared import EXAMPLES, TOP, DeskTest, desk
+from small import TABLES
+
+from gicdesk.usual import GROUNDS, LINES, REACTORS, WINDINGS, usual_at
+
+LISTS = ("zone", "substation", "bus", "line", "transformer")
+POLYGONS = "zone,latitude,longitude\n" + "".join(
+    f"{zone},{corner}\n"
+    for zone, corners in (
+        ("upland", ("49.6,-101", "51,-101", "51,-98", "49.6,-98")),
+        ("coast", ("48,-101", "49.6,-101", "49.6,-98", "48,-98")),
+    )
+    for corner in corners
+)
+
+
+class CaseTest(DeskTest):
+    """Each test changes tables of the small network."""
+
+    def setUp(self) -> None:
+        super().setUp()
+        self.texts = dict(TABLES)
+        self.out = self.folder / "case.toml"
+
+    def change(self, table: str, old: str, new: str) -> None:
+        """Other text in the place of one that stands once in a table."""
+        self.assertEqual(self.texts[table].count(old), 1, old)
+        self.texts[table] = self.texts[table].replace(old, new)
+
+    def words(self, *words: object) -> list[object]:
+        tables = self.folder / "tables"
+        tables.mkdir(exist_ok=True)
+        for name, text in self.texts.items():
+            (tables / f"{name}.csv").write_bytes(text.encode())
+        return ["case", tables, f"--out={self.out}", *words]
+
+    def made(self, *words: object) -> dict[str, dict[str, dict]]:
+        """The lists of the case that is made, each row by its name; what is told is kept without the folder."""
+        told = self.done(*self.words("--force", *words)).replace(f"{self.folder}/", "").splitlines()
+        self.assertEqual(told.pop(), "case.toml is made")
+        self.told = [line.removeprefix("tables/") for line in told]
+        read = tomllib.loads(self.out.read_text())
+        return {name: {row["name"]: row for row in read[name]} for name in LISTS}
+
+    def findings(self, *words: object) -> list[str]:
+        """What the refusal tells, without the folder; nothing is written."""
+        lines = self.refused(*self.words(*words))
+        self.assertFalse(self.out.exists())
+        return [line.replace(f"{self.folder}/tables/", "").replace(f"{self.folder}/", "") for line in lines]
+
+
+class Region(DeskTest):
+    def test_the_region_byte_for_byte_without_a_finding(self) -> None:
+        out = self.folder / "region.toml"
+        self.assertEqual(self.done("case", EXAMPLES / "tables", f"--out={out}"), f"{out} is made\n")
+        self.assertEqual(out.read_bytes(), (EXAMPLES / "region.toml").read_bytes())
+
+    def test_tables_as_a_spreadsheet_of_decimal_commas_writes_them(self) -> None:
+        """With a byte order mark, carriage returns, semicolons, decimal commas and empty rows at the end, the same."""
+        tables, out = self.folder / "tables", self.folder / "region.toml"
+        shutil.copytree(EXAMPLES / "tables", tables)
+        for path in tables.iterdir():
+            rows = []
+            for line in path.read_text().splitlines():
+                cells = line.split('"')[0].split(",")  # the quoted cells are notes, which are the last ones
+                note = line.split('"')[1] if '"' in line else cells.pop()
+                numbers = [cell.replace(".", ",") if cell[-1:].isdigit() else cell for cell in cells if cells]
+                rows.append(";".join([*numbers[: len(cells) - ('"' in line)], note]))
+            width = rows[0].count(";")
+            text = "\r\n".join([*rows, ";" * width, ";" * width, ""])
+            path.write_bytes(b"\xef\xbb\xbf" + text.encode())
+        (tables / "buses.csv").write_bytes((EXAMPLES / "tables" / "buses.csv").read_bytes().replace(b",", b";"))
+        self.done("case", tables, f"--out={out}")
+        here, there = tomllib.loads(out.read_text()), tomllib.loads((EXAMPLES / "region.toml").read_text())
+        self.assertEqual(here, there)
+
+
+class Numbers(CaseTest):
+    def micro_ohm(self, text: str) -> int:
+        self.change("lines", "upland,3.25,", f"upland,{text},")
+        return self.made()["line"]["N-S"]["resistance"]
+
+    def test_as_spreadsheets_write_them(self) -> None:
+        for text, micro_ohm in (
+            ("3.2E+00", 3200000),
+            (" +3.25 ", 3250000),
+            ("3250e-3", 3250000),
+            (".325e1", 3250000),
+            ("3.2500005", 3250000),  # in the middle of two the even one
+            ("3.2500015", 3250002),
+            ("3.2500006", 3250001),
+            ("3.25" + "0" * 60 + "1", 3250000),
+        ):
+            self.texts = dict(TABLES)
+            self.assertEqual(self.micro_ohm(text), micro_ohm, text)
+
+    def test_points_in_a_table_of_semicolons(self) -> None:
+        """They could stand between thousands."""
+        self.texts["buses"] = self.texts["buses"].replace(",", ";").replace("N345;North;345", "N345;North;345.0")
+        number = '"345.0" is no number; write one with a decimal comma, as this table has semicolons'
+        self.assertEqual(self.findings(), [f"buses.csv line 2, kv: {number}"])
+
+    def test_spans_are_rounded_to_a_metre(self) -> None:
+        self.change("lines", "0,71.7,", "0.0004,71.7126,")
+        row = self.made()["line"]["N-E"]
+        self.assertEqual((row["north"], row["east"]), (0, 71713))
+
+    def test_empty_rows_and_columns_at_the_end(self) -> None:
+        lines = self.texts["lines"].splitlines()
+        self.texts["lines"] = "".join(f"{line},,\n" for line in [*lines, "", ",,"]) + ",,,,,,,,,,\n\n"
+        self.assertEqual(list(self.made()["line"]), ["N-S", "N-E", "S-E", "low"])
+
+    def test_columns_in_another_order(self) -> None:
+        self.texts["buses"] = "kv,name,substation\n345,N345,North\n" + "".join(
+            f"{kv},{name},{station}\n"
+            for name, station, kv in (line.split(",") for line in self.texts["buses"].splitlines()[2:])
+        )
+        self.assertEqual(self.made()["bus"]["N345"], {"name": "N345", "substation": "North"})
+
+
+class Usual(unittest.TestCase):
+    def test_the_table_of_the_readme_is_that_of_the_code(self) -> None:
+        text = (TOP / "desk" / "README.md").read_text().partition("| kV above |")[2].partition("\n\n")[0]
+        rows = [[cell.strip() for cell in line.strip("|").split("|")] for line in text.splitlines()[2:]]
+        self.assertEqual(len(rows), 6)
+        for kilovolts, *cells in rows:
+            for cell, usual in zip(cells, (LINES, WINDINGS, GROUNDS, REACTORS), strict=True):
+                least, most = usual_at(usual, decimal.Decimal(kilovolts) + 1)
+                self.assertEqual(cell, f"{least} to {most}", kilovolts)
+
+
+class Rows(CaseTest):
+    def test_a_third_winding_is_a_row_of_its_own(self) -> None:
+        self.texts["buses"] += "N69,North,69\n"
+        self.change("transformers", "YNa0d1,,,", "YNa0yn0,N69,69,0.05")
+        third = (
+            "transformers.csv line 2, third: the third earthed winding of T1 has no key in formats 1 and 2: it is "
+            "written as a delta-wye of its own, and the effective current of T1 lacks it"
+        )
+        self.assertEqual(self.findings(), [f"{third}; leave it out, or give --accept=third:T1"])
+        made = self.made("--accept=third:T1")
+        self.assertEqual(self.told, [f"{third} (accepted)"])
+        self.assertEqual(
+            made["transformer"]["T1_3"],
+            {"name": "T1_3", "kind": "delta-wye", "high_volts": 69000, "high": "N69", "high_resistance": 50000},
+        )
+        self.assertEqual(list(made["transformer"]), ["T1", "T1_3", "T2", "T3", "T4"])
+        first = "# Made by gicdesk case: change the tables, and make it again. Accepted: third:T1."
+        self.assertEqual(self.out.read_text().partition("\n")[0], first)
+
+    def test_a_third_winding_and_a_device_in_the_neutral(self) -> None:
+        self.texts["buses"] += "N69,North,69\n"
+        self.change("transformers", "0.19,,YNa0d1,,,", "0.19,2,YNa0yn0,N69,69,0.05")
+        self.assertEqual(
+            self.findings("--accept=third"),
+            [
+                "transformers.csv line 2, neutral: it is 2, and formats 1 and 2 have no key for a device in the neutral "
+                "of a unit with a third earthed winding; leave one of the two out"
+            ],
+        )
+
+    def test_a_reactor_is_outside_of_the_assessment(self) -> None:
+        self.texts["transformers"] += "R1,reactor,E345,,,,1.2,,,,0.5,YN,,,,line reactor\n"
+        self.change("substations", "-99.0,,", "-99.0,0.4,")
+        self.assertEqual(
+            self.findings(),
+            [
+                "transformers.csv line 6, kind: a reactor has no key in formats 1 and 2: R1 is written as a delta-wye "
+                "outside of the assessment; leave it out, or give --accept=reactor:R1"
+            ],
+        )
+        self.assertEqual(
+            self.made("--accept=reactor")["transformer"]["R1"],
+            {
+                "name": "R1",
+                "kind": "delta-wye",
+                "high_volts": 1000,
+                "high": "E345",
+                "high_resistance": 1200000,
+                "neutral": 500000,
+            },
+        )
+
+    def parallel(self, table: str, name: str, many: str) -> None:
+        """A column `parallel` at the end of a table, with a cell in one row."""
+        lines = self.texts[table].splitlines()
+        cells = ["parallel", *(many if line.startswith(f"{name},") else "" for line in lines[1:])]
+        self.texts[table] = "".join(f"{line},{cell}\n" for line, cell in zip(lines, cells))
+
+    def test_lines_per_unit(self) -> None:
+        """0.00273 per unit on 100 MVA at 345 kV are 3.2493825 ohm, and 0.0467 at 138 kV 8.893548."""
+        rows = self.texts["lines"].splitlines()
+        self.texts["lines"] = "\n".join([f"{rows[0]},per_unit", *(f"{row}," for row in rows[1:]), ""])
+        self.change("lines", "3.25,,,,,", ",,,,,0.00273")
+        self.change("lines", "8.9,,,,,", ",,,,,0.0467")
+        lines = self.made()["line"]
+        self.assertEqual([lines[name]["resistance"] for name in ("N-S", "low", "N-E")], [3249382, 8893548, 2100000])
+        self.assertIn("# 3.249382 ohm per phase, from 0.00273 per unit\n", self.out.read_text())
+        self.out.unlink()
+        for old, new, words in (
+            (",,,,,0.00273", "3.25,,,,,0.00273", "it is 0.00273, and ohm is 3.25; leave one of the two empty"),
+            ("0.00273", "0.0273", "32.49 ohm over 111.2 km are 0.2922 ohm per km, and not the 0.005 to 0.15 that most "
+            "lines of 345 kV have; mend it, or change it to 100 MVA, or give --accept=line:N-S"),
+            ("0.00273", "3.25", "it is 3.25, which on 100 MVA at 345 kV is 3868 ohm, and not 0.001 to 1000; is it in "
+            "ohm, or on another base?"),
+            ("0.00273", "32.5", "it is 32.5, and not 0.0000001 to 10 per unit; is it in ohm?"),
+        ):
+            before = dict(self.texts)
+            self.change("lines", old, new)
+            self.assertEqual(self.findings(), [f"lines.csv line 2, per_unit: {words}"])
+            self.texts = before
+
+    def test_parallel_rows(self) -> None:
+        """Rows between the same buses stay rows, and one that stands for three is three."""
+        self.parallel("lines", "S-E", "3")
+        self.texts["lines"] += "N-S-2,N345,S345,upland,3.25,,,,,\n"
+        lines = self.made()["line"]
+        self.assertEqual(list(lines), ["N-S", "N-E", "S-E-1", "S-E-2", "S-E-3", "low", "N-S-2"])
+        for one, other in (("S-E-1", "S-E-3"), ("N-S", "N-S-2")):
+            self.assertEqual({**lines[one], "name": ""}, {**lines[other], "name": ""})
+
+    def test_parallel_rows_that_cannot_be(self) -> None:
+        for many in ("0", "1.5", "two", "21", "-1"):
+            self.texts = dict(TABLES)
+            self.parallel("lines", "S-E", many)
+            words = f"it is {many}, and not a whole number from 1 to 20; write how many equal ones the row stands for"
+            self.assertEqual(self.findings(), [f"lines.csv line 4, parallel: {words}"])
+        self.texts = dict(TABLES)
+        self.parallel("lines", "S-E", "2")
+        self.texts["lines"] += "S-E-2,S345,E345,coast,3.9,,,,,\n"
+        words = '"S-E-2" is taken, or longer than 32 letters; give the row another name'
+        self.assertEqual(self.findings(), [f"lines.csv line 4, parallel: {words}"])
+
+    def test_parallel_units(self) -> None:
+        self.parallel("transformers", "T3", "2")
+        self.assertEqual(list(self.made()["transformer"]), ["T1", "T2", "T3-1", "T3-2", "T4"])
+
+    def test_an_autotransformer_that_is_not_earthed(self) -> None:
+        self.change("transformers", "0.19,,YNa0d1", "0.19,blocked,Ya0d1")
+        self.assertEqual(self.made()["transformer"]["T1"]["neutral"], "blocked")
+
+    def test_a_wye_that_is_earthed_on_the_low_side(self) -> None:
+        self.change("transformers", "T3,delta-wye,S345,,362", "T3,delta-wye,S138,,138")
+        self.change("transformers", "YNd1", "Dyn1")
+        self.assertEqual(self.made("--accept=vector:T3")["transformer"]["T3"]["high"], "S138")
+
+
+class Zones(CaseTest):
+    def setUp(self) -> None:
+        super().setUp()
+        self.texts["polygons"] = POLYGONS
+        self.change("lines", "upland,3.25", ",3.25")
+
+    CUT = (
+        "lines.csv line 2, zone: it is empty, and the line crosses borders: upland to 44.5 km, coast to 111.2 km; "
+        "it is cut into 2 lines there"
+    )
+
+    def test_a_line_across_a_border_is_cut_and_told(self) -> None:
+        self.assertEqual(
+            self.findings(), [f"{self.CUT}; write the one zone that it is to have, or give --accept=cut:N-S"]
+        )
+        made = self.made("--accept=cut:N-S")
+        self.assertEqual(self.told, [f"{self.CUT} (accepted)"])
+        parts = [made["line"][name] for name in ("N-S_1", "N-S_2")]
+        keys = ("from", "to", "zone", "resistance", "north", "east")
+        self.assertEqual(
+            [tuple(part[key] for key in keys) for part in parts],
+            [
+                ("N345", "N-S_bus1", "upland", 1300000, -44488, 0),
+                ("N-S_bus1", "S345", "coast", 1950000, -66733, 0),
+            ],
+        )
+        self.assertEqual(made["bus"]["N-S_bus1"], {"name": "N-S_bus1", "substation": "N-S_at1"})
+        self.assertEqual(made["substation"]["N-S_at1"], {"name": "N-S_at1"})
+
+    def test_the_parts_of_a_measured_span_add_up(self) -> None:
+        self.change("lines", ",3.25,,", ",3.251,-110.5,3.3")
+        made = self.made("--accept=cut")
+        parts = [made["line"][name] for name in ("N-S_1", "N-S_2")]
+        sums = [sum(part[key] for part in parts) for key in ("resistance", "north", "east")]
+        self.assertEqual(sums, [3251000, -110500, 3300])
+
+    def test_a_line_within_a_zone_has_it(self) -> None:
+        self.change("lines", "S345,,3.25", "S345,upland,3.25")
+        self.change("lines", "upland,2.1", ",2.1")
+        self.assertEqual(self.made()["line"]["N-E"]["zone"], "upland")
+
+    def test_a_blocked_line_is_not_cut(self) -> None:
+        self.change("lines", "coast,3.9", ",3.9")
+        lines = self.made("--accept=cut")["line"]
+        self.assertEqual(lines["S-E"]["zone"], "coast")
+
+    def test_a_zone_in_which_the_line_is_not(self) -> None:
+        self.change("lines", "upland,2.1", "coast,2.1")
+        self.assertEqual(
+            self.findings("--accept=cut"),
+            [
+                "lines.csv line 3, zone: it is coast, and by the polygons the line lies in upland; write its zone, or "
+                "leave the cell empty, or give --accept=zone:N-E"
+            ],
+        )
+
+    def test_a_gap_between_polygons(self) -> None:
+        self.texts["polygons"] = self.texts["polygons"].replace("coast,49.6", "coast,49.5")
+        self.assertEqual(
+            self.findings(),
+            [
+                "lines.csv line 2, zone: it is empty, and a part of the line lies in no polygon; mend the polygons, or "
+                "write its zone"
+            ],
+        )
+
+    def test_polygons_that_are_none(self) -> None:
+        self.texts["polygons"] = POLYGONS + "cost,48,-101\ncoast,95,-101\n"
+        self.assertEqual(
+            self.findings("--accept=cut"),
+            [
+                'polygons.csv line 10, zone: "cost" is none of coast, upland; write one of these',
+                "polygons.csv line 11, latitude: it is 95, and not -90 to 90 degrees",
+            ],
+        )
+        self.texts["polygons"] = "zone,latitude,longitude\nupland,49,-100\n"
+        words = "upland has 1 corner; a polygon has 3 or more, a row for each"
+        self.assertIn(f"polygons.csv: {words}", self.findings("--accept=cut"))
+
+    def test_polygons_that_overlap(self) -> None:
+        self.texts["polygons"] = POLYGONS.replace("coast,49.6", "coast,49.7")
+        ways = "mend the polygons, or write its zone"
+        words = f"it is empty, and a part of the line lies in upland and in coast; {ways}"
+        self.assertEqual(self.findings(), [f"lines.csv line 2, zone: {words}"])
+
+    def test_along_a_border(self) -> None:
+        """A line that runs along the border lies in the first of the two."""
+        self.change("substations", "North,50.0", "North,49.6")
+        self.change("substations", "East,50.0", "East,49.6")
+        self.change("lines", "upland,2.1", ",2.1")
+        self.assertEqual(self.made("--accept=cut")["line"]["N-E"]["zone"], "upland")
+
+
+class Accepting(CaseTest):
+    def test_a_kind_or_a_row(self) -> None:
+        self.change("transformers", "0.24,0.19", "240,190")
+        self.change("substations", "0.2,", "180,")
+        self.assertEqual(len(self.findings()), 3)
+        self.assertEqual(len(self.findings("--accept=winding")), 1)
+        self.assertEqual(len(self.findings("--accept=ground:North")), 2)
+        self.made("--accept=winding:T1", "--accept=ground")
+        self.assertEqual([line.endswith(" (accepted)") for line in self.told], [True] * 3)
+
+    def test_what_is_not_there_is_told(self) -> None:
+        self.made("--accept=winding:T9")
+        self.assertEqual(self.told, ["--accept=winding:T9: it takes nothing away; leave it out"])
+
+    def test_a_name_that_no_finding_has(self) -> None:
+        (line,) = self.findings("--accept=windings:T1")
+        self.assertEqual(
+            line,
+            "--accept=windings:T1: no finding has this name; allowed are alpha, ground, line, winding, neutral, volts, "
+            "vector, span, zone, cut, third, reactor, unused, or one of them with a colon and the name of a row",
+        )
+
+    def test_a_refusal_cannot_be_accepted(self) -> None:
+        self.change("lines", "upland,3.25", "upland,0")
+        for kind in ("line", "line:N-S"):
+            self.assertEqual(len(self.findings(f"--accept={kind}")), 1)
+
+    def test_findings_of_all_tables_stand_in_their_order(self) -> None:
+        self.change("zones", "0.79", "79")
+        self.change("substations", "0.3,", "300,")
+        self.change("buses", "S138,South", "S138,Soth")
+        self.change("lines", "3.25", "x")
+        self.change("transformers", "0.42", "420")
+        self.assertEqual(
+            [line.partition(":")[0] for line in self.findings()],
+            [
+                "zones.csv line 3, beta",
+                "substations.csv line 3, ground_ohm",
+                "buses.csv line 5, substation",
+                "lines.csv line 2, ohm",
+                "transformers.csv line 3, low",
+                "transformers.csv line 3, high_ohm",
+            ],
+        )
+
+
+class Output(CaseTest):
+    def test_a_case_that_is_there_stays(self) -> None:
+        self.out.write_text("mine")
+        (line,) = self.refused(*self.words())
+        self.assertEqual(line, f"{self.out}: it is there already; choose another name, or give --force to replace it")
+        self.change("buses", "N345,North,345", "N345,North,345000")
+        self.refused(*self.words("--force"))
+        self.assertEqual(self.out.read_text(), "mine")
+
+    def test_a_case_that_is_stopped_leaves_nothing_beside_it(self) -> None:
+        self.out.write_text("mine")
+        with mock.patch("os.replace", side_effect=KeyboardInterrupt):
+            status, out, err = desk(*self.words("--force"))
+        self.assertEqual((status, out, err), (130, "", "gicdesk: stopped\n"))
+        self.assertEqual(sorted(path.name for path in self.folder.iterdir()), ["case.toml", "tables"])
+        self.assertEqual(self.out.read_text(), "mine")
+
+    def test_notes_are_remarks(self) -> None:
+        self.change("substations", "a switching station", "Kraftwerk\u2028 S\u00fcd\u0007!")
+        self.made()
+        self.assertIn("[[substation]]  # Kraftwerk S\u00fcd!\n", self.out.read_text())
+
+    def test_no_folder(self) -> None:
+        allowed = "make one with zones.csv, substations.csv, buses.csv, lines.csv, transformers.csv"
+        for name in ("none", "case.txt"):
+            self.file("case.txt", "")
+            (line,) = self.refused("case", self.folder / name, f"--out={self.out}")
+            self.assertEqual(line, f"{self.folder}/{name}: there is no such folder; {allowed}")
+
+    def test_more_rows_than_a_case_has(self) -> None:
+        self.texts["zones"] += "".join(f"z{place},50,1,\n" for place in range(255))
+        self.assertEqual(
+            self.findings("--accept=alpha"), ["zones.csv: a case of it has 257 rows zone, and at most 256"]
+        )
+
+
+if __name__ == "__main__":
+    unittest.main()
