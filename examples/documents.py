@@ -4,8 +4,8 @@
     python3 examples/documents.py [--write] PROGRAM
 
 `examples/documents.sh` calls it. Each document is run from its top to its end in a folder of its own, in which
-`./gicstudy` is the program and the folders `docs`, `examples` and `independent` have their names; a file that one block
-makes is there for those below it. This is how a fenced block is tied to what it shows:
+`./gicstudy` is the program and the folders `desk`, `docs`, `examples` and `independent` have their names; a file that one
+block makes is there for those below it. This is how a fenced block is tied to what it shows:
 
 - A block marked `sh` holds commands. They are run and must end with status 0. A line that begins with `rt ` builds or
   proves, and is not run. A block marked `text` is what the commands of the last such block print.
@@ -158,7 +158,7 @@ class Workplace:
         self.folder = folder
         self.printed: list[str] = []  # by the last block of commands
         os.symlink(program, os.path.join(folder, "gicstudy"))
-        for name in ("docs", "examples", "independent"):
+        for name in ("desk", "docs", "examples", "independent"):
             os.symlink(os.path.join(TOP, name), os.path.join(folder, name))
 
     def run(self, commands: str) -> tuple[bool, list[str]]:

@@ -42,7 +42,7 @@ trap 'rm -rf "$scratch"' EXIT
 mkdir "$scratch/bin" "$scratch/work" "$scratch/recipes"
 ln -s "$program" "$scratch/bin/gicstudy"
 PATH=$scratch/bin:$PATH
-cp -r "$here"/*.toml "$here"/*.csv "$here/tables" "$here/recipes" "$here/case_from_tables.py" "$scratch/work"
+cp -r "$here"/*.toml "$here"/*.csv "$here/tables" "$here/recipes" "$scratch/work"
 ln -s "$here/reports" "$scratch/work/reports"
 
 # A block of commands, marked sh, is a recipe; the block marked text behind it is what it has to print.

@@ -104,7 +104,7 @@ def refusals(counts):
 
 def words_of_runs():
     """The words of each run: of every mode, and of runs that are refused."""
-    yield from (shared.words_of(mode) for mode in shared.BUILT)
+    yield from (shared.words_of(mode) for mode in shared.MODES)
     yield from ([mode] for mode in ("volts", "fly"))
     yield shared.words_of("check", case="t")
     yield shared.words_of("study", storm="s")

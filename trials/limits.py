@@ -7,7 +7,7 @@
 The rows: the network at every limit (7680 nodes, 19968 elements, 256 zones) in every mode, with names as they come and
 of 32 bytes in every place (`outage` over a quarter of it, since it screens a network once for each of its items);
 storms of 20000 steps and 4096 switchings with an epoch each, and over the network at every limit storms of so many
-steps as --limit-steps says (1000); networks just within 4096 and just past it; files of 16777216 bytes of each kind
+steps as --limit-steps says (1000), and so many epochs that change nothing; networks just within 4096 and just past it; files of 16777216 bytes of each kind
 and of one byte more; and files of that size that are hostile.
 
 Times are of the processor, in seconds; memory is the peak, in MiB. Beside each is the same at half the size, and what
@@ -35,7 +35,7 @@ ALL_STEPS, ALL_SWITCHINGS = 20000, 4096
 SOME_STEPS = 1000
 NAME = re.compile(r'"((?:zone|station|bus|line|unit)-[0-9-]+)"')
 NAME_BYTES = 32
-LINE, UNIT = "line-1", "unit-1"
+LINE, UNIT, STATION = "line-1", "unit-1", "station-1"
 ADDRESS_SPACE = 6 << 30
 # How long is waited for a run, in its seconds of the processor, and what ends it where these are over.
 WAITS = 10
@@ -133,6 +133,14 @@ def fill_epochs(folder, switchings):
     fill_made(folder, switchings, switchings)
 
 
+def fill_idle_epochs(folder, switchings):
+    """The network at every limit, with an epoch for each row, all of which open one earthing."""
+    shared.write(folder, "p", limit_text(STATIONS))
+    shared.write(folder, "t", storm_text(switchings))
+    rows = (f"{row},{STATION},open\n" for row in range(switchings))
+    shared.write(folder, "s", "time,item,action\n" + "".join(rows))
+
+
 def greatest_ground(command, stations, folder):
     """The greatest resistance of all grounds, in micro-ohm, with which the network at every limit can be solved."""
     low, high = 1000, 1000000000
@@ -219,7 +227,7 @@ def inline(size):
 
 
 def rows(command, limit_steps):
-    for mode in shared.BUILT:
+    for mode in shared.MODES:
         if mode == "make":
             words = shared.words_of(mode, size="{size}")
             yield Row("make, sites", words, lambda folder, size: None, 1000, 500)
@@ -238,6 +246,8 @@ def rows(command, limit_steps):
     yield Row("study, 2000 nodes, 20000 steps", study, fill_steps, ALL_STEPS, ALL_STEPS // 2)
     yield Row(f"study, limit, {limit_steps} steps", study, fill_limit_steps, limit_steps, limit_steps // 2)
     yield Row("study, 2000 nodes, 4096 epochs", switched, fill_epochs, ALL_SWITCHINGS, ALL_SWITCHINGS // 2)
+    idle = f"study, limit, {limit_steps} epochs that change nothing"
+    yield Row(idle, switched, fill_idle_epochs, limit_steps, limit_steps // 2)
     known = {}
     for mode in ("field", "screen", "certify"):
         words, sizes = shared.words_of(mode, False), (STATIONS // 2, STATIONS // 4)

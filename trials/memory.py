@@ -121,7 +121,7 @@ def main():
     with shared.scratch() as top:
         library = preload.build(top)
         folders = shared.two_folders(shared.command_of(given.program), top, given.sites)
-        runs = [(folder, mode) for folder in folders for mode in shared.BUILT]
+        runs = [(folder, mode) for folder in folders for mode in shared.MODES]
         clock = shared.Clock(given.minutes)
         for place, (folder, mode) in enumerate(runs):
             minutes = clock.left() / 60 / (len(runs) - place)
@@ -129,7 +129,7 @@ def main():
             growths, tried, kinds = growths + all_growths, tried + more, kinds + ends
     shared.finish(
         faults,
-        f"{len(shared.BUILT)} modes over 2 networks",
+        f"{len(shared.MODES)} modes over 2 networks",
         f"{tried} of {growths} growths refused",
         f"{kinds.total()} runs",
         f"{kinds['absorbed']} absorbed",

@@ -182,7 +182,7 @@ def mutate_reports(draw, folder, mode, words, results):
         results.append((mode, "fault", f"{words}: the report of exact values is refused"))
     if mode == "certify":
         shared.write(folder, "c", content)
-    for _ in range(REPORTS_A_NETWORK // len(shared.BUILT) + 1):
+    for _ in range(REPORTS_A_NETWORK // len(shared.MODES) + 1):
         change = draw.choice(CHANGES)
         after = change(draw, lines)
         mutated = "\n".join(after) + "\n"
@@ -209,7 +209,7 @@ def network(seed):
         kind = draw.choice(studies.KINDS[:2])
         shared.write(folder, "c", "certificate\n")
         if studies.fill(draw, folder, kind):
-            for mode in sorted(shared.BUILT, key=lambda mode: mode == "recheck"):
+            for mode in sorted(shared.MODES, key=lambda mode: mode == "recheck"):
                 values = studies.values(draw)
                 mutate_reports(draw, folder, mode, shared.words_of(mode, **values), results)
     return results

@@ -16,7 +16,7 @@ HERE = os.path.dirname(os.path.abspath(__file__))
 TOP = os.path.join(HERE, "..")
 sys.dont_write_bytecode = True
 sys.path[:0] = [HERE, os.path.join(HERE, "referee"), os.path.join(TOP, "bench")]
-from words import BUILT, MODES  # noqa: E402
+from words import MODES  # noqa: E402
 
 MEMORY = "/dev/shm"
 # How long a run may take where a trial says nothing else, in seconds.
@@ -145,8 +145,8 @@ def ending(status):
 
 def words_of(mode, optional=True, **values):
     """The words of a run of a mode, with its options at the values of VALUES but for `values`."""
-    required, allowed = MODES[mode]
-    options = required + (allowed if optional else [])
+    row = MODES[mode]
+    options = row.required + (row.allowed if optional else [])
     return [mode] + [f"--{option}={values.get(option, VALUES[option])}" for option in options]
 
 

@@ -119,7 +119,7 @@ def study(command, item):
         while not fill(draw, folder, kind):
             pass
         shared.write(folder, "c", "certificate\n")
-        for mode in sorted(shared.BUILT, key=lambda mode: mode == "recheck"):
+        for mode in sorted(shared.MODES, key=lambda mode: mode == "recheck"):
             words = shared.words_of(mode, **values(draw))
             answer, fault = judged(command, folder, words)
             ends[mode, answer.status] += 1
@@ -141,7 +141,7 @@ def main():
         ends += more
         for fault in found:
             faults.add(fault)
-    for mode in shared.BUILT:
+    for mode in shared.MODES:
         told = (f"{count} with status {status}" for (other, status), count in sorted(ends.items()) if other == mode)
         print(f"{mode}: " + ", ".join(told))
     kinds = ", ".join(f"{made[kind]} {kind}" for kind in KINDS)

@@ -84,7 +84,7 @@ def answers(command, other, folder, words):
 
 
 def words_of_runs(draw):
-    for mode in shared.BUILT:
+    for mode in shared.MODES:
         yield shared.words_of(mode, **studies.values(draw))
     refused = [[], ["fly"], ["volts"], shared.words_of("volts", case="none"), shared.words_of("study", storm="p")]
     yield draw.choice(refused)

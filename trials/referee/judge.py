@@ -6,7 +6,7 @@ from outcome import predict
 from report_text import ReportText
 from study_checker import StudyChecker
 from values import Tie
-from words import BUILT
+from words import MODES
 
 CHECKERS = {"study": StudyChecker, "outage": OutageChecker}
 
@@ -32,6 +32,6 @@ def run_faults(outcome, status, output, told):
     return faults + ([f"status {status}, but the output has {output[:80]!r}"] if output else [])
 
 
-def check(words, folder, status, output, told, built=BUILT):
+def check(words, folder, status, output, told, built=MODES):
     """What is wrong of a run with these words in this folder."""
     return run_faults(predict(words, folder, built), status, output, told)

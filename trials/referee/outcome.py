@@ -8,7 +8,7 @@ from case import make_case, read_case
 from certificate import check_certificate, read_certificate
 from earthing import CAP, least_capped, unearthed
 from storm import read_storm, read_switchings, standing
-from words import BUILT, Refusal, read_words
+from words import EARTHED, LIVE, MODES, SOLVED, Refusal, read_words
 
 MOST_BYTES = 16777216
 MOST_MADE_WALK = 448
@@ -40,6 +40,11 @@ class Outcome:
     def mode(self):
         return self.asked["mode"]
 
+    @property
+    def need(self):
+        """What the mode needs of the network."""
+        return MODES[self.mode].need
+
 
 def fetch(folder, name):
     """The bytes of a file, up to one more than it may have, or None where it can't be read."""
@@ -65,20 +70,20 @@ class Prediction:
         return content
 
     def run(self):
-        outcome = self.outcome
-        if outcome.mode == "make":
+        outcome, asked = self.outcome, self.outcome.asked
+        if asked["seed"] is not None:
             self.make()
             return
         outcome.case = read_case(self.load("case"))
-        if outcome.mode == "series":
+        if asked["transformer"] is not None:
             self.find_transformer()
-        if outcome.mode in ("study", "series"):
+        if asked["storm"] is not None:
             outcome.storm = read_storm(self.load("storm"), outcome.case)
-        if outcome.asked["switch"] is not None:
+        if asked["switch"] is not None:
             outcome.switchings = read_switchings(self.load("switch"), outcome.case)
-        if outcome.mode not in ("volts", "list", "review"):
+        if outcome.need >= LIVE:
             self.stand()
-        if outcome.mode == "recheck":
+        if asked["cert"] is not None:
             self.recheck()
 
     def make(self):
@@ -122,11 +127,11 @@ class Prediction:
         outcome.stand, outcome.live = outcome.epochs[0].stand, outcome.epochs[0].live
 
     def live_nodes(self, stand, step):
-        case, mode = self.outcome.case, self.outcome.mode
+        case, need = self.outcome.case, self.outcome.need
         node, live = unearthed(case, stand)
-        if node is not None and mode != "recheck":
+        if node is not None and need >= EARTHED:
             raise Refusal(8, f"gicstudy: unearthed: step {step} node {case.nodes[node]}")
-        if mode not in ("check", "recheck"):
+        if need == SOLVED:
             vector = least_capped(case, stand)
             if CAP in vector:
                 raise Refusal(9, f"gicstudy: unresolved: step {step} node {case.nodes[vector.index(CAP)]}")
@@ -140,7 +145,7 @@ class Prediction:
         outcome.certificate = certificate
 
 
-def predict(words, folder, built=BUILT):
+def predict(words, folder, built=MODES):
     """The outcome of a run with these words in this folder, of a program that has the modes `built`."""
     outcome = Outcome()
     try:

@@ -25,7 +25,7 @@ from outcome import Epoch, predict  # noqa: E402
 from storm import standing  # noqa: E402
 from study import Study  # noqa: E402
 from values import rounded_down, rounded_up, sum_of_squares  # noqa: E402
-from words import BUILT  # noqa: E402
+from words import MODES  # noqa: E402
 
 
 def root_up(number):
@@ -341,7 +341,7 @@ def write_all(stream, content):
 
 def main():
     words = [os.fsencode(word) for word in sys.argv[1:]]
-    built = tuple(filter(None, os.environ.get("REFEREE_MODES", "").split(","))) or BUILT
+    built = tuple(filter(None, os.environ.get("REFEREE_MODES", "").split(","))) or MODES
     outcome = predict(words, ".", built)
     if outcome.status == 0:
         try:

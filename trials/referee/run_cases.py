@@ -30,7 +30,7 @@ sys.dont_write_bytecode = True
 sys.path.insert(0, HERE)
 from judge import run_faults  # noqa: E402
 from outcome import predict  # noqa: E402
-from words import BUILT, MODES, mode_of, usage_fault  # noqa: E402
+from words import MODES, mode_of, usage_fault  # noqa: E402
 
 SPECIAL = {"words", "then", "expect", "stdout", "gen", "note", "timeout", "sink"}
 
@@ -54,7 +54,7 @@ def read_text(folder, name):
 
 def is_run_here(words, built):
     """Whether the words name a mode that is there, or have the same fault whichever modes are there."""
-    fault = usage_fault(words, tuple(MODES))
+    fault = usage_fault(words)
     return mode_of(words) in built or (fault is not None and fault == usage_fault(words, built))
 
 
@@ -121,7 +121,7 @@ def run_once(folder, scratch, command, built, seconds, is_first):
     if sink:
         return full_sink_faults(sink, outcome, status, output, told), output
     faults = run_faults(outcome, status, output, told)
-    if is_first and usage_fault(words, built) == usage_fault(words, tuple(MODES)):
+    if is_first and usage_fault(words, built) == usage_fault(words):
         faults += expectation_faults(folder, status, output, told)
     return faults, output
 
@@ -153,7 +153,7 @@ def main():
     parser.add_argument("program")
     parser.add_argument("--cases", default=os.path.join(HERE, "cases"))
     parser.add_argument("--only", default="*")
-    parser.add_argument("--modes", default=",".join(BUILT))
+    parser.add_argument("--modes", default=",".join(MODES))
     parser.add_argument("--seconds", type=float, default=60)
     parser.add_argument("--jobs", type=int, default=os.cpu_count())
     given = parser.parse_args()

@@ -1,29 +1,38 @@
 """The words of the command line: what is asked for, or the first fault in them (docs/FORMATS.md, *The command line*).
 
-MODES is the table of all modes that the referee knows, BUILT of those that the program has. A mode that the program
-gets is added to BUILT, and every trial then has it.
+MODES is the one table of modes: every trial goes over it.
 """
 
 import re
+from typing import NamedTuple
 
-# For each mode the options that it requires and those that it may have.
+# What a mode needs of the network at each step: nothing; to know its live nodes; that each of these is earthed; that the
+# network can be solved.
+NOTHING, LIVE, EARTHED, SOLVED = range(4)
+
+
+class Mode(NamedTuple):
+    """What a mode needs, the options that it requires, and those that it may have."""
+
+    need: int
+    required: list
+    allowed: list
+
+
 MODES = {
-    "volts": (["case"], ["north", "east"]),
-    "list": (["case"], []),
-    "check": (["case"], ["switch"]),
-    "field": (["case"], ["north", "east", "switch", "width", "event"]),
-    "study": (["case", "storm"], ["switch", "width", "detail", "event"]),
-    "screen": (["case"], ["switch", "width", "event"]),
-    "make": (["seed", "size"], []),
-    "certify": (["case"], ["north", "east", "switch"]),
-    "recheck": (["case", "cert"], ["switch"]),
-    "outage": (["case"], ["switch", "width", "event"]),
-    "series": (["case", "storm", "transformer"], ["switch", "width"]),
-    "review": (["case"], []),
+    "volts": Mode(NOTHING, ["case"], ["north", "east"]),
+    "list": Mode(NOTHING, ["case"], []),
+    "check": Mode(EARTHED, ["case"], ["switch"]),
+    "field": Mode(SOLVED, ["case"], ["north", "east", "switch", "width", "event"]),
+    "study": Mode(SOLVED, ["case", "storm"], ["switch", "width", "detail", "event"]),
+    "screen": Mode(SOLVED, ["case"], ["switch", "width", "event"]),
+    "make": Mode(NOTHING, ["seed", "size"], []),
+    "certify": Mode(SOLVED, ["case"], ["north", "east", "switch"]),
+    "recheck": Mode(LIVE, ["case", "cert"], ["switch"]),
+    "series": Mode(SOLVED, ["case", "storm", "transformer"], ["switch", "width"]),
+    "outage": Mode(SOLVED, ["case"], ["switch", "width", "event"]),
+    "review": Mode(NOTHING, ["case"], []),
 }
-BUILT = (
-    "volts", "list", "check", "field", "study", "screen", "make", "certify", "recheck", "series", "outage", "review",
-)
 OPTIONS = [
     "case", "storm", "switch", "north", "east", "width", "detail", "seed", "size", "event", "cert", "transformer",
 ]
@@ -50,7 +59,7 @@ class Refusal(Exception):
 
 def options_of(built):
     """Every option that some mode of `built` has."""
-    return {option for mode in built for options in MODES[mode] for option in options}
+    return {option for mode in built for option in MODES[mode].required + MODES[mode].allowed}
 
 
 class Reading:
@@ -144,7 +153,7 @@ def read_value(option, text):
     return text
 
 
-def read_words(words, built=BUILT):
+def read_words(words, built=MODES):
     """What the words ask for, as a table of the mode and its options; a Refusal for their first fault."""
     if not are_texts(words):
         raise Refusal(2, None)
@@ -154,14 +163,14 @@ def read_words(words, built=BUILT):
     mode, given = split
     if mode not in built:
         raise usage("mode")
-    required, allowed = MODES[mode]
+    row = MODES[mode]
     asked = {"mode": mode}
     for option in OPTIONS:
         if option not in given:
-            if option in required:
+            if option in row.required:
                 raise usage("missing --" + option)
             asked[option] = DEFAULTS.get(option)
-        elif option in required or option in allowed:
+        elif option in row.required or option in row.allowed:
             asked[option] = read_value(option, given[option])
         else:
             raise usage("extra --" + option)
@@ -169,7 +178,7 @@ def read_words(words, built=BUILT):
     return asked
 
 
-def usage_fault(words, built=BUILT):
+def usage_fault(words, built=MODES):
     """The status and the line of the fault in the words, or None."""
     try:
         read_words(words, built)

@@ -1,3 +1,4 @@
-pub mod Exits
+pub mod InTurn
+pub mod AllNamed
 pub mod Told
 pub mod OfWords

@@ -3,35 +3,31 @@ use Rattle.std.proofs.Common.{◌≡◌, ℕ, ◌<◌, ◌≤◌, ◌⊎◌, inl
 use Rattle.std.specs.Prelude.{IsSomeAnd, IfSome, IfOk}
 use Rattle.std.proofs.lemmas.Bool.{ltb-true, ltb-false}
 use Rattle.std.specs.FinMap.{get}
-use Rattle.gic_base.specs.Files.{Files}
+use Rattle.gic_files.specs.Files.{Files}
 use Rattle.gic_base.specs.declared.limits.TheConstants.{LIMIT}
 use Rattle.gic_case.specs.Lists.{Lists}
+use Rattle.gic_case_reader.specs.Rules.{case_of}
+use Rattle.gic_model.specs.declared.parts.Switching.{Switching}
 use Rattle.gic_storm.specs.Rules.{storm_of}
 use Rattle.gic_storm.specs.StormView.{StormView, zone_names}
 use Rattle.gic_storm.specs.declared.refusal.StormRefusal.{StormRefusal}
-use Rattle.gic_case_reader.specs.Rules.{case_of}
-use Rattle.gic_case_reader.specs.declared.refusal.CaseRefusal.{CaseRefusal}
-use Rattle.gic_model.specs.declared.parts.Switching.{Switching}
 use Rattle.gic_switch.specs.Rules.{switchings_of}
-use Rattle.gic_switch.specs.declared.refusal.SwitchRefusal.{SwitchRefusal}
 use Rattle.gic_words.specs.Options.{options_of}
-use Rattle.gic_words.specs.declared.mode.Mode.{Mode}
-use Rattle.gic_words.specs.declared.mode.Mode.TheVariants as mode
 use Rattle.gic_words.specs.declared.options.Options.{Options}
 use Rattle.gic_words.specs.declared.fault.Usage.{Usage}
 use Rattle.gic_ask.specs.Asks.{IsAnswer}
-use Rattle.gic_ask.specs.Contents.{Given, Nothing, Long, Whole, Contents, MayGive, MayHandOut}
+use Rattle.gic_ask.specs.Contents.{Given, Nothing, Long, Whole, Contents, MayGive, MayHandOut, name_of_file}
 use Rattle.gic_ask.specs.Held.{held, held_bytes, held_by_length, held_for, AnswersOfFiles}
-use Rattle.gic_ask.specs.Outcome.{Outcome, Lacks, Accepts, reading, reading_case, reading_storm, reading_switchings, reading_certificate, reading_over_case, transformer_asked, asking, outcome}
+use Rattle.gic_ask.specs.Outcome.{Outcome, Refuses, Lacks, Accepts, ◌>>=◌, reading, if_given, handing, reading_file, reading_case, reading_storm, reading_switchings, reading_certificate, reading_over, reading_over_case, transformer_asked, gathering, asking, outcome}
 use Rattle.gic_ask.specs.declared.fault.File.{File}
 use Rattle.gic_ask.specs.declared.fault.File.TheVariants as file
 use Rattle.gic_ask.specs.declared.fault.InputFault.{InputFault}
 use Rattle.gic_ask.specs.declared.fault.InputFault.TheVariants.{Refused, CannotRead, Memory}
-use Rattle.gic_ask.specs.declared.fault.InputRefusal.TheVariants.{Usage as UsageRefusal, Case as CaseRefused, Storm as StormRefused, Switch as SwitchRefused}
-use Rattle.gic_ask.specs.declared.request.Asked.{Asked}
-use Rattle.gic_ask.specs.declared.request.Asked.TheVariants.{Network, Study, Recheck, Series}
-use Rattle.gic_inputs.specs.declared.inputs.StormInputs.{StormInputs}
 use Rattle.gic_ask.specs.declared.fault.InputRefusal.{InputRefusal}
+use Rattle.gic_ask.specs.declared.fault.InputRefusal.TheVariants.{Usage as UsageRefusal, Case as CaseRefused, Storm as StormRefused, Switch as SwitchRefused}
+use Rattle.gic_ask.specs.declared.gathered.OverCase.{OverCase}
+use Rattle.gic_ask.specs.declared.gathered.Gathered.{Gathered}
+use Rattle.gic_ask.specs.declared.request.Asked.{Asked}
 
 -- what may be given of a length is what is held
 long_held : (b : Bool) (n : ℕ) (bytes : List ℕ) → LIMIT < n → nat_lt LIMIT n ≡ b → held_by_length b bytes ≡ Long
@@ -53,174 +49,105 @@ given_or_held files name Long h = inr (long_bytes (get files name) h)
 given_or_held files name (Whole bytes) h = inr (ap held_bytes h.1 ∙ whole_held (nat_lt LIMIT (length bytes)) (length bytes) bytes h.0 refl)
 
 -- two outcomes that are the same, or the first lacks a file
-abbrev IsSameOrLacks : Outcome → Outcome → Type 0
+abbrev IsSameOrLacks : {A : Type 0} → Outcome A → Outcome A → Type 0
 IsSameOrLacks o other = (o ≡ other) ⊎ ((f : File) × (o ≡ Lacks f))
 
-after_reading : (r : Result Lists CaseRefusal) (next other : Lists → Outcome) → ((case : Lists) → IsSameOrLacks (next case) (other case))
-    → IsSameOrLacks (reading r CaseRefused next) (reading r CaseRefused other)
-after_reading (Ok case) next other h = h case
-after_reading (Err e) next other h = inl refl
+module _ {A B : Type 0} where
+  next_same : (o : Outcome A) (next more : A → Outcome B) → ((a : A) → IsSameOrLacks (next a) (more a)) → IsSameOrLacks (o >>= next) (o >>= more)
+  next_same (Refuses refusal) next more h = inl refl
+  next_same (Lacks file) next more h = inl refl
+  next_same (Accepts a) next more h = h a
 
-after_case : (name : List ℕ) (g : Given) (next other : Lists → Outcome) → ((case : Lists) → IsSameOrLacks (next case) (other case))
-    → IsSameOrLacks (reading_case (Some name) g next) (reading_case (Some name) g other)
-after_case name Nothing next other h = inl refl
-after_case name Long next other h = inl refl
-after_case name (Whole bytes) next other h = after_reading (case_of bytes) next other h
+  both_same : (o other : Outcome A) (next more : A → Outcome B) → IsSameOrLacks o other → ((a : A) → IsSameOrLacks (next a) (more a)) → IsSameOrLacks (o >>= next) (other >>= more)
+  both_same o other next more (inl same) h = subst (λ (x : Outcome A). IsSameOrLacks (o >>= next) (x >>= more)) same (next_same o next more h)
+  both_same o other next more (inr lacks) h = inr (lacks.0, ap (λ (x : Outcome A). x >>= next) lacks.1)
 
-after_rows_reading : (r : Result (List Switching) SwitchRefusal) (next other : List Switching → Outcome) → ((rows : List Switching) → IsSameOrLacks (next rows) (other rows))
-    → IsSameOrLacks (reading r SwitchRefused next) (reading r SwitchRefused other)
-after_rows_reading (Ok rows) next other h = h rows
-after_rows_reading (Err e) next other h = inl refl
+  given_same : (given : Option A) (next more : A → Outcome B) → ((x : A) → given ≡ Some x → IsSameOrLacks (next x) (more x)) → IsSameOrLacks (if_given given next) (if_given given more)
+  given_same None next more h = inl refl
+  given_same (Some x) next more h = some_same (next x) (more x) (h x refl)
+    where
+      some_same : (o other : Outcome B) → IsSameOrLacks o other → IsSameOrLacks (o >>= (λ y. Accepts (Some y))) (other >>= (λ y. Accepts (Some y)))
+      some_same o other (inl same) = inl (ap (λ (x : Outcome B). x >>= (λ y. Accepts (Some y))) same)
+      some_same o other (inr lacks) = inr (lacks.0, ap (λ (x : Outcome B). x >>= (λ y. Accepts (Some y))) lacks.1)
 
-after_switchings_given : (case : Lists) (name : List ℕ) (g : Given) (next other : Option (List Switching) → Outcome) → ((rows : Option (List Switching)) → IsSameOrLacks (next rows) (other rows))
-    → IsSameOrLacks (reading_switchings case (Some name) g next) (reading_switchings case (Some name) g other)
-after_switchings_given case name Nothing next other h = inl refl
-after_switchings_given case name Long next other h = inl refl
-after_switchings_given case name (Whole bytes) next other h = after_rows_reading (switchings_of case bytes) (λ rows. next (Some rows)) (λ rows. other (Some rows)) (λ rows. h (Some rows))
+module _ (files : Files) (o : Options) (contents : Contents) (may : MayHandOut (Some files) o contents) where
+  abbrev has : Contents
+  has = held_for files (Ok o)
 
-same_switchings : (case : Lists) (name : List ℕ) (g held_now : Given) (next other : Option (List Switching) → Outcome) → (g ≡ Nothing) ⊎ (held_now ≡ g)
-    → ((rows : Option (List Switching)) → IsSameOrLacks (next rows) (other rows)) → IsSameOrLacks (reading_switchings case (Some name) g next) (reading_switchings case (Some name) held_now other)
-same_switchings case name g held_now next other (inl none) h = inr (file.Switch, ap (λ (x : Given). reading_switchings case (Some name) x next) none)
-same_switchings case name g held_now next other (inr same) h =
-    subst (λ (x : Given). IsSameOrLacks (reading_switchings case (Some name) g next) (reading_switchings case (Some name) x other)) (sym same) (after_switchings_given case name g next other h)
+  of_file : (file : File) (name : List ℕ) → (contents file ≡ Nothing) ⊎ (held files (Some name) ≡ contents file) → name_of_file file o ≡ Some name
+      → IsSameOrLacks (handing file (contents file)) (handing file (has file))
+  of_file file name (inl none) named = inr (file, ap (handing file) none)
+  of_file file name (inr same) named = inl (ap (handing file) (sym (ap (held files) named ∙ same)))
 
-after_switchings : (files : Files) (case : Lists) (name : Option (List ℕ)) (g : Given) (next other : Option (List Switching) → Outcome)
-    → ((text : List ℕ) → name ≡ Some text → MayGive (Some files) text g)
-    → ((rows : Option (List Switching)) → IsSameOrLacks (next rows) (other rows))
-    → IsSameOrLacks (reading_switchings case name g next) (reading_switchings case name (held files name) other)
-after_switchings files case None g next other may h = h None
-after_switchings files case (Some name) g next other may h = same_switchings case name g (held files (Some name)) next other (given_or_held files name g (may name refl)) h
+  handed_same : (file : File) (name : List ℕ) → name_of_file file o ≡ Some name → IsSameOrLacks (handing file (contents file)) (handing file (has file))
+  handed_same file name named =
+      of_file file name
+      (given_or_held files name (contents file) (subst (λ (n : Option (List ℕ)). IfSome n (λ t. MayGive (Some files) t (contents file))) named (may file))) named
 
-same_certificate : (name : List ℕ) (g held_now : Given) (next : List ℕ → Outcome) → (g ≡ Nothing) ⊎ (held_now ≡ g)
-    → IsSameOrLacks (reading_certificate (Some name) g next) (reading_certificate (Some name) held_now next)
-same_certificate name g held_now next (inl none) = inr (file.Certificate, ap (λ (x : Given). reading_certificate (Some name) x next) none)
-same_certificate name g held_now next (inr same) = inl (ap (λ (x : Given). reading_certificate (Some name) x next) (sym same))
+  read_same : {A E : Type 0} (file : File) (refusal : E → InputRefusal) (read : List ℕ → Result A E) (name : List ℕ) → name_of_file file o ≡ Some name
+      → IsSameOrLacks (reading_file file refusal read (contents file)) (reading_file file refusal read (has file))
+  read_same file refusal read name named =
+      both_same (handing file (contents file)) (handing file (has file)) (λ b. reading refusal (read b)) (λ b. reading refusal (read b)) (handed_same file name named) (λ b. inl refl)
 
-after_certificate : (files : Files) (name : Option (List ℕ)) (g : Given) (next : List ℕ → Outcome)
-    → ((text : List ℕ) → name ≡ Some text → MayGive (Some files) text g)
-    → IsSameOrLacks (reading_certificate name g next) (reading_certificate name (held files name) next)
-after_certificate files None g next may = inl refl
-after_certificate files (Some name) g next may = same_certificate name g (held files (Some name)) next (given_or_held files name g (may name refl))
+  storm_same : (case : Lists) → IsSameOrLacks (reading_storm o case contents) (reading_storm o case has)
+  storm_same case =
+      let read : List ℕ → Result StormView StormRefusal = storm_of (zone_names case.zones) in
+      given_same o.storm (λ name. reading_file file.Storm StormRefused read (contents file.Storm)) (λ name. reading_file file.Storm StormRefused read (has file.Storm))
+      (λ name named. read_same file.Storm StormRefused read name named)
 
-same_case : (files : Files) (name : List ℕ) (g : Given) (next other : Lists → Outcome) → (g ≡ Nothing) ⊎ (held files (Some name) ≡ g)
-    → ((case : Lists) → IsSameOrLacks (next case) (other case)) → IsSameOrLacks (reading_case (Some name) g next) (reading_case (Some name) (held files (Some name)) other)
-same_case files name g next other (inl none) h = inr (file.Case, ap (λ (x : Given). reading_case (Some name) x next) none)
-same_case files name g next other (inr same) h =
-    subst (λ (x : Given). IsSameOrLacks (reading_case (Some name) g next) (reading_case (Some name) x other)) (sym same) (after_case name g next other h)
+  switchings_same : (case : Lists) → IsSameOrLacks (reading_switchings o case contents) (reading_switchings o case has)
+  switchings_same case =
+      given_same o.switch (λ name. reading_file file.Switch SwitchRefused (switchings_of case) (contents file.Switch)) (λ name. reading_file file.Switch SwitchRefused (switchings_of case) (has file.Switch))
+      (λ name named. read_same file.Switch SwitchRefused (switchings_of case) name named)
 
-named_case : (files : Files) (name : Option (List ℕ)) (g : Given) (next other : Lists → Outcome)
-    → ((text : List ℕ) → name ≡ Some text → MayGive (Some files) text g)
-    → ((case : Lists) → IsSameOrLacks (next case) (other case)) → IsSameOrLacks (reading_case name g next) (reading_case name (held files name) other)
-named_case files None g next other may h = inl refl
-named_case files (Some name) g next other may h = same_case files name g next other (given_or_held files name g (may name refl)) h
+  over_same : (case : Lists) → IsSameOrLacks (reading_over o case contents) (reading_over o case has)
+  over_same case =
+      let make : Option ℕ → Option StormView → Option (List Switching) → Outcome OverCase =
+      λ place storm rows. Accepts (record { inputs = record { case = case; switchings = rows; question = o.question }; transformer = place; storm = storm }) in
+      next_same (reading (λ refusal. refusal) (transformer_asked case o.transformer))
+      (λ place. reading_storm o case contents >>= (λ storm. reading_switchings o case contents >>= make place storm))
+      (λ place. reading_storm o case has >>= (λ storm. reading_switchings o case has >>= make place storm))
+      (λ place. both_same (reading_storm o case contents) (reading_storm o case has)
+      (λ storm. reading_switchings o case contents >>= make place storm) (λ storm. reading_switchings o case has >>= make place storm) (storm_same case)
+      (λ storm. both_same (reading_switchings o case contents) (reading_switchings o case has) (make place storm) (make place storm) (switchings_same case) (λ rows. inl refl)))
 
-after_storm_reading : (r : Result StormView StormRefusal) (next other : StormView → Outcome) → ((storm : StormView) → IsSameOrLacks (next storm) (other storm))
-    → IsSameOrLacks (reading r StormRefused next) (reading r StormRefused other)
-after_storm_reading (Ok storm) next other h = h storm
-after_storm_reading (Err e) next other h = inl refl
+  over_case_same : IsSameOrLacks (reading_over_case o contents) (reading_over_case o has)
+  over_case_same =
+      given_same o.case (λ name. reading_case (contents file.Case) >>= (λ case. reading_over o case contents)) (λ name. reading_case (has file.Case) >>= (λ case. reading_over o case has))
+      (λ name named. both_same (reading_case (contents file.Case)) (reading_case (has file.Case)) (λ case. reading_over o case contents) (λ case. reading_over o case has)
+      (read_same file.Case CaseRefused case_of name named) over_same)
 
-after_storm_given : (case : Lists) (name : List ℕ) (g : Given) (next other : StormView → Outcome) → ((storm : StormView) → IsSameOrLacks (next storm) (other storm))
-    → IsSameOrLacks (reading_storm case (Some name) g next) (reading_storm case (Some name) g other)
-after_storm_given case name Nothing next other h = inl refl
-after_storm_given case name Long next other h = inl refl
-after_storm_given case name (Whole bytes) next other h = after_storm_reading (storm_of (zone_names case.zones) bytes) next other h
+  certificate_same : IsSameOrLacks (reading_certificate o contents) (reading_certificate o has)
+  certificate_same =
+      given_same o.cert (λ name. handing file.Certificate (contents file.Certificate)) (λ name. handing file.Certificate (has file.Certificate))
+      (λ name named. handed_same file.Certificate name named)
 
-same_storm : (files : Files) (case : Lists) (name : List ℕ) (g : Given) (next other : StormView → Outcome) → (g ≡ Nothing) ⊎ (held files (Some name) ≡ g)
-    → ((storm : StormView) → IsSameOrLacks (next storm) (other storm)) → IsSameOrLacks (reading_storm case (Some name) g next) (reading_storm case (Some name) (held files (Some name)) other)
-same_storm files case name g next other (inl none) h = inr (file.Storm, ap (λ (x : Given). reading_storm case (Some name) x next) none)
-same_storm files case name g next other (inr same) h =
-    subst (λ (x : Given). IsSameOrLacks (reading_storm case (Some name) g next) (reading_storm case (Some name) x other)) (sym same) (after_storm_given case name g next other h)
+  gathering_same : IsSameOrLacks (gathering o contents) (gathering o has)
+  gathering_same =
+      let make : Option OverCase → Option (List ℕ) → Outcome Gathered = λ over certificate. Accepts (record { over = over; certificate = certificate }) in
+      both_same (reading_over_case o contents) (reading_over_case o has)
+      (λ over. reading_certificate o contents >>= make over) (λ over. reading_certificate o has >>= make over) over_case_same
+      (λ over. both_same (reading_certificate o contents) (reading_certificate o has) (make over) (make over) certificate_same (λ certificate. inl refl))
 
-after_storm : (files : Files) (case : Lists) (name : Option (List ℕ)) (g : Given) (next other : StormView → Outcome)
-    → ((text : List ℕ) → name ≡ Some text → MayGive (Some files) text g)
-    → ((storm : StormView) → IsSameOrLacks (next storm) (other storm)) → IsSameOrLacks (reading_storm case name g next) (reading_storm case name (held files name) other)
-after_storm files case None g next other may h = inl refl
-after_storm files case (Some name) g next other may h = same_storm files case name g next other (given_or_held files name g (may name refl)) h
-
--- what may be given for a name, if there is one
-abbrev IfNamed : Files → Option (List ℕ) → Given → Type 0
-IfNamed files name g = IfSome name (λ n. MayGive (Some files) n g)
-
-named : (files : Files) (name : Option (List ℕ)) (g : Given) (text : List ℕ) → name ≡ Some text → IfNamed files name g → MayGive (Some files) text g
-named files name g text e h = subst (λ (n : Option (List ℕ)). IfNamed files n g) e h
-
--- the further files of a mode over a storm
-after_over_case : (files : Files) (o : Options) (contents : Contents) → MayHandOut (Some files) o contents → (case : Lists) (next : StormInputs → Outcome)
-    → IsSameOrLacks (reading_over_case o case contents next) (reading_over_case o case (held_for files (Ok o)) next)
-after_over_case files o contents may case next =
-    let last : StormView → Option (List Switching) → Outcome = λ storm rows. next (record { inputs = record { case = case; switchings = rows; question = o.question }; storm = storm }) in
-    after_storm files case o.storm (contents file.Storm)
-    (λ storm. reading_switchings case o.switch (contents file.Switch) (last storm))
-    (λ storm. reading_switchings case o.switch (held files o.switch) (last storm))
-    (λ text e. named files o.storm (contents file.Storm) text e (may file.Storm))
-    (λ storm. after_switchings files case o.switch (contents file.Switch) (last storm) (last storm)
-    (λ text e. named files o.switch (contents file.Switch) text e (may file.Switch))
-    (λ rows. inl refl))
-
--- a transformer that is looked for
-after_transformer : (r : Result ℕ InputRefusal) (next other : ℕ → Outcome) → ((place : ℕ) → IsSameOrLacks (next place) (other place))
-    → IsSameOrLacks (reading r (λ refusal. refusal) next) (reading r (λ refusal. refusal) other)
-after_transformer (Ok place) next other h = h place
-after_transformer (Err refusal) next other h = inl refl
-
-same_by_mode : (files : Files) (m : Mode) (o : Options) (contents : Contents) → MayHandOut (Some files) o contents
-    → IsSameOrLacks (asking m o contents) (asking m o (held_for files (Ok o)))
-same_by_mode files (mode.Network m) o contents may =
-    let last : Lists → Option (List Switching) → Outcome = λ case rows. Accepts (Network m (record { case = case; switchings = rows; question = o.question })) in
-    named_case files o.case (contents file.Case)
-    (λ case. reading_switchings case o.switch (contents file.Switch) (last case))
-    (λ case. reading_switchings case o.switch (held files o.switch) (last case))
-    (λ text e. named files o.case (contents file.Case) text e (may file.Case))
-    (λ case. after_switchings files case o.switch (contents file.Switch) (last case) (last case)
-    (λ text e. named files o.switch (contents file.Switch) text e (may file.Switch))
-    (λ rows. inl refl))
-same_by_mode files mode.Study o contents may =
-    let last : StormInputs → Outcome = λ inputs. Accepts (Study inputs o.detail) in
-    named_case files o.case (contents file.Case)
-    (λ case. reading_over_case o case contents last)
-    (λ case. reading_over_case o case (held_for files (Ok o)) last)
-    (λ text e. named files o.case (contents file.Case) text e (may file.Case))
-    (λ case. after_over_case files o contents may case last)
-same_by_mode files mode.Make o contents may = inl refl
-same_by_mode files mode.Recheck o contents may =
-    let last : Lists → Option (List Switching) → List ℕ → Outcome = λ case rows bytes. Accepts (Recheck (record { case = case; switchings = rows; question = o.question }) bytes) in
-    named_case files o.case (contents file.Case)
-    (λ case. reading_switchings case o.switch (contents file.Switch) (λ rows. reading_certificate o.cert (contents file.Certificate) (last case rows)))
-    (λ case. reading_switchings case o.switch (held files o.switch) (λ rows. reading_certificate o.cert (held files o.cert) (last case rows)))
-    (λ text e. named files o.case (contents file.Case) text e (may file.Case))
-    (λ case. after_switchings files case o.switch (contents file.Switch)
-    (λ rows. reading_certificate o.cert (contents file.Certificate) (last case rows))
-    (λ rows. reading_certificate o.cert (held files o.cert) (last case rows))
-    (λ text e. named files o.switch (contents file.Switch) text e (may file.Switch))
-    (λ rows. after_certificate files o.cert (contents file.Certificate) (last case rows)
-    (λ text e. named files o.cert (contents file.Certificate) text e (may file.Certificate))))
-same_by_mode files mode.Series o contents may =
-    let last : ℕ → StormInputs → Outcome = λ place inputs. Accepts (Series inputs place) in
-    named_case files o.case (contents file.Case)
-    (λ case. reading (transformer_asked case o.transformer) (λ refusal. refusal) (λ place. reading_over_case o case contents (last place)))
-    (λ case. reading (transformer_asked case o.transformer) (λ refusal. refusal) (λ place. reading_over_case o case (held_for files (Ok o)) (last place)))
-    (λ text e. named files o.case (contents file.Case) text e (may file.Case))
-    (λ case. after_transformer (transformer_asked case o.transformer)
-    (λ place. reading_over_case o case contents (last place))
-    (λ place. reading_over_case o case (held_for files (Ok o)) (last place))
-    (λ place. after_over_case files o contents may case (last place)))
+  asked_same : IsSameOrLacks (gathering o contents >>= (λ g. asking o.mode o g)) (gathering o has >>= (λ g. asking o.mode o g))
+  asked_same = both_same (gathering o contents) (gathering o has) (λ g. asking o.mode o g) (λ g. asking o.mode o g) gathering_same (λ g. inl refl)
 
 same_words : (files : Files) (r : Result Options Usage) (contents : Contents) → IfOk r (λ o. MayHandOut (Some files) o contents)
-    → IsSameOrLacks (reading r UsageRefusal (λ o. asking o.mode o contents)) (reading r UsageRefusal (λ o. asking o.mode o (held_for files r)))
-same_words files (Ok o) contents may = same_by_mode files o.mode o contents may
+    → IsSameOrLacks (reading UsageRefusal r >>= (λ o. gathering o contents >>= (λ g. asking o.mode o g))) (reading UsageRefusal r >>= (λ o. gathering o (held_for files r) >>= (λ g. asking o.mode o g)))
+same_words files (Ok o) contents may = asked_same files o contents may
 same_words files (Err u) contents may = inl refl
 
 -- an answer to a file that is lacking is that it can't be read, or want of memory
-lacking : (o other : Outcome) (f : File) (answer : Result Asked InputFault) → o ≡ Lacks f → IsAnswer o answer
+lacking : (o other : Outcome Asked) (f : File) (answer : Result Asked InputFault) → o ≡ Lacks f → IsAnswer o answer
     → ((file : File) → ¬ (answer ≡ Err (CannotRead file))) → IsAnswer other answer
 lacking o other f (Ok inputs) is h read = absurd (grind (arith, sym is ∙ h))
 lacking o other f (Err (Refused r)) is h read = absurd (grind (arith, sym is ∙ h))
 lacking o other f (Err (CannotRead file)) is h read = absurd (read file refl)
 lacking o other f (Err Memory) is h read = tt
 
-either : (o other : Outcome) (answer : Result Asked InputFault) → IsSameOrLacks o other → IsAnswer o answer
+either : (o other : Outcome Asked) (answer : Result Asked InputFault) → IsSameOrLacks o other → IsAnswer o answer
     → ((file : File) → ¬ (answer ≡ Err (CannotRead file))) → IsAnswer other answer
-either o other answer (inl same) h read = subst (λ (x : Outcome). IsAnswer x answer) same h
+either o other answer (inl same) h read = subst (λ (x : Outcome Asked). IsAnswer x answer) same h
 either o other answer (inr lacks) h read = lacking o other lacks.0 answer lacks.1 h read
 
 pub answers_of_files : AnswersOfFiles

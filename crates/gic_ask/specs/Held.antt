@@ -2,7 +2,7 @@
 use Rattle.std.specs.Prelude.{ℕ, List, Result, Ok, Err, None, Some, Bool, true, false, length, nat_lt}
 use Rattle.std.specs.declared.option.Option.{Option}
 use Rattle.std.specs.FinMap.{get}
-use Rattle.gic_base.specs.Files.{Files}
+use Rattle.gic_files.specs.Files.{Files, Fetches}
 use Rattle.gic_base.specs.declared.limits.TheConstants.{LIMIT}
 use Rattle.gic_words.specs.Options.{options_of}
 use Rattle.gic_words.specs.declared.options.Options.{Options}
@@ -36,6 +36,6 @@ held_for files (Err u) file = Nothing
 
 -- where no fetch of a named file failed, the answer is that of the files
 abbrev pub AnswersOfFiles : Type 0
-AnswersOfFiles = (words : List (List ℕ)) (files : Files) (before now : List (List ℕ)) (answer : Result Asked InputFault) →
-    Asks words (Some files) before now answer → ((file : File) → ¬ CouldNotRead words file before now) →
+AnswersOfFiles = (words : List (List ℕ)) (files : Files) (before now : Fetches) (answer : Result Asked InputFault) →
+    Asks words (Some files) before now answer → ((file : File) → ¬ CouldNotRead words file before.failures now.failures) →
     IsAnswer (outcome words (held_for files (options_of words))) answer

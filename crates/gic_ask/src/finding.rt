@@ -4,7 +4,7 @@ ghost use Rattle.gic_ask.specs.Outcome.{transformer_named, transformer_asked};
 
 use crate::fault::InputRefusal;
 use gic_case::{Case, Transformer};
-use gic_words::{Opt, Text, Usage};
+use gic_words::Text;
 
 /// Where among transformers the one stands that has this name.
 fn position_named(transformers: &[Transformer], name: &[u8]) -> Option<usize>
@@ -25,15 +25,16 @@ fn place_named(case: &Case, name: &str) -> Option<u16>
     Some(place as u16)
 }
 
-/// The place of the transformer that is named. Without a name it would be missing; a series requires one.
-pub(crate) fn transformer(name: &Option<Text>, case: &Case) -> Result<u16, InputRefusal>
+/// The place of the transformer that is named, where one is.
+pub(crate) fn transformer(name: &Option<Text>, case: &Case) -> Result<Option<u16>, InputRefusal>
     ensures place { result ≡ transformer_asked case.now name.now }
-    ensures within { IfOk result (λ place. place < length case.now.transformers) }
+    ensures within { IfOk result (λ place. IfSome place (λ p. p < length case.now.transformers)) }
 {
     let Some(name) = name else {
-        return Err(InputRefusal::Usage(Usage::Missing {
-            option: Opt::Transformer,
-        }));
+        return Ok(None);
     };
-    place_named(case, name.as_str()).ok_or(InputRefusal::UnknownTransformer)
+    match place_named(case, name.as_str()) {
+        Some(place) => Ok(Some(place)),
+        None => Err(InputRefusal::UnknownTransformer),
+    }
 }

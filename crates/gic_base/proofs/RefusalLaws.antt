@@ -1,6 +1,7 @@
 -- One pass answers the first refusal of all rules.
 use Rattle.std.proofs.Common.{◌≡◌, List, [], ◌∷◌, ◌++◌, Bool, true, false, Option, Some, None, unwrap_or, is_some, Result, Ok, Err, slice_get, refl, ap, ◌∙◌}
 use Rattle.gic_base.specs.Refusals.{unless, settle}
+use Rattle.gic_base.specs.declared.read_fault.ReadFault.TheVariants.{Refused}
 use Rattle.gic_base.specs.Passes.{◌>>=◌, or_refuse, test}
 
 module _ {A B E : Type 0} where
@@ -50,3 +51,7 @@ none_of_both (e ∷ es) fs h = (cc, cc)
 pub unless_holds : {E : Type 0} (b : Bool) (e : E) → unless b e ≡ [] → b ≡ true
 unless_holds true e h = refl
 unless_holds false e h = cc
+
+-- two faults that are one have one refusal
+pub same_refusal : {E : Type 0} (a b : E) → Refused a ≡ Refused b → a ≡ b
+same_refusal a b is = cc

@@ -1,7 +1,5 @@
 pub mod Name
 pub mod Causes
-pub mod Files
-pub mod Fetches
 pub mod Pieces
 pub mod Memory
 pub mod Refusals

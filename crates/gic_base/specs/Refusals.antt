@@ -1,5 +1,7 @@
 -- How a reader with rules answers. A rule maps what is read to the list of all refusals that it gives, in order. The rules of a reader are joined by `++`, and the first refusal of the joined list is the answer.
 use Rattle.std.specs.Prelude.{◌≡◌, ◌≢◌, List, [], ◌∷◌, Bool, if◌then◌else◌, Result, Ok, Err}
+use Rattle.gic_base.specs.declared.read_fault.ReadFault.{ReadFault}
+use Rattle.gic_base.specs.declared.read_fault.ReadFault.TheVariants.{Refused}
 
 -- the refusal, unless the fact holds
 abbrev pub unless : {E : Type 0} → Bool → E → List E
@@ -14,3 +16,13 @@ settle (e ∷ es) x = Err e
 abbrev pub Answers : {X Y E : Type 0} → E → (X → Y) → Result X E → Result Y E → Type 0
 Answers memory view (Ok x) right = right ≡ Ok (view x)
 Answers memory view (Err e) right = e ≢ memory → right ≡ Err e
+
+-- the same of a reader whose fault is a refusal or want of memory
+abbrev pub AnswersRead : {X Y E : Type 0} → (X → Y) → Result X (ReadFault E) → Result Y E → Type 0
+AnswersRead view (Ok x) right = right ≡ Ok (view x)
+AnswersRead {X} {Y} {E} view (Err fault) right = (e : E) → fault ≡ Refused e → right ≡ Err e
+
+-- the same of what needs no memory
+abbrev pub AnswersExactly : {X Y E : Type 0} → (X → Y) → Result X E → Result Y E → Type 0
+AnswersExactly view (Ok x) right = right ≡ Ok (view x)
+AnswersExactly view (Err e) right = right ≡ Err e

@@ -1,19 +1,18 @@
-//! Names, places, and the outside of the program: a library that files are fetched from, and sinks that bytes are
-//! written to.
+//! Names, places, limits, want of memory, and sinks that bytes are written to.
 #![tactic(auto)]
 
 mod id;
-mod library;
 pub mod limits;
-mod memory_library;
 mod memory_sink;
 mod name;
+mod out_of_memory;
+mod read_fault;
 mod sink;
 
 pub use id::{ElementId, NodeId};
-pub use library::{FetchRefusal, Library, OutOfMemory, read_whole};
 pub use limits::LIMIT;
-pub use memory_library::{MemoryLibrary, failed_fetch};
 pub use memory_sink::{MemorySink, NullSink};
 pub use name::Name;
+pub use out_of_memory::OutOfMemory;
+pub use read_fault::ReadFault;
 pub use sink::{Sink, WriteFailed, write_all};

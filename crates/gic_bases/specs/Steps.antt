@@ -22,7 +22,7 @@ pub record AreReady (case : Lists) (net : NetView) (fields : List (ℤ × ℤ)) 
   pub settled : AreSettledBases (standing net) case net.network.list bases
 
 -- the voltages are those of the fields, and each live node's guess is combined from the bases, and is the middle of the node's interval
-pub record IsStep (case : Lists) (net : NetView) (fields : List (ℤ × ℤ)) (bases : List ZoneBases) (volts guesses : List ℤ) (potentials : List Ends) : Type 0 where
+pub record IsStepFromBases (case : Lists) (net : NetView) (fields : List (ℤ × ℤ)) (bases : List ZoneBases) (volts guesses : List ℤ) (potentials : List Ends) : Type 0 where
   pub induced : volts ≡ volts_of case fields net.network.list
   pub combined : (k : ℕ) → IsLive (standing net) k → number_at guesses k ≡ combined_guess fields bases k
   pub middle : (k : ℕ) → IsLive (standing net) k → low_at potentials k +ℤ high_at potentials k ≡ pos 2 *ℤ number_at guesses k

@@ -10,7 +10,7 @@ ghost use Rattle.gic_induce.specs.Fields.{field_at};
 ghost use Rattle.gic_enclose.specs.Together.{BelongTogether};
 ghost use Rattle.gic_enclose.specs.Solved.{IsWidth, IsSolvedWithin};
 ghost use Rattle.gic_bases.specs.Bases.{bases_at, north_at, east_at, sum_below, combined_guess, AreBasesFor};
-ghost use Rattle.gic_bases.specs.Steps.{AreReady, IsStep};
+ghost use Rattle.gic_bases.specs.Steps.{AreReady, IsStepFromBases};
 
 use crate::bases::Bases;
 use gic_base::NodeId;
@@ -112,7 +112,7 @@ pub fn step_from_bases<L: Ledger>(
     requires together { BelongTogether net.now.network volts.old solver.old bound.now out.old }
     requires bound { IsBoundWithin (standing net.now) MOST_WALK (slice_index bound.now) }
     requires width { IsWidth width }
-    ensures step { IsStep case.now net.now fields.now bases.now volts.new solver.new out.new }
+    ensures step { IsStepFromBases case.now net.now fields.now bases.now volts.new solver.new out.new }
     ensures solved { IsSolvedWithin (standing net.now) (number_at volts.new) width out.new }
     ensures together { BelongTogether net.now.network volts.new solver.new bound.now out.new }
     ensures tick { steps.new ≡ steps.old + 1 }

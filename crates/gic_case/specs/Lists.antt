@@ -79,8 +79,8 @@ transformer_ends c =
     ++ flat_map (λ p. device_ends p.0 (grid_of c.buses p.1.kind) p.1.neutral) (neutrals_of c)
 
 -- the nodes at which the elements end, a node once for each end: earthings, lines, windings, neutral resistors
-unfoldable pub ends_of : Lists → List ℕ
-ends_of c = earthing_ends c.substations ++ (line_ends (length c.substations) c.lines ++ transformer_ends c)
+unfoldable pub element_ends : Lists → List ℕ
+element_ends c = earthing_ends c.substations ++ (line_ends (length c.substations) c.lines ++ transformer_ends c)
 
 -- how many of these ends are at the node
 abbrev pub degree_of : List ℕ → ℕ → ℕ

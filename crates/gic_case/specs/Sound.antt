@@ -11,7 +11,7 @@ use Rattle.gic_case.specs.declared.item.Kind.TheVariants as kinds
 use Rattle.gic_case.specs.declared.item.Neutral.{Neutral}
 use Rattle.gic_case.specs.declared.item.Neutral.TheVariants as devices
 use Rattle.gic_case.specs.declared.item.Transformer.{Transformer}
-use Rattle.gic_case.specs.Lists.{Lists, node_names, substation_at, ends_of, degree_of, has_windings}
+use Rattle.gic_case.specs.Lists.{Lists, node_names, substation_at, element_ends, degree_of, has_windings}
 
 -- the lists with these rows
 abbrev pub lists_with : List ZoneView → List Substation → List Bus → List Line → List Transformer → Lists
@@ -22,8 +22,8 @@ abbrev pub names_of : Lists → List (List ℕ)
 names_of c = map (λ z. z.name) c.zones ++ (map (λ s. s.name) c.substations ++ (map (λ b. b.name) c.buses ++ (map (λ l. l.name) c.lines ++ map (λ t. t.name) c.transformers)))
 
 -- a resistance in micro-ohm within its range
-abbrev pub IsOhm : ℕ → Type 0
-IsOhm ohm = (1000 ≤ ohm) × (ohm ≤ 1000000000)
+abbrev pub IsResistance : ℕ → Type 0
+IsResistance ohm = (1000 ≤ ohm) × (ohm ≤ 1000000000)
 
 -- a rated voltage in V within its range
 abbrev pub IsRated : ℕ → Type 0
@@ -31,7 +31,7 @@ IsRated volts = (1000 ≤ volts) × (volts ≤ 2000000)
 
 -- what every substation keeps: an earthing within the range, if any
 abbrev pub IsSoundSubstation : Substation → Type 0
-IsSoundSubstation s = IfSome s.ground IsOhm
+IsSoundSubstation s = IfSome s.ground IsResistance
 
 -- what every line keeps: two different buses and a zone of the case, a resistance and a span within their ranges
 pub record IsSoundLine (c : Lists) (l : Line) : Type 0 where
@@ -55,14 +55,14 @@ pub record AreSides (c : Lists) (high low high_volts low_volts : ℕ) : Type 0 w
 
 -- what the kind of a transformer of this high voltage keeps
 abbrev pub IsSoundKind : Lists → (high_volts : ℕ) → Kind → Type 0
-IsSoundKind c volts (kinds.DeltaWye high high_resistance) = (high < length c.buses) × IsOhm high_resistance
-IsSoundKind c volts (kinds.WyeWye high low low_volts high_resistance low_resistance) = AreSides c high low volts low_volts × (IsOhm high_resistance × IsOhm low_resistance)
-IsSoundKind c volts (kinds.Auto high low low_volts series_resistance common_resistance) = AreSides c high low volts low_volts × (IsOhm series_resistance × IsOhm common_resistance)
+IsSoundKind c volts (kinds.DeltaWye high high_resistance) = (high < length c.buses) × IsResistance high_resistance
+IsSoundKind c volts (kinds.WyeWye high low low_volts high_resistance low_resistance) = AreSides c high low volts low_volts × (IsResistance high_resistance × IsResistance low_resistance)
+IsSoundKind c volts (kinds.Auto high low low_volts series_resistance common_resistance) = AreSides c high low volts low_volts × (IsResistance series_resistance × IsResistance common_resistance)
 IsSoundKind c volts kinds.DeltaDelta = Unit {0}
 
 -- a neutral resistor is within the range
 abbrev pub IsSoundDevice : Neutral → Type 0
-IsSoundDevice (devices.Resistor ohm) = IsOhm ohm
+IsSoundDevice (devices.Resistor ohm) = IsResistance ohm
 IsSoundDevice devices.Blocked = Unit {0}
 
 -- what every transformer keeps: a rated voltage, a sound kind, and a sound neutral device if any, which a delta-delta unit hasn't
@@ -86,4 +86,4 @@ pub record IsSound (c : Lists) : Type 0 where
   pub transformers_sound : All (IsSoundTransformer c) c.transformers
   pub names_sound : All (λ n. IsTrue (is_name n)) (names_of c)
   pub names_differ : AllPairs (λ x y. x ≢ y) (names_of c)
-  pub few_ends : (k : ℕ) → k < length (node_names c) → degree_of (ends_of c) k ≤ MOST_AT_A_NODE
+  pub few_ends : (k : ℕ) → k < length (node_names c) → degree_of (element_ends c) k ≤ MOST_AT_A_NODE

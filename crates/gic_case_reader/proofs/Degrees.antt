@@ -7,7 +7,7 @@ use Rattle.std.proofs.lemmas.List.{get_or-set_same, get_or-set_other, get_or_def
 use Rattle.std.proofs.lemmas.List.Sums.{count_by_more_no, count_by_more_yes, count_by-le-length}
 use Rattle.std.specs.Prelude.{◌==◌}
 use Rattle.std.specs.List.{flat_map}
-use Rattle.gic_case.specs.Lists.{Lists, earthing_ends, line_ends, grid_of, neutrals_of, winding_ends, device_ends, transformer_ends, ends_of, degree_of}
+use Rattle.gic_case.specs.Lists.{Lists, earthing_ends, line_ends, grid_of, neutrals_of, winding_ends, device_ends, transformer_ends, element_ends, degree_of}
 use Rattle.gic_case.proofs.Earthings.{earthing_ends_from}
 use Rattle.gic_case_reader.specs.OneByOne.{breaks_degree_from}
 use Rattle.gic_case.proofs.NeutralNodes.{length-neutrals_of}
@@ -101,9 +101,9 @@ length-transformer_ends c =
     let devices = length-flat_map {A = ℕ × Transformer} (λ p. device_ends p.0 (grid_of c.buses p.1.kind) p.1.neutral) 2 (λ p. length-device_ends p.0 (grid_of c.buses p.1.kind) p.1.neutral) (neutrals_of c) in
     rw length-append (omega (arith, many, windings, devices))
 
-pub length-ends_of : (c : Lists) → length (ends_of c) ≤ length c.substations + (2 * length c.lines + 6 * length c.transformers)
-unfolding ends_of
-length-ends_of c =
+pub length-element_ends : (c : Lists) → length (element_ends c) ≤ length c.substations + (2 * length c.lines + 6 * length c.transformers)
+unfolding element_ends
+length-element_ends c =
     let earthings = length-earthing_ends_from 0 c.substations in
     let lines = length-line_ends (length c.substations) c.lines in
     let transformers = length-transformer_ends c in

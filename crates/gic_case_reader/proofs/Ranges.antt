@@ -16,7 +16,7 @@ use Rattle.gic_case_reader.specs.Keys.{key_of, is_among, has, has_only, has_all,
 use Rattle.gic_case.specs.Names.{same}
 use Rattle.gic_case_reader.specs.Values.{whole_within, natural_within, near_nought, span_within, read_name, value_at}
 use Rattle.gic_case_reader.specs.Rows.{members_in, breaks_keys, breaks_value, breaks_optional, ohm_within, metres_within, device_in, read_neutral, zone_fields, breaks_zone, zone_of, breaks_substation, substation_of, bus_fields, breaks_bus, bus_of, line_fields, breaks_line, line_of}
-use Rattle.gic_case.specs.Sound.{IsOhm, IsRated, IsSoundDevice}
+use Rattle.gic_case.specs.Sound.{IsResistance, IsRated, IsSoundDevice}
 use Rattle.gic_case_reader.specs.Transformers.{read_kind, fields_of, others_of, kind_of, breaks_bus_name, breaks_ohm, breaks_volts, breaks_own, breaks_transformer, ohm_in, volts_in, own_of, transformer_of}
 use Rattle.gic_case_reader.specs.declared.field.Field.{Field}
 use Rattle.gic_case_reader.specs.declared.field.Field.TheVariants as fields
@@ -150,9 +150,9 @@ line_measured row d h =
 
 -- the ranges of what a kind has of its own
 abbrev pub IsMeasuredKind : KindRow → Type 0
-IsMeasuredKind (kinds.DeltaWye high high_resistance) = IsOhm high_resistance
-IsMeasuredKind (kinds.WyeWye high low low_volts high_resistance low_resistance) = IsRated low_volts × (IsOhm high_resistance × IsOhm low_resistance)
-IsMeasuredKind (kinds.Auto high low low_volts series_resistance common_resistance) = IsRated low_volts × (IsOhm series_resistance × IsOhm common_resistance)
+IsMeasuredKind (kinds.DeltaWye high high_resistance) = IsResistance high_resistance
+IsMeasuredKind (kinds.WyeWye high low low_volts high_resistance low_resistance) = IsRated low_volts × (IsResistance high_resistance × IsResistance low_resistance)
+IsMeasuredKind (kinds.Auto high low low_volts series_resistance common_resistance) = IsRated low_volts × (IsResistance series_resistance × IsResistance common_resistance)
 IsMeasuredKind kinds.DeltaDelta = Unit {0}
 
 -- a delta-delta unit has no neutral device
@@ -169,7 +169,7 @@ pub record IsMeasuredTransformer (t : TransformerRow) : Type 0 where
   pub device : IfSome t.neutral IsSoundDevice
   pub place : HasPlaceFor t.kind t.neutral
 
-ohm_taken : (row : ℕ) (at : Field) (ms : Members) → breaks_ohm row at ms ≡ [] → IsOhm (ohm_in at ms)
+ohm_taken : (row : ℕ) (at : Field) (ms : Members) → breaks_ohm row at ms ≡ [] → IsResistance (ohm_in at ms)
 ohm_taken row at ms h = natural_taken 1000 1000000000 parts.Transformer row at ms h
 
 volts_taken : (row : ℕ) (at : Field) (ms : Members) → breaks_volts row at ms ≡ [] → IsRated (volts_in at ms)
@@ -195,11 +195,11 @@ if_blocked : (b : Bool) → IfSome (cond b (Some devices.Blocked) None) IsSoundD
 if_blocked true = tt
 if_blocked false = tt
 
-resistor_sound : (o : Option ℕ) → IfSome o IsOhm → IfSome (option_map devices.Resistor o) IsSoundDevice
+resistor_sound : (o : Option ℕ) → IfSome o IsResistance → IfSome (option_map devices.Resistor o) IsSoundDevice
 resistor_sound None h = tt
 resistor_sound (Some ohm) h = h
 
-device_in_sound : (text : Option (List ℕ)) (ohm : Option ℕ) → IfSome ohm IsOhm → IfSome (device_in text ohm) IsSoundDevice
+device_in_sound : (text : Option (List ℕ)) (ohm : Option ℕ) → IfSome ohm IsResistance → IfSome (device_in text ohm) IsSoundDevice
 unfolding device_in
 device_in_sound None ohm h = resistor_sound ohm h
 device_in_sound (Some s) ohm h = if_blocked (same s (codes "blocked"))

@@ -16,7 +16,7 @@ use Rattle.gic_base.specs.Refusals.{unless}
 use Rattle.gic_base.proofs.RefusalLaws.{none_of_both, none_settled, unless_holds}
 use Rattle.gic_case.proofs.Places.{place_below}
 use Rattle.gic_case.specs.Names.{same, is_repeat, place_in}
-use Rattle.gic_case.specs.Lists.{Lists, node_names, substation_at, ends_of, degree_of, has_windings}
+use Rattle.gic_case.specs.Lists.{Lists, node_names, substation_at, element_ends, degree_of, has_windings}
 use Rattle.gic_case.specs.Sound.{names_of, IsRated, IsSoundSubstation, IsSoundLine, AreSides, IsSoundKind, IsSoundTransformer, IsSound}
 use Rattle.gic_case_reader.specs.Sides.{sides_of, sides_differ, are_together, are_ordered}
 use Rattle.gic_case_reader.specs.Transformers.{breaks_transformer, transformer_of}
@@ -334,7 +334,7 @@ resolved_sound w form ruled =
       transformers_sound = transformers_by w form.transformers places.1 ruled.sides ruled.together ruled.ordered;
       names_sound = rw names_stay form.names;
       names_differ = names_by w ruled.once;
-      few_ends = λ k lt. few_from (node_names (resolved w)) (ends_of (resolved w)) 0 ruled.few k (omega arith) (omega arith);
+      few_ends = λ k lt. few_from (node_names (resolved w)) (element_ends (resolved w)) 0 ruled.few k (omega arith) (omega arith);
     }
 
 sound_by : (ms : Members) → broken_in ms ≡ [] → IsSound (resolved (written_in ms))

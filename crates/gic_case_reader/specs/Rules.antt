@@ -12,7 +12,7 @@ use Rattle.gic_case_reader.specs.Values.{natural_within, value_at}
 use Rattle.gic_case_reader.specs.Rows.{breaks_value, breaks_zone, zone_of, breaks_substation, substation_of, breaks_bus, bus_of, breaks_line, line_of}
 use Rattle.gic_case_reader.specs.Transformers.{breaks_transformer, transformer_of}
 use Rattle.gic_case.specs.Names.{is_repeat, place_in}
-use Rattle.gic_case.specs.Lists.{Lists, node_names, ends_of, degree_of}
+use Rattle.gic_case.specs.Lists.{Lists, node_names, element_ends, degree_of}
 use Rattle.gic_case_reader.specs.Sides.{sides_of, sides_differ, are_together, are_ordered}
 use Rattle.gic_case_reader.specs.declared.field.Field.{Field}
 use Rattle.gic_case_reader.specs.declared.field.Field.TheVariants as fields
@@ -215,7 +215,7 @@ breaks_voltage_order c = breaks_rows (λ t. are_ordered t.high_volts (sides_of t
 
 -- at most `MOST_AT_A_NODE` elements end at each node, which is refused by its name
 abbrev pub breaks_degree : Lists → List CaseRefusal
-breaks_degree c = flat_map (λ p. unless (nat_le (degree_of (ends_of c) p.0) MOST_AT_A_NODE) (refusals.Degree p.1)) (enumerate_from 0 (node_names c))
+breaks_degree c = flat_map (λ p. unless (nat_le (degree_of (element_ends c) p.0) MOST_AT_A_NODE) (refusals.Degree p.1)) (enumerate_from 0 (node_names c))
 
 -- all rules on a document, in their order
 unfoldable pub broken_in : Members → List CaseRefusal

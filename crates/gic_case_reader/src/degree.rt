@@ -1,14 +1,13 @@
 //! The nodes at which elements end.
 ghost use Rattle.std.specs.Prelude.{◌≡◌, ℕ, ◌<◌, ◌^◌, ◌++◌, OnOk, IfOk, length, slice_index, vec_len};
-ghost use Rattle.gic_base.specs.Refusals.{Answers, settle};
-ghost use Rattle.gic_case_reader.specs.declared.refusal.CaseRefusal.TheVariants.{Memory};
-ghost use Rattle.gic_case.specs.Lists.{earthing_ends, line_ends, transformer_ends, ends_of, degree_of};
+ghost use Rattle.gic_base.specs.Refusals.{AnswersRead, settle};
+ghost use Rattle.gic_case.specs.Lists.{earthing_ends, line_ends, transformer_ends, element_ends, degree_of};
 ghost use Rattle.gic_case_reader.specs.Rules.{breaks_degree};
 
 use crate::ends::{push_device_ends, push_winding_ends};
 use crate::refusal::CaseRefusal;
-use gic_base::NodeId;
 use gic_base::limits::MOST_AT_A_NODE;
+use gic_base::{NodeId, ReadFault};
 use gic_case::{Line, Network, Substation};
 use std::alloc::{AllocError, Global};
 
@@ -55,9 +54,9 @@ fn push_transformer_ends(
 }
 
 /// The nodes at which the elements end, a node once for each end.
-#[tactic(auto, unfolding(gic_case::specs::Lists::ends_of))]
-fn ends_of(alloc: Global, network: &Network) -> Result<Vec<u32>, AllocError>
-    ensures ends { IfOk result (λ v. v.items ≡ ends_of network.now) }
+#[tactic(auto, unfolding(gic_case::specs::Lists::element_ends))]
+fn element_ends(alloc: Global, network: &Network) -> Result<Vec<u32>, AllocError>
+    ensures ends { IfOk result (λ v. v.items ≡ element_ends network.now) }
     ensures few { IfOk result (λ v. vec_len v < 2 ^ 32) }
 {
     let mut ends = Vec::new(alloc);
@@ -85,16 +84,16 @@ fn degrees(alloc: Global, nodes: usize, ends: &[u32]) -> Result<Vec<u32>, AllocE
 }
 
 /// Whether at most [`MOST_AT_A_NODE`] elements end at each node.
-pub(crate) fn few_ends(alloc: Global, network: &Network) -> Result<(), CaseRefusal>
-    ensures { Answers Memory (λ u. u) result (settle (breaks_degree network.now) (tt {0})) }
+pub(crate) fn few_ends(alloc: Global, network: &Network) -> Result<(), ReadFault<CaseRefusal>>
+    ensures { AnswersRead (λ u. u) result (settle (breaks_degree network.now) (tt {0})) }
 {
-    let ends = ends_of(alloc, network)?;
+    let ends = element_ends(alloc, network)?;
     let nodes = network.node_count();
     let counts = degrees(alloc, usize::from(nodes), ends.as_slice())?;
     for (node, count) in counts.iter().enumerate() {
         if *count as usize > MOST_AT_A_NODE {
             let node = network.node_name(NodeId(node as u16));
-            return Err(CaseRefusal::Degree { node });
+            return Err(ReadFault::Refused(CaseRefusal::Degree { node }));
         }
     }
     Ok(())

@@ -1,9 +1,9 @@
 //! Documents, and the rows of their lists.
 ghost use Rattle.std.specs.Prelude.{◌≡◌, ◌≤◌, IfOk, length};
 ghost use Rattle.toml.specs.View.{table_view};
-ghost use Rattle.gic_base.specs.Refusals.{Answers};
+ghost use Rattle.gic_base.specs.Refusals.{AnswersRead, AnswersExactly};
 ghost use Rattle.gic_base.specs.Passes.{or_refuse, test};
-ghost use Rattle.gic_case_reader.specs.declared.refusal.CaseRefusal.TheVariants.{NotToml, Key, Memory};
+ghost use Rattle.gic_case_reader.specs.declared.refusal.CaseRefusal.TheVariants.{NotToml, Key};
 ghost use Rattle.gic_case_reader.specs.declared.refusal.Part.TheVariants as parts;
 ghost use Rattle.gic_case_reader.specs.Keys.{fits_document};
 ghost use Rattle.gic_case_reader.specs.Rules.{Written, document_of};
@@ -15,6 +15,7 @@ use crate::list::list_at;
 use crate::refusal::{CaseRefusal, Part};
 use crate::row::{BusRow, LineRow, TransformerRow};
 use crate::value::natural_at;
+use gic_base::ReadFault;
 use gic_base::limits::{MOST_BUSES, MOST_LINES, MOST_SUBSTATIONS, MOST_TRANSFORMERS, MOST_ZONES};
 use gic_case::Substation;
 use gic_scale::Zone;
@@ -23,16 +24,16 @@ use std::marker::Model;
 use toml::Table;
 
 /// The document that bytes are.
-pub(crate) fn document_of(alloc: Global, bytes: &[u8]) -> Result<Table, CaseRefusal>
-    ensures { Answers Memory (λ t. table_view t) result (or_refuse (document_of bytes.now) NotToml) }
+pub(crate) fn document_of(alloc: Global, bytes: &[u8]) -> Result<Table, ReadFault<CaseRefusal>>
+    ensures { AnswersRead (λ t. table_view t) result (or_refuse (document_of bytes.now) NotToml) }
 {
     match toml::table_from_slice(alloc, bytes) {
         Ok(table) => Ok(table),
         Err(e) => {
             if e.is_memory() {
-                Err(CaseRefusal::Memory)
+                Err(ReadFault::Memory)
             } else {
-                Err(CaseRefusal::NotToml)
+                Err(ReadFault::Refused(CaseRefusal::NotToml))
             }
         }
     }
@@ -40,7 +41,7 @@ pub(crate) fn document_of(alloc: Global, bytes: &[u8]) -> Result<Table, CaseRefu
 
 /// Whether the document has the keys that it may and must have.
 fn document_keys(table: &Table) -> Result<(), CaseRefusal>
-    ensures { Answers Memory (λ u. u) result (test (fits_document (table_view table.now)) (Key parts.Case 0)) }
+    ensures { AnswersExactly (λ u. u) result (test (fits_document (table_view table.now)) (Key parts.Case 0)) }
 {
     if fits_document(table) {
         Ok(())
@@ -77,8 +78,8 @@ impl Model for Rows {
 impl Rows {
     /// The rows that a document has.
     #[tactic(auto, unfolding(crate::specs::Pass::rows_of))]
-    pub(crate) fn read(alloc: Global, table: &Table) -> Result<Rows, CaseRefusal>
-        ensures { Answers Memory (λ r. r) result (rows_of (table_view table.now)) }
+    pub(crate) fn read(alloc: Global, table: &Table) -> Result<Rows, ReadFault<CaseRefusal>>
+        ensures { AnswersRead (λ r. r) result (rows_of (table_view table.now)) }
     {
         document_keys(table)?;
         let devices = natural_at(Part::Case, 0, Field::Format, 1, 2, table)? == 2;

@@ -2,8 +2,7 @@
 ghost use Rattle.std.specs.Prelude.{◌≡◌, option_map, ◌||◌};
 ghost use Rattle.toml.specs.Data.{get_member};
 ghost use Rattle.toml.specs.View.{view, table_view};
-ghost use Rattle.gic_base.specs.Refusals.{Answers};
-ghost use Rattle.gic_case_reader.specs.declared.refusal.CaseRefusal.TheVariants.{Memory};
+ghost use Rattle.gic_base.specs.Refusals.{AnswersExactly};
 ghost use Rattle.gic_case_reader.specs.Keys.{list_key, is_among, is_list_key, is_document_key, has, has_only, has_all, fits, fits_document};
 ghost use Rattle.gic_case_reader.specs.Pass.{row_table};
 
@@ -113,7 +112,7 @@ pub(crate) fn row_table<'a>(
     row: u32,
     value: &'a Value,
 ) -> Result<&'a Table, CaseRefusal>
-    ensures { Answers Memory (λ t. table_view t.now) result (row_table list required.now others.now row (view value.now)) }
+    ensures { AnswersExactly (λ t. table_view t.now) result (row_table list required.now others.now row (view value.now)) }
 {
     match value.as_table() {
         Some(table) if fits(required, others, table) => Ok(table),

@@ -2,16 +2,15 @@
 ghost use Rattle.std.specs.Prelude.{◌≡◌, ◌≤◌, ◌<◌, ◌^◌, ◌++◌, ℕ, List, Bool, map, Result, IfOk, OnOk, length, vec_len};
 ghost use Rattle.toml.specs.Data.{Data};
 ghost use Rattle.toml.specs.View.{view, table_view, items_view};
-ghost use Rattle.gic_base.specs.Refusals.{Answers};
+ghost use Rattle.gic_base.specs.Refusals.{AnswersRead, AnswersExactly};
 ghost use Rattle.gic_case_reader.specs.declared.refusal.CaseRefusal as refusal;
-ghost use Rattle.gic_case_reader.specs.declared.refusal.CaseRefusal.TheVariants.{Memory};
 ghost use Rattle.gic_case_reader.specs.Pass.{items_at, rows_from, list_at, zone_row, substation_row, bus_row, line_row, transformer_row};
 
 use crate::keys::{at_key, list_key};
 use crate::refusal::{CaseRefusal, Part};
 use crate::row::{BusRow, LineRow, TransformerRow, bus_row, line_row, substation_row, zone_row};
 use crate::transformer::transformer_row;
-use gic_base::Name;
+use gic_base::{Name, ReadFault};
 use gic_case::Substation;
 use gic_scale::Zone;
 use std::alloc::{AllocError, Global};
@@ -31,7 +30,7 @@ pub(crate) trait Row: Drop {
 
     /// The row that a value is, in a case whose format has neutral devices or hasn't.
     fn read(devices: bool, row: u32, value: &Value) -> Result<Self, CaseRefusal>
-        ensures { Answers Memory (λ x. x) result (reads devices row (view value.now)) };
+        ensures { AnswersExactly (λ x. x) result (reads devices row (view value.now)) };
 }
 
 impl Row for Zone {
@@ -107,7 +106,7 @@ impl Row for TransformerRow {
 /// The values of a list, none where it isn't there.
 #[tactic(auto, unfolding(crate::specs::Pass::items_at))]
 fn items_at(list: Part, table: &Table) -> Result<&[Value], CaseRefusal>
-    ensures { Answers Memory (λ s. items_view s.now) result (items_at list (table_view table.now)) }
+    ensures { AnswersExactly (λ s. items_view s.now) result (items_at list (table_view table.now)) }
 {
     match at_key(table, list_key(list)) {
         Some(value) => match value.as_array() {
@@ -119,9 +118,13 @@ fn items_at(list: Part, table: &Table) -> Result<&[Value], CaseRefusal>
 }
 
 /// The rows of a list.
-fn rows_from<R: Row>(alloc: Global, devices: bool, values: &[Value]) -> Result<Vec<R>, CaseRefusal>
+fn rows_from<R: Row>(
+    alloc: Global,
+    devices: bool,
+    values: &[Value],
+) -> Result<Vec<R>, ReadFault<CaseRefusal>>
     requires { length values.now < 2 ^ 32 }
-    ensures value { Answers Memory (λ v. v.items) result (rows_from (R.reads devices) 1 (items_view values.now)) }
+    ensures value { AnswersRead (λ v. v.items) result (rows_from (R.reads devices) 1 (items_view values.now)) }
     ensures count { IfOk result (λ v. vec_len v ≡ length values.now) }
 {
     let mut rows = Vec::new(alloc);
@@ -139,14 +142,14 @@ pub(crate) fn list_at<R: Row>(
     limit: usize,
     devices: bool,
     table: &Table,
-) -> Result<Vec<R>, CaseRefusal>
+) -> Result<Vec<R>, ReadFault<CaseRefusal>>
     requires { limit < 2 ^ 16 }
-    ensures value { Answers Memory (λ v. v.items) result (list_at list limit (R.reads devices) (table_view table.now)) }
+    ensures value { AnswersRead (λ v. v.items) result (list_at list limit (R.reads devices) (table_view table.now)) }
     ensures few { IfOk result (λ v. vec_len v ≤ limit) }
 {
     let values = items_at(list, table)?;
     if values.len() > limit {
-        return Err(CaseRefusal::TooMany { list });
+        return Err(ReadFault::Refused(CaseRefusal::TooMany { list }));
     }
     rows_from(alloc, devices, values)
 }

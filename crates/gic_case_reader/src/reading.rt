@@ -1,7 +1,6 @@
 //! The case that bytes are.
 ghost use Rattle.toml.specs.View.{table_view};
-ghost use Rattle.gic_base.specs.Refusals.{Answers};
-ghost use Rattle.gic_case_reader.specs.declared.refusal.CaseRefusal.TheVariants.{Memory};
+ghost use Rattle.gic_base.specs.Refusals.{AnswersRead};
 ghost use Rattle.gic_case_reader.specs.Rules.{case_of};
 ghost use Rattle.gic_case_reader.specs.Pass.{case_in};
 
@@ -14,14 +13,15 @@ use crate::side::{
     voltages_are_ordered,
 };
 use crate::unique::unique;
+use gic_base::ReadFault;
 use gic_case::Case;
 use std::alloc::Global;
 use toml::Table;
 
 /// The case that a document is.
 #[tactic(auto, unfolding(crate::specs::Pass::case_in))]
-fn case_in(alloc: Global, table: &Table) -> Result<Case, CaseRefusal>
-    ensures { Answers Memory (λ c. c) result (case_in (table_view table.now)) }
+fn case_in(alloc: Global, table: &Table) -> Result<Case, ReadFault<CaseRefusal>>
+    ensures { AnswersRead (λ c. c) result (case_in (table_view table.now)) }
 {
     let rows = Rows::read(alloc, table)?;
     unique(alloc, &rows)?;
@@ -41,8 +41,8 @@ fn case_in(alloc: Global, table: &Table) -> Result<Case, CaseRefusal>
 /// and of each row, unique names, references to rows that are there, lines and transformers with two buses, transformers in
 /// one substation, low voltages not above the high ones, and at most 256 elements at a node. Want of memory may come in
 /// place of any answer.
-pub fn read_case(alloc: Global, bytes: &[u8]) -> Result<Case, CaseRefusal>
-    ensures { Answers Memory (λ c. c) result (case_of bytes.now) }
+pub fn read_case(alloc: Global, bytes: &[u8]) -> Result<Case, ReadFault<CaseRefusal>>
+    ensures { AnswersRead (λ c. c) result (case_of bytes.now) }
 {
     let table = document_of(alloc, bytes)?;
     case_in(alloc, &table)

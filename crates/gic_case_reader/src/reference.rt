@@ -1,8 +1,7 @@
 //! The places of the rows that names refer to, and the lists with these places.
 ghost use Rattle.std.specs.Prelude.{◌≡◌, ◌<◌, ◌^◌, map, IfOk, length, vec_len};
 ghost use Rattle.std.specs.HashMap.{get};
-ghost use Rattle.gic_base.specs.Refusals.{Answers};
-ghost use Rattle.gic_case_reader.specs.declared.refusal.CaseRefusal.TheVariants.{Memory};
+ghost use Rattle.gic_base.specs.Refusals.{AnswersRead, AnswersExactly};
 ghost use Rattle.gic_case.specs.Names.{same, place_in};
 ghost use Rattle.gic_case_reader.specs.Rules.{substation_place, bus_place, zone_place};
 ghost use Rattle.gic_case_reader.specs.Pass.{each, place_at, side_at, bus_in, line_in, kind_in, transformer_in, resolve};
@@ -13,7 +12,7 @@ use crate::list::{Row, push_names};
 use crate::names::places_of;
 use crate::refusal::{CaseRefusal, Part};
 use crate::row::{BusRow, KindRow, LineRow, TransformerRow};
-use gic_base::Name;
+use gic_base::{Name, ReadFault};
 use gic_case::{Bus, Kind, Line, Network, Transformer};
 use std::alloc::{AllocError, Global};
 use std::collections::HashMap;
@@ -36,7 +35,7 @@ fn place_at(
     at: Field,
     name: &Name,
 ) -> Result<u16, CaseRefusal>
-    ensures { Answers Memory (λ n. n) result (place_at (get same places.now) list row at name.now) }
+    ensures { AnswersExactly (λ n. n) result (place_at (get same places.now) list row at name.now) }
 {
     match places.get(name) {
         Some(place) => Ok(*place),
@@ -51,7 +50,7 @@ fn place_at(
 /// A bus, with the place of its substation.
 #[tactic(auto, unfolding(crate::specs::Pass::bus_in))]
 fn bus_in(substations: &HashMap<Name, u16>, row: u32, bus: &BusRow) -> Result<Bus, CaseRefusal>
-    ensures { Answers Memory (λ b. b) result (bus_in (get same substations.now) row bus.now) }
+    ensures { AnswersExactly (λ b. b) result (bus_in (get same substations.now) row bus.now) }
 {
     let substation = place_at(
         substations,
@@ -74,7 +73,7 @@ fn line_in(
     row: u32,
     line: &LineRow,
 ) -> Result<Line, CaseRefusal>
-    ensures { Answers Memory (λ l. l) result (line_in (get same buses.now) (get same zones.now) row line.now) }
+    ensures { AnswersExactly (λ l. l) result (line_in (get same buses.now) (get same zones.now) row line.now) }
 {
     let from = place_at(buses, Part::Line, row, Field::From, &line.from)?;
     let to = place_at(buses, Part::Line, row, Field::To, &line.to)?;
@@ -93,7 +92,7 @@ fn line_in(
 
 /// The place of the bus of a transformer's side.
 fn side_at(buses: &HashMap<Name, u16>, row: u32, at: Field, bus: &Name) -> Result<u16, CaseRefusal>
-    ensures { Answers Memory (λ n. n) result (side_at (get same buses.now) row at bus.now) }
+    ensures { AnswersExactly (λ n. n) result (side_at (get same buses.now) row at bus.now) }
 {
     place_at(buses, Part::Transformer, row, at, bus)
 }
@@ -101,7 +100,7 @@ fn side_at(buses: &HashMap<Name, u16>, row: u32, at: Field, bus: &Name) -> Resul
 /// A kind, with the places of its buses.
 #[tactic(auto, unfolding(crate::specs::Pass::kind_in))]
 fn kind_in(buses: &HashMap<Name, u16>, row: u32, kind: &KindRow) -> Result<Kind, CaseRefusal>
-    ensures { Answers Memory (λ k. k) result (kind_in (get same buses.now) row kind.now) }
+    ensures { AnswersExactly (λ k. k) result (kind_in (get same buses.now) row kind.now) }
 {
     match *kind {
         KindRow::DeltaWye {
@@ -148,7 +147,7 @@ fn transformer_in(
     row: u32,
     transformer: &TransformerRow,
 ) -> Result<Transformer, CaseRefusal>
-    ensures { Answers Memory (λ t. t) result (transformer_in (get same buses.now) row transformer.now) }
+    ensures { AnswersExactly (λ t. t) result (transformer_in (get same buses.now) row transformer.now) }
 {
     let kind = kind_in(buses, row, &transformer.kind)?;
     Ok(Transformer {
@@ -164,9 +163,9 @@ fn buses_in(
     alloc: Global,
     substations: &HashMap<Name, u16>,
     rows: &[BusRow],
-) -> Result<Vec<Bus>, CaseRefusal>
+) -> Result<Vec<Bus>, ReadFault<CaseRefusal>>
     requires { length rows.now < 2 ^ 16 }
-    ensures value { Answers Memory (λ v. v.items) result (each (bus_in (get same substations.now)) 1 rows.now) }
+    ensures value { AnswersRead (λ v. v.items) result (each (bus_in (get same substations.now)) 1 rows.now) }
     ensures count { IfOk result (λ v. vec_len v ≡ length rows.now) }
 {
     let mut buses = Vec::new(alloc);
@@ -182,9 +181,9 @@ fn lines_in(
     buses: &HashMap<Name, u16>,
     zones: &HashMap<Name, u16>,
     rows: &[LineRow],
-) -> Result<Vec<Line>, CaseRefusal>
+) -> Result<Vec<Line>, ReadFault<CaseRefusal>>
     requires { length rows.now < 2 ^ 16 }
-    ensures value { Answers Memory (λ v. v.items) result (each (line_in (get same buses.now) (get same zones.now)) 1 rows.now) }
+    ensures value { AnswersRead (λ v. v.items) result (each (line_in (get same buses.now) (get same zones.now)) 1 rows.now) }
     ensures count { IfOk result (λ v. vec_len v ≡ length rows.now) }
 {
     let mut lines = Vec::new(alloc);
@@ -199,9 +198,9 @@ fn transformers_in(
     alloc: Global,
     buses: &HashMap<Name, u16>,
     rows: &[TransformerRow],
-) -> Result<Vec<Transformer>, CaseRefusal>
+) -> Result<Vec<Transformer>, ReadFault<CaseRefusal>>
     requires { length rows.now < 2 ^ 16 }
-    ensures value { Answers Memory (λ v. v.items) result (each (transformer_in (get same buses.now)) 1 rows.now) }
+    ensures value { AnswersRead (λ v. v.items) result (each (transformer_in (get same buses.now)) 1 rows.now) }
     ensures count { IfOk result (λ v. vec_len v ≡ length rows.now) }
 {
     let mut transformers = Vec::new(alloc);
@@ -212,8 +211,8 @@ fn transformers_in(
 }
 
 /// The buses of a case.
-pub(crate) fn resolved_buses(alloc: Global, rows: &Rows) -> Result<Vec<Bus>, CaseRefusal>
-    ensures value { Answers Memory (λ v. v.items) result (each (bus_in (substation_place rows.now)) 1 rows.now.buses) }
+pub(crate) fn resolved_buses(alloc: Global, rows: &Rows) -> Result<Vec<Bus>, ReadFault<CaseRefusal>>
+    ensures value { AnswersRead (λ v. v.items) result (each (bus_in (substation_place rows.now)) 1 rows.now.buses) }
     ensures count { IfOk result (λ v. vec_len v ≡ length rows.now.buses) }
 {
     let substations = row_places(alloc, rows.substations.as_slice())?;
@@ -221,8 +220,11 @@ pub(crate) fn resolved_buses(alloc: Global, rows: &Rows) -> Result<Vec<Bus>, Cas
 }
 
 /// The lines of a case.
-pub(crate) fn resolved_lines(alloc: Global, rows: &Rows) -> Result<Vec<Line>, CaseRefusal>
-    ensures value { Answers Memory (λ v. v.items) result (each (line_in (bus_place rows.now) (zone_place rows.now)) 1 rows.now.lines) }
+pub(crate) fn resolved_lines(
+    alloc: Global,
+    rows: &Rows,
+) -> Result<Vec<Line>, ReadFault<CaseRefusal>>
+    ensures value { AnswersRead (λ v. v.items) result (each (line_in (bus_place rows.now) (zone_place rows.now)) 1 rows.now.lines) }
     ensures count { IfOk result (λ v. vec_len v ≡ length rows.now.lines) }
 {
     let buses = row_places(alloc, rows.buses.as_slice())?;
@@ -234,8 +236,8 @@ pub(crate) fn resolved_lines(alloc: Global, rows: &Rows) -> Result<Vec<Line>, Ca
 pub(crate) fn resolved_transformers(
     alloc: Global,
     rows: &Rows,
-) -> Result<Vec<Transformer>, CaseRefusal>
-    ensures value { Answers Memory (λ v. v.items) result (each (transformer_in (bus_place rows.now)) 1 rows.now.transformers) }
+) -> Result<Vec<Transformer>, ReadFault<CaseRefusal>>
+    ensures value { AnswersRead (λ v. v.items) result (each (transformer_in (bus_place rows.now)) 1 rows.now.transformers) }
     ensures count { IfOk result (λ v. vec_len v ≡ length rows.now.transformers) }
 {
     let places = row_places(alloc, rows.buses.as_slice())?;
@@ -244,8 +246,8 @@ pub(crate) fn resolved_transformers(
 
 /// The lists of these rows, each reference looked up in its list.
 #[tactic(auto, unfolding(crate::specs::Pass::resolve))]
-pub(crate) fn resolve(alloc: Global, rows: Rows) -> Result<Network, CaseRefusal>
-    ensures { Answers Memory (λ n. n) result (resolve rows) }
+pub(crate) fn resolve(alloc: Global, rows: Rows) -> Result<Network, ReadFault<CaseRefusal>>
+    ensures { AnswersRead (λ n. n) result (resolve rows) }
 {
     let buses = resolved_buses(alloc, &rows)?;
     let lines = resolved_lines(alloc, &rows)?;

@@ -1,10 +1,9 @@
 //! Why a case is refused.
 ghost use Rattle.std.specs.Prelude.{◌≡◌};
-ghost use Rattle.gic_case_reader.specs.declared.refusal.CaseRefusal.TheVariants.{Memory};
+ghost use Rattle.gic_base.specs.declared.read_fault.ReadFault.TheVariants.{Refused};
 
 use crate::field::Field;
-use gic_base::Name;
-use std::alloc::{AllocError, AllocFailed};
+use gic_base::{Name, ReadFault};
 use thiserror::Error;
 
 /// A list of the case, or the document itself.
@@ -18,7 +17,7 @@ pub enum Part {
     Transformer,
 }
 
-/// The first broken rule, or want of memory. Rows count from 1; row 0 is the document or a whole list.
+/// The first broken rule. Rows count from 1; row 0 is the document or a whole list.
 #[derive(Clone, Copy, Debug, PartialEq, Eq, Error)]
 pub enum CaseRefusal {
     /// The bytes are no TOML document.
@@ -52,23 +51,12 @@ pub enum CaseRefusal {
     /// More than 256 elements end at the node.
     #[error("degree at a node")]
     Degree { node: Name },
-    /// There was no memory for it.
-    #[error("out of memory")]
-    Memory,
 }
 
-impl From<AllocError> for CaseRefusal {
-    ghost from_gives = { λ _ e. e ≡ Memory };
+impl From<CaseRefusal> for ReadFault<CaseRefusal> {
+    ghost from_gives = { λ refusal e. e ≡ Refused refusal };
 
-    fn from(_e: AllocError) -> CaseRefusal {
-        CaseRefusal::Memory
-    }
-}
-
-impl<T: Drop> From<AllocFailed<T>> for CaseRefusal {
-    ghost from_gives = { λ _ e. e ≡ Memory };
-
-    fn from(_e: AllocFailed<T>) -> CaseRefusal {
-        CaseRefusal::Memory
+    fn from(refusal: CaseRefusal) -> ReadFault<CaseRefusal> {
+        ReadFault::Refused(refusal)
     }
 }

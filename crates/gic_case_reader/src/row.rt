@@ -1,7 +1,6 @@
 //! Rows, read from tables.
 ghost use Rattle.toml.specs.View.{view};
-ghost use Rattle.gic_base.specs.Refusals.{Answers};
-ghost use Rattle.gic_case_reader.specs.declared.refusal.CaseRefusal.TheVariants.{Memory};
+ghost use Rattle.gic_base.specs.Refusals.{AnswersExactly};
 ghost use Rattle.gic_case_reader.specs.Pass.{zone_row, substation_row, bus_row, line_row};
 
 use crate::field::Field;
@@ -69,7 +68,7 @@ pub(crate) struct TransformerRow {
 /// A row of the zones.
 #[tactic(auto, unfolding(crate::specs::Pass::zone_row))]
 pub(crate) fn zone_row(row: u32, value: &Value) -> Result<Zone, CaseRefusal>
-    ensures { Answers Memory (λ z. z) result (zone_row row (view value.now)) }
+    ensures { AnswersExactly (λ z. z) result (zone_row row (view value.now)) }
 {
     let required = [Field::Name, Field::Latitude, Field::Beta];
     let table = row_table(Part::Zone, &required, &[], row, value)?;
@@ -86,7 +85,7 @@ pub(crate) fn zone_row(row: u32, value: &Value) -> Result<Zone, CaseRefusal>
 /// A row of the substations.
 #[tactic(auto, unfolding(crate::specs::Pass::substation_row))]
 pub(crate) fn substation_row(row: u32, value: &Value) -> Result<Substation, CaseRefusal>
-    ensures { Answers Memory (λ s. s) result (substation_row row (view value.now)) }
+    ensures { AnswersExactly (λ s. s) result (substation_row row (view value.now)) }
 {
     let table = row_table(
         Part::Substation,
@@ -103,7 +102,7 @@ pub(crate) fn substation_row(row: u32, value: &Value) -> Result<Substation, Case
 /// A row of the buses.
 #[tactic(auto, unfolding(crate::specs::Pass::bus_row))]
 pub(crate) fn bus_row(row: u32, value: &Value) -> Result<BusRow, CaseRefusal>
-    ensures { Answers Memory (λ b. b) result (bus_row row (view value.now)) }
+    ensures { AnswersExactly (λ b. b) result (bus_row row (view value.now)) }
 {
     let required = [Field::Name, Field::Substation];
     let table = row_table(Part::Bus, &required, &[], row, value)?;
@@ -115,7 +114,7 @@ pub(crate) fn bus_row(row: u32, value: &Value) -> Result<BusRow, CaseRefusal>
 /// A row of the lines.
 #[tactic(auto, unfolding(crate::specs::Pass::line_row))]
 pub(crate) fn line_row(row: u32, value: &Value) -> Result<LineRow, CaseRefusal>
-    ensures { Answers Memory (λ l. l) result (line_row row (view value.now)) }
+    ensures { AnswersExactly (λ l. l) result (line_row row (view value.now)) }
 {
     let required = [
         Field::Name,

@@ -1,7 +1,6 @@
 //! The two ends of lines, and the two sides of transformers.
 ghost use Rattle.std.specs.Prelude.{◌≡◌, ◌<◌, ◌^◌, length};
-ghost use Rattle.gic_base.specs.Refusals.{Answers, settle};
-ghost use Rattle.gic_case_reader.specs.declared.refusal.CaseRefusal.TheVariants.{Memory};
+ghost use Rattle.gic_base.specs.Refusals.{AnswersExactly, settle};
 ghost use Rattle.gic_case_reader.specs.Sides.{sides_of, sides_differ, are_together, are_ordered};
 ghost use Rattle.gic_case_reader.specs.OneByOne.{breaks_same_ends_from, breaks_same_sides_from, breaks_apart_from, breaks_voltage_order_from};
 
@@ -78,7 +77,7 @@ fn are_ordered(high_volts: u32, sides: Option<Sides>) -> bool
 /// Whether each line has two buses.
 pub(crate) fn lines_have_two_buses(lines: &[Line]) -> Result<(), CaseRefusal>
     requires { length lines.now < 2 ^ 16 }
-    ensures { Answers Memory (λ u. u) result (settle (breaks_same_ends_from 1 lines.now) (tt {0})) }
+    ensures { AnswersExactly (λ u. u) result (settle (breaks_same_ends_from 1 lines.now) (tt {0})) }
 {
     for (i, line) in lines.iter().enumerate() {
         if line.from == line.to {
@@ -94,7 +93,7 @@ pub(crate) fn lines_have_two_buses(lines: &[Line]) -> Result<(), CaseRefusal>
 /// Whether each transformer with two sides has two buses.
 pub(crate) fn transformers_have_two_buses(transformers: &[Transformer]) -> Result<(), CaseRefusal>
     requires { length transformers.now < 2 ^ 16 }
-    ensures { Answers Memory (λ u. u) result (settle (breaks_same_sides_from 1 transformers.now) (tt {0})) }
+    ensures { AnswersExactly (λ u. u) result (settle (breaks_same_sides_from 1 transformers.now) (tt {0})) }
 {
     for (i, transformer) in transformers.iter().enumerate() {
         if !sides_differ(sides_of(&transformer.kind)) {
@@ -113,7 +112,7 @@ pub(crate) fn stand_in_one_substation(
     transformers: &[Transformer],
 ) -> Result<(), CaseRefusal>
     requires { length transformers.now < 2 ^ 16 }
-    ensures { Answers Memory (λ u. u) result (settle (breaks_apart_from buses.now 1 transformers.now) (tt {0})) }
+    ensures { AnswersExactly (λ u. u) result (settle (breaks_apart_from buses.now 1 transformers.now) (tt {0})) }
 {
     for (i, transformer) in transformers.iter().enumerate() {
         if !are_together(buses, sides_of(&transformer.kind)) {
@@ -126,7 +125,7 @@ pub(crate) fn stand_in_one_substation(
 /// Whether no transformer's low voltage is above its high voltage.
 pub(crate) fn voltages_are_ordered(transformers: &[Transformer]) -> Result<(), CaseRefusal>
     requires { length transformers.now < 2 ^ 16 }
-    ensures { Answers Memory (λ u. u) result (settle (breaks_voltage_order_from 1 transformers.now) (tt {0})) }
+    ensures { AnswersExactly (λ u. u) result (settle (breaks_voltage_order_from 1 transformers.now) (tt {0})) }
 {
     for (i, transformer) in transformers.iter().enumerate() {
         if !are_ordered(transformer.high_volts, sides_of(&transformer.kind)) {

@@ -1,9 +1,9 @@
 //! Rows of transformers, whose fields are those of their kind.
 ghost use Rattle.std.specs.Prelude.{◌≡◌};
 ghost use Rattle.toml.specs.View.{view, table_view};
-ghost use Rattle.gic_base.specs.Refusals.{Answers};
+ghost use Rattle.gic_base.specs.Refusals.{AnswersExactly};
 ghost use Rattle.gic_base.specs.Passes.{test};
-ghost use Rattle.gic_case_reader.specs.declared.refusal.CaseRefusal.TheVariants.{Key, Memory};
+ghost use Rattle.gic_case_reader.specs.declared.refusal.CaseRefusal.TheVariants.{Key};
 ghost use Rattle.gic_case_reader.specs.declared.refusal.Part.TheVariants as parts;
 ghost use Rattle.gic_case_reader.specs.declared.field.Field.TheVariants as fields;
 ghost use Rattle.gic_case_reader.specs.Keys.{fits};
@@ -102,7 +102,7 @@ impl KindWord {
 /// The table that a row is, if it has a kind.
 #[tactic(auto, unfolding(crate::specs::Pass::table_with))]
 fn kinded_table(row: u32, value: &Value) -> Result<&Table, CaseRefusal>
-    ensures { Answers Memory (λ t. table_view t.now) result (table_with parts.Transformer fields.Kind row (view value.now)) }
+    ensures { AnswersExactly (λ t. table_view t.now) result (table_with parts.Transformer fields.Kind row (view value.now)) }
 {
     match value.as_table() {
         Some(table) if has(table, Field::Kind) => Ok(table),
@@ -120,7 +120,7 @@ fn read_kind(value: &Value) -> Option<KindWord>
 /// The kind of a row.
 #[tactic(auto, unfolding(crate::specs::Pass::required))]
 fn kind_at(row: u32, table: &Table) -> Result<KindWord, CaseRefusal>
-    ensures { Answers Memory (λ k. k) result (required read_kind parts.Transformer row fields.Kind (table_view table.now)) }
+    ensures { AnswersExactly (λ k. k) result (required read_kind parts.Transformer row fields.Kind (table_view table.now)) }
 {
     let refusal = CaseRefusal::Value {
         list: LIST,
@@ -135,7 +135,7 @@ fn kind_at(row: u32, table: &Table) -> Result<KindWord, CaseRefusal>
 
 /// Whether a row has the keys of its kind.
 fn kind_keys(devices: bool, kind: KindWord, row: u32, table: &Table) -> Result<(), CaseRefusal>
-    ensures { Answers Memory (λ u. u) result (test (fits (fields_of kind) (others_of devices kind) (table_view table.now)) (Key parts.Transformer row)) }
+    ensures { AnswersExactly (λ u. u) result (test (fits (fields_of kind) (others_of devices kind) (table_view table.now)) (Key parts.Transformer row)) }
 {
     if fits(kind.fields(), kind.others(devices), table) {
         Ok(())
@@ -147,7 +147,7 @@ fn kind_keys(devices: bool, kind: KindWord, row: u32, table: &Table) -> Result<(
 /// What a delta-wye unit has of its own.
 #[tactic(auto, unfolding(crate::specs::Pass::delta_wye_row))]
 fn delta_wye_row(row: u32, table: &Table) -> Result<KindRow, CaseRefusal>
-    ensures { Answers Memory (λ k. k) result (delta_wye_row row (table_view table.now)) }
+    ensures { AnswersExactly (λ k. k) result (delta_wye_row row (table_view table.now)) }
 {
     let high = name_at(LIST, row, Field::High, table)?;
     let high_resistance = ohm_at(LIST, row, Field::HighResistance, table)?;
@@ -160,7 +160,7 @@ fn delta_wye_row(row: u32, table: &Table) -> Result<KindRow, CaseRefusal>
 /// What a wye-wye unit has of its own.
 #[tactic(auto, unfolding(crate::specs::Pass::wye_wye_row))]
 fn wye_wye_row(row: u32, table: &Table) -> Result<KindRow, CaseRefusal>
-    ensures { Answers Memory (λ k. k) result (wye_wye_row row (table_view table.now)) }
+    ensures { AnswersExactly (λ k. k) result (wye_wye_row row (table_view table.now)) }
 {
     let high = name_at(LIST, row, Field::High, table)?;
     let low = name_at(LIST, row, Field::Low, table)?;
@@ -179,7 +179,7 @@ fn wye_wye_row(row: u32, table: &Table) -> Result<KindRow, CaseRefusal>
 /// What an autotransformer has of its own.
 #[tactic(auto, unfolding(crate::specs::Pass::auto_row))]
 fn auto_row(row: u32, table: &Table) -> Result<KindRow, CaseRefusal>
-    ensures { Answers Memory (λ k. k) result (auto_row row (table_view table.now)) }
+    ensures { AnswersExactly (λ k. k) result (auto_row row (table_view table.now)) }
 {
     let high = name_at(LIST, row, Field::High, table)?;
     let low = name_at(LIST, row, Field::Low, table)?;
@@ -198,7 +198,7 @@ fn auto_row(row: u32, table: &Table) -> Result<KindRow, CaseRefusal>
 /// What a transformer of a kind has of its own.
 #[tactic(auto, unfolding(crate::specs::Pass::kind_row))]
 fn kind_row(kind: KindWord, row: u32, table: &Table) -> Result<KindRow, CaseRefusal>
-    ensures { Answers Memory (λ k. k) result (kind_row kind row (table_view table.now)) }
+    ensures { AnswersExactly (λ k. k) result (kind_row kind row (table_view table.now)) }
 {
     match kind {
         KindWord::DeltaWye => delta_wye_row(row, table),
@@ -215,7 +215,7 @@ pub(crate) fn transformer_row(
     row: u32,
     value: &Value,
 ) -> Result<TransformerRow, CaseRefusal>
-    ensures { Answers Memory (λ t. t) result (transformer_row devices row (view value.now)) }
+    ensures { AnswersExactly (λ t. t) result (transformer_row devices row (view value.now)) }
 {
     let table = kinded_table(row, value)?;
     let word = kind_at(row, table)?;

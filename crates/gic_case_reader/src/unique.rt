@@ -1,7 +1,6 @@
 //! Names are unique in the whole case.
-ghost use Rattle.std.specs.Prelude.{◌≡◌, ◌≤◌, ◌<◌, ◌^◌, ◌≢◌, IfOk, length};
-ghost use Rattle.gic_base.specs.Refusals.{Answers};
-ghost use Rattle.gic_case_reader.specs.declared.refusal.CaseRefusal.TheVariants.{Memory};
+ghost use Rattle.std.specs.Prelude.{◌≡◌, ◌≤◌, ◌<◌, ◌^◌, IfOk, length};
+ghost use Rattle.gic_base.specs.Refusals.{AnswersRead};
 ghost use Rattle.gic_case_reader.specs.Rules.{written_names, duplicate_at};
 ghost use Rattle.gic_case_reader.specs.Pass.{unique};
 
@@ -9,8 +8,8 @@ use crate::document::Rows;
 use crate::list::push_names;
 use crate::names::first_repeat;
 use crate::refusal::{CaseRefusal, Part};
-use gic_base::Name;
 use gic_base::limits::{MOST_BUSES, MOST_LINES, MOST_SUBSTATIONS, MOST_ZONES};
+use gic_base::{Name, ReadFault};
 use std::alloc::{AllocError, Global};
 
 /// The names of all rows, list after list.
@@ -40,7 +39,6 @@ fn duplicate_at(
     requires lines { lines ≤ MOST_LINES }
     requires place { i < 2 ^ 16 }
     ensures value { result ≡ duplicate_at zones substations buses lines i }
-    ensures cause { result ≢ Memory }
 {
     let (list, before) = if i < zones {
         (Part::Zone, 0)
@@ -61,18 +59,18 @@ fn duplicate_at(
 
 /// Whether no name comes twice.
 #[tactic(auto, using(crate::proofs::Rows::names_length), unfolding(crate::specs::Pass::unique))]
-pub(crate) fn unique(alloc: Global, rows: &Rows) -> Result<(), CaseRefusal>
-    ensures { Answers Memory (λ u. u) result (unique rows.now) }
+pub(crate) fn unique(alloc: Global, rows: &Rows) -> Result<(), ReadFault<CaseRefusal>>
+    ensures { AnswersRead (λ u. u) result (unique rows.now) }
 {
     let names = names_of(alloc, rows)?;
     match first_repeat(alloc, names.as_slice())? {
-        Some(i) => Err(duplicate_at(
+        Some(i) => Err(ReadFault::Refused(duplicate_at(
             rows.zones.len(),
             rows.substations.len(),
             rows.buses.len(),
             rows.lines.len(),
             i,
-        )),
+        ))),
         None => Ok(()),
     }
 }

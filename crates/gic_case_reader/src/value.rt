@@ -2,9 +2,8 @@
 ghost use Rattle.std.specs.Prelude.{◌≡◌, ◌≤◌, IfSome, IfOk};
 ghost use Rattle.toml.specs.Data.{as_bool};
 ghost use Rattle.toml.specs.View.{view, table_view};
-ghost use Rattle.gic_base.specs.Refusals.{Answers};
+ghost use Rattle.gic_base.specs.Refusals.{AnswersExactly};
 ghost use Rattle.gic_case_reader.specs.declared.refusal.CaseRefusal.TheVariants as refusals;
-ghost use Rattle.gic_case_reader.specs.declared.refusal.CaseRefusal.TheVariants.{Memory};
 ghost use Rattle.gic_case_reader.specs.Values.{natural_within, read_name};
 ghost use Rattle.gic_case_reader.specs.Rows.{ohm_within, volts_within, metres_within, read_neutral};
 ghost use Rattle.gic_case_reader.specs.Pass.{required, optional};
@@ -84,7 +83,7 @@ pub(crate) fn natural_at(
     high: u32,
     table: &Table,
 ) -> Result<u32, CaseRefusal>
-    ensures value { Answers Memory (λ n. n) result (required (natural_within low high) list row at (table_view table.now)) }
+    ensures value { AnswersExactly (λ n. n) result (required (natural_within low high) list row at (table_view table.now)) }
     ensures within { IfOk result (λ n. (low ≤ n) × (n ≤ high)) }
 {
     match at_key(table, at.key()) {
@@ -95,14 +94,14 @@ pub(crate) fn natural_at(
 
 /// A resistance in micro-ohm.
 pub(crate) fn ohm_at(list: Part, row: u32, at: Field, table: &Table) -> Result<u32, CaseRefusal>
-    ensures { Answers Memory (λ n. n) result (required ohm_within list row at (table_view table.now)) }
+    ensures { AnswersExactly (λ n. n) result (required ohm_within list row at (table_view table.now)) }
 {
     natural_at(list, row, at, 1000, 1000000000, table)
 }
 
 /// A rated voltage in V.
 pub(crate) fn volts_at(list: Part, row: u32, at: Field, table: &Table) -> Result<u32, CaseRefusal>
-    ensures { Answers Memory (λ n. n) result (required volts_within list row at (table_view table.now)) }
+    ensures { AnswersExactly (λ n. n) result (required volts_within list row at (table_view table.now)) }
 {
     natural_at(list, row, at, 1000, 2000000, table)
 }
@@ -115,7 +114,7 @@ pub(crate) fn optional_ohm_at(
     at: Field,
     table: &Table,
 ) -> Result<Option<u32>, CaseRefusal>
-    ensures { Answers Memory (λ n. n) result (optional ohm_within list row at (table_view table.now)) }
+    ensures { AnswersExactly (λ n. n) result (optional ohm_within list row at (table_view table.now)) }
 {
     match at_key(table, at.key()) {
         Some(value) => {
@@ -129,7 +128,7 @@ pub(crate) fn optional_ohm_at(
 /// A part of a span, in metres.
 #[tactic(auto, unfolding(crate::specs::Pass::required))]
 pub(crate) fn metres_at(list: Part, row: u32, at: Field, table: &Table) -> Result<i32, CaseRefusal>
-    ensures { Answers Memory (λ n. n) result (required metres_within list row at (table_view table.now)) }
+    ensures { AnswersExactly (λ n. n) result (required metres_within list row at (table_view table.now)) }
 {
     at_key(table, at.key())
         .and_then(metres_within)
@@ -139,7 +138,7 @@ pub(crate) fn metres_at(list: Part, row: u32, at: Field, table: &Table) -> Resul
 /// A name.
 #[tactic(auto, unfolding(crate::specs::Pass::required))]
 pub(crate) fn name_at(list: Part, row: u32, at: Field, table: &Table) -> Result<Name, CaseRefusal>
-    ensures { Answers Memory (λ n. n) result (required read_name list row at (table_view table.now)) }
+    ensures { AnswersExactly (λ n. n) result (required read_name list row at (table_view table.now)) }
 {
     at_key(table, at.key())
         .and_then(read_name)
@@ -154,7 +153,7 @@ pub(crate) fn optional_flag_at(
     at: Field,
     table: &Table,
 ) -> Result<Option<bool>, CaseRefusal>
-    ensures { Answers Memory (λ b. b) result (optional as_bool list row at (table_view table.now)) }
+    ensures { AnswersExactly (λ b. b) result (optional as_bool list row at (table_view table.now)) }
 {
     match at_key(table, at.key()) {
         Some(value) => Ok(Some(value.as_bool().ok_or(refused(list, row, at))?)),
@@ -170,7 +169,7 @@ pub(crate) fn optional_neutral_at(
     at: Field,
     table: &Table,
 ) -> Result<Option<Neutral>, CaseRefusal>
-    ensures { Answers Memory (λ n. n) result (optional read_neutral list row at (table_view table.now)) }
+    ensures { AnswersExactly (λ n. n) result (optional read_neutral list row at (table_view table.now)) }
 {
     match at_key(table, at.key()) {
         Some(value) => Ok(Some(read_neutral(value).ok_or(refused(list, row, at))?)),

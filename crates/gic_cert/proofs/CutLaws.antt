@@ -10,7 +10,7 @@ use Rattle.gic_text.proofs.Injective.{NoEnd, no_end_word, no_end_spaced, lines-c
 use Rattle.gic_report.specs.SharedLines.{Words}
 use Rattle.gic_cert.specs.declared.limits.TheConstants.{MOST_WORDS}
 use Rattle.gic_cert.specs.declared.refusal.CertRefusal.TheVariants as refusals
-use Rattle.gic_cert.specs.Cuts.{words_from, words_of, lines_from, lines_of}
+use Rattle.gic_cert.specs.Cuts.{words_from, words_of, lines_from, lines_cut}
 use Rattle.gic_cert.specs.Reading.{is_only, breaks_behind, IsFirstOf}
 
 -- a line that doesn't end within the words that are looked at
@@ -39,14 +39,14 @@ abbrev pub IsShort : Words → Type 0
 IsShort line = take MOST_WORDS line ≡ line
 
 -- the text of lines is cut into these lines
-pub lines_back : (xs : List Words) → AllByRecursion IsLine xs → AllByRecursion IsShort xs → lines_of (lines_text xs) ≡ xs
+pub lines_back : (xs : List Words) → AllByRecursion IsLine xs → AllByRecursion IsShort xs → lines_cut (lines_text xs) ≡ xs
 lines_back [] h short = refl
 lines_back ([] ∷ xs) h short = absurd h.0
 lines_back ((w ∷ ws) ∷ xs) h short =
-    ap lines_of (lines-cons w ws xs) ∙
+    ap lines_cut (lines-cons w ws xs) ∙
     line_more [] (w ++ spaced ws) (lines_text xs) (no_end_word w (spaced ws) h.0.0 (no_end_spaced ws h.0.1)) ∙
-    ap (λ (z : Words). take MOST_WORDS z ∷ lines_of (lines_text xs)) (words_more [] w ws h.0.0 h.0.1) ∙
-    ap (λ (z : Words). z ∷ lines_of (lines_text xs)) short.0 ∙
+    ap (λ (z : Words). take MOST_WORDS z ∷ lines_cut (lines_text xs)) (words_more [] w ws h.0.0 h.0.1) ∙
+    ap (λ (z : Words). z ∷ lines_cut (lines_text xs)) short.0 ∙
     ap (λ (z : List Words). (w ∷ ws) ∷ z) (lines_back xs h.1 short.1)
 
 -- a text has a line
@@ -62,9 +62,9 @@ some_line begun (b ∷ bs) h =
     by later false = later
 
 -- so what follows the end is refused
-pub first_after : (row : ℕ) (words : Words) (text left : List ℕ) → lines_of text ≡ words ∷ lines_of left → is_only (codes "end") words ≡ true → 0 < length left →
-    IsFirstOf (breaks_behind row [] (lines_of text)) (refusals.Shape (row + 1))
+pub first_after : (row : ℕ) (words : Words) (text left : List ℕ) → lines_cut text ≡ words ∷ lines_cut left → is_only (codes "end") words ≡ true → 0 < length left →
+    IsFirstOf (breaks_behind row [] (lines_cut text)) (refusals.Shape (row + 1))
 first_after row words text left is end h =
     let some = some_line [] left (omega (arith, h)) in
-    let lines : lines_of text ≡ words ∷ some.0.0 ∷ some.0.1 = is ∙ ap (λ (ls : List Words). words ∷ ls) some.1 in
+    let lines : lines_cut text ≡ words ∷ some.0.0 ∷ some.0.1 = is ∙ ap (λ (ls : List Words). words ∷ ls) some.1 in
     rw (lines, end) refl

@@ -10,7 +10,7 @@ use Rattle.gic_cert.specs.declared.limits.TheConstants.{MOST_WRITTEN_NODES}
 use Rattle.gic_cert.specs.declared.refusal.CertRefusal.{CertRefusal}
 use Rattle.gic_cert.specs.Written.{Written, Certificate, IsWritten}
 use Rattle.gic_cert.specs.Text.{cert_text}
-use Rattle.gic_cert.specs.Cuts.{lines_of}
+use Rattle.gic_cert.specs.Cuts.{lines_cut}
 use Rattle.gic_cert.specs.Reading.{NamedNode, node_in, nodes_in, number_or_0, field_in, cert_in, cert_of}
 use Rattle.gic_cert.proofs.TextBack.{reading_gives_back}
 
@@ -21,9 +21,9 @@ settled_value (f ∷ es) x y e = absurd (no_way e)
     no_way : Err f ≡ Ok y → ⊥
     no_way h = cc
 
-read_value : (nodes : List NamedNode) (bytes : List ℕ) (c : Certificate) → cert_of nodes bytes ≡ Ok c → cert_in nodes (lines_of bytes) ≡ c
+read_value : (nodes : List NamedNode) (bytes : List ℕ) (c : Certificate) → cert_of nodes bytes ≡ Ok c → cert_in nodes (lines_cut bytes) ≡ c
 unfolding cert_of
-read_value nodes bytes c e = settled_value _ (cert_in nodes (lines_of bytes)) c e
+read_value nodes bytes c e = settled_value _ (cert_in nodes (lines_cut bytes)) c e
 
 -- names with as many flags
 names_back : (names : List (List ℕ)) (lives : List Bool) → length lives ≡ length names → map (λ node. node.0) (zip names lives) ≡ names
@@ -67,7 +67,7 @@ cert_same names xs ys (first ∷ second ∷ lines) h k =
 
 -- reading back over the names
 read_back : (names : List (List ℕ)) (c : Certificate) → AllByRecursion (λ name. is_name name ≡ true) names → length names ≤ MOST_WRITTEN_NODES → IsWritten c → length c.nodes ≡ length names →
-    cert_in (zip names (map is_some c.nodes)) (lines_of (cert_text names c)) ≡ c
+    cert_in (zip names (map is_some c.nodes)) (lines_cut (cert_text names c)) ≡ c
 read_back names c all few written count =
     let lives = map is_some c.nodes in
     let same : length lives ≡ length names = count_some c.nodes ∙ count in
@@ -80,6 +80,6 @@ determined names c d all few wc wd cc_count d_count e =
     let xs = map is_some c.nodes in
     let ys = map is_some d.nodes in
     sym (read_back names c all few wc cc_count)
-    ∙ ap (λ text. cert_in (zip names xs) (lines_of text)) e
-    ∙ cert_same names xs ys (lines_of (cert_text names d)) (count_some c.nodes ∙ cc_count) (count_some d.nodes ∙ d_count)
+    ∙ ap (λ text. cert_in (zip names xs) (lines_cut text)) e
+    ∙ cert_same names xs ys (lines_cut (cert_text names d)) (count_some c.nodes ∙ cc_count) (count_some d.nodes ∙ d_count)
     ∙ read_back names d all few wd d_count

@@ -12,3 +12,4 @@ mod RowColumns
 mod Settled
 mod Steps
 mod TextBack
+pub mod Places

@@ -10,7 +10,7 @@ use Rattle.gic_cert.specs.declared.rows.NodeName.{NodeName}
 use Rattle.gic_cert.specs.Written.{Certificate}
 use Rattle.gic_cert.specs.Passing.{HasNodes}
 use Rattle.gic_cert.specs.Reading.{NamedNode, certificate_nodes}
-use Rattle.gic_cert.specs.Rows.{named}
+use Rattle.gic_cert.specs.Rows.{named_nodes}
 use Rattle.gic_cert.proofs.ReadLaws.{lives_named}
 
 pub has_nodes : (nodes : List NamedNode) (standing : List Placed) (c : Certificate) →
@@ -40,12 +40,12 @@ live_from standing n (name ∷ names) (suc k) h =
 
 -- one more node, whose name is the first of those that are left
 pub next_named : (standing : List Placed) (nodes : List NodeName) (names others : List (List ℕ)) (name : List ℕ) (n : ℕ) → names ≡ name ∷ others →
-    (named (nodes ++ record { name = name; live = is_live standing n } ∷ []) ++ nodes_from standing (n + 1) others) ≡ (named nodes ++ nodes_from standing n names)
+    (named_nodes (nodes ++ record { name = name; live = is_live standing n } ∷ []) ++ nodes_from standing (n + 1) others) ≡ (named_nodes nodes ++ nodes_from standing n names)
 next_named standing [] names others name n more = ap (nodes_from standing n) (sym more)
 next_named standing (node ∷ nodes) names others name n more = ap (λ ns. (node.name, node.live) ∷ ns) (next_named standing nodes names others name n more)
 
 -- a certificate that was read over the nodes of a case has them
-pub read_nodes : (case : Lists) (standing : List Placed) (nodes : List NodeName) (c : Certificate) → named nodes ≡ certificate_nodes case standing →
+pub read_nodes : (case : Lists) (standing : List Placed) (nodes : List NodeName) (c : Certificate) → named_nodes nodes ≡ certificate_nodes case standing →
     map is_some c.nodes ≡ map (λ node. node.live) nodes → HasNodes (length (node_names case)) standing c
 read_nodes case standing nodes c are same =
     let names = node_names case in

@@ -11,9 +11,9 @@ use Rattle.gic_base.specs.Refusals.{settle, unless}
 use Rattle.gic_cert.specs.declared.refusal.CertRefusal.{CertRefusal}
 use Rattle.gic_cert.specs.declared.rows.NodeName.{NodeName}
 use Rattle.gic_cert.specs.Reading.{NamedNode, IsFirstOf, breaks_node, breaks_field, breaks_behind, broken, node_in, nodes_in, cert_in, is_node_line, are_node_numbers, is_line_of, is_dead_line, is_only, has_word}
-use Rattle.gic_cert.specs.Rows.{named}
+use Rattle.gic_cert.specs.Rows.{named_nodes}
 
-pub count_named : (nodes : List NodeName) → length (named nodes) ≡ length nodes
+pub count_named : (nodes : List NodeName) → length (named_nodes nodes) ≡ length nodes
 count_named [] = refl
 count_named (node ∷ nodes) = ap suc (count_named nodes)
 
@@ -91,6 +91,6 @@ read_live nodes (first ∷ second ∷ lines) h =
     let behind = (none_of_both (unless (is_only (codes "certificate") first) (refusals.Shape 1)) (breaks_field (length nodes) second ++ breaks_behind 3 nodes lines) h).1 in
     lines_live 3 nodes lines (none_of_both (breaks_field (length nodes) second) (breaks_behind 3 nodes lines) behind).1
 
-pub lives_named : (nodes : List NodeName) → map (λ node. node.1) (named nodes) ≡ map (λ node. node.live) nodes
+pub lives_named : (nodes : List NodeName) → map (λ node. node.1) (named_nodes nodes) ≡ map (λ node. node.live) nodes
 lives_named [] = refl
 lives_named (node ∷ nodes) = ap (λ l. node.live ∷ l) (lives_named nodes)

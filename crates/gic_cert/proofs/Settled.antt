@@ -11,7 +11,7 @@ use Rattle.gic_net.specs.Net.{NetView, standing, stands, row_at}
 use Rattle.gic_sweep.specs.Residuals.{most_reach}
 use Rattle.gic_sweep.proofs.Closeness.{close_at}
 use Rattle.gic_sweep.proofs.Conductances.{conductance_most, conductance_some}
-use Rattle.gic_cert.specs.Step.{most_residual, step_at, checked_step}
+use Rattle.gic_cert.specs.Step.{most_residual, step_asked_at, checked_step}
 
 ceil_least : (a g c : ℕ) → 0 < g → a ≤ c * g → div_ceil a g ≤ c
 ceil_least a g c some h =
@@ -44,10 +44,10 @@ module _ (net : NetView) (volts x : ℕ → ℤ) (limits : IsWithinLimits net.ne
       let inside = live_within net.network.nodes (standing net) k (standing_within net.network (stands net) limits) live in
       omega (arith, residual_close k live, conductance_most net k limits inside)
 
-  step_small : (k : ℕ) → IsLive (standing net) k → step_at (standing net) volts x k ≤ (most_reach (2 ^ 18))
+  step_small : (k : ℕ) → IsLive (standing net) k → step_asked_at (standing net) volts x k ≤ (most_reach (2 ^ 18))
   step_small k live = ceil_least (4096 * most_residual (standing net) volts x k) (least_conductance (standing net) k) (most_reach (2 ^ 18)) (conductance_some net k limits live) (residual_close k live)
 
-  or_nothing : (k : ℕ) (b : Bool) → is_live (standing net) k ≡ b → cond b (step_at (standing net) volts x k) 0 ≤ (most_reach (2 ^ 18))
+  or_nothing : (k : ℕ) (b : Bool) → is_live (standing net) k ≡ b → cond b (step_asked_at (standing net) volts x k) 0 ≤ (most_reach (2 ^ 18))
   or_nothing k true live = step_small k live
   or_nothing k false dead = omega arith
 

@@ -9,20 +9,20 @@ use Rattle.gic_fixed.proofs.Enclosures.{≤ℤ-times}
 use Rattle.gic_model.specs.Standing.{is_live, IsLive}
 use Rattle.gic_model.specs.Guess.{least_conductance, residual_down, residual_up}
 use Rattle.gic_model.specs.Sums.{Placed}
-use Rattle.gic_cert.specs.Step.{most_residual, step_at, checked_step}
+use Rattle.gic_cert.specs.Step.{most_residual, step_asked_at, checked_step}
 
-pub step_below : (standing : List Placed) (volts x : ℕ → ℤ) (n k : ℕ) → k < n → IsLive standing k → step_at standing volts x k ≤ checked_step standing volts x n
+pub step_below : (standing : List Placed) (volts x : ℕ → ℤ) (n k : ℕ) → k < n → IsLive standing k → step_asked_at standing volts x k ≤ checked_step standing volts x n
 step_below standing volts x zero k h live = absurd (omega (arith, h))
 step_below standing volts x (suc n) k h live =
     let before = checked_step standing volts x n in
-    let here = cond (is_live standing n) (step_at standing volts x n) 0 in
+    let here = cond (is_live standing n) (step_asked_at standing volts x n) 0 in
     let left = le-max_left before here in
     let right = le-max_right before here in
     ⊎_elim
     (λ e.
     let alive : is_live standing n ≡ true = subst (IsLive standing) e live in
-    let same : here ≡ step_at standing volts x n = ap (λ b. cond b (step_at standing volts x n) 0) alive in
-    let moved : step_at standing volts x k ≡ step_at standing volts x n = ap (step_at standing volts x) e in
+    let same : here ≡ step_asked_at standing volts x n = ap (λ b. cond b (step_asked_at standing volts x n) 0) alive in
+    let moved : step_asked_at standing volts x k ≡ step_asked_at standing volts x n = ap (step_asked_at standing volts x) e in
     omega (arith, right, same, moved))
     (λ d. let earlier = step_below standing volts x n k (omega (arith, h, d)) live in omega (arith, left, earlier))
     (cases_eq k n)
@@ -37,7 +37,7 @@ step_covers standing volts x n k h live some =
     let up = unsigned_abs (residual_up standing volts x k) in
     let most = most_residual standing volts x k in
     let times = (div_ceil_times (4096 * most) g some).0 in
-    let more : step_at standing volts x k * g ≤ checked_step standing volts x n * g = mul-le-mul_right g (step_below standing volts x n k h live) in
+    let more : step_asked_at standing volts x k * g ≤ checked_step standing volts x n * g = mul-le-mul_right g (step_below standing volts x n k h live) in
     (omega (arith, times, more, le-max_left down up), omega (arith, times, more, le-max_right down up))
 
 -- a wider interval round the same middle

@@ -16,7 +16,7 @@ use Rattle.gic_text.proofs.Words.{word_name, word_signed, word_from_test}
 use Rattle.gic_cert.specs.declared.refusal.CertRefusal.{CertRefusal}
 use Rattle.gic_cert.specs.Written.{Written, Certificate, IsWritten, IsWrittenNode}
 use Rattle.gic_report.specs.SharedLines.{Words}
-use Rattle.gic_cert.specs.Text.{nodes_line, node_line, lines_behind, cert_lines, cert_text}
+use Rattle.gic_cert.specs.Text.{nodes_line, written_line, lines_behind, cert_lines, cert_text}
 use Rattle.gic_cert.specs.Reading.{NamedNode, breaks_field, breaks_node, breaks_behind, broken, node_in, nodes_in, cert_in, cert_of}
 use Rattle.gic_cert.proofs.CutLaws.{lines_back, IsShort}
 use Rattle.gic_cert.proofs.Numbers.{number_back}
@@ -71,7 +71,7 @@ radius_back n h = number_back (pos n) (pos 0) (pos (2 ^ 126)) (omega (arith, h))
 
 -- one node
 line_back : (row : ℕ) (name : List ℕ) (live : Bool) (node : Option Written) → is_name name ≡ true → is_some node ≡ live → IfSome node IsWrittenNode →
-    (breaks_node row (name, live) (node_line name node) ≡ []) × (node_in (node_line name node) ≡ node)
+    (breaks_node row (name, live) (written_line name node) ≡ []) × (node_in (written_line name node) ≡ node)
 line_back row name true None is same h = absurd (no_way same)
   where
     no_way : false ≡ true → ⊥
@@ -116,7 +116,7 @@ behind_back row ((name, live) ∷ nodes) (w ∷ written) names same h =
     let others : map is_some written ≡ map (λ node. node.1) nodes = cc in
     let here = line_back row name live w names.0 first h.0 in
     let rest = behind_back (row + 1) nodes written names.1 others h.1 in (
-      no_breaks (breaks_node row (name, live) (node_line name w)) (breaks_behind (row + 1) nodes (lines_behind (map (λ node. node.0) nodes) written)) here.0 rest.0,
+      no_breaks (breaks_node row (name, live) (written_line name w)) (breaks_behind (row + 1) nodes (lines_behind (map (λ node. node.0) nodes) written)) here.0 rest.0,
       ap (λ o. o ∷ nodes_in nodes (lines_behind (map (λ node. node.0) nodes) written)) here.1 ∙ ap (λ os. w ∷ os) rest.1,
     )
 
@@ -164,7 +164,7 @@ word_of_number : (z : ℤ) → unsigned_abs z < 2 ^ 127 → IsWord (signed_decim
 word_of_number (pos n) h = word_signed (pos n) (omega (arith, h))
 word_of_number (negsuc n) h = word_signed (negsuc n) (omega (arith, h))
 
-line_of_node : (name : List ℕ) (node : Option Written) → is_name name ≡ true → IfSome node IsWrittenNode → IsLine (node_line name node)
+line_of_node : (name : List ℕ) (node : Option Written) → is_name name ≡ true → IfSome node IsWrittenNode → IsLine (written_line name node)
 line_of_node name None is h = (word_from_test (codes "cert") refl, (word_name name is, (word_from_test (codes "dead") refl, tt)))
 line_of_node name (Some w) is h =
     let most = h.entry_most in
@@ -179,7 +179,7 @@ lines_behind_are (node ∷ nodes) [] names h = ((word_from_test (codes "end") re
 lines_behind_are (node ∷ nodes) (w ∷ written) names h = (line_of_node node.0 w names.0 h.0, lines_behind_are nodes written names.1 h.1)
 
 -- and all its words are looked at
-short_node : (name : List ℕ) (node : Option Written) → IsShort (node_line name node)
+short_node : (name : List ℕ) (node : Option Written) → IsShort (written_line name node)
 short_node name None = refl
 short_node name (Some w) = refl
 

@@ -18,5 +18,5 @@ lines_from begun [] = if length begun == 0 then [] else [] ∷ []
 lines_from begun (b ∷ bs) = if b == 10 then words_of begun ∷ lines_from [] bs else lines_from (begun ++ b ∷ []) bs
 
 -- those of a whole text
-abbrev pub lines_of : List ℕ → List Words
-lines_of bytes = lines_from [] bytes
+abbrev pub lines_cut : List ℕ → List Words
+lines_cut bytes = lines_from [] bytes

@@ -13,7 +13,7 @@ use Rattle.gic_cert.specs.declared.limits.TheConstants.{MOST_WRITTEN_GUESS, MOST
 use Rattle.gic_cert.specs.declared.refusal.CertRefusal.{CertRefusal}
 use Rattle.gic_cert.specs.declared.refusal.CertRefusal.TheVariants as refusals
 use Rattle.gic_cert.specs.Written.{Written, Certificate}
-use Rattle.gic_cert.specs.Cuts.{lines_of}
+use Rattle.gic_cert.specs.Cuts.{lines_cut}
 
 -- a node of the network: its name, and whether it is live
 abbrev pub NamedNode : Type 0
@@ -146,7 +146,7 @@ cert_in nodes (first ∷ lines) = cert_behind nodes lines
 
 -- the certificate that the bytes are over these nodes, or the first rule that they break
 unfoldable pub cert_of : List NamedNode → List ℕ → Result Certificate CertRefusal
-cert_of nodes bytes = settle (broken nodes (lines_of bytes)) (cert_in nodes (lines_of bytes))
+cert_of nodes bytes = settle (broken nodes (lines_cut bytes)) (cert_in nodes (lines_cut bytes))
 
 -- the first of these refusals
 abbrev pub IsFirstOf : List CertRefusal → CertRefusal → Type 0

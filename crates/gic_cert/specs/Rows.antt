@@ -13,8 +13,8 @@ abbrev pub row_written : NodeRow → Option Written
 row_written row = written_of row.entry row.guess row.radius
 
 -- the nodes with their names
-abbrev pub named : List NodeName → List NamedNode
-named nodes = map (λ node. (node.name, node.live)) nodes
+abbrev pub named_nodes : List NodeName → List NamedNode
+named_nodes nodes = map (λ node. (node.name, node.live)) nodes
 
 -- its numbers are in their ranges, and 0 alone where the node is dead
 pub record IsNodeRow (row : NodeRow) : Type 0 where
@@ -25,5 +25,5 @@ pub record IsNodeRow (row : NodeRow) : Type 0 where
   pub dead_radius : row.entry ≡ 0 → row.radius ≡ 0
 
 -- the row of the node k, 0 in each past the last
-abbrev pub row_in : List NodeRow → ℕ → NodeRow
-row_in rows k = slice_index_or rows k (record { entry = 0; guess = pos 0; radius = 0 })
+abbrev pub written_row_at : List NodeRow → ℕ → NodeRow
+written_row_at rows k = slice_index_or rows k (record { entry = 0; guess = pos 0; radius = 0 })

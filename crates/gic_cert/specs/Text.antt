@@ -11,17 +11,17 @@ unfoldable pub nodes_line : ℕ → ℤ → ℤ → Words
 nodes_line count north east = codes "nodes" ∷ decimal count ∷ field_line north east
 
 -- the line of a node with this name
-abbrev pub node_line : List ℕ → Option Written → Words
-node_line name None = codes "cert" ∷ name ∷ codes "dead" ∷ []
-node_line name (Some w) = codes "cert" ∷ name ∷ decimal w.entry ∷ signed_decimal w.guess ∷ decimal w.radius ∷ []
+abbrev pub written_line : List ℕ → Option Written → Words
+written_line name None = codes "cert" ∷ name ∷ codes "dead" ∷ []
+written_line name (Some w) = codes "cert" ∷ name ∷ decimal w.entry ∷ signed_decimal w.guess ∷ decimal w.radius ∷ []
 
 -- the lines of the nodes with these names, in order
-abbrev pub node_lines : List (List ℕ) → List (Option Written) → List Words
-node_lines names nodes = map (λ p. node_line p.0 p.1) (zip names nodes)
+abbrev pub written_lines : List (List ℕ) → List (Option Written) → List Words
+written_lines names nodes = map (λ p. written_line p.0 p.1) (zip names nodes)
 
 -- the lines behind the first two: those of the nodes, and the end
 abbrev pub lines_behind : List (List ℕ) → List (Option Written) → List Words
-lines_behind names nodes = node_lines names nodes ++ word_line (codes "end") ∷ []
+lines_behind names nodes = written_lines names nodes ++ word_line (codes "end") ∷ []
 
 -- all lines of a certificate over nodes with these names
 abbrev pub cert_lines : List (List ℕ) → Certificate → List Words

@@ -1,6 +1,6 @@
 //! Bytes cut into lines, and lines into words.
 ghost use Rattle.std.specs.Prelude.{◌≡◌, ◌+◌, ◌<◌, [], ◌∷◌, ◌==◌, length, map, take, drop, IfOk, IfSome, IfNone, if◌then◌else◌};
-ghost use Rattle.gic_cert.specs.Cuts.{words_from, words_of, lines_of};
+ghost use Rattle.gic_cert.specs.Cuts.{words_from, words_of, lines_cut};
 
 use crate::limits::MOST_WORDS;
 use gic_base::OutOfMemory;
@@ -9,8 +9,8 @@ use std::alloc::Global;
 /// Where the first line of a text ends. None where no line of it ends.
 fn line_end(text: &[u8]) -> Option<usize>
     ensures inside { IfSome result (λ end. end < length text.now) }
-    ensures some { IfSome result (λ end. lines_of text.now ≡ words_of (take end text.now) ∷ lines_of (drop (end + 1) text.now)) }
-    ensures none { IfNone result (lines_of text.now ≡ (if length text.now == 0 then [] else [] ∷ [])) }
+    ensures some { IfSome result (λ end. lines_cut text.now ≡ words_of (take end text.now) ∷ lines_cut (drop (end + 1) text.now)) }
+    ensures none { IfNone result (lines_cut text.now ≡ (if length text.now == 0 then [] else [] ∷ [])) }
 {
     for place in 0..text.len() {
         if text[place] == b'\n' {
@@ -65,7 +65,7 @@ pub(crate) struct Line<'a> {
 /// The first line of a text; one without its end has no words.
 pub(crate) fn next_line(alloc: Global, text: &[u8]) -> Result<Line<'_>, OutOfMemory>
     requires { 0 < length text.now }
-    ensures { IfOk result (λ line. lines_of text.now ≡ map (λ w. w.now) line.words.items ∷ lines_of line.left.now) }
+    ensures { IfOk result (λ line. lines_cut text.now ≡ map (λ w. w.now) line.words.items ∷ lines_cut line.left.now) }
 {
     match line_end(text) {
         None => Ok(Line {

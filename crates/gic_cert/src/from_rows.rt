@@ -3,7 +3,7 @@ ghost use Rattle.std.specs.Prelude.{◌≡◌, ℕ, ◌<◌, ◌≤◌, length, 
 ghost use Rattle.gic_model.specs.Voltages.{number_at};
 ghost use Rattle.gic_base.specs.declared.limits.TheConstants.{MOST_FIELD, MOST_WALK};
 ghost use Rattle.gic_cert.specs.declared.limits.TheConstants.{MOST_WRITTEN_NODES};
-ghost use Rattle.gic_cert.specs.Rows.{row_written, row_in, IsNodeRow};
+ghost use Rattle.gic_cert.specs.Rows.{row_written, written_row_at, IsNodeRow};
 
 use crate::cert::Cert;
 use crate::reading::ReadCert;
@@ -15,7 +15,7 @@ use std::alloc::Global;
 fn entry_in(rows: &[NodeRow], place: usize) -> u16
     requires place { place < length rows.now }
     requires range { All IsNodeRow rows.now }
-    ensures value { result ≡ (row_in rows.now place).entry }
+    ensures value { result ≡ (written_row_at rows.now place).entry }
     ensures range { result ≤ MOST_WALK }
 {
     rows[place].entry
@@ -23,14 +23,14 @@ fn entry_in(rows: &[NodeRow], place: usize) -> u16
 
 fn guess_in(rows: &[NodeRow], place: usize) -> i128
     requires { place < length rows.now }
-    ensures { result ≡ (row_in rows.now place).guess }
+    ensures { result ≡ (written_row_at rows.now place).guess }
 {
     rows[place].guess
 }
 
 fn radius_in(rows: &[NodeRow], place: usize) -> u128
     requires { place < length rows.now }
-    ensures { result ≡ (row_in rows.now place).radius }
+    ensures { result ≡ (written_row_at rows.now place).radius }
 {
     rows[place].radius
 }
@@ -40,7 +40,7 @@ fn entries(alloc: Global, rows: &[NodeRow]) -> Result<BoundVector, OutOfMemory>
     requires few { length rows.now ≤ MOST_WRITTEN_NODES }
     requires range { All IsNodeRow rows.now }
     ensures count { IfOk result (λ vector. length vector ≡ length rows.now) }
-    ensures each { IfOk result (λ vector. (k : ℕ) → k < length rows.now → slice_index vector k ≡ (row_in rows.now k).entry) }
+    ensures each { IfOk result (λ vector. (k : ℕ) → k < length rows.now → slice_index vector k ≡ (written_row_at rows.now k).entry) }
 {
     let nodes = rows.len() as u16;
     let mut vector = BoundVector::new(alloc, nodes)?;
@@ -53,7 +53,7 @@ fn entries(alloc: Global, rows: &[NodeRow]) -> Result<BoundVector, OutOfMemory>
 /// The rows' guesses.
 fn guesses(alloc: Global, rows: &[NodeRow]) -> Result<Vec<i128>, OutOfMemory>
     ensures count { IfOk result (λ list. length list.items ≡ length rows.now) }
-    ensures each { IfOk result (λ list. (k : ℕ) → k < length rows.now → number_at list.items k ≡ (row_in rows.now k).guess) }
+    ensures each { IfOk result (λ list. (k : ℕ) → k < length rows.now → number_at list.items k ≡ (written_row_at rows.now k).guess) }
 {
     let mut list = vec![in alloc; 0; rows.len()]?;
     for place in 0..rows.len() {
@@ -65,7 +65,7 @@ fn guesses(alloc: Global, rows: &[NodeRow]) -> Result<Vec<i128>, OutOfMemory>
 /// The rows' radii.
 fn radii(alloc: Global, rows: &[NodeRow]) -> Result<Vec<u128>, OutOfMemory>
     ensures count { IfOk result (λ list. length list.items ≡ length rows.now) }
-    ensures each { IfOk result (λ list. (k : ℕ) → k < length rows.now → slice_index list.items k ≡ (row_in rows.now k).radius) }
+    ensures each { IfOk result (λ list. (k : ℕ) → k < length rows.now → slice_index list.items k ≡ (written_row_at rows.now k).radius) }
 {
     let mut list = vec![in alloc; 0; rows.len()]?;
     for place in 0..rows.len() {

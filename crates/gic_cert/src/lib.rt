@@ -3,6 +3,7 @@
 #![tactic(auto)]
 
 mod cert;
+mod cert_room;
 mod checking;
 mod cutting;
 mod from_rows;
@@ -18,6 +19,7 @@ mod step;
 mod writing;
 
 pub use cert::Cert;
+pub use cert_room::{CertRoom, make_cert_room};
 pub use checking::check;
 pub use reader::read_cert;
 pub use refusal::CertRefusal;

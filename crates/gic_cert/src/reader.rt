@@ -7,7 +7,7 @@ ghost use Rattle.gic_cert.specs.declared.limits.TheConstants.{MOST_WRITTEN_NODES
 ghost use Rattle.gic_cert.specs.declared.refusal.CertRefusal.TheVariants as refusals;
 ghost use Rattle.gic_cert.specs.Passing.{HasNodes};
 ghost use Rattle.gic_cert.specs.Reading.{certificate_nodes, cert_of};
-ghost use Rattle.gic_cert.specs.Rows.{named};
+ghost use Rattle.gic_cert.specs.Rows.{named_nodes};
 
 use crate::cert::Cert;
 use crate::from_rows::of_rows;
@@ -23,7 +23,7 @@ use std::alloc::Global;
 #[tactic(auto, using(crate::proofs::ReadLaws::settling), unfolding(crate::specs::Reading::cert_of))]
 fn read_named(alloc: Global, bytes: &[u8], nodes: &[NodeName]) -> Result<Cert, CertRefusal>
     requires few { length nodes.now ≤ MOST_WRITTEN_NODES }
-    ensures answer { Answers refusals.Memory (λ cert. cert) result (cert_of (named nodes.now) bytes.now) }
+    ensures answer { Answers refusals.Memory (λ cert. cert) result (cert_of (named_nodes nodes.now) bytes.now) }
     ensures live { IfOk result (λ cert. map is_some cert.nodes ≡ map (λ node. node.live) nodes.now) }
 {
     let read = read_rows(alloc, bytes, nodes)?;
@@ -34,7 +34,7 @@ fn read_named(alloc: Global, bytes: &[u8], nodes: &[NodeName]) -> Result<Cert, C
 /// The nodes of a case by their names, each with whether it is live.
 fn nodes_of(alloc: Global, case: &Case, net: &Net) -> Result<Vec<NodeName>, OutOfMemory>
     requires { net.now.network ≡ elements_of case.now }
-    ensures nodes { IfOk result (λ nodes. named nodes.items ≡ certificate_nodes case.now (standing net.now)) }
+    ensures nodes { IfOk result (λ nodes. named_nodes nodes.items ≡ certificate_nodes case.now (standing net.now)) }
     ensures count { IfOk result (λ nodes. length nodes.items ≡ net.now.network.nodes) }
 {
     net.within_limits();

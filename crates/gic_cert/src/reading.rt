@@ -2,9 +2,9 @@
 ghost use Rattle.std.specs.Prelude.{◌≡◌, ◌+◌, ◌≤◌, List, [], ◌∷◌, map, length, unsigned_abs, All, IfOk, IfErr, OnOk};
 ghost use Rattle.gic_base.specs.declared.limits.TheConstants.{MOST_FIELD};
 ghost use Rattle.gic_cert.specs.declared.limits.TheConstants.{MOST_WRITTEN_NODES};
-ghost use Rattle.gic_cert.specs.Cuts.{lines_of};
+ghost use Rattle.gic_cert.specs.Cuts.{lines_cut};
 ghost use Rattle.gic_cert.specs.Reading.{NamedNode, breaks_behind, nodes_in, breaks_second, broken, cert_behind, cert_in, TellsFirst};
-ghost use Rattle.gic_cert.specs.Rows.{row_written, named, IsNodeRow};
+ghost use Rattle.gic_cert.specs.Rows.{row_written, named_nodes, IsNodeRow};
 
 use crate::cutting::next_line;
 use crate::lines::{is_only, read_field, read_node};
@@ -27,12 +27,12 @@ fn read_line<'a>(
     node: &NodeName,
 ) -> Result<NodeLine<'a>, CertRefusal>
     ensures kept { IfOk result (λ line. (others : List NamedNode) →
-        breaks_behind row ((node.now.name, node.now.live) ∷ others) (lines_of text.now) ≡ breaks_behind (row + 1) others (lines_of line.left.now)) }
+        breaks_behind row ((node.now.name, node.now.live) ∷ others) (lines_cut text.now) ≡ breaks_behind (row + 1) others (lines_cut line.left.now)) }
     ensures value { IfOk result (λ line. (others : List NamedNode) →
-        nodes_in ((node.now.name, node.now.live) ∷ others) (lines_of text.now) ≡ row_written line.row ∷ nodes_in others (lines_of line.left.now)) }
+        nodes_in ((node.now.name, node.now.live) ∷ others) (lines_cut text.now) ≡ row_written line.row ∷ nodes_in others (lines_cut line.left.now)) }
     ensures range { IfOk result (λ line. IsNodeRow line.row) }
     ensures first { IfErr result (λ refusal. (others : List NamedNode) →
-        TellsFirst (breaks_behind row ((node.now.name, node.now.live) ∷ others) (lines_of text.now)) refusal) }
+        TellsFirst (breaks_behind row ((node.now.name, node.now.live) ∷ others) (lines_cut text.now)) refusal) }
 {
     if text.is_empty() {
         return Err(CertRefusal::Shape { row });
@@ -48,9 +48,9 @@ fn read_line<'a>(
 /// Reads the end of a certificate, behind which nothing stands.
 fn read_end(alloc: Global, text: &[u8], row: u32) -> Result<(), CertRefusal>
     requires { row ≤ MOST_WRITTEN_NODES + 3 }
-    ensures kept { OnOk result (breaks_behind row [] (lines_of text.now) ≡ []) }
-    ensures value { OnOk result (nodes_in [] (lines_of text.now) ≡ []) }
-    ensures first { IfErr result (TellsFirst (breaks_behind row [] (lines_of text.now))) }
+    ensures kept { OnOk result (breaks_behind row [] (lines_cut text.now) ≡ []) }
+    ensures value { OnOk result (nodes_in [] (lines_cut text.now) ≡ []) }
+    ensures first { IfErr result (TellsFirst (breaks_behind row [] (lines_cut text.now))) }
 {
     if text.is_empty() {
         return Err(CertRefusal::Shape { row });
@@ -69,11 +69,11 @@ fn read_end(alloc: Global, text: &[u8], row: u32) -> Result<(), CertRefusal>
 /// Reads the lines behind the first two: one for each node, and the end.
 fn read_behind(alloc: Global, text: &[u8], nodes: &[NodeName]) -> Result<Vec<NodeRow>, CertRefusal>
     requires few { length nodes.now ≤ MOST_WRITTEN_NODES }
-    ensures kept { IfOk result (λ rows. breaks_behind 3 (named nodes.now) (lines_of text.now) ≡ []) }
-    ensures value { IfOk result (λ rows. map row_written rows.items ≡ nodes_in (named nodes.now) (lines_of text.now)) }
+    ensures kept { IfOk result (λ rows. breaks_behind 3 (named_nodes nodes.now) (lines_cut text.now) ≡ []) }
+    ensures value { IfOk result (λ rows. map row_written rows.items ≡ nodes_in (named_nodes nodes.now) (lines_cut text.now)) }
     ensures count { IfOk result (λ rows. length rows.items ≤ length nodes.now) }
     ensures range { IfOk result (λ rows. All IsNodeRow rows.items) }
-    ensures first { IfErr result (TellsFirst (breaks_behind 3 (named nodes.now) (lines_of text.now))) }
+    ensures first { IfErr result (TellsFirst (breaks_behind 3 (named_nodes nodes.now) (lines_cut text.now))) }
 {
     let mut rows = Vec::new(alloc);
     let mut left = text;
@@ -97,13 +97,13 @@ pub(crate) struct ReadCert {
 #[tactic(auto, using(crate::proofs::ReadLaws::reading))]
 fn read_second(alloc: Global, text: &[u8], nodes: &[NodeName]) -> Result<ReadCert, CertRefusal>
     requires few { length nodes.now ≤ MOST_WRITTEN_NODES }
-    ensures kept { IfOk result (λ read. breaks_second (named nodes.now) (lines_of text.now) ≡ []) }
+    ensures kept { IfOk result (λ read. breaks_second (named_nodes nodes.now) (lines_cut text.now) ≡ []) }
     ensures value { IfOk result (λ read. record { north = read.field.north; east = read.field.east; nodes = map row_written read.rows.items }
-        ≡ cert_behind (named nodes.now) (lines_of text.now)) }
+        ≡ cert_behind (named_nodes nodes.now) (lines_cut text.now)) }
     ensures field { IfOk result (λ read. (unsigned_abs read.field.north ≤ MOST_FIELD) × (unsigned_abs read.field.east ≤ MOST_FIELD)) }
     ensures count { IfOk result (λ read. length read.rows.items ≤ length nodes.now) }
     ensures range { IfOk result (λ read. All IsNodeRow read.rows.items) }
-    ensures first { IfErr result (TellsFirst (breaks_second (named nodes.now) (lines_of text.now))) }
+    ensures first { IfErr result (TellsFirst (breaks_second (named_nodes nodes.now) (lines_cut text.now))) }
 {
     if text.is_empty() {
         return Err(CertRefusal::Shape { row: 2 });
@@ -121,13 +121,13 @@ pub(crate) fn read_rows(
     nodes: &[NodeName],
 ) -> Result<ReadCert, CertRefusal>
     requires few { length nodes.now ≤ MOST_WRITTEN_NODES }
-    ensures kept { IfOk result (λ read. broken (named nodes.now) (lines_of bytes.now) ≡ []) }
+    ensures kept { IfOk result (λ read. broken (named_nodes nodes.now) (lines_cut bytes.now) ≡ []) }
     ensures value { IfOk result (λ read. record { north = read.field.north; east = read.field.east; nodes = map row_written read.rows.items }
-        ≡ cert_in (named nodes.now) (lines_of bytes.now)) }
+        ≡ cert_in (named_nodes nodes.now) (lines_cut bytes.now)) }
     ensures field { IfOk result (λ read. (unsigned_abs read.field.north ≤ MOST_FIELD) × (unsigned_abs read.field.east ≤ MOST_FIELD)) }
     ensures count { IfOk result (λ read. length read.rows.items ≤ length nodes.now) }
     ensures range { IfOk result (λ read. All IsNodeRow read.rows.items) }
-    ensures first { IfErr result (TellsFirst (broken (named nodes.now) (lines_of bytes.now))) }
+    ensures first { IfErr result (TellsFirst (broken (named_nodes nodes.now) (lines_cut bytes.now))) }
 {
     if bytes.is_empty() {
         return Err(CertRefusal::Shape { row: 1 });

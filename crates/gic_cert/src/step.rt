@@ -6,7 +6,7 @@ ghost use Rattle.gic_model.specs.Voltages.{number_at};
 ghost use Rattle.gic_net.specs.Net.{standing};
 ghost use Rattle.gic_sweep.specs.Guesses.{AreCut};
 ghost use Rattle.gic_cert.specs.declared.limits.TheConstants.{MOST_CHECKED_RESIDUAL, MOST_CHECKED_STEP};
-ghost use Rattle.gic_cert.specs.Step.{most_residual as most_residual_of, step_at as step_of, checked_step as checked_step_of};
+ghost use Rattle.gic_cert.specs.Step.{most_residual as most_residual_of, step_asked_at as step_of, checked_step as checked_step_of};
 
 use gic_base::NodeId;
 use gic_model::Volts;
@@ -39,7 +39,7 @@ fn quotient_up(most: u128, conductance: u64) -> u128
 }
 
 /// The step that a live node asks for.
-fn step_at(net: &Net, volts: &Volts, guesses: &[i128], node: NodeId) -> u128
+fn step_asked_at(net: &Net, volts: &Volts, guesses: &[i128], node: NodeId) -> u128
     requires volts { length volts.now ≡ length net.now.network.list }
     requires nodes { length guesses.now ≡ net.now.network.nodes }
     requires guesses { AreCut (number_at guesses.now) }
@@ -66,7 +66,7 @@ fn step_or_nothing(net: &Net, volts: &Volts, guesses: &[i128], node: NodeId) -> 
     ensures small { result ≤ MOST_CHECKED_STEP }
 {
     if net.live(node) {
-        step_at(net, volts, guesses, node)
+        step_asked_at(net, volts, guesses, node)
     } else {
         0
     }

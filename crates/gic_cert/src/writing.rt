@@ -5,7 +5,7 @@ ghost use Rattle.gic_base.specs.Causes.{HasCause};
 ghost use Rattle.gic_base.specs.Pieces.{AppendsPart};
 ghost use Rattle.gic_text.specs.Lines.{line_text, lines_text};
 ghost use Rattle.gic_case.specs.Lists.{node_names};
-ghost use Rattle.gic_cert.specs.Text.{nodes_line, node_line, node_lines, cert_text};
+ghost use Rattle.gic_cert.specs.Text.{nodes_line, written_line, written_lines, cert_text};
 ghost use Rattle.gic_cert.specs.Written.{written_at};
 ghost use Rattle.gic_cert.specs.Rows.{row_written, IsNodeRow};
 
@@ -61,9 +61,9 @@ fn write_node<S: Sink>(
 ) -> Result<(), WriteFailed>
     requires { IsNodeRow row.now }
     ensures all { OnOk result (Appends (S.written out.old) (S.written out.new)
-        (line_text (node_line name.now (row_written row.now)))) }
+        (line_text (written_line name.now (row_written row.now)))) }
     ensures part { AppendsPart (S.written out.old) (S.written out.new)
-        (line_text (node_line name.now (row_written row.now))) }
+        (line_text (written_line name.now (row_written row.now))) }
     ensures cause { HasCause (S.faults out.old) (S.faults out.new) result }
 {
     line.start();
@@ -89,9 +89,9 @@ fn write_node_at<S: Sink>(
 ) -> Result<(), WriteFailed>
     requires { node.0 < length cert.now.nodes }
     ensures all { OnOk result (Appends (S.written out.old) (S.written out.new)
-        (line_text (node_line name.now (written_at cert.now node.0)))) }
+        (line_text (written_line name.now (written_at cert.now node.0)))) }
     ensures part { AppendsPart (S.written out.old) (S.written out.new)
-        (line_text (node_line name.now (written_at cert.now node.0))) }
+        (line_text (written_line name.now (written_at cert.now node.0))) }
     ensures cause { HasCause (S.faults out.old) (S.faults out.new) result }
 {
     let row = cert.row(node);
@@ -107,9 +107,9 @@ fn write_nodes<S: Sink>(
 ) -> Result<(), WriteFailed>
     requires { length cert.now.nodes ≡ length (node_names case.now) }
     ensures all { OnOk result (Appends (S.written out.old) (S.written out.new)
-        (lines_text (node_lines (node_names case.now) cert.now.nodes))) }
+        (lines_text (written_lines (node_names case.now) cert.now.nodes))) }
     ensures part { AppendsPart (S.written out.old) (S.written out.new)
-        (lines_text (node_lines (node_names case.now) cert.now.nodes)) }
+        (lines_text (written_lines (node_names case.now) cert.now.nodes)) }
     ensures cause { HasCause (S.faults out.old) (S.faults out.new) result }
 {
     // A case has few nodes, so the count of them below is one of 16 bits.

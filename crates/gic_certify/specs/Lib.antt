@@ -1,1 +1,2 @@
 pub mod RightCertify
+pub mod Made

@@ -2,5 +2,7 @@
 #![tactic(auto)]
 
 mod mode;
+mod room;
 
 pub use mode::certify;
+pub use room::{Room, make_room};

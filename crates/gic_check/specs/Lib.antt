@@ -1,3 +1,4 @@
 pub mod CheckText
 pub mod RightCheck
 pub mod Determines
+pub mod Made

@@ -4,6 +4,8 @@
 pub mod laws;
 mod live;
 mod mode;
+mod room;
 mod text;
 
 pub use mode::check;
+pub use room::{Room, make_room};

@@ -16,18 +16,18 @@ use Rattle.gic_winding.specs.ElementList.{elements_of}
 use Rattle.gic_winding.specs.InForce.{standing_in}
 
 -- the voltages of a case's elements in these fields of its zones
-abbrev pub volts_in : Lists → List (ℤ × ℤ) → ℕ → ℤ
-volts_in case fields = number_at (volts_of case fields (elements_of case).list)
+abbrev pub volts_in_fields : Lists → List (ℤ × ℤ) → ℕ → ℤ
+volts_in_fields case fields = number_at (volts_of case fields (elements_of case).list)
 
 -- every accepted case has a solution in any fields, where the switchings in force leave each live node earthed
 abbrev pub AcceptedNetworksAreSolved : Type 0
 AcceptedNetworksAreSolved = (bytes : List ℕ) (case : Lists) (rows : List Switching) (fields : List (ℤ × ℤ)) → case_of bytes ≡ Ok case
-    → AreEarthed (standing_in case rows) → HasSolution (standing_in case rows) (volts_in case fields)
+    → AreEarthed (standing_in case rows) → HasSolution (standing_in case rows) (volts_in_fields case fields)
 
 -- and any two of its solutions agree
 abbrev pub AcceptedSolutionsAgree : Type 0
 AcceptedSolutionsAgree = (bytes : List ℕ) (case : Lists) (rows : List Switching) (fields : List (ℤ × ℤ)) → case_of bytes ≡ Ok case
-    → AreEarthed (standing_in case rows) → AnyTwoAgree (standing_in case rows) (volts_in case fields)
+    → AreEarthed (standing_in case rows) → AnyTwoAgree (standing_in case rows) (volts_in_fields case fields)
 
 -- where the standing elements have a bound vector, whoever found it, each live node is earthed
 abbrev pub BoundNetworksAreEarthed : Type 0

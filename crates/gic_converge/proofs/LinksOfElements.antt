@@ -30,8 +30,8 @@ link_of volts k p = record {
   push = leaving k p.1 (pos (2 ^ 36) *ℤ volts p.0);
 }
 
-abbrev pub row_of : List Placed → (ℕ → ℤ) → ℕ → List Link
-row_of standing volts k = map (link_of volts k) (elements_at standing k)
+abbrev pub links_at : List Placed → (ℕ → ℤ) → ℕ → List Link
+links_at standing volts k = map (link_of volts k) (elements_at standing k)
 
 pub guess_is : (x : ℕ → ℤ) (e : End) → guess_at x (far_of e) ≡ value_at x e
 guess_is x (Node m) = refl

@@ -11,7 +11,7 @@ use Rattle.gic_bound.specs.Entries.{IsBoundWithin}
 use Rattle.gic_converge.proofs.Stages.{stages}
 use Rattle.gic_converge.proofs.Closer.{one_sweep}
 use Rattle.gic_converge.proofs.Settling.{nearer, last_settles, first_close, first_within}
-use Rattle.gic_converge.specs.Near.{IsNear, FirstSweepIsNear, SweepBringsNearer, NearIsSettled, SweepsSettle}
+use Rattle.gic_converge.specs.Near.{AreNearGuesses, FirstSweepIsNear, SweepBringsNearer, NearIsSettled, SweepsSettle}
 use Rattle.gic_converge.proofs.RowsOfNetwork.{rows, fits, bound, sweep, row_live, live_row, settled_at}
 
 pub first_is_near : FirstSweepIsNear
@@ -52,7 +52,7 @@ module _ (network : Network) (stands : Item → Bool) (volts : ℕ → ℤ) (v :
     (limits : IsWithinLimits network) (within : IsBoundWithin (standing_elements network stands) 4096 v) (volt : AreVolts volts)
     (cut : AreCut (guesses 0)) (run : (n : ℕ) → IsSweep (standing_elements network stands) volts (guesses n) (guesses (n + 1))) where
   near_at : ℕ → ℕ → Type 0
-  near_at left n = IsNear (standing_elements network stands) volts v left (guesses n) (guesses (n + 1))
+  near_at left n = AreNearGuesses (standing_elements network stands) volts v left (guesses n) (guesses (n + 1))
 
   next : (left off n : ℕ) → 8192 * off ≤ left → near_at left n → near_at (left - off) (n + 1)
   unfolding near_at

@@ -17,7 +17,7 @@ use Rattle.gic_converge.proofs.Links.{Link, IsLiveRow, IsLinkWithin, AreRowsBoun
 use Rattle.gic_converge.proofs.LinkSweeps.{IsRowSweep, IsRowTarget, AreRowsWithin, IsPushWithin, IsFarLive, most_push}
 use Rattle.gic_sweep.specs.Sweep.{IsSweep, IsTarget}
 use Rattle.gic_bound.specs.Entries.{IsBoundWithin}
-use Rattle.gic_converge.proofs.LinksOfElements.{far_of, link_of, row_of, length_is, denominator_is, diagonal_is, conductance_is, row_sum_is, residual_is}
+use Rattle.gic_converge.proofs.LinksOfElements.{far_of, link_of, links_at, length_is, denominator_is, diagonal_is, conductance_is, row_sum_is, residual_is}
 
 none_kept : {X : Type 0} (test : X → Bool) (xs : List X) → list_any test xs ≡ false → length (filter test xs) ≡ 0
 none_kept test [] any = refl
@@ -47,7 +47,7 @@ module _ (network : Network) (stands : Item → Bool) (volts : ℕ → ℤ) (lim
   standing = standing_elements network stands
 
   abbrev pub rows : ℕ → List Link
-  rows = row_of standing volts
+  rows = links_at standing volts
 
   pub ends : (k : ℕ) → AllByRecursion (λ p. ends_at p.1 k ≡ true) (elements_at standing k)
   ends k = kept (λ p. ends_at p.1 k) (λ p. IsElementWithin network.nodes p.1) (λ p. ends_at p.1 k ≡ true) (λ p is h. is) standing (standing_within network stands limits)

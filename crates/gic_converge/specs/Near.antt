@@ -17,7 +17,7 @@ abbrev pub most_grains : ℕ
 most_grains = most_volts * 2 ^ 36
 
 -- a sweep over the guesses x makes the guesses y: for each unit of a node's entry in v, the two are at most 24 grains and a PHASE-th of `left` apart, and x is at most twice the greatest voltage, 12 grains and a PHASE-th of `left` from 0
-pub record IsNear (standing : List Placed) (volts : ℕ → ℤ) (v : ℕ → ℕ) (left : ℕ) (x y : ℕ → ℤ) : Type 0 where
+pub record AreNearGuesses (standing : List Placed) (volts : ℕ → ℤ) (v : ℕ → ℕ) (left : ℕ) (x y : ℕ → ℤ) : Type 0 where
   pub sweep : IsSweep standing volts x y
   pub close : (k : ℕ) → PHASE * unsigned_abs (y k -ℤ x k) ≤ (24 * PHASE + left) * v k
   pub within : (k : ℕ) → IsLive standing k → PHASE * unsigned_abs (x k) ≤ (2 * (most_grains + 6) * PHASE + left) * v k
@@ -27,21 +27,21 @@ abbrev pub FirstSweepIsNear : Type 0
 FirstSweepIsNear = (network : Network) (stands : Item → Bool) (volts x y : ℕ → ℤ) (v : ℕ → ℕ) →
     let standing = standing_elements network stands in
     IsWithinLimits network → IsBoundWithin standing MOST_WALK v → AreVolts volts → AreCut x → IsSweep standing volts x y →
-    IsNear standing volts v (PHASE * 2 ^ PHASES) x y
+    AreNearGuesses standing volts v (PHASE * 2 ^ PHASES) x y
 
 -- one more sweep takes off whatever goes PHASE times into what is left
 abbrev pub SweepBringsNearer : Type 0
 SweepBringsNearer = (network : Network) (stands : Item → Bool) (volts x y z : ℕ → ℤ) (v : ℕ → ℕ) (left off : ℕ) →
     let standing = standing_elements network stands in
     IsWithinLimits network → IsBoundWithin standing MOST_WALK v → AreVolts volts → PHASE * off ≤ left →
-    IsNear standing volts v left x y → IsSweep standing volts y z → IsNear standing volts v (left - off) y z
+    AreNearGuesses standing volts v left x y → IsSweep standing volts y z → AreNearGuesses standing volts v (left - off) y z
 
 -- with PHASE left the guesses are settled
 abbrev pub NearIsSettled : Type 0
 NearIsSettled = (network : Network) (stands : Item → Bool) (volts x y : ℕ → ℤ) (v : ℕ → ℕ) →
     let standing = standing_elements network stands in
     IsWithinLimits network → IsBoundWithin standing MOST_WALK v → AreVolts volts →
-    IsNear standing volts v PHASE x y → IsSettled standing volts y
+    AreNearGuesses standing volts v PHASE x y → IsSettled standing volts y
 
 -- so whatever the first guesses are, one sweep and all phases leave settled ones
 abbrev pub SweepsSettle : Type 0

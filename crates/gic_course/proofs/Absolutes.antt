@@ -22,7 +22,7 @@ use Rattle.gic_stand.specs.Standing.{IsSolvable}
 use Rattle.gic_view.specs.View.{View, node_at, element_at}
 use Rattle.gic_effective.specs.Narrow.{IsNoWider, IsNarrowView}
 use Rattle.gic_effective.specs.RightView.{IsRightNode, IsRightElement, IsRightView}
-use Rattle.gic_uniform.proofs.FewCurrents.{current_few, most_current}
+use Rattle.gic_uniform.proofs.FewCurrents.{current_few, most_element_current}
 use Rattle.gic_uniform.proofs.SmallEnds.{ends_small}
 use Rattle.gic_course.proofs.Told.{has_absolute}
 
@@ -30,7 +30,7 @@ wider : (e : Ends) → IsWithin (2 ^ 52) e.low e.high → IsWithin (2 ^ 113) e.l
 wider e small = record { low = omega (arith, small.low); high = omega (arith, small.high) }
 
 -- a narrow interval that encloses a millionth of a limited number
-encloses_few : (e : Ends) (q : ℤ) (d width : ℕ) → 0 < d → Encloses e.low e.high q (1000000 * d) → unsigned_abs q ≤ most_current * d → (e.high -ℤ e.low) ≤ℤ pos width → width ≤ 10000 → HasAbsolute e
+encloses_few : (e : Ends) (q : ℤ) (d width : ℕ) → 0 < d → Encloses e.low e.high q (1000000 * d) → unsigned_abs q ≤ most_element_current * d → (e.high -ℤ e.low) ≤ℤ pos width → width ≤ 10000 → HasAbsolute e
 encloses_few e q d width some holds few narrow most =
     has_absolute e (wider e (ends_small e.low e.high q (1000000 * d) width (positive_product 1000000 d (omega arith) some) holds (omega (arith, few)) narrow most))
 
@@ -44,7 +44,7 @@ node_absolute standing volts width k (Some e) s solves few most right narrow =
 
 -- and at an element
 element_absolute : (standing : List Placed) (volts : ℕ → ℤ) (width place : ℕ) (cell : Option Ends) (s : Solution) → IsSolution standing volts s
-    → unsigned_abs (s.current place) ≤ most_current * s.denominator → width ≤ 10000
+    → unsigned_abs (s.current place) ≤ most_element_current * s.denominator → width ≤ 10000
     → IsRightElement standing volts place cell → IsNoWider width cell → IfSome cell HasAbsolute
 element_absolute standing volts width place None s solves few most right narrow = tt
 element_absolute standing volts width place (Some e) s solves few most right narrow =

@@ -1,24 +1,59 @@
 -- What is ready, while a course goes on.
-use Rattle.std.proofs.Common.{◌≡◌, ℕ, Option, Some, None, Result, Ok, Err, sym, subst}
-use Rattle.std.specs.Prelude.{IsSomeAnd, IsErrAnd, IfErr}
-use Rattle.gic_epoch.specs.declared.epoch.Epoch.{Epoch}
-use Rattle.gic_net.specs.Net.{NetView}
+use Rattle.std.proofs.Common.{◌≡◌, ℕ, List, ℤ, Option, Some, None, Result, Ok, Err, sym, ap, subst, refl}
+use Rattle.std.specs.Prelude.{IsSomeAnd, IsErrAnd, IfErr, slice_index}
+use Rattle.gic_base.specs.declared.limits.TheConstants.{MOST_WALK}
+use Rattle.gic_bases.specs.Bases.{ZoneBases, AreSettledBases}
+use Rattle.gic_bound.specs.Entries.{IsBoundWithin}
+use Rattle.gic_case.specs.Lists.{Lists}
+use Rattle.gic_net.specs.Net.{NetView, standing}
 use Rattle.gic_stand.specs.declared.fault.NetworkRefusal.{NetworkRefusal}
 use Rattle.gic_inputs.specs.declared.inputs.StormInputs.{StormInputs}
+use Rattle.gic_inputs.specs.Inputs.{IsStormOf}
+use Rattle.gic_winding.specs.ElementList.{elements_of}
+use Rattle.gic_course.specs.declared.ready.Ready.{Ready}
+use Rattle.gic_course.specs.declared.ready.Way.{Way}
+use Rattle.gic_course.specs.declared.ready.Way.TheVariants.{Solve, Combine}
 use Rattle.gic_course.specs.declared.room.Room.{Room}
-use Rattle.gic_course.specs.Epochs.{HasStep}
-use Rattle.gic_course.specs.Ready.{IsReadyAt, IsReady}
+use Rattle.gic_course.specs.RoomFor.{IsRoomForCourse, IsStepped}
+use Rattle.gic_course.specs.Ready.{IsSettledBy, IsReadyAt, IsReady, IsShownBy}
+
+-- a room with the same bound vector and the same bases has what a way takes
+pub settled_alike : (way : Way) (case : Lists) (net : NetView) (old new : Room) → new.vector ≡ old.vector → new.bases ≡ old.bases → IsSettledBy way case net old → IsSettledBy way case net new
+settled_alike Solve case net old new vector bases settled = subst (λ (v : List ℕ). IsBoundWithin (standing net) MOST_WALK (slice_index v)) (sym vector) settled
+settled_alike Combine case net old new vector bases settled = record {
+  bound = subst (λ (v : List ℕ). IsBoundWithin (standing net) MOST_WALK (slice_index v)) (sym vector) settled.bound;
+  bases = subst (λ (b : List ZoneBases). AreSettledBases (standing net) case net.network.list b) (sym bases) settled.bases;
+}
+
+-- so has one with other fields
+pub settled_with_fields : (way : Way) (case : Lists) (net : NetView) (room : Room) (fields : List (ℤ × ℤ)) → IsSettledBy way case net room → IsSettledBy way case net (record room { fields = fields })
+settled_with_fields way case net room fields = settled_alike way case net room (record room { fields = fields }) refl refl
+
+-- so has one after a step
+pub settled_after : (way : Way) (case : Lists) (net : NetView) (width : ℕ) (old new : Room) → IsStepped case net width old new → IsSettledBy way case net old → IsSettledBy way case net new
+settled_after way case net width old new stepped = settled_alike way case net old new (ap (λ (r : Room). r.vector) stepped.rest) (ap (λ (r : Room). r.bases) stepped.rest)
 
 -- what is ready for an epoch is ready for a step of it
-pub ready_for : (inputs : StormInputs) (ready : Option Epoch) (net : NetView) (room : Room) (number : ℕ) → IsReady inputs ready net room → IsSomeAnd ready (HasStep number) → IsReadyAt inputs number net room
-ready_for inputs None net room number all has = absurd has
-ready_for inputs (Some e) net room number all has = all number has
+pub ready_for : (inputs : StormInputs) (ready : Option Ready) (net : NetView) (room : Room) (number : ℕ) (way : Way) → IsStormOf inputs → net.network ≡ elements_of inputs.inputs.case → IsRoomForCourse inputs.inputs.case room →
+    IsReady inputs ready net room → IsSomeAnd ready (IsShownBy number way) → IsReadyAt inputs number way net room
+ready_for inputs None net room number way storm network space all shown = absurd shown
+ready_for inputs (Some r) net room number way storm network space all shown = record {
+  storm = storm;
+  step = (all.steps number shown.step).0;
+  network = network;
+  stands = (all.steps number shown.step).1;
+  space = space;
+  settled = subst (λ w. IsSettledBy w inputs.inputs.case net room) shown.way_is all.settled;
+}
 
--- it stays so where it does for each step
-pub still_ready : (inputs : StormInputs) (ready : Option Epoch) (net : NetView) (old new : Room) → ((other : ℕ) → IsReadyAt inputs other net old → IsReadyAt inputs other net new) →
+-- it stays ready for the epoch where it does for a step that is shown
+pub still_ready : (inputs : StormInputs) (ready : Option Ready) (net : NetView) (old new : Room) (number : ℕ) (way : Way) → IsSomeAnd ready (IsShownBy number way) → IsReadyAt inputs number way net new →
     IsReady inputs ready net old → IsReady inputs ready net new
-still_ready inputs None net old new stays all = tt
-still_ready inputs (Some e) net old new stays all = λ number has. stays number (all number has)
+still_ready inputs None net old new number way shown now all = tt
+still_ready inputs (Some r) net old new number way shown now all = record {
+  steps = all.steps;
+  settled = subst (λ w. IsSettledBy w inputs.inputs.case net new) (sym shown.way_is) now.settled;
+}
 
 -- the answer is this refusal
 pub refused : {A : Type 0} (answer : Result A NetworkRefusal) (refusal : NetworkRefusal) (P : NetworkRefusal → Type 0) → IsErrAnd answer (λ e. e ≡ refusal) → P refusal → IfErr answer P

@@ -1,9 +1,9 @@
 -- A walk over the epochs of a storm.
 use Rattle.std.proofs.Common.{◌≡◌, ℕ, suc, ◌+◌, ◌-◌, ◌<◌, ◌≤◌, List, [], ◌∷◌, length, drop, get_or, drop-cons, refl, ap, sym, subst, ◌∙◌, arith, inl, inr}
-use Rattle.std.specs.Prelude.{All, Any}
+use Rattle.std.specs.Prelude.{All, Any, Contains}
 use Rattle.std.specs.List.{AllByRecursion}
 use Rattle.std.proofs.lemmas.Bool.{cases_lt}
-use Rattle.std.proofs.lemmas.List.Elements.{All-nil, All-cons}
+use Rattle.std.proofs.lemmas.List.Elements.{All-nil, All-cons, All-contains}
 use Rattle.gic_storm.specs.Steps.{steps_in}
 use Rattle.gic_epoch.specs.declared.epoch.Epoch.{Epoch}
 use Rattle.gic_epoch.specs.Epochs.{Cover, HoldsIn, AreEpochs}
@@ -118,3 +118,7 @@ module _ (inputs : StormInputs) where
 
   pub each_epoch : (es : List Epoch) → AreEpochs inputs.storm.rows (rows_in inputs.inputs.switchings) es → All (IsEpochOf inputs) es
   each_epoch es h = each_left 1 es (omega arith) h.cover h.in_force
+
+  -- one of them that is listed
+  pub listed_epoch : (es lent : List Epoch) (e : Epoch) → lent ≡ es → AreEpochs inputs.storm.rows (rows_in inputs.inputs.switchings) es → Contains lent e → IsEpochOf inputs e
+  listed_epoch es lent e same all listed = All-contains (IsEpochOf inputs) es e (each_epoch es all) (subst (λ (l : List Epoch). Contains l e) same listed)

@@ -4,7 +4,7 @@ use Rattle.gic_inputs.specs.Inputs.{rows_in, IsStormOf}
 use Rattle.gic_stand.specs.Needs.{Solved, IsMet}
 use Rattle.gic_inputs.specs.declared.inputs.StormInputs.{StormInputs}
 use Rattle.gic_course.specs.declared.course.Course.{Course}
-use Rattle.gic_course.specs.RoomFor.{IsRoomFor}
+use Rattle.gic_course.specs.RoomFor.{IsRoomForCourse}
 use Rattle.gic_course.specs.Ready.{IsSwitchedFor, IsReady}
 use Rattle.gic_course.specs.Steps.{storm_steps}
 
@@ -13,7 +13,7 @@ pub record IsCourseOf (inputs : StormInputs) (course : Course) : Type 0 where
   pub storm : IsStormOf inputs
   pub epochs : AreEpochs inputs.storm.rows (rows_in inputs.inputs.switchings) course.epochs.items
   pub switched : IsSwitchedFor inputs course.switched
-  pub space : IsRoomFor inputs.inputs.case course.room
+  pub space : IsRoomForCourse inputs.inputs.case course.room
   pub ready : IsReady inputs course.ready course.switched.net course.room
 
 -- it is, and the network can be solved at each step

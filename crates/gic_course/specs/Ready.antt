@@ -1,14 +1,19 @@
 -- What is ready for a step. For the contracts of this crate.
-use Rattle.std.specs.Prelude.{ℕ, ◌≡◌, ⊤, Option, None, Some}
-use Rattle.gic_epoch.specs.declared.epoch.Epoch.{Epoch}
+use Rattle.std.specs.Prelude.{ℕ, ◌≡◌, ⊤, Option, None, Some, slice_index}
+use Rattle.gic_base.specs.declared.limits.TheConstants.{MOST_WALK}
+use Rattle.gic_bound.specs.Entries.{IsBoundWithin}
+use Rattle.gic_case.specs.Lists.{Lists}
 use Rattle.gic_net.specs.Net.{NetView, standing}
 use Rattle.gic_winding.specs.ElementList.{elements_of}
 use Rattle.gic_inputs.specs.Inputs.{rows_in, IsStormOf}
 use Rattle.gic_inputs.specs.declared.inputs.StormInputs.{StormInputs}
+use Rattle.gic_course.specs.declared.ready.Ready.{Ready}
+use Rattle.gic_course.specs.declared.ready.Way.{Way}
+use Rattle.gic_course.specs.declared.ready.Way.TheVariants.{Solve, Combine}
 use Rattle.gic_course.specs.declared.room.Room.{Room}
 use Rattle.gic_course.specs.declared.switched.SwitchedNet.{SwitchedNet}
 use Rattle.gic_course.specs.Epochs.{HasStep}
-use Rattle.gic_course.specs.RoomFor.{IsRoomFor, IsSettledIn}
+use Rattle.gic_course.specs.RoomFor.{IsRoomForCourse, IsSettledIn}
 use Rattle.gic_course.specs.Steps.{IsStepOf, standing_at_step}
 use Rattle.gic_course.specs.Switched.{StandsThrough}
 
@@ -17,16 +22,31 @@ pub record IsSwitchedFor (inputs : StormInputs) (now : SwitchedNet) : Type 0 whe
   pub network : now.net.network ≡ elements_of inputs.inputs.case
   pub stands : StandsThrough (rows_in inputs.inputs.switchings) now
 
--- the net is that of a step, with a bound vector and settled bases of its own
-pub record IsReadyAt (inputs : StormInputs) (number : ℕ) (net : NetView) (room : Room) : Type 0 where
+-- what this way of showing steps takes is there: a bound vector of the net, and for combining settled bases too
+abbrev pub IsSettledBy : Way → Lists → NetView → Room → Type 0
+IsSettledBy Solve case net room = IsBoundWithin (standing net) MOST_WALK (slice_index room.vector)
+IsSettledBy Combine case net room = IsSettledIn case net room
+
+-- the net is that of a step, and what this way of showing it takes is there
+pub record IsReadyAt (inputs : StormInputs) (number : ℕ) (way : Way) (net : NetView) (room : Room) : Type 0 where
   pub storm : IsStormOf inputs
   pub step : IsStepOf inputs number
   pub network : net.network ≡ elements_of inputs.inputs.case
   pub stands : standing net ≡ standing_at_step inputs number
-  pub space : IsRoomFor inputs.inputs.case room
-  pub settled : IsSettledIn inputs.inputs.case net room
+  pub space : IsRoomForCourse inputs.inputs.case room
+  pub settled : IsSettledBy way inputs.inputs.case net room
 
--- it is that of each step of an epoch, if one is told
-abbrev pub IsReady : StormInputs → Option Epoch → NetView → Room → Type 0
+-- the net is that of each step of the epoch, and what its way takes is there
+pub record IsReadyInEpoch (inputs : StormInputs) (ready : Ready) (net : NetView) (room : Room) : Type 0 where
+  pub steps : (number : ℕ) → HasStep number ready.epoch → IsStepOf inputs number × (standing net ≡ standing_at_step inputs number)
+  pub settled : IsSettledBy ready.way inputs.inputs.case net room
+
+-- what is said to be ready is
+abbrev pub IsReady : StormInputs → Option Ready → NetView → Room → Type 0
 IsReady inputs None net room = ⊤
-IsReady inputs (Some epoch) net room = (number : ℕ) → HasStep number epoch → IsReadyAt inputs number net room
+IsReady inputs (Some ready) net room = IsReadyInEpoch inputs ready net room
+
+-- the step is one of what is ready, and this is how it is shown
+pub record IsShownBy (number : ℕ) (way : Way) (ready : Ready) : Type 0 where
+  pub step : HasStep number ready.epoch
+  pub way_is : ready.way ≡ way

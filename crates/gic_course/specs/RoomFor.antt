@@ -14,7 +14,7 @@ use Rattle.gic_winding.specs.ElementList.{elements_of}
 use Rattle.gic_course.specs.declared.room.Room.{Room}
 
 -- there is room for each node, element and zone of the case
-pub record IsRoomFor (case : Lists) (room : Room) : Type 0 where
+pub record IsRoomForCourse (case : Lists) (room : Room) : Type 0 where
   pub scratch : room.scratch.nodes ≡ (elements_of case).nodes
   pub start : room.start ≡ (elements_of case).nodes
   pub together : BelongTogether (elements_of case) room.volts room.solver room.vector room.potentials
@@ -23,14 +23,14 @@ pub record IsRoomFor (case : Lists) (room : Room) : Type 0 where
 -- the bases were settled for the net; the bound vector, the start, the potentials and the room for reached nodes stay
 pub record IsPrepared (case : Lists) (net : NetView) (old new : Room) : Type 0 where
   pub settled : AreSettledBases (standing net) case net.network.list new.bases
-  pub room : IsRoomFor case new
+  pub room : IsRoomForCourse case new
   pub rest : new ≡ record old { fields = new.fields; volts = new.volts; solver = new.solver; bases = new.bases }
 
 -- the potentials are solved for the voltages of the fields; fields, bases and bound vector stay
 pub record IsStepped (case : Lists) (net : NetView) (width : ℕ) (old new : Room) : Type 0 where
   pub induced : new.volts ≡ volts_of case old.fields net.network.list
   pub solved : IsSolvedWithin (standing net) (number_at new.volts) width new.potentials
-  pub room : IsRoomFor case new
+  pub room : IsRoomForCourse case new
   pub rest : new ≡ record old { volts = new.volts; solver = new.solver; potentials = new.potentials }
 
 -- the bound vector is one of the net, and the bases are settled in it

@@ -1,5 +1,5 @@
 //! The course of a storm.
-ghost use Rattle.std.specs.Prelude.{◌≡◌, ◌↔◌, length, IfOk, OnOk, IfErr, IsTrue, IsSomeAnd};
+ghost use Rattle.std.specs.Prelude.{◌≡◌, length, None, IfOk, OnOk, IfErr, IfSome, IsSomeAnd};
 ghost use Rattle.gic_enclose.specs.Solved.{IsWidth};
 ghost use Rattle.gic_view.specs.Kept.{blank_view};
 ghost use Rattle.gic_winding.specs.ElementList.{elements_of};
@@ -8,17 +8,18 @@ ghost use Rattle.gic_peaks.specs.Peaks.{HasAbsolutes};
 ghost use Rattle.gic_stand.specs.Needs.{Solved, IsUnmet};
 ghost use Rattle.gic_course.specs.CourseOf.{IsCourseOf, CanShow};
 ghost use Rattle.gic_course.specs.Epochs.{HasStep};
-ghost use Rattle.gic_course.specs.Ready.{IsReadyAt};
+ghost use Rattle.gic_course.specs.Ready.{IsReadyAt, IsShownBy};
 ghost use Rattle.gic_inputs.specs.Inputs.{IsStormOf};
 ghost use Rattle.gic_course.specs.Steps.{IsStepOf, storm_steps};
 ghost use Rattle.gic_course.specs.Views.{IsSolvedStep};
 
 use crate::epochs::{epoch_with, epochs_under, has_step};
 use crate::preparing::prepare_epoch;
+use crate::ready::{Ready, Way, way_after};
 use crate::room::{Room, make_room};
 use crate::showing::show_step;
 use crate::switched::SwitchedNet;
-use crate::walking::expect_epochs;
+use crate::walking::{expect_epochs, put_in_force};
 use gic_base::OutOfMemory;
 use gic_effective::view_of_case;
 use gic_epoch::Epoch;
@@ -36,8 +37,8 @@ use std::alloc::Global;
 pub struct Course {
     epochs: Vec<Epoch>,
     switched: SwitchedNet,
-    /// The epoch for whose steps the net, a bound vector of it and the bases are ready.
-    ready: Option<Epoch>,
+    /// The epoch for whose steps the net and what they take are ready.
+    ready: Option<Ready>,
     room: Room,
 }
 
@@ -71,8 +72,8 @@ impl Course {
         Ok(view)
     }
 
-    /// Whether the network can be solved at each step of the storm: the first step at which it can't is told. It looks once
-    /// at each epoch, and takes no memory.
+    /// Whether the network can be solved at each step of the storm: the first step at which it can't is told. It looks at
+    /// most once at each epoch, and takes no memory.
     pub fn expect_solvable(&mut self, inputs: &StormInputs) -> Result<(), NetworkRefusal>
         requires { IsCourseOf inputs.now self.old }
         ensures met { OnOk result (CanShow inputs.now self.new) }
@@ -89,37 +90,43 @@ impl Course {
         Ok(())
     }
 
-    /// Whether all is ready for a step.
-    fn is_ready_for(&self, number: u32) -> bool
-        ensures { IsTrue result ↔ IsSomeAnd self.now.ready (HasStep number) }
+    /// How a step is shown for which all is ready.
+    fn way_for(&self, number: u32) -> Option<Way>
+        ensures ready { IfSome result (λ way. IsSomeAnd self.now.ready (IsShownBy number way)) }
+        ensures none { result ≡ None → ¬ IsSomeAnd self.now.ready (λ ready. HasStep number ready.epoch) }
     {
         match self.ready {
-            Some(epoch) => has_step(epoch, number),
-            None => false,
+            Some(ready) if has_step(ready.epoch, number) => Some(ready.way),
+            _ => None,
         }
     }
 
-    /// Makes all ready for a step: where it isn't, the epoch of the step is prepared, for all its steps.
-    fn be_ready_for(&mut self, inputs: &StormInputs, number: u32)
+    /// Makes all ready for a step, and tells how it is shown: where it isn't, the switchings of its epoch are put in force,
+    /// and what the steps of the epoch take is prepared, unless nothing changed that stands.
+    fn be_ready_for(&mut self, inputs: &StormInputs, number: u32) -> Way
         requires shows { CanShow inputs.now self.old }
         requires step { IsStepOf inputs.now number }
-        ensures ready { IsReadyAt inputs.now number self.new.switched.net self.new.room }
-        ensures epoch { IsSomeAnd self.new.ready (HasStep number) }
-        ensures same { IsSomeAnd self.old.ready (HasStep number) → self.new ≡ self.old }
+        ensures ready { IsReadyAt inputs.now number result self.new.switched.net self.new.room }
+        ensures way { IsSomeAnd self.new.ready (IsShownBy number result) }
+        ensures same { IsSomeAnd self.old.ready (λ ready. HasStep number ready.epoch) → self.new ≡ self.old }
         ensures shows { CanShow inputs.now self.new }
     {
-        if self.is_ready_for(number) {
-            return;
+        if let Some(way) = self.way_for(number) {
+            return way;
         }
         let epoch = epoch_with(self.epochs.as_slice(), number);
-        prepare_epoch(inputs, epoch, &mut self.switched, &mut self.room);
-        self.ready = Some(epoch);
+        let changed = put_in_force(inputs, epoch, &mut self.switched);
+        let kept = way_after(changed, self.ready);
+        let way = prepare_epoch(inputs, epoch, kept, &self.switched.net, &mut self.room);
+        self.ready = Some(Ready { epoch, way });
+        way
     }
 
     /// Fills the view of a step, counted from 1: its number, its time, and intervals that are no wider than `width`, in
     /// millivolts and milliamperes, with no effective current beyond 2^52 mA per phase. Where the step before was not
-    /// of the same epoch, the epoch is prepared first, so each is prepared once where steps are shown in order. No
-    /// interval begins at -2^127, which has no absolute value of 128 bits. Takes no memory.
+    /// of the same epoch, the epoch is prepared first, so each is prepared once where steps are shown in order; what is ready
+    /// is kept where no row changes what stands. No interval begins at -2^127, which has no absolute value of 128 bits. Takes
+    /// no memory.
     pub fn show(&mut self, inputs: &StormInputs, number: u32, width: u32, view: &mut StepView)
         requires shows { CanShow inputs.now self.old }
         requires step { IsStepOf inputs.now number }
@@ -133,11 +140,12 @@ impl Course {
         potential_law();
         limits_law();
         inputs.inputs.case.keeps_rules();
-        self.be_ready_for(inputs, number);
+        let way = self.be_ready_for(inputs, number);
         show_step(
             inputs,
             &self.switched.net,
             number,
+            way,
             width,
             &mut self.room,
             view,

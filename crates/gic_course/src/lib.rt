@@ -5,6 +5,7 @@
 mod course;
 mod epochs;
 mod preparing;
+mod ready;
 mod room;
 mod showing;
 mod switched;

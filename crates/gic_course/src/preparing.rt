@@ -1,21 +1,19 @@
 //! What is made ready where an epoch begins.
-ghost use Rattle.std.specs.Prelude.{◌≡◌, ◌<◌, slice_index, Some};
+ghost use Rattle.std.specs.Prelude.{◌≡◌, ◌<◌, slice_index, IfSome};
 ghost use Rattle.gic_base.specs.declared.limits.TheConstants.{MOST_WALK};
 ghost use Rattle.gic_model.specs.Bound.{IsEarthedWithin};
 ghost use Rattle.gic_net.specs.Net.{standing};
 ghost use Rattle.gic_bound.specs.Entries.{IsBoundWithin};
-ghost use Rattle.gic_start.specs.ForNodes.{AreForNodes};
+ghost use Rattle.gic_start.specs.ForNodes.{IsStartForNodes};
 ghost use Rattle.gic_winding.specs.ElementList.{elements_of};
-ghost use Rattle.gic_stand.specs.Needs.{Solved, IsMet};
+ghost use Rattle.gic_stand.specs.Standing.{IsSolvable};
 ghost use Rattle.gic_course.specs.Epochs.{IsEpochOf};
-ghost use Rattle.gic_course.specs.Ready.{IsSwitchedFor, IsReady};
-ghost use Rattle.gic_course.specs.RoomFor.{IsRoomFor, IsPrepared};
-ghost use Rattle.gic_inputs.specs.Inputs.{IsStormOf};
-ghost use Rattle.gic_course.specs.Steps.{storm_steps};
+ghost use Rattle.gic_course.specs.Ready.{IsSettledBy};
+ghost use Rattle.gic_course.specs.RoomFor.{IsRoomForCourse, IsPrepared};
+ghost use Rattle.gic_course.specs.Ways.{way_by_count, way_from};
 
+use crate::ready::Way;
 use crate::room::Room;
-use crate::switched::SwitchedNet;
-use crate::walking::put_in_force;
 use gic_bases::prepare;
 use gic_bound::BoundVector;
 use gic_case::Case;
@@ -29,10 +27,10 @@ use std::sync::ledger::{Blank, Ledger};
 
 /// Leaves in `vector` a bound vector of a network that is earthed within 4096, found from what that was.
 fn fill_bound(net: &Net, vector: &mut BoundVector, start: &mut Start)
-    requires room { AreForNodes net.now.network.nodes vector.old start.old }
+    requires room { IsStartForNodes net.now.network.nodes vector.old start.old }
     requires within { IsEarthedWithin (standing net.now) MOST_WALK }
     ensures bound { IsBoundWithin (standing net.now) MOST_WALK (slice_index vector.new) }
-    ensures room { AreForNodes net.now.network.nodes vector.new start.new }
+    ensures room { IsStartForNodes net.now.network.nodes vector.new start.new }
 {
     // It is found, since there is one.
     let _found = find_bound(net, vector, start);
@@ -44,7 +42,7 @@ fn prepare_uncounted<L: Ledger>(case: &Case, net: &Net, room: &mut Room, blank: 
     requires parts { blank.parts ≡ L.parts }
     requires some { 0 < blank.parts }
     requires network { net.now.network ≡ elements_of case.now }
-    requires room { IsRoomFor case.now room.old }
+    requires room { IsRoomForCourse case.now room.old }
     requires bound { IsBoundWithin (standing net.now) MOST_WALK (slice_index room.old.vector) }
     ensures { IsPrepared case.now net.now room.old room.new }
 {
@@ -61,24 +59,49 @@ fn prepare_uncounted<L: Ledger>(case: &Case, net: &Net, room: &mut Room, blank: 
     );
 }
 
-/// Puts the switchings of an epoch in force, and makes the net, a bound vector of it and the bases ready for each step
-/// of it. Takes no memory.
+/// Makes bases ready where the steps of an epoch are enough for them, and tells how its steps are shown.
+fn settle_epoch(inputs: &StormInputs, epoch: Epoch, net: &Net, room: &mut Room) -> Way
+    requires epoch { IsEpochOf inputs.now epoch }
+    requires network { net.now.network ≡ elements_of inputs.now.inputs.case }
+    requires room { IsRoomForCourse inputs.now.inputs.case room.old }
+    requires bound { IsBoundWithin (standing net.now) MOST_WALK (slice_index room.old.vector) }
+    ensures settled { IsSettledBy result inputs.now.inputs.case net.now room.new }
+    ensures way { result ≡ way_by_count epoch inputs.now.storm.zones }
+    ensures room { IsRoomForCourse inputs.now.inputs.case room.new }
+{
+    match Way::by_count(epoch, inputs.storm.zones()) {
+        Way::Solve => Way::Solve,
+        Way::Combine => {
+            prepare_uncounted::<Brand>(&inputs.inputs.case, net, room, Blank::new(1));
+            Way::Combine
+        }
+    }
+}
+
+/// Makes a bound vector of the net ready, and bases where the steps of the epoch are enough for them, but for what is kept;
+/// and tells how the steps of the epoch are shown. Takes no memory.
 pub(crate) fn prepare_epoch(
     inputs: &StormInputs,
     epoch: Epoch,
-    switched: &mut SwitchedNet,
+    kept: Option<Way>,
+    net: &Net,
     room: &mut Room,
-)
-    requires storm { IsStormOf inputs.now }
+) -> Way
     requires epoch { IsEpochOf inputs.now epoch }
-    requires solvable { IsMet Solved (storm_steps inputs.now) }
-    requires switched { IsSwitchedFor inputs.now switched.old }
-    requires room { IsRoomFor inputs.now.inputs.case room.old }
-    ensures ready { IsReady inputs.now (Some epoch) switched.new.net room.new }
-    ensures switched { IsSwitchedFor inputs.now switched.new }
-    ensures room { IsRoomFor inputs.now.inputs.case room.new }
+    requires solvable { IsSolvable (standing net.now) }
+    requires network { net.now.network ≡ elements_of inputs.now.inputs.case }
+    requires room { IsRoomForCourse inputs.now.inputs.case room.old }
+    requires kept { IfSome kept (λ way. IsSettledBy way inputs.now.inputs.case net.now room.old) }
+    ensures settled { IsSettledBy result inputs.now.inputs.case net.now room.new }
+    ensures way { result ≡ way_from kept epoch inputs.now.storm.zones }
+    ensures room { IsRoomForCourse inputs.now.inputs.case room.new }
 {
-    put_in_force(inputs, epoch, switched);
-    fill_bound(&switched.net, &mut room.vector, &mut room.start);
-    prepare_uncounted::<Brand>(&inputs.inputs.case, &switched.net, room, Blank::new(1));
+    match kept {
+        Some(Way::Combine) => Way::Combine,
+        Some(Way::Solve) => settle_epoch(inputs, epoch, net, room),
+        None => {
+            fill_bound(net, &mut room.vector, &mut room.start);
+            settle_epoch(inputs, epoch, net, room)
+        }
+    }
 }

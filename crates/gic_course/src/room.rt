@@ -1,7 +1,7 @@
 //! What a course writes to.
 ghost use Rattle.std.specs.Prelude.{◌≡◌, length, IfOk};
 ghost use Rattle.gic_winding.specs.ElementList.{elements_of};
-ghost use Rattle.gic_course.specs.RoomFor.{IsRoomFor};
+ghost use Rattle.gic_course.specs.RoomFor.{IsRoomForCourse};
 
 use gic_base::OutOfMemory;
 use gic_bases::Bases;
@@ -39,7 +39,7 @@ pub(crate) fn make_room(
 ) -> Result<Room, OutOfMemory>
     requires elements { elements.now ≡ elements_of case.now }
     requires zones { zones ≡ length case.now.zones }
-    ensures { IfOk result (IsRoomFor case.now) }
+    ensures { IfOk result (IsRoomForCourse case.now) }
 {
     line_items_law();
     let nodes = elements.nodes();

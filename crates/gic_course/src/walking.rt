@@ -1,5 +1,5 @@
 //! The walk over the epochs of a storm, which tells whether the network can be solved in each.
-ghost use Rattle.std.specs.Prelude.{ℕ, ◌≡◌, OnOk, IfErr};
+ghost use Rattle.std.specs.Prelude.{ℕ, ◌≡◌, OnOk, IfErr, IsTrue, IsFalse};
 ghost use Rattle.gic_epoch.specs.Epochs.{AreEpochs};
 ghost use Rattle.gic_net.specs.Net.{standing};
 ghost use Rattle.gic_winding.specs.ElementList.{elements_of};
@@ -8,8 +8,9 @@ ghost use Rattle.gic_inputs.specs.Inputs.{rows_in};
 ghost use Rattle.gic_stand.specs.Standing.{IsSolvable};
 ghost use Rattle.gic_course.specs.Epochs.{HasStep, IsEpochOf};
 ghost use Rattle.gic_course.specs.Ready.{IsSwitchedFor};
-ghost use Rattle.gic_course.specs.RoomFor.{IsRoomFor};
+ghost use Rattle.gic_course.specs.RoomFor.{IsRoomForCourse};
 ghost use Rattle.gic_course.specs.Steps.{standing_at_step, storm_steps};
+ghost use Rattle.gic_course.specs.Switched.{changes_to};
 
 use crate::room::Room;
 use crate::switched::SwitchedNet;
@@ -19,45 +20,54 @@ use gic_inputs::StormInputs;
 use gic_net::Net;
 use gic_stand::{NetworkRefusal, expect_earthed, expect_resolved};
 
-/// Puts the switchings of an epoch in force, and no others.
-pub(crate) fn put_in_force(inputs: &StormInputs, epoch: Epoch, switched: &mut SwitchedNet)
+/// Puts the switchings of an epoch in force, and no others, and tells whether what stands may have changed.
+pub(crate) fn put_in_force(inputs: &StormInputs, epoch: Epoch, switched: &mut SwitchedNet) -> bool
     requires epoch { IsEpochOf inputs.now epoch }
     requires switched { IsSwitchedFor inputs.now switched.old }
     ensures stands { (number : ℕ) → HasStep number epoch → standing switched.new.net ≡ standing_at_step inputs.now number }
     ensures switched { IsSwitchedFor inputs.now switched.new }
+    ensures changed { result ≡ changes_to switched.old (rows_in inputs.now.inputs.switchings) epoch.through }
+    ensures same { IsFalse result → switched.new.net ≡ switched.old.net }
 {
-    switched.switch_to(inputs.rows(), epoch.through);
+    switched.switch_to(inputs.rows(), epoch.through)
 }
 
 /// Whether the network can be solved, at the step of this number. Takes no memory.
 fn expect_network(case: &Case, net: &Net, step: u32, room: &mut Room) -> Result<(), NetworkRefusal>
     requires network { net.now.network ≡ elements_of case.now }
-    requires room { IsRoomFor case.now room.old }
+    requires room { IsRoomForCourse case.now room.old }
     ensures solvable { OnOk result (IsSolvable (standing net.now)) }
     ensures err { IfErr result (Fails Solved case.now step (standing net.now)) }
-    ensures room { IsRoomFor case.now room.new }
+    ensures room { IsRoomForCourse case.now room.new }
 {
     expect_earthed(case, net, step, &mut room.scratch)?;
     expect_resolved(case, net, step, &mut room.vector, &mut room.start)?;
     Ok(())
 }
 
-/// Whether the network can be solved in an epoch: if not, its first step is told. Takes no memory.
+/// Whether the network can be solved in an epoch: if not, its first step is told. Where the net as it stands was seen to be
+/// solvable, and stays, there is no second look. Takes no memory.
 fn expect_epoch(
     inputs: &StormInputs,
     epoch: Epoch,
+    seen: bool,
     switched: &mut SwitchedNet,
     room: &mut Room,
 ) -> Result<(), NetworkRefusal>
     requires epoch { IsEpochOf inputs.now epoch }
     requires switched { IsSwitchedFor inputs.now switched.old }
-    requires room { IsRoomFor inputs.now.inputs.case room.old }
+    requires room { IsRoomForCourse inputs.now.inputs.case room.old }
+    requires seen { IsTrue seen → IsSolvable (standing switched.old.net) }
+    ensures net { OnOk result (IsSolvable (standing switched.new.net)) }
     ensures solvable { OnOk result ((number : ℕ) → HasStep number epoch → IsSolvable (standing_at_step inputs.now number)) }
     ensures err { IfErr result (Fails Solved inputs.now.inputs.case epoch.first (standing_at_step inputs.now epoch.first)) }
     ensures switched { IsSwitchedFor inputs.now switched.new }
-    ensures room { IsRoomFor inputs.now.inputs.case room.new }
+    ensures room { IsRoomForCourse inputs.now.inputs.case room.new }
 {
-    put_in_force(inputs, epoch, switched);
+    let changed = put_in_force(inputs, epoch, switched);
+    if seen && !changed {
+        return Ok(());
+    }
     expect_network(&inputs.inputs.case, &switched.net, epoch.first, room)?;
     Ok(())
 }
@@ -71,14 +81,14 @@ pub(crate) fn expect_epochs(
 ) -> Result<(), NetworkRefusal>
     requires epochs { AreEpochs inputs.now.storm.rows (rows_in inputs.now.inputs.switchings) epochs.now }
     requires switched { IsSwitchedFor inputs.now switched.old }
-    requires room { IsRoomFor inputs.now.inputs.case room.old }
+    requires room { IsRoomForCourse inputs.now.inputs.case room.old }
     ensures met { OnOk result (IsMet Solved (storm_steps inputs.now)) }
     ensures unmet { IfErr result (IsUnmet Solved inputs.now.inputs.case (storm_steps inputs.now)) }
     ensures switched { IsSwitchedFor inputs.now switched.new }
-    ensures room { IsRoomFor inputs.now.inputs.case room.new }
+    ensures room { IsRoomForCourse inputs.now.inputs.case room.new }
 {
-    for epoch in epochs {
-        expect_epoch(inputs, *epoch, switched, room)?;
+    for (place, epoch) in epochs.iter().enumerate() {
+        expect_epoch(inputs, *epoch, place > 0, switched, room)?;
     }
     Ok(())
 }

@@ -4,7 +4,7 @@ use Rattle.gic_model.specs.Standing.{IsLive, is_live}
 use Rattle.gic_model.specs.Solution.{Solution, IsSolution}
 use Rattle.gic_fixed.specs.Encloses.{Encloses}
 use Rattle.gic_model.specs.Sums.{Placed}
-use Rattle.gic_enclose.specs.Ends.{ends_at}
+use Rattle.gic_enclose.specs.Ends.{potential_ends}
 use Rattle.gic_fixed.specs.Ends.{Ends, no_ends, IsAtMostWide}
 
 -- the interval holds the potential of the node k in every solution, where k is live, and is the point 0 where it is dead
@@ -14,7 +14,7 @@ pub record IsCertainAt (standing : List Placed) (volts : ℕ → ℤ) (k : ℕ) 
 
 -- so does each node's interval
 abbrev pub AreCertain : List Placed → (ℕ → ℤ) → List Ends → Type 0
-AreCertain standing volts potentials = (k : ℕ) → IsCertainAt standing volts k (ends_at potentials k)
+AreCertain standing volts potentials = (k : ℕ) → IsCertainAt standing volts k (potential_ends potentials k)
 
 -- at most 2^43 grains wide
 abbrev pub IsNarrow : Ends → Type 0

@@ -7,14 +7,14 @@ use Rattle.gic_fixed.specs.Ends.{Ends, no_ends}
 use Rattle.gic_model.specs.Guess.{most_guess}
 
 -- the ends at the node k, and each of them
-abbrev pub ends_at : List Ends → ℕ → Ends
-ends_at potentials k = slice_index_or potentials k no_ends
+abbrev pub potential_ends : List Ends → ℕ → Ends
+potential_ends potentials k = slice_index_or potentials k no_ends
 
 abbrev pub low_at : List Ends → ℕ → ℤ
-low_at potentials k = (ends_at potentials k).low
+low_at potentials k = (potential_ends potentials k).low
 
 abbrev pub high_at : List Ends → ℕ → ℤ
-high_at potentials k = (ends_at potentials k).high
+high_at potentials k = (potential_ends potentials k).high
 
 -- all ends are within the limit of guesses, either way
 abbrev pub AreSmall : List Interval → Type 0

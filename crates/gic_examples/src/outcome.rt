@@ -3,7 +3,8 @@ ghost use Rattle.std.specs.Prelude.{None};
 
 use crate::attached::{NeverBegun, ViewCounter};
 use crate::files::{TextFile, bytes_of};
-use gic_base::{MemoryLibrary, MemorySink, Sink, WriteFailed};
+use gic_base::{MemorySink, Sink, WriteFailed};
+use gic_files::MemoryLibrary;
 use gic_loss::VoltLoss;
 use gic_monitor::{DwellMonitor, EarthMonitor, Monitor};
 use gic_study::gicstudy;

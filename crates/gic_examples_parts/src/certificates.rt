@@ -6,7 +6,7 @@ use gic_base::{MemorySink, NodeId};
 use gic_bound::{BoundVector, rows_positive};
 use gic_case::Case;
 use gic_case_reader::read_case;
-use gic_cert::{Cert, CertRefusal, check, read_cert, write_cert};
+use gic_cert::{Cert, CertRefusal, check, make_cert_room, read_cert, write_cert};
 use gic_model::Volts;
 use gic_net::Net;
 use gic_sweep::{Solver, is_settled};
@@ -133,15 +133,16 @@ fn made(alloc: Global, grounded: &Grounded) -> Result<Option<Cert>, Fail>
     if !is_settled(&grounded.net, &grounded.volts, &mut solver) {
         return Ok(None);
     }
+    let room = make_cert_room(alloc, nodes)?;
     let cert = Cert::from_solver(
-        alloc,
+        room,
         &grounded.net,
         &grounded.volts,
         -7,
         500,
         &solver,
         &vector,
-    )?;
+    );
     Ok(Some(cert))
 }
 

@@ -1,10 +1,27 @@
 //! Cases made from the seed 7, with the most sites and with the fewest.
-use gic_base::MemorySink;
+ghost use Rattle.std.specs.Prelude.{◌≤◌};
+
+use gic_base::{MemorySink, OutOfMemory};
 use gic_case::Kind;
-use gic_make::make_case;
-use gic_make_mode::make;
+use gic_make::{LEAST_SIZE, MOST_SIZE, make_case};
+use gic_make_mode::{make, make_room};
 use gic_winding::elements;
+use std::alloc::Global;
 use std::test::Fail;
+
+/// Whether the whole report of a made case was written.
+fn is_written(
+    alloc: Global,
+    seed: u32,
+    size: u16,
+    out: &mut MemorySink,
+) -> Result<bool, OutOfMemory>
+    requires least { LEAST_SIZE ≤ size }
+    requires most { size ≤ MOST_SIZE }
+{
+    let mut room = make_room(alloc, seed, size)?;
+    Ok(make(seed, size, &mut room, out).is_ok())
+}
 
 /// The seed 7 and a thousand sites.
 #[test]
@@ -39,8 +56,8 @@ fn make_large(rt: HostRuntime) -> Result<(), Fail> {
 fn make_two_sites(rt: HostRuntime) -> Result<(), Fail> {
     let alloc = rt.alloc();
     let mut out = MemorySink::new(alloc, Vec::new(alloc));
-    let made = make(alloc, 7, 2, &mut out);
-    assert!(rt; made.is_ok());
+    let written = is_written(alloc, 7, 2, &mut out)?;
+    assert!(rt; written);
     assert!(rt;
         out.bytes()
             .starts_with(b"make\nseed 7 size 2\nnodes 4 elements 5\nwalk ")

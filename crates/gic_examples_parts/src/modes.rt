@@ -1,10 +1,46 @@
 //! The modes over a storm, with switchings.
+ghost use Rattle.std.specs.Prelude.{◌<◌, length};
+ghost use Rattle.gic_question.specs.Ranges.{IsWithinRanges};
+ghost use Rattle.gic_inputs.specs.Inputs.{IsStormOf};
+
 use crate::inputs::{LINE_SWITCHED, read_inputs};
-use gic_base::MemorySink;
+use gic_base::{MemorySink, OutOfMemory};
+use gic_inputs::StormInputs;
 use gic_monitor::{DwellMonitor, EarthMonitor, Monitor};
 use gic_series::series;
 use gic_study_mode::study;
+use std::alloc::Global;
 use std::test::Fail;
+
+/// Whether the whole of a study was written, with the step of this number in detail.
+fn is_study_written(
+    alloc: Global,
+    inputs: &StormInputs,
+    detail: u32,
+    monitors: Vec<Box<dyn Monitor>>,
+    out: &mut MemorySink,
+) -> Result<bool, OutOfMemory>
+    requires ranges { IsWithinRanges inputs.now.inputs.question }
+    requires storm { IsStormOf inputs.now }
+{
+    let mut room = gic_study_mode::make_room(alloc, inputs, Some(detail), monitors)?;
+    Ok(study(alloc, inputs, Some(detail), &mut room, out).is_ok())
+}
+
+/// Whether the whole of a transformer's series was written.
+fn is_series_written(
+    alloc: Global,
+    inputs: &StormInputs,
+    transformer: u16,
+    out: &mut MemorySink,
+) -> Result<bool, OutOfMemory>
+    requires ranges { IsWithinRanges inputs.now.inputs.question }
+    requires storm { IsStormOf inputs.now }
+    requires transformer { transformer < length inputs.now.inputs.case.transformers }
+{
+    let mut room = gic_series::make_room(alloc, inputs)?;
+    Ok(series(inputs, transformer, &mut room, out).is_ok())
+}
 
 fn is_at_most(word: Option<&str>, number: i64) -> bool {
     match word {
@@ -43,8 +79,8 @@ fn peaks_with_switchings(rt: HostRuntime) -> Result<(), Fail> {
     monitors.push(Box::new(alloc, DwellMonitor::new(alloc))?)?;
     monitors.push(Box::new(alloc, EarthMonitor::new(alloc))?)?;
     let mut out = MemorySink::new(alloc, Vec::new(alloc));
-    let answer = study(alloc, &inputs, Some(2), monitors, &mut out);
-    assert!(rt; answer.is_ok());
+    let written = is_study_written(alloc, &inputs, 2, monitors, &mut out)?;
+    assert!(rt; written);
     let text = std::str::from_utf8(out.bytes())?;
     assert!(rt;
         text.starts_with(
@@ -67,8 +103,8 @@ fn series_with_switchings(rt: HostRuntime) -> Result<(), Fail> {
     let inputs = read_inputs(alloc, rows, 100)?;
     assert!(rt; !inputs.inputs.case.transformers().is_empty());
     let mut out = MemorySink::new(alloc, Vec::new(alloc));
-    let answer = series(alloc, &inputs, 0, &mut out);
-    assert!(rt; answer.is_ok());
+    let written = is_series_written(alloc, &inputs, 0, &mut out)?;
+    assert!(rt; written);
     let text = std::str::from_utf8(out.bytes())?;
     assert!(rt; text.starts_with("series\nwidth 100 transformer TA steps 3\nstep 1 time 0 "));
     assert!(rt; text.contains("\nstep 2 time 60 0 0\nstep 3 time 120 "));

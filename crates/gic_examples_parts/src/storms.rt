@@ -1,4 +1,5 @@
 //! Storms over two zones: rows that are refused, the most rows, and the fields of each step.
+use gic_base::ReadFault;
 use gic_case_reader::read_case;
 use gic_induce::Fields;
 use gic_storm::{StormField, StormRefusal, fill_fields, read_storm};
@@ -51,7 +52,7 @@ fn tells_the_first_broken_rule(rt: HostRuntime) -> Result<(), Fail> {
     for (text, refusal) in table {
         match read_storm(rt.alloc(), text.as_bytes(), &case) {
             Ok(_) => assert!(rt; false, "accepted: {text}"),
-            Err(told) => assert_eq!(rt; told, refusal, "at {text}"),
+            Err(told) => assert_eq!(rt; told, ReadFault::Refused(refusal), "at {text}"),
         }
     }
     Ok(())
@@ -69,7 +70,7 @@ fn counts_rows(rt: HostRuntime) -> Result<(), Fail> {
     text.push_str("0,*,0,0\n")?;
     match read_storm(rt.alloc(), text.as_str().as_bytes(), &case) {
         Ok(_) => assert!(rt; false, "accepted"),
-        Err(told) => assert_eq!(rt; told, StormRefusal::TooMany),
+        Err(told) => assert_eq!(rt; told, ReadFault::Refused(StormRefusal::TooMany)),
     }
     Ok(())
 }

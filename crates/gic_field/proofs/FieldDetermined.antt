@@ -10,9 +10,9 @@ use Rattle.gic_text.proofs.Words.{word_from_test}
 use Rattle.gic_case.specs.declared.item.Transformer.{Transformer}
 use Rattle.gic_case.specs.Lists.{Lists, node_names}
 use Rattle.gic_report.specs.SharedLines.{Words, word_line}
-use Rattle.gic_report.specs.ItemText.{effective_lines, node_lines, row_lines, rows_of}
+use Rattle.gic_report.specs.ItemText.{effective_lines, node_lines, row_lines, item_rows_of}
 use Rattle.gic_report.specs.declared.rows.ItemRow.{ItemRow}
-use Rattle.gic_field.specs.FieldText.{field_report, setting_line}
+use Rattle.gic_field.specs.FieldText.{field_report, field_setting_line}
 use Rattle.gic_report.specs.VerdictText.{transformer_lines}
 use Rattle.gic_field.specs.Determines.{AreShownOf, ShowsSame, TextDeterminesField}
 use Rattle.gic_report.proofs.ShownViews.{AreNamed, IsShown, are_items, case_named, case_shown, same_items}
@@ -28,7 +28,7 @@ module _ (names : List (List ℕ)) (rows : List ItemRow) (ts : List Transformer)
   body threshold view = node_lines names view.nodes ++ (row_lines rows view.elements ++ behind threshold view)
 
   abbrev pub lines : (north east : ℤ) (width threshold : ℕ) → View → List Words
-  lines north east width threshold view = word_line (codes "field") ∷ setting_line north east width threshold ∷ body threshold view
+  lines north east width threshold view = word_line (codes "field") ∷ field_setting_line north east width threshold ∷ body threshold view
 
   -- the numbers fit, and the view can be shown of these
   pub record Shown (north east : ℤ) (width threshold : ℕ) (view : View) : Type 0 where
@@ -38,7 +38,7 @@ module _ (names : List (List ℕ)) (rows : List ItemRow) (ts : List Transformer)
     pub threshold_fits : threshold < 2 ^ 32
     pub view_shown : IsShown names rows ts view
 
-  setting_words : (north east : ℤ) (width threshold : ℕ) (view : View) → Shown north east width threshold view → IsLine (setting_line north east width threshold)
+  setting_words : (north east : ℤ) (width threshold : ℕ) (view : View) → Shown north east width threshold view → IsLine (field_setting_line north east width threshold)
   setting_words north east width threshold view s = (
     word_from_test (codes "north") refl,
     (
@@ -70,8 +70,8 @@ module _ (names : List (List ℕ)) (rows : List ItemRow) (ts : List Transformer)
   field_determined north east width threshold view north' east' width' threshold' view' named s s' e =
       let words = lines_injective (lines north east width threshold view) (lines north' east' width' threshold' view')
       (are_lines north east width threshold view named s) (are_lines north' east' width' threshold' view' named s') e in
-      let both : word_line (codes "field") ∷ setting_line north east width threshold ∷ body threshold view ≡ word_line (codes "field") ∷ setting_line north' east' width' threshold' ∷ body threshold' view' = words in
-      let setting : setting_line north east width threshold ≡ setting_line north' east' width' threshold' = ap (λ ls. first_of_lines ls) (ap (drop 1) words) in
+      let both : word_line (codes "field") ∷ field_setting_line north east width threshold ∷ body threshold view ≡ word_line (codes "field") ∷ field_setting_line north' east' width' threshold' ∷ body threshold' view' = words in
+      let setting : field_setting_line north east width threshold ≡ field_setting_line north' east' width' threshold' = ap (λ ls. first_of_lines ls) (ap (drop 1) words) in
       let later : body threshold view ≡ body threshold' view' = ap (drop 2) words in
       let items = same_items names rows ts view view' (behind threshold view) (behind threshold' view') s.view_shown s'.view_shown later in
       record {
@@ -90,14 +90,14 @@ shifted : (a b c d x : List Words) → ((a ++ (b ++ c)) ++ d) ++ x ≡ a ++ (b +
 shifted a b c d x = append_assoc (a ++ (b ++ c)) d x ∙ append_assoc a (b ++ c) (d ++ x) ∙ ap (λ l. a ++ l) (append_assoc b c (d ++ x))
 
 report_lines : (case : Lists) (north east : ℤ) (width threshold : ℕ) (view : View)
-    → field_report case north east width threshold view ≡ lines (node_names case) (rows_of case) case.transformers north east width threshold view
+    → field_report case north east width threshold view ≡ lines (node_names case) (item_rows_of case) case.transformers north east width threshold view
 report_lines case north east width threshold view =
-    ap (λ ls. word_line (codes "field") ∷ setting_line north east width threshold ∷ ls)
-    (shifted (node_lines (node_names case) view.nodes) (row_lines (rows_of case) view.elements) (effective_lines case.transformers view.effective)
+    ap (λ ls. word_line (codes "field") ∷ field_setting_line north east width threshold ∷ ls)
+    (shifted (node_lines (node_names case) view.nodes) (row_lines (item_rows_of case) view.elements) (effective_lines case.transformers view.effective)
     (transformer_lines threshold case.transformers view.effective) (word_line (codes "end") ∷ []))
 
 shown_of : (case : Lists) (north east : ℤ) (width threshold : ℕ) (view : View) → AreShownOf case north east width threshold view
-    → Shown (node_names case) (rows_of case) case.transformers north east width threshold view
+    → Shown (node_names case) (item_rows_of case) case.transformers north east width threshold view
 shown_of case north east width threshold view r = record {
   north_fits = r.north_fits;
   east_fits = r.east_fits;
@@ -110,5 +110,5 @@ shown_of case north east width threshold view r = record {
 pub report_determined : TextDeterminesField
 report_determined case named north east width threshold view north' east' width' threshold' view' p q e =
     let text = ap lines_text (sym (report_lines case north east width threshold view)) ∙ e ∙ ap lines_text (report_lines case north' east' width' threshold' view') in
-    field_determined (node_names case) (rows_of case) case.transformers north east width threshold view north' east' width' threshold' view' (case_named case named)
+    field_determined (node_names case) (item_rows_of case) case.transformers north east width threshold view north' east' width' threshold' view' (case_named case named)
     (shown_of case north east width threshold view p) (shown_of case north' east' width' threshold' view' q) text

@@ -8,12 +8,12 @@ use Rattle.gic_report.specs.ItemText.{signed_lines}
 use Rattle.gic_report.specs.VerdictText.{transformer_lines}
 
 -- the line of what is asked: the field's parts in mV/km, the width in mV and mA, and the threshold in mA per phase
-abbrev pub setting_line : (north east : ℤ) → (width threshold : ℕ) → Words
-setting_line north east width threshold =
+abbrev pub field_setting_line : (north east : ℤ) → (width threshold : ℕ) → Words
+field_setting_line north east width threshold =
     codes "north" ∷ signed_decimal north ∷ codes "east" ∷ signed_decimal east ∷ codes "width" ∷ decimal width ∷ codes "threshold" ∷ decimal threshold ∷ []
 
 -- the lines of the report of the view in a uniform field
 abbrev pub field_report : Lists → (north east : ℤ) → (width threshold : ℕ) → View → List Words
 field_report case north east width threshold view =
-    word_line (codes "field") ∷ setting_line north east width threshold ∷
+    word_line (codes "field") ∷ field_setting_line north east width threshold ∷
     ((signed_lines case view ++ transformer_lines threshold case.transformers view.effective) ++ word_line (codes "end") ∷ [])

@@ -1,3 +1,4 @@
 pub mod FieldText
 pub mod RightField
 pub mod Determines
+pub mod Made

@@ -7,7 +7,7 @@ ghost use Rattle.gic_text.specs.Lines.{line_text, lines_text};
 ghost use Rattle.gic_view.specs.Absolute.{HasAbsolute};
 ghost use Rattle.gic_report.specs.ItemText.{signed_lines};
 ghost use Rattle.gic_report.specs.VerdictText.{transformer_lines};
-ghost use Rattle.gic_field.specs.FieldText.{setting_line, field_report};
+ghost use Rattle.gic_field.specs.FieldText.{field_setting_line, field_report};
 
 use gic_base::{Sink, WriteFailed, write_all};
 use gic_case::Case;
@@ -32,9 +32,9 @@ fn write_setting<S: Sink>(
     out: &mut S,
 ) -> Result<(), WriteFailed>
     ensures all { OnOk result (Appends (S.written out.old) (S.written out.new)
-        (line_text (setting_line setting.now.north setting.now.east setting.now.width setting.now.threshold))) }
+        (line_text (field_setting_line setting.now.north setting.now.east setting.now.width setting.now.threshold))) }
     ensures part { AppendsPart (S.written out.old) (S.written out.new)
-        (line_text (setting_line setting.now.north setting.now.east setting.now.width setting.now.threshold)) }
+        (line_text (field_setting_line setting.now.north setting.now.east setting.now.width setting.now.threshold)) }
     ensures cause { HasCause (S.faults out.old) (S.faults out.new) result }
 {
     line.start();

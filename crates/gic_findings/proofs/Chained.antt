@@ -6,7 +6,7 @@ use Rattle.std.specs.List.{list_any}
 use Rattle.gic_model.specs.declared.parts.Element.{Element}
 use Rattle.gic_model.specs.Network.{is_node}
 use Rattle.gic_model.specs.Earthing.{joins}
-use Rattle.gic_findings.specs.Chains.{IsJoined, IsChain, AreTogether}
+use Rattle.gic_findings.specs.Chains.{HasElementBetween, IsChain, AreTogether}
 
 no_way : false ≡ true → ⊥
 no_way e = cc
@@ -26,14 +26,14 @@ joins_turned k m e h = elim (or_cases ((e.from.0 == k) && is_node e.to m) ((e.fr
   | inr other ↦ or_left ((e.from.0 == m) && is_node e.to k) ((e.from.0 == k) && is_node e.to m) other
 ]
 
-pub joined_turned : (es : List Element) (k m : ℕ) → IsJoined es k m → IsJoined es m k
+pub joined_turned : (es : List Element) (k m : ℕ) → HasElementBetween es k m → HasElementBetween es m k
 joined_turned es k m h = any_weaker (joins k m) (joins m k) (λ e is. joins_turned k m e is) es h
 
 -- a node belongs to itself, and to what it is joined to
 pub together_itself : (es : List Element) (k : ℕ) → AreTogether es k k
 together_itself es k = record { over = []; chain = refl }
 
-pub together_by : (es : List Element) (k m : ℕ) → IsJoined es k m → AreTogether es k m
+pub together_by : (es : List Element) (k m : ℕ) → HasElementBetween es k m → AreTogether es k m
 together_by es k m h = record { over = m ∷ []; chain = (h, refl) }
 
 -- one chain after another
@@ -53,7 +53,7 @@ pub together_turned : (es : List Element) (k m : ℕ) → AreTogether es k m →
 together_turned es k m h = turned es k m h.over h.chain
 
 -- over more elements
-pub joined_more : (es more : List Element) (k m : ℕ) → IsJoined es k m → IsJoined (es ++ more) k m
+pub joined_more : (es more : List Element) (k m : ℕ) → HasElementBetween es k m → HasElementBetween (es ++ more) k m
 joined_more es more k m h = list_any-append (joins k m) es more ∙ or_left (list_any (joins k m) es) (list_any (joins k m) more) h
 
 chain_more : (es more : List Element) (k m : ℕ) (over : List ℕ) → IsChain es k over m → IsChain (es ++ more) k over m
@@ -64,19 +64,19 @@ pub together_more : (es more : List Element) (k m : ℕ) → AreTogether es k m 
 together_more es more k m h = record { over = h.over; chain = chain_more es more k m h.over h.chain }
 
 -- the last element joins two nodes, or those before do
-pub joined_last : (es : List Element) (e : Element) (k m : ℕ) → joins k m e ≡ true → IsJoined (es ++ e ∷ []) k m
+pub joined_last : (es : List Element) (e : Element) (k m : ℕ) → joins k m e ≡ true → HasElementBetween (es ++ e ∷ []) k m
 joined_last es e k m h = list_any-append (joins k m) es (e ∷ []) ∙ or_right (list_any (joins k m) es) (joins k m e || false) (or_left (joins k m e) false h)
 
-pub joined_split : (es : List Element) (e : Element) (k m : ℕ) → IsJoined (es ++ e ∷ []) k m → IsJoined es k m ⊎ (joins k m e ≡ true)
+pub joined_split : (es : List Element) (e : Element) (k m : ℕ) → HasElementBetween (es ++ e ∷ []) k m → HasElementBetween es k m ⊎ (joins k m e ≡ true)
 joined_split es e k m h = elim (or_cases (list_any (joins k m) es) (joins k m e || false) (sym (list_any-append (joins k m) es (e ∷ [])) ∙ h)) [
   | inl before ↦ inl before
   | inr last ↦ elim (or_cases (joins k m e) false last) [ inl is ↦ inr is | inr never ↦ absurd (no_way never) ]
 ]
 
 -- what is the same at joined nodes is the same at both ends of a chain
-along : (f : ℕ → ℕ) (es : List Element) → ((k m : ℕ) → IsJoined es k m → f k ≡ f m) → (k m : ℕ) (over : List ℕ) → IsChain es k over m → f k ≡ f m
+along : (f : ℕ → ℕ) (es : List Element) → ((k m : ℕ) → HasElementBetween es k m → f k ≡ f m) → (k m : ℕ) (over : List ℕ) → IsChain es k over m → f k ≡ f m
 along f es step k m [] h = ap f h
 along f es step k m (next ∷ rest) h = step k next h.0 ∙ along f es step next m rest h.1
 
-pub same_together : (f : ℕ → ℕ) (es : List Element) → ((k m : ℕ) → IsJoined es k m → f k ≡ f m) → (k m : ℕ) → AreTogether es k m → f k ≡ f m
+pub same_together : (f : ℕ → ℕ) (es : List Element) → ((k m : ℕ) → HasElementBetween es k m → f k ≡ f m) → (k m : ℕ) → AreTogether es k m → f k ≡ f m
 same_together f es step k m h = along f es step k m h.over h.chain

@@ -11,46 +11,46 @@ use Rattle.gic_model.specs.declared.parts.Element.{Element}
 use Rattle.gic_model.specs.Network.{Network, is_node}
 use Rattle.gic_model.specs.Limits.{IsWithinLimits, IsElementWithin, IsEndWithin}
 use Rattle.gic_model.specs.Earthing.{joins}
-use Rattle.gic_findings.specs.Chains.{IsJoined, AreTogether}
-use Rattle.gic_findings.specs.Union.{lowered, united, united_to, firsts_with, firsts_of}
+use Rattle.gic_findings.specs.Chains.{HasElementBetween, AreTogether}
+use Rattle.gic_findings.specs.Union.{first_lowered, united, united_to, firsts_with, firsts_of}
 use Rattle.gic_findings.proofs.Chained.{together_itself, together_by, together_then, together_turned, together_more, joined_last, joined_split}
 
 no_way : false ≡ true → ⊥
 no_way e = cc
 
 -- the lower of two numbers in place of both: another number stays, and of the two one becomes the other or stays
-pub lowered_cases : (a b x : ℕ) → (lowered a b x ≡ x) ⊎ (((x ≡ a) × (lowered a b x ≡ b)) ⊎ ((x ≡ b) × (lowered a b x ≡ a)))
+pub lowered_cases : (a b x : ℕ) → (first_lowered a b x ≡ x) ⊎ (((x ≡ a) × (first_lowered a b x ≡ b)) ⊎ ((x ≡ b) × (first_lowered a b x ≡ a)))
 lowered_cases a b x = elim (cases_eq x (max a b)) [
   | inl top ↦ by top (rw (eq-eqb x (max a b) top) refl) (cases_lt a b)
   | inr other ↦ inl (rw (ne_eqb x (max a b) other) refl)
 ]
   where
-    by : x ≡ max a b → lowered a b x ≡ min a b → (a < b) ⊎ (b ≤ a) → (lowered a b x ≡ x) ⊎ (((x ≡ a) × (lowered a b x ≡ b)) ⊎ ((x ≡ b) × (lowered a b x ≡ a)))
-    by top low (inl h) = let y : ℕ = lowered a b x in let lows : y ≡ min a b = low in inr (inr (omega arith, omega arith))
-    by top low (inr h) = let y : ℕ = lowered a b x in let lows : y ≡ min a b = low in inr (inl (omega arith, omega arith))
+    by : x ≡ max a b → first_lowered a b x ≡ min a b → (a < b) ⊎ (b ≤ a) → (first_lowered a b x ≡ x) ⊎ (((x ≡ a) × (first_lowered a b x ≡ b)) ⊎ ((x ≡ b) × (first_lowered a b x ≡ a)))
+    by top low (inl h) = let y : ℕ = first_lowered a b x in let lows : y ≡ min a b = low in inr (inr (omega arith, omega arith))
+    by top low (inr h) = let y : ℕ = first_lowered a b x in let lows : y ≡ min a b = low in inr (inl (omega arith, omega arith))
 
 -- it is one number of both
 lowest : (a b x : ℕ) → (x ≡ a) ⊎ (x ≡ b) → (x ≡ max a b → ⊥) → x ≡ min a b
 lowest a b x (inl e) other = elim (cases_lt a b) [ inl h ↦ omega arith | inr h ↦ absurd (other (omega arith)) ]
 lowest a b x (inr e) other = elim (cases_lt a b) [ inl h ↦ absurd (other (omega arith)) | inr h ↦ omega arith ]
 
-lowered_one : (a b x : ℕ) → (x ≡ a) ⊎ (x ≡ b) → lowered a b x ≡ min a b
+lowered_one : (a b x : ℕ) → (x ≡ a) ⊎ (x ≡ b) → first_lowered a b x ≡ min a b
 lowered_one a b x is = elim (cases_eq x (max a b)) [
   | inl top ↦ rw (eq-eqb x (max a b) top) refl
   | inr other ↦ rw (ne_eqb x (max a b) other) (lowest a b x is other)
 ]
 
-pub lowered_both : (a b : ℕ) → (lowered a b a ≡ min a b) × (lowered a b b ≡ min a b)
+pub lowered_both : (a b : ℕ) → (first_lowered a b a ≡ min a b) × (first_lowered a b b ≡ min a b)
 lowered_both a b = (lowered_one a b a (inl refl), lowered_one a b b (inr refl))
 
-pub lowered_le : (a b x : ℕ) → lowered a b x ≤ x
+pub lowered_le : (a b x : ℕ) → first_lowered a b x ≤ x
 lowered_le a b x = elim (cases_eq x (max a b)) [
   | inl top ↦ rw (eq-eqb x (max a b) top) (omega arith)
   | inr other ↦ rw (ne_eqb x (max a b) other) (omega arith)
 ]
 
 -- past the end it is 0 before and after
-pub lowered_at : (a b : ℕ) (xs : List ℕ) (k : ℕ) → slice_index (map (lowered a b) xs) k ≡ lowered a b (slice_index xs k)
+pub lowered_at : (a b : ℕ) (xs : List ℕ) (k : ℕ) → slice_index (map (first_lowered a b) xs) k ≡ first_lowered a b (slice_index xs k)
 lowered_at a b [] k = let h = lowered_le a b 0 in omega (arith, h)
 lowered_at a b (x ∷ xs) zero = refl
 lowered_at a b (x ∷ xs) (suc k) = lowered_at a b xs k
@@ -60,7 +60,7 @@ pub record AreFirsts (nodes : ℕ) (es : List Element) (firsts : List ℕ) : Typ
   pub count : length firsts ≡ nodes
   pub least : (k : ℕ) → k < nodes → slice_index firsts k ≤ k
   pub itself : (k : ℕ) → k < nodes → slice_index firsts (slice_index firsts k) ≡ slice_index firsts k
-  pub joined : (k m : ℕ) → IsJoined es k m → slice_index firsts k ≡ slice_index firsts m
+  pub joined : (k m : ℕ) → HasElementBetween es k m → slice_index firsts k ≡ slice_index firsts m
   pub together : (k : ℕ) → k < nodes → AreTogether es k (slice_index firsts k)
 
 -- one more element between two nodes
@@ -72,40 +72,40 @@ module _ (nodes : ℕ) (es : List Element) (firsts : List ℕ) (h : AreFirsts no
   abbrev b : ℕ
   b = slice_index firsts to
 
-  new_at : (k : ℕ) → slice_index (united firsts e.from.0 to) k ≡ lowered a b (slice_index firsts k)
+  new_at : (k : ℕ) → slice_index (united firsts e.from.0 to) k ≡ first_lowered a b (slice_index firsts k)
   new_at k = lowered_at a b firsts k
 
   new_least : (k : ℕ) → k < nodes → slice_index (united firsts e.from.0 to) k ≤ k
   new_least k within = omega (arith, new_at k, lowered_le a b (slice_index firsts k), h.least k within)
 
-  itself_at : (x : ℕ) → slice_index firsts x ≡ x → slice_index (united firsts e.from.0 to) (lowered a b x) ≡ lowered a b x
+  itself_at : (x : ℕ) → slice_index firsts x ≡ x → slice_index (united firsts e.from.0 to) (first_lowered a b x) ≡ first_lowered a b x
   itself_at x is = elim (lowered_cases a b x) [
-    | inl same ↦ new_at (lowered a b x) ∙ ap (λ (y : ℕ). lowered a b (slice_index firsts y)) same ∙ ap (lowered a b) is
+    | inl same ↦ new_at (first_lowered a b x) ∙ ap (λ (y : ℕ). first_lowered a b (slice_index firsts y)) same ∙ ap (first_lowered a b) is
     | inr (inl first) ↦
-        let low : min a b ≡ b = sym (lowered_both a b).0 ∙ ap (lowered a b) (sym first.0) ∙ first.1 in
-        new_at (lowered a b x) ∙ ap (λ (y : ℕ). lowered a b (slice_index firsts y)) first.1 ∙ ap (lowered a b) (h.itself to to_in) ∙ (lowered_both a b).1 ∙ low ∙ sym first.1
+        let low : min a b ≡ b = sym (lowered_both a b).0 ∙ ap (first_lowered a b) (sym first.0) ∙ first.1 in
+        new_at (first_lowered a b x) ∙ ap (λ (y : ℕ). first_lowered a b (slice_index firsts y)) first.1 ∙ ap (first_lowered a b) (h.itself to to_in) ∙ (lowered_both a b).1 ∙ low ∙ sym first.1
     | inr (inr second) ↦
-        let low : min a b ≡ a = sym (lowered_both a b).1 ∙ ap (lowered a b) (sym second.0) ∙ second.1 in
-        new_at (lowered a b x) ∙ ap (λ (y : ℕ). lowered a b (slice_index firsts y)) second.1 ∙ ap (lowered a b) (h.itself e.from.0 from_in) ∙ (lowered_both a b).0 ∙ low ∙ sym second.1
+        let low : min a b ≡ a = sym (lowered_both a b).1 ∙ ap (first_lowered a b) (sym second.0) ∙ second.1 in
+        new_at (first_lowered a b x) ∙ ap (λ (y : ℕ). first_lowered a b (slice_index firsts y)) second.1 ∙ ap (first_lowered a b) (h.itself e.from.0 from_in) ∙ (lowered_both a b).0 ∙ low ∙ sym second.1
   ]
 
   new_itself : (k : ℕ) → k < nodes → slice_index (united firsts e.from.0 to) (slice_index (united firsts e.from.0 to) k) ≡ slice_index (united firsts e.from.0 to) k
   new_itself k within =
       ap (slice_index (united firsts e.from.0 to)) (new_at k) ∙ itself_at (slice_index firsts k) (h.itself k within) ∙ sym (new_at k)
 
-  both_ends : lowered a b a ≡ lowered a b b
+  both_ends : first_lowered a b a ≡ first_lowered a b b
   both_ends = (lowered_both a b).0 ∙ sym (lowered_both a b).1
 
-  step_joined : (k m : ℕ) → IsJoined (es ++ e ∷ []) k m → lowered a b (slice_index firsts k) ≡ lowered a b (slice_index firsts m)
+  step_joined : (k m : ℕ) → HasElementBetween (es ++ e ∷ []) k m → first_lowered a b (slice_index firsts k) ≡ first_lowered a b (slice_index firsts m)
   step_joined k m j = elim (joined_split es e k m j) [
-    | inl before ↦ ap (lowered a b) (h.joined k m before)
+    | inl before ↦ ap (first_lowered a b) (h.joined k m before)
     | inr last ↦ elim (ends k m last) [
-      | inl one ↦ ap (λ (n : ℕ). lowered a b (slice_index firsts n)) one.0 ∙ both_ends ∙ ap (λ (n : ℕ). lowered a b (slice_index firsts n)) (sym one.1)
-      | inr other ↦ ap (λ (n : ℕ). lowered a b (slice_index firsts n)) other.0 ∙ sym both_ends ∙ ap (λ (n : ℕ). lowered a b (slice_index firsts n)) (sym other.1)
+      | inl one ↦ ap (λ (n : ℕ). first_lowered a b (slice_index firsts n)) one.0 ∙ both_ends ∙ ap (λ (n : ℕ). first_lowered a b (slice_index firsts n)) (sym one.1)
+      | inr other ↦ ap (λ (n : ℕ). first_lowered a b (slice_index firsts n)) other.0 ∙ sym both_ends ∙ ap (λ (n : ℕ). first_lowered a b (slice_index firsts n)) (sym other.1)
     ]
   ]
 
-  new_joined : (k m : ℕ) → IsJoined (es ++ e ∷ []) k m → slice_index (united firsts e.from.0 to) k ≡ slice_index (united firsts e.from.0 to) m
+  new_joined : (k m : ℕ) → HasElementBetween (es ++ e ∷ []) k m → slice_index (united firsts e.from.0 to) k ≡ slice_index (united firsts e.from.0 to) m
   new_joined k m j = new_at k ∙ step_joined k m j ∙ sym (new_at m)
 
   -- from the first node of the one end to that of the other
@@ -114,7 +114,7 @@ module _ (nodes : ℕ) (es : List Element) (firsts : List ℕ) (h : AreFirsts no
       together_then (es ++ e ∷ []) a e.from.0 b (together_more es (e ∷ []) a e.from.0 (together_turned es e.from.0 a (h.together e.from.0 from_in)))
       (together_then (es ++ e ∷ []) e.from.0 to b (together_by (es ++ e ∷ []) e.from.0 to (joined_last es e e.from.0 to runs)) (together_more es (e ∷ []) to b (h.together to to_in)))
 
-  lowered_together : (k x : ℕ) → AreTogether es k x → AreTogether (es ++ e ∷ []) k (lowered a b x)
+  lowered_together : (k x : ℕ) → AreTogether es k x → AreTogether (es ++ e ∷ []) k (first_lowered a b x)
   lowered_together k x t =
       let before = together_more es (e ∷ []) k x t in
       elim (lowered_cases a b x) [
@@ -130,7 +130,7 @@ module _ (nodes : ℕ) (es : List Element) (firsts : List ℕ) (h : AreFirsts no
 
   pub one_joined : AreFirsts nodes (es ++ e ∷ []) (united firsts e.from.0 to)
   one_joined = record {
-    count = length-map firsts (lowered a b) ∙ h.count;
+    count = length-map firsts (first_lowered a b) ∙ h.count;
     least = new_least;
     itself = new_itself;
     joined = new_joined;

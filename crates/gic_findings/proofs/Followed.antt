@@ -8,44 +8,44 @@ use Rattle.gic_case.specs.Lists.{Lists, substation_at}
 use Rattle.gic_case.specs.Sound.{IsSound, IsSoundLine}
 use Rattle.gic_winding.proofs.Grids.{substation_within}
 use Rattle.gic_findings.specs.declared.finding.Finding.{Finding}
-use Rattle.gic_findings.specs.declared.places.Place.{Place}
+use Rattle.gic_findings.specs.declared.places.Position.{Position}
 use Rattle.gic_findings.specs.Spans.{span_of}
-use Rattle.gic_findings.specs.Places.{IsNear, carried}
-use Rattle.gic_findings.specs.Closures.{place_at, gap_at, told_at_line, places_after, closures_from, AreLaidOut}
+use Rattle.gic_findings.specs.Places.{IsNearPosition, carried}
+use Rattle.gic_findings.specs.Closures.{position_of_bus, gap_at, told_at_line, places_after, closures_from, AreLaidOut}
 use Rattle.gic_findings.proofs.LaidOut.{laid_after, near_at}
 
 -- the place of a bus lies near
-pub place_near : (c : Lists) → IsSound c → (places : List Place) (bus : ℕ) → length places ≡ length c.substations → AreLaidOut places → bus < length c.buses → (p : Place) → p ≡ place_at c.buses places bus → IsNear p
+pub place_near : (c : Lists) → IsSound c → (places : List Position) (bus : ℕ) → length places ≡ length c.substations → AreLaidOut places → bus < length c.buses → (p : Position) → p ≡ position_of_bus c.buses places bus → IsNearPosition p
 place_near c sound places bus count h within p is =
     let inside : substation_at c.buses bus < length places = omega (arith, substation_within c sound bus within, count) in
-    subst IsNear (sym is) (near_at places h (substation_at c.buses bus) inside)
+    subst IsNearPosition (sym is) (near_at places h (substation_at c.buses bus) inside)
 
 -- places stay laid out
-pub laid_line : (c : Lists) → IsSound c → (places : List Place) (l : Line) → length places ≡ length c.substations → AreLaidOut places → IsSoundLine c l → AreLaidOut (places_after c.buses places l)
-laid_line c sound places l count h line = elim (cases_eq (place_at c.buses places l.from).group (place_at c.buses places l.to).group) [
-  | inl same ↦ rw (eq-eqb (place_at c.buses places l.from).group (place_at c.buses places l.to).group same) h
+pub laid_line : (c : Lists) → IsSound c → (places : List Position) (l : Line) → length places ≡ length c.substations → AreLaidOut places → IsSoundLine c l → AreLaidOut (places_after c.buses places l)
+laid_line c sound places l count h line = elim (cases_eq (position_of_bus c.buses places l.from).group (position_of_bus c.buses places l.to).group) [
+  | inl same ↦ rw (eq-eqb (position_of_bus c.buses places l.from).group (position_of_bus c.buses places l.to).group same) h
   | inr apart ↦
       let from_in : substation_at c.buses l.from < length places = omega (arith, substation_within c sound l.from line.from_within, count) in
       let to_in : substation_at c.buses l.to < length places = omega (arith, substation_within c sound l.to line.to_within, count) in
-      rw (ne_eqb (place_at c.buses places l.from).group (place_at c.buses places l.to).group apart)
+      rw (ne_eqb (position_of_bus c.buses places l.from).group (position_of_bus c.buses places l.to).group apart)
       (laid_after places (substation_at c.buses l.from) (substation_at c.buses l.to) from_in to_in (span_of l) apart h line.north_within line.east_within)
 ]
 
-pub length_line : (buses : List Bus) (places : List Place) (l : Line) → length (places_after buses places l) ≡ length places
-length_line buses places l = elim (cases_eq (place_at buses places l.from).group (place_at buses places l.to).group) [
-  | inl same ↦ rw (eq-eqb (place_at buses places l.from).group (place_at buses places l.to).group same) refl
+pub length_line : (buses : List Bus) (places : List Position) (l : Line) → length (places_after buses places l) ≡ length places
+length_line buses places l = elim (cases_eq (position_of_bus buses places l.from).group (position_of_bus buses places l.to).group) [
+  | inl same ↦ rw (eq-eqb (position_of_bus buses places l.from).group (position_of_bus buses places l.to).group same) refl
   | inr apart ↦
-      rw (ne_eqb (place_at buses places l.from).group (place_at buses places l.to).group apart)
-      (length-map places (carried (place_at buses places l.from) (place_at buses places l.to) (gap_at buses places l)))
+      rw (ne_eqb (position_of_bus buses places l.from).group (position_of_bus buses places l.to).group apart)
+      (length-map places (carried (position_of_bus buses places l.from) (position_of_bus buses places l.to) (gap_at buses places l)))
 ]
 
 -- one more line was followed
-pub one_followed : (buses : List Bus) (lines : List Line) (i : ℕ) (l : Line) (places after : List Place) (old new whole : List Finding) → i < length lines → l ≡ get_or lines i l
+pub one_followed : (buses : List Bus) (lines : List Line) (i : ℕ) (l : Line) (places after : List Position) (old new whole : List Finding) → i < length lines → l ≡ get_or lines i l
     → new ≡ old ++ told_at_line buses places l → after ≡ places_after buses places l
     → old ++ closures_from buses places (drop i lines) ≡ whole → new ++ closures_from buses after (drop (i + 1) lines) ≡ whole
 one_followed buses lines i l places after old new whole within read told is before =
     let split : drop i lines ≡ l ∷ drop (i + 1) lines = drop_more lines i l within ∙ ap (λ (x : Line). x ∷ drop (i + 1) lines) (sym read) in
     ap (λ (n : List Finding). n ++ closures_from buses after (drop (i + 1) lines)) told
-    ∙ ap (λ (p : List Place). (old ++ told_at_line buses places l) ++ closures_from buses p (drop (i + 1) lines)) is
+    ∙ ap (λ (p : List Position). (old ++ told_at_line buses places l) ++ closures_from buses p (drop (i + 1) lines)) is
     ∙ append_assoc old (told_at_line buses places l) (closures_from buses (places_after buses places l) (drop (i + 1) lines))
     ∙ ap (λ (r : List Line). old ++ closures_from buses places r) (sym split) ∙ before

@@ -8,14 +8,14 @@ use Rattle.std.proofs.lemmas.List.Sums.{sum_by-cons, count_by-le-length}
 use Rattle.std.proofs.lemmas.List.Elements.{All-from_get_or}
 use Rattle.std.proofs.lemmas.List.FromFn.{length-map-range_with_len, get_or-map-range_with_len, map-range_with_len_more}
 use Rattle.gic_findings.specs.declared.span.Span.{Span}
-use Rattle.gic_findings.specs.declared.places.Place.{Place}
+use Rattle.gic_findings.specs.declared.places.Position.{Position}
 use Rattle.gic_findings.specs.declared.places.Gap.{Gap}
-use Rattle.gic_findings.specs.Places.{IsNear, alone, start_of, gap_of, moved, carried, joined}
+use Rattle.gic_findings.specs.Places.{IsNearPosition, alone, start_of, gap_of, moved, carried, group_moved}
 use Rattle.gic_findings.specs.Closures.{at, size_of, IsWithinSteps, AreLaidOut}
 
 -- ---- how many places are in a group
 
-counted_cons : (p : Place → Bool) (x : Place) (xs : List Place) → count_by p (x ∷ xs) ≡ cond (p x) 1 0 + count_by p xs
+counted_cons : (p : Position → Bool) (x : Position) (xs : List Position) → count_by p (x ∷ xs) ≡ cond (p x) 1 0 + count_by p xs
 counted_cons p x xs = sum_by-cons (λ y. cond (p y) 1 0) x xs
 
 hit : (m n : ℕ) → m ≡ n → ◌≡◌ {A = ℕ} (cond (m == n) 1 0) 1
@@ -24,46 +24,46 @@ hit m n e = rw (eq-eqb m n e) refl
 miss : (m n : ℕ) → m ≢ n → ◌≡◌ {A = ℕ} (cond (m == n) 1 0) 0
 miss m n apart = rw (ne_eqb m n apart) refl
 
-module _ (from to : Place) (gap : Gap) (apart : from.group ≢ to.group) where
-  abbrev step : Place → Place
+module _ (from to : Position) (gap : Gap) (apart : from.group ≢ to.group) where
+  abbrev step : Position → Position
   step = carried from to gap
 
-  carried_there : (p : Place) → p.group ≡ to.group → step p ≡ moved from.group gap p
+  carried_there : (p : Position) → p.group ≡ to.group → step p ≡ moved from.group gap p
   carried_there p e = rw (eq-eqb p.group to.group e) refl
 
-  carried_not : (p : Place) → p.group ≢ to.group → step p ≡ p
+  carried_not : (p : Position) → p.group ≢ to.group → step p ≡ p
   carried_not p other = rw (ne_eqb p.group to.group other) refl
 
   -- both groups are in the one
-  pub size_into : (ps : List Place) → size_of (map step ps) from.group ≡ size_of ps from.group + size_of ps to.group
+  pub size_into : (ps : List Position) → size_of (map step ps) from.group ≡ size_of ps from.group + size_of ps to.group
   size_into [] = refl
   size_into (p ∷ ps) = elim (cases_eq p.group to.group) [
     | inl e ↦
-        let now : ◌≡◌ {A = ℕ} (cond ((step p).group == from.group) 1 0) 1 = ap (λ (q : Place). cond (q.group == from.group) 1 0) (carried_there p e) ∙ hit from.group from.group refl in
+        let now : ◌≡◌ {A = ℕ} (cond ((step p).group == from.group) 1 0) 1 = ap (λ (q : Position). cond (q.group == from.group) 1 0) (carried_there p e) ∙ hit from.group from.group refl in
         let other : p.group ≢ from.group = λ z. apart (sym z ∙ e) in
         omega (arith, counted_cons (λ q. q.group == from.group) (step p) (map step ps), counted_cons (λ q. q.group == from.group) p ps, counted_cons (λ q. q.group == to.group) p ps, now, miss p.group from.group other, hit p.group to.group e, size_into ps)
     | inr other ↦
-        let now : ◌≡◌ {A = ℕ} (cond ((step p).group == from.group) 1 0) (cond (p.group == from.group) 1 0) = ap (λ (q : Place). cond (q.group == from.group) 1 0) (carried_not p other) in
+        let now : ◌≡◌ {A = ℕ} (cond ((step p).group == from.group) 1 0) (cond (p.group == from.group) 1 0) = ap (λ (q : Position). cond (q.group == from.group) 1 0) (carried_not p other) in
         omega (arith, counted_cons (λ q. q.group == from.group) (step p) (map step ps), counted_cons (λ q. q.group == from.group) p ps, counted_cons (λ q. q.group == to.group) p ps, now, miss p.group to.group other, size_into ps)
   ]
 
   -- and others stay as large as they were
-  pub size_other : (group : ℕ) → group ≢ from.group → group ≢ to.group → (ps : List Place) → size_of (map step ps) group ≡ size_of ps group
+  pub size_other : (group : ℕ) → group ≢ from.group → group ≢ to.group → (ps : List Position) → size_of (map step ps) group ≡ size_of ps group
   size_other group not_from not_to [] = refl
   size_other group not_from not_to (p ∷ ps) = elim (cases_eq p.group to.group) [
     | inl e ↦
-        let now : ◌≡◌ {A = ℕ} (cond ((step p).group == group) 1 0) 0 = ap (λ (q : Place). cond (q.group == group) 1 0) (carried_there p e) ∙ miss from.group group (λ z. not_from (sym z)) in
+        let now : ◌≡◌ {A = ℕ} (cond ((step p).group == group) 1 0) 0 = ap (λ (q : Position). cond (q.group == group) 1 0) (carried_there p e) ∙ miss from.group group (λ z. not_from (sym z)) in
         let old : p.group ≢ group = λ z. not_to (sym z ∙ e) in
         omega (arith, counted_cons (λ q. q.group == group) (step p) (map step ps), counted_cons (λ q. q.group == group) p ps, now, miss p.group group old, size_other group not_from not_to ps)
     | inr other ↦
-        let now : ◌≡◌ {A = ℕ} (cond ((step p).group == group) 1 0) (cond (p.group == group) 1 0) = ap (λ (q : Place). cond (q.group == group) 1 0) (carried_not p other) in
+        let now : ◌≡◌ {A = ℕ} (cond ((step p).group == group) 1 0) (cond (p.group == group) 1 0) = ap (λ (q : Position). cond (q.group == group) 1 0) (carried_not p other) in
         omega (arith, counted_cons (λ q. q.group == group) (step p) (map step ps), counted_cons (λ q. q.group == group) p ps, now, size_other group not_from not_to ps)
   ]
 
 -- ---- the ways between places of a group, in one direction
 
 -- a million metres for each place of the group but one
-abbrev Near : (way : Place → ℤ) → List Place → Type 0
+abbrev Near : (way : Position → ℤ) → List Position → Type 0
 Near way places = (k m : ℕ) → k < length places → m < length places → (at places k).group ≡ (at places m).group →
     IsWithinSteps (way (at places k)) (way (at places m)) (size_of places (at places k).group)
 
@@ -82,18 +82,18 @@ other_there : (k m f t s : ℤ) (a b : ℕ) → unsigned_abs s ≤ 1000000 → I
     → IsWithinSteps k (m +ℤ ((f +ℤ s) -ℤ t)) (a + b)
 other_there k m f t s a b short h g = omega (arith, ints, short, h, g)
 
-module _ (places : List Place) (p q : ℕ) (p_in : p < length places) (q_in : q < length places) (span : Span) (apart : (at places p).group ≢ (at places q).group) where
-  abbrev from : Place
+module _ (places : List Position) (p q : ℕ) (p_in : p < length places) (q_in : q < length places) (span : Span) (apart : (at places p).group ≢ (at places q).group) where
+  abbrev from : Position
   from = at places p
 
-  abbrev to : Place
+  abbrev to : Position
   to = at places q
 
   abbrev gap : Gap
   gap = gap_of from span to
 
-  abbrev after : List Place
-  after = joined from to gap places
+  abbrev after : List Position
+  after = group_moved from to gap places
 
   length-after : length after ≡ length places
   length-after = length-map places (carried from to gap)
@@ -111,12 +111,12 @@ module _ (places : List Place) (p q : ℕ) (p_in : p < length places) (q_in : q 
   into = size_into from to gap apart places
 
   -- a group that isn't moved is no smaller
-  module _ (way : Place → ℤ) (s : ℤ) (short : unsigned_abs s ≤ 1000000) (moves : (x : Place) → way (moved from.group gap x) ≡ way x +ℤ ((way from +ℤ s) -ℤ way to)) (near : Near way places) where
-    abbrev Goal : (x y : Place) → Type 0
+  module _ (way : Position → ℤ) (s : ℤ) (short : unsigned_abs s ≤ 1000000) (moves : (x : Position) → way (moved from.group gap x) ≡ way x +ℤ ((way from +ℤ s) -ℤ way to)) (near : Near way places) where
+    abbrev Goal : (x y : Position) → Type 0
     Goal x y = IsWithinSteps (way x) (way y) (size_of after x.group)
 
-    by_places : (x x' y y' : Place) → x' ≡ x → y' ≡ y → Goal x y → Goal x' y'
-    by_places x x' y y' e f h = subst (λ (z : Place). Goal z y') (sym e) (subst (λ (z : Place). Goal x z) (sym f) h)
+    by_places : (x x' y y' : Position) → x' ≡ x → y' ≡ y → Goal x y → Goal x' y'
+    by_places x x' y y' e f h = subst (λ (z : Position). Goal z y') (sym e) (subst (λ (z : Position). Goal x z) (sym f) h)
 
     -- both are moved
     two_moved : (k m : ℕ) → k < length places → m < length places → (at places k).group ≡ to.group → (at places m).group ≡ to.group → Goal (at after k) (at after m)
@@ -175,13 +175,13 @@ module _ (places : List Place) (p q : ℕ) (p_in : p < length places) (q_in : q 
           | inl k_to ↦ elim (cases_eq (at places m).group to.group) [
             | inl m_to ↦ two_moved k m k_in m_in k_to m_to
             | inr m_not ↦
-                first_moved k m k_in m_in k_to m_not (ap (λ (x : Place). x.group) (sym (goes k k_in k_to)) ∙ same ∙ ap (λ (x : Place). x.group) (stays m m_in m_not))
+                first_moved k m k_in m_in k_to m_not (ap (λ (x : Position). x.group) (sym (goes k k_in k_to)) ∙ same ∙ ap (λ (x : Position). x.group) (stays m m_in m_not))
           ]
           | inr k_not ↦ elim (cases_eq (at places m).group to.group) [
             | inl m_to ↦
-                second_moved k m k_in m_in k_not m_to (ap (λ (x : Place). x.group) (sym (stays k k_in k_not)) ∙ same ∙ ap (λ (x : Place). x.group) (goes m m_in m_to))
+                second_moved k m k_in m_in k_not m_to (ap (λ (x : Position). x.group) (sym (stays k k_in k_not)) ∙ same ∙ ap (λ (x : Position). x.group) (goes m m_in m_to))
             | inr m_not ↦
-                none_moved k m k_in m_in k_not m_not (ap (λ (x : Place). x.group) (sym (stays k k_in k_not)) ∙ same ∙ ap (λ (x : Place). x.group) (stays m m_in m_not))
+                none_moved k m k_in m_in k_not m_not (ap (λ (x : Position). x.group) (sym (stays k k_in k_not)) ∙ same ∙ ap (λ (x : Position). x.group) (stays m m_in m_not))
           ]
         ]
 
@@ -191,19 +191,19 @@ module _ (places : List Place) (p q : ℕ) (p_in : p < length places) (q_in : q 
     named k within other =
         let g_in = h.inside k within in
         let is = h.own k within in
-        let not_to : (at places (at places k).group).group ≢ to.group = λ e. other (sym (ap (λ (x : Place). x.group) is) ∙ e) in
+        let not_to : (at places (at places k).group).group ≢ to.group = λ e. other (sym (ap (λ (x : Position). x.group) is) ∙ e) in
         stays (at places k).group g_in not_to ∙ is
 
     own_after : (k : ℕ) → k < length places → at after (at after k).group ≡ alone (at after k).group
     own_after k within = elim (cases_eq (at places k).group to.group) [
-      | inl k_to ↦ subst (λ (x : Place). at after x.group ≡ alone x.group) (sym (goes k within k_to)) (named p p_in apart)
-      | inr k_not ↦ subst (λ (x : Place). at after x.group ≡ alone x.group) (sym (stays k within k_not)) (named k within k_not)
+      | inl k_to ↦ subst (λ (x : Position). at after x.group ≡ alone x.group) (sym (goes k within k_to)) (named p p_in apart)
+      | inr k_not ↦ subst (λ (x : Position). at after x.group ≡ alone x.group) (sym (stays k within k_not)) (named k within k_not)
     ]
 
     inside_after : (k : ℕ) → k < length places → (at after k).group < length places
     inside_after k within = elim (cases_eq (at places k).group to.group) [
-      | inl k_to ↦ subst (λ (x : Place). x.group < length places) (sym (goes k within k_to)) (h.inside p p_in)
-      | inr k_not ↦ subst (λ (x : Place). x.group < length places) (sym (stays k within k_not)) (h.inside k within)
+      | inl k_to ↦ subst (λ (x : Position). x.group < length places) (sym (goes k within k_to)) (h.inside p p_in)
+      | inr k_not ↦ subst (λ (x : Position). x.group < length places) (sym (stays k within k_not)) (h.inside k within)
     ]
 
     pub laid_after : AreLaidOut after
@@ -224,18 +224,18 @@ pub length-start : (count : ℕ) → length (start_of count) ≡ count
 length-start count = length-map-range_with_len alone 0 count
 
 -- a place counts in its own group
-counted_itself : (ps : List Place) (k : ℕ) → k < length ps → 1 ≤ size_of ps (at ps k).group
+counted_itself : (ps : List Position) (k : ℕ) → k < length ps → 1 ≤ size_of ps (at ps k).group
 counted_itself [] k h = absurd (omega (arith, h))
 counted_itself (p ∷ ps) zero h = omega (arith, counted_cons (λ q. q.group == p.group) p ps, hit p.group p.group refl)
 counted_itself (p ∷ ps) (suc k) h = omega (arith, counted_cons (λ q. q.group == (at ps k).group) p ps, counted_itself ps k (omega (arith, h)))
 
 start_group : (count k : ℕ) → k < count → (at (start_of count) k).group ≡ k
-start_group count k within = ap (λ (x : Place). x.group) (start_at count k within)
+start_group count k within = ap (λ (x : Position). x.group) (start_at count k within)
 
 near_itself : (k m : ℤ) (n : ℕ) → k ≡ m → 1 ≤ n → IsWithinSteps k m n
 near_itself k m n is least = omega (arith, ints, is, least)
 
-start_near : (count : ℕ) (way : Place → ℤ) → Near way (start_of count)
+start_near : (count : ℕ) (way : Position → ℤ) → Near way (start_of count)
 start_near count way k m k_in m_in same =
     let count_is = length-start count in
     let k_less : k < count = omega (arith, count_is, k_in) in
@@ -263,31 +263,31 @@ laid_start count few =
 from_nought : (x zero_way : ℤ) (n : ℕ) → zero_way ≡ pos 0 → n ≤ 1024 → IsWithinSteps x zero_way n → IsWithinSteps zero_way x n → unsigned_abs x ≤ 1024000000
 from_nought x zero_way n is few above below = omega (arith, ints, is, few, above, below)
 
-way_near : (places : List Place) → AreLaidOut places → (way : Place → ℤ) → ((g : ℕ) → way (alone g) ≡ pos 0) → Near way places → (k : ℕ) → k < length places → unsigned_abs (way (at places k)) ≤ 1024000000
+way_near : (places : List Position) → AreLaidOut places → (way : Position → ℤ) → ((g : ℕ) → way (alone g) ≡ pos 0) → Near way places → (k : ℕ) → k < length places → unsigned_abs (way (at places k)) ≤ 1024000000
 way_near places h way nought near k within =
     let g_in = h.inside k within in
     let is = h.own k within in
-    let group_is : (at places (at places k).group).group ≡ (at places k).group = ap (λ (x : Place). x.group) is in
+    let group_is : (at places (at places k).group).group ≡ (at places k).group = ap (λ (x : Position). x.group) is in
     let few = count_by-le-length (λ q. q.group == (at places k).group) places in
     let below = near (at places k).group k g_in within group_is in
     from_nought (way (at places k)) (way (at places (at places k).group)) (size_of places (at places k).group)
     (ap way is ∙ nought (at places k).group) (omega (arith, few, h.few)) (near k (at places k).group within g_in (sym group_is))
     (subst (λ (g : ℕ). IsWithinSteps (way (at places (at places k).group)) (way (at places k)) (size_of places g)) group_is below)
 
-pub near_at : (places : List Place) → AreLaidOut places → (k : ℕ) → k < length places → IsNear (at places k)
+pub near_at : (places : List Position) → AreLaidOut places → (k : ℕ) → k < length places → IsNearPosition (at places k)
 near_at places h k within = record {
   north_near = way_near places h (λ x. x.north) (λ g. refl) h.north_near k within;
   east_near = way_near places h (λ x. x.east) (λ g. refl) h.east_near k within;
 }
 
-pub all_near : (places : List Place) → AreLaidOut places → All IsNear places
-all_near places h = All-from_get_or IsNear places (alone 0) (near_at places h)
+pub all_near : (places : List Position) → AreLaidOut places → All IsNearPosition places
+all_near places h = All-from_get_or IsNearPosition places (alone 0) (near_at places h)
 
 -- one more place at the start
 pub start_next : (n : ℕ) → start_of (n + 1) ≡ start_of n ++ alone n ∷ []
 start_next n = map-range_with_len_more alone 0 n n (omega arith)
 
 -- a gap by its two parts
-pub gap_by : (g : Gap) (from : Place) (span : Span) (to : Place) → g.north ≡ (from.north +ℤ span.north) -ℤ to.north → g.east ≡ (from.east +ℤ span.east) -ℤ to.east → g ≡ gap_of from span to
+pub gap_by : (g : Gap) (from : Position) (span : Span) (to : Position) → g.north ≡ (from.north +ℤ span.north) -ℤ to.north → g.east ≡ (from.east +ℤ span.east) -ℤ to.east → g ≡ gap_of from span to
 gap_by g from span to north east =
     ap (λ (x : ℤ). record { north = x; east = g.east }) north ∙ ap (λ (y : ℤ). record { north = (from.north +ℤ span.north) -ℤ to.north; east = y }) east

@@ -5,7 +5,7 @@ use Rattle.std.specs.List.{range_with_len}
 use Rattle.std.proofs.lemmas.Bool.{cases_eq, cases_lt, eq-eqb, ne_eqb}
 use Rattle.std.proofs.lemmas.List.{length-map, length-set, get_or-set_same, get_or-set_other}
 use Rattle.std.proofs.lemmas.List.FromFn.{length-range_with_len, get_or-range_with_len}
-use Rattle.gic_findings.specs.Union.{lowered, united, ArePointers, LeadTo}
+use Rattle.gic_findings.specs.Union.{first_lowered, united, ArePointers, LeadTo}
 use Rattle.gic_findings.proofs.Firsts.{lowered_at, lowered_both}
 
 -- a pointer to a node that comes no later
@@ -45,11 +45,11 @@ shorter pointers firsts node at h there is first = record {
 -- the later of two first nodes points at the earlier one, and both groups are one
 module _ (pointers firsts : List ℕ) (one other a b : ℕ) (h : LeadTo pointers firsts) (a_in : a < length pointers) (b_in : b < length pointers)
     (a_is : a ≡ slice_index firsts one) (b_is : b ≡ slice_index firsts other) (a_own : slice_index firsts a ≡ a) (b_own : slice_index firsts b ≡ b) where
-  united_at : (k : ℕ) → slice_index (united firsts one other) k ≡ lowered a b (slice_index firsts k)
+  united_at : (k : ℕ) → slice_index (united firsts one other) k ≡ first_lowered a b (slice_index firsts k)
   united_at k =
       lowered_at (slice_index firsts one) (slice_index firsts other) firsts k
-      ∙ ap (λ (x : ℕ). lowered x (slice_index firsts other) (slice_index firsts k)) (sym a_is)
-      ∙ ap (λ (x : ℕ). lowered a x (slice_index firsts k)) (sym b_is)
+      ∙ ap (λ (x : ℕ). first_lowered x (slice_index firsts other) (slice_index firsts k)) (sym a_is)
+      ∙ ap (λ (x : ℕ). first_lowered a x (slice_index firsts k)) (sym b_is)
 
   -- the earlier and the later of the two are first nodes
   low_own : slice_index firsts (min a b) ≡ min a b
@@ -71,38 +71,38 @@ module _ (pointers firsts : List ℕ) (one other a b : ℕ) (h : LeadTo pointers
   low_le = elim (cases_lt a b) [ inl less ↦ omega arith | inr more ↦ omega arith ]
 
   -- the earlier one stays
-  lowered_low : lowered a b (min a b) ≡ min a b
+  lowered_low : first_lowered a b (min a b) ≡ min a b
   lowered_low = elim (cases_lt a b) [
-    | inl less ↦ let is : min a b ≡ a = omega arith in ap (lowered a b) is ∙ (lowered_both a b).0
-    | inr more ↦ let is : min a b ≡ b = omega arith in ap (lowered a b) is ∙ (lowered_both a b).1
+    | inl less ↦ let is : min a b ≡ a = omega arith in ap (first_lowered a b) is ∙ (lowered_both a b).0
+    | inr more ↦ let is : min a b ≡ b = omega arith in ap (first_lowered a b) is ∙ (lowered_both a b).1
   ]
 
   -- and stands in place of the later one
-  lowered_high : lowered a b (max a b) ≡ min a b
+  lowered_high : first_lowered a b (max a b) ≡ min a b
   lowered_high = rw (eq-eqb (max a b) (max a b) refl) refl
 
   pub low_united : slice_index (united firsts one other) (min a b) ≡ min a b
-  low_united = united_at (min a b) ∙ ap (lowered a b) low_own ∙ lowered_low
+  low_united = united_at (min a b) ∙ ap (first_lowered a b) low_own ∙ lowered_low
 
   pub one_united : slice_index (united firsts one other) one ≡ min a b
-  one_united = united_at one ∙ ap (lowered a b) (sym a_is) ∙ (lowered_both a b).0
+  one_united = united_at one ∙ ap (first_lowered a b) (sym a_is) ∙ (lowered_both a b).0
 
   pub other_united : slice_index (united firsts one other) other ≡ min a b
-  other_united = united_at other ∙ ap (lowered a b) (sym b_is) ∙ (lowered_both a b).1
+  other_united = united_at other ∙ ap (first_lowered a b) (sym b_is) ∙ (lowered_both a b).1
 
   high_united : slice_index (united firsts one other) (max a b) ≡ min a b
-  high_united = united_at (max a b) ∙ ap (lowered a b) high_own ∙ lowered_high
+  high_united = united_at (max a b) ∙ ap (first_lowered a b) high_own ∙ lowered_high
 
   pub linked : LeadTo (set pointers (max a b) (min a b)) (united firsts one other)
   linked = record {
-    count = length-set pointers (max a b) (min a b) ∙ h.count ∙ sym (length-map firsts (lowered (slice_index firsts one) (slice_index firsts other)));
+    count = length-set pointers (max a b) (min a b) ∙ h.count ∙ sym (length-map firsts (first_lowered (slice_index firsts one) (slice_index firsts other)));
     along = λ k within. elim (cases_eq k (max a b)) [
       | inl here ↦
           let now : slice_index (set pointers (max a b) (min a b)) k ≡ min a b = ap (slice_index (set pointers (max a b) (min a b))) here ∙ get_or-set_same pointers (max a b) (min a b) 0 high_in in
           ap (slice_index (united firsts one other)) here ∙ high_united ∙ sym low_united ∙ ap (slice_index (united firsts one other)) (sym now)
       | inr apart ↦
           let now : slice_index (set pointers (max a b) (min a b)) k ≡ slice_index pointers k = get_or-set_other pointers (max a b) k (min a b) 0 apart in
-          united_at k ∙ ap (lowered a b) (h.along k (omega (arith, length-set pointers (max a b) (min a b), within))) ∙ sym (united_at (slice_index pointers k))
+          united_at k ∙ ap (first_lowered a b) (h.along k (omega (arith, length-set pointers (max a b) (min a b), within))) ∙ sym (united_at (slice_index pointers k))
           ∙ ap (slice_index (united firsts one other)) (sym now)
     ];
     itself = λ k within own. elim (cases_eq k (max a b)) [
@@ -112,7 +112,7 @@ module _ (pointers firsts : List ℕ) (one other a b : ℕ) (h : LeadTo pointers
       | inr apart ↦
           let now : slice_index (set pointers (max a b) (min a b)) k ≡ slice_index pointers k = get_or-set_other pointers (max a b) k (min a b) 0 apart in
           let old : slice_index firsts k ≡ k = h.itself k (omega (arith, length-set pointers (max a b) (min a b), within)) (sym now ∙ own) in
-          united_at k ∙ ap (lowered a b) old ∙ rw (ne_eqb k (max a b) apart) refl
+          united_at k ∙ ap (first_lowered a b) old ∙ rw (ne_eqb k (max a b) apart) refl
     ];
   }
 

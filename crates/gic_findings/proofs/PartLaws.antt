@@ -12,10 +12,10 @@ use Rattle.gic_model.specs.declared.parts.Element.{Element}
 use Rattle.gic_model.specs.Network.{Network, is_node, ends_at}
 use Rattle.gic_model.specs.Limits.{IsWithinLimits, IsElementWithin, IsEndWithin}
 use Rattle.gic_model.specs.Earthing.{is_earth, joins}
-use Rattle.gic_findings.specs.Chains.{IsJoined, IsChain, AreTogether, HasElement}
+use Rattle.gic_findings.specs.Chains.{HasElementBetween, IsChain, AreTogether, HasElement}
 use Rattle.gic_findings.specs.Union.{firsts_of}
-use Rattle.gic_findings.specs.PartSizes.{count_of, part_size, sizes_of}
-use Rattle.gic_findings.specs.Parts.{IsFirstOfPart, IsSize, ArePartSizes}
+use Rattle.gic_findings.specs.PartSizes.{times_first, part_size, sizes_of}
+use Rattle.gic_findings.specs.Parts.{IsFirstOfPart, IsPartSize, ArePartSizes}
 use Rattle.gic_findings.proofs.Chained.{any_weaker, together_itself, together_then, together_turned, same_together}
 use Rattle.gic_findings.proofs.Firsts.{AreFirsts, firsts_found}
 
@@ -42,7 +42,7 @@ counted_alike p q low (suc n) same =
     ∙ sym (counted_cons q low (range_with_len (low + 1) n))
 
 -- a place whose number is the one that is counted
-some_counted : (k : ℕ) (xs : List ℕ) → 0 < count_of xs k → (j : ℕ) × (j < length xs) × (slice_index xs j ≡ k)
+some_counted : (k : ℕ) (xs : List ℕ) → 0 < times_first xs k → (j : ℕ) × (j < length xs) × (slice_index xs j ≡ k)
 some_counted k [] h = absurd (omega (arith, h))
 some_counted k (x ∷ xs) h = elim (cases_eq x k) [
   | inl e ↦ (0, omega arith, e)
@@ -57,7 +57,7 @@ at_most_one true = omega arith
 at_most_one false = omega arith
 
 -- and where there are two, another one
-other_counted : (k : ℕ) (xs : List ℕ) (i : ℕ) → 2 ≤ count_of xs k → (j : ℕ) × (j < length xs) × (j ≢ i) × (slice_index xs j ≡ k)
+other_counted : (k : ℕ) (xs : List ℕ) (i : ℕ) → 2 ≤ times_first xs k → (j : ℕ) × (j < length xs) × (j ≢ i) × (slice_index xs j ≡ k)
 other_counted k [] i h = absurd (omega (arith, h))
 other_counted k (x ∷ xs) zero h =
     let later = some_counted k xs (omega (arith, counted_cons (λ y. y == k) x xs, at_most_one (x == k), h)) in
@@ -71,7 +71,7 @@ other_counted k (x ∷ xs) (suc i) h = elim (cases_eq x k) [
 ]
 
 -- one place is counted
-one_counted : (k : ℕ) (xs : List ℕ) (i : ℕ) → i < length xs → slice_index xs i ≡ k → 1 ≤ count_of xs k
+one_counted : (k : ℕ) (xs : List ℕ) (i : ℕ) → i < length xs → slice_index xs i ≡ k → 1 ≤ times_first xs k
 one_counted k [] i h is = absurd (omega (arith, h))
 one_counted k (x ∷ xs) zero h is =
     let passes : ◌≡◌ {A = ℕ} (cond (x == k) 1 0) 1 = rw (eq-eqb x k is) refl in
@@ -79,7 +79,7 @@ one_counted k (x ∷ xs) zero h is =
 one_counted k (x ∷ xs) (suc i) h is = omega (arith, counted_cons (λ y. y == k) x xs, one_counted k xs i (omega (arith, h)) is)
 
 -- and two different ones as two
-two_counted : (k : ℕ) (xs : List ℕ) (i j : ℕ) → i < j → j < length xs → slice_index xs i ≡ k → slice_index xs j ≡ k → 2 ≤ count_of xs k
+two_counted : (k : ℕ) (xs : List ℕ) (i j : ℕ) → i < j → j < length xs → slice_index xs i ≡ k → slice_index xs j ≡ k → 2 ≤ times_first xs k
 two_counted k [] i j less h is also = absurd (omega (arith, h))
 two_counted k (x ∷ xs) i zero less h is also = absurd (omega (arith, less))
 two_counted k (x ∷ xs) zero (suc j) less h is also =
@@ -88,7 +88,7 @@ two_counted k (x ∷ xs) zero (suc j) less h is also =
 two_counted k (x ∷ xs) (suc i) (suc j) less h is also =
     omega (arith, counted_cons (λ y. y == k) x xs, two_counted k xs i j (omega (arith, less)) (omega (arith, h)) is also)
 
-pub both_counted : (k : ℕ) (xs : List ℕ) (i j : ℕ) → i ≢ j → i < length xs → j < length xs → slice_index xs i ≡ k → slice_index xs j ≡ k → 2 ≤ count_of xs k
+pub both_counted : (k : ℕ) (xs : List ℕ) (i j : ℕ) → i ≢ j → i < length xs → j < length xs → slice_index xs i ≡ k → slice_index xs j ≡ k → 2 ≤ times_first xs k
 both_counted k xs i j apart within also is too = elim (cases_lt i j) [
   | inl less ↦ two_counted k xs i j less also is too
   | inr more ↦ two_counted k xs j i (omega (arith, more, λ (e : j ≡ i). apart (sym e))) within too is
@@ -106,7 +106,7 @@ joins_not_earth k m e h = by e.to (or_cases ((e.from.0 == k) && is_node e.to m) 
     by (Node n) (inl j) = and_from ((e.from.0 == k) || (n.0 == k)) true (or_left (e.from.0 == k) (n.0 == k) (and_parts (e.from.0 == k) (n.0 == m) j).0) refl
     by (Node n) (inr j) = and_from ((e.from.0 == k) || (n.0 == k)) true (or_right (e.from.0 == k) (n.0 == k) (and_parts (e.from.0 == m) (n.0 == k) j).1) refl
 
-joined_has : (es : List Element) (k m : ℕ) → IsJoined es k m → HasElement es k
+joined_has : (es : List Element) (k m : ℕ) → HasElementBetween es k m → HasElement es k
 joined_has es k m h = any_weaker (joins k m) (λ e. ends_at e k && not (is_earth e.to)) (λ e is. joins_not_earth k m e is) es h
 
 -- a chain to another node begins with an element
@@ -143,7 +143,7 @@ other_of nodes e k within h = by e.to refl (and_parts (ends_at e k) (not (is_ear
               )
         ]
 
-other_joined : (nodes : ℕ) (es : List Element) (k : ℕ) → AllByRecursion (IsElementWithin nodes) es → HasElement es k → (m : ℕ) × (IsJoined es k m) × (m ≢ k) × (m < nodes) × (k < nodes)
+other_joined : (nodes : ℕ) (es : List Element) (k : ℕ) → AllByRecursion (IsElementWithin nodes) es → HasElement es k → (m : ℕ) × (HasElementBetween es k m) × (m ≢ k) × (m < nodes) × (k < nodes)
 other_joined nodes [] k within h = absurd (no_way h)
 other_joined nodes (e ∷ es) k within h = elim (or_cases (ends_at e k && not (is_earth e.to)) (list_any (λ x. ends_at x k && not (is_earth x.to)) es) h) [
   | inl here ↦ let o = other_of nodes e k within.0 here in (o.0, or_left (joins k o.0 e) (list_any (joins k o.0) es) o.1, o.2, o.3, o.4)
@@ -177,7 +177,7 @@ module _ (network : Network) (limits : IsWithinLimits network) where
   ]
 
   -- two nodes are counted at the first node of a part
-  two_at_first : (k : ℕ) → k < network.nodes → IsFirstOfPart network k → 2 ≤ count_of (firsts_of network) k
+  two_at_first : (k : ℕ) → k < network.nodes → IsFirstOfPart network k → 2 ≤ times_first (firsts_of network) k
   two_at_first k within part =
       let own = own_first k within part.first in
       let other = other_joined network.nodes network.list part.node limits.each_element part.element in
@@ -187,7 +187,7 @@ module _ (network : Network) (limits : IsWithinLimits network) where
       both_counted k (firsts_of network) other.0 part.node other.2 (omega (arith, count, other.3)) (omega (arith, count, other.4)) there here
 
   -- and no node is counted twice otherwise
-  first_at_two : (k : ℕ) → 2 ≤ count_of (firsts_of network) k → IsFirstOfPart network k
+  first_at_two : (k : ℕ) → 2 ≤ times_first (firsts_of network) k → IsFirstOfPart network k
   first_at_two k many =
       let count = known.count in
       let some = some_counted k (firsts_of network) (omega (arith, many)) in
@@ -210,22 +210,22 @@ module _ (network : Network) (limits : IsWithinLimits network) where
   belongs_to k m k_in m_in own =
       (λ is. same_part k m k_in m_in (own ∙ sym (eqb-true (first m) k is)), λ t. eq-eqb (first m) k (sym (one_first k m t) ∙ own))
 
-  counted_whole : (k : ℕ) → count_of (firsts_of network) k ≡ count_by (λ m. first m == k) (range_with_len 0 network.nodes)
+  counted_whole : (k : ℕ) → times_first (firsts_of network) k ≡ count_by (λ m. first m == k) (range_with_len 0 network.nodes)
   counted_whole k =
       let whole : firsts_of network ≡ map first (range_with_len 0 network.nodes) = fill_by_all first (firsts_of network) network.nodes 0 known.count (λ j h. refl) in
       ap (count_by (λ x. x == k)) whole ∙ counted_map (λ x. x == k) first (range_with_len 0 network.nodes)
 
-  is_counted : (k : ℕ) → k < network.nodes → IsFirstOfPart network k → IsSize network k (count_of (firsts_of network) k)
+  is_counted : (k : ℕ) → k < network.nodes → IsFirstOfPart network k → IsPartSize network k (times_first (firsts_of network) k)
   is_counted k within part = record {
     belongs = λ m. first m == k;
     together = λ m m_in. belongs_to k m within m_in (own_first k within part.first);
     counted = counted_whole k;
   }
 
-  size_at : (k : ℕ) → k < network.nodes → slice_index (sizes_of network) k ≡ part_size (count_of (firsts_of network) k)
+  size_at : (k : ℕ) → k < network.nodes → slice_index (sizes_of network) k ≡ part_size (times_first (firsts_of network) k)
   size_at k within =
       let inside : k < length (firsts_of network) = omega (arith, within, known.count) in
-      get_or-map-range_with_len (λ n. part_size (count_of (firsts_of network) n)) 0 (length (firsts_of network)) k k 0 inside (omega arith)
+      get_or-map-range_with_len (λ n. part_size (times_first (firsts_of network) n)) 0 (length (firsts_of network)) k k 0 inside (omega arith)
 
   size_many : (n : ℕ) → 2 ≤ n → part_size n ≡ n
   size_many n h = rw (le-leb 2 n h) refl
@@ -235,11 +235,11 @@ module _ (network : Network) (limits : IsWithinLimits network) where
 
   pub sizes_right : ArePartSizes network (sizes_of network)
   sizes_right = record {
-    count = length-map (range_with_len 0 (length (firsts_of network))) (λ k. part_size (count_of (firsts_of network) k)) ∙ length-range_with_len 0 (length (firsts_of network)) ∙ known.count;
+    count = length-map (range_with_len 0 (length (firsts_of network))) (λ k. part_size (times_first (firsts_of network) k)) ∙ length-range_with_len 0 (length (firsts_of network)) ∙ known.count;
     of_part = λ k within part.
-        subst (IsSize network k) (sym (size_at k within ∙ size_many (count_of (firsts_of network) k) (two_at_first k within part))) (is_counted k within part);
-    of_none = λ k within none. elim (cases_lt (count_of (firsts_of network) k) 2) [
-      | inl few ↦ size_at k within ∙ size_few (count_of (firsts_of network) k) few
+        subst (IsPartSize network k) (sym (size_at k within ∙ size_many (times_first (firsts_of network) k) (two_at_first k within part))) (is_counted k within part);
+    of_none = λ k within none. elim (cases_lt (times_first (firsts_of network) k) 2) [
+      | inl few ↦ size_at k within ∙ size_few (times_first (firsts_of network) k) few
       | inr many ↦ absurd (none (first_at_two k many))
     ];
   }
@@ -251,7 +251,7 @@ module _ (network : Network) (limits : IsWithinLimits network) where
   agree true false P f g = absurd (no_way (g.1 (f.0 refl)))
   agree false true P f g = absurd (no_way (f.1 (g.0 refl)))
 
-  one_size : (k size other : ℕ) → IsSize network k size → IsSize network k other → size ≡ other
+  one_size : (k size other : ℕ) → IsPartSize network k size → IsPartSize network k other → size ≡ other
   one_size k size other h t =
       h.counted ∙ counted_alike h.belongs t.belongs 0 network.nodes (λ m from to.
       let inside : m < network.nodes = omega arith in
@@ -260,7 +260,7 @@ module _ (network : Network) (limits : IsWithinLimits network) where
   pub sizes_only : (sizes : List ℕ) → ArePartSizes network sizes → sizes ≡ sizes_of network
   sizes_only sizes h = ext_get_or 0 sizes (sizes_of network) (h.count ∙ sym sizes_right.count) (λ k within.
       let inside : k < network.nodes = omega (arith, within, h.count) in
-      elim (cases_lt (count_of (firsts_of network) k) 2) [
+      elim (cases_lt (times_first (firsts_of network) k) 2) [
         | inl few ↦
             let none : ¬ IsFirstOfPart network k = λ part. absurd (omega (arith, few, two_at_first k inside part)) in
             h.of_none k inside none ∙ sym (sizes_right.of_none k inside none)

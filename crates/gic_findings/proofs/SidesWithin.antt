@@ -8,7 +8,7 @@ use Rattle.gic_case.specs.Lists.{Lists}
 use Rattle.gic_case.specs.Sound.{IsSound, IsSoundKind, IsSoundTransformer}
 use Rattle.gic_winding.proofs.Within.{all_of_parts}
 use Rattle.gic_findings.specs.declared.sides.RatedSide.{RatedSide}
-use Rattle.gic_findings.specs.Sides.{sides_by, sides_of}
+use Rattle.gic_findings.specs.Sides.{sides_by, rated_sides_of}
 
 abbrev pub IsAtBus : Lists → RatedSide → Type 0
 IsAtBus c s = s.bus < length c.buses
@@ -19,7 +19,7 @@ by_kind c name volts (kinds.WyeWye high low low_volts high_resistance low_resist
 by_kind c name volts (kinds.Auto high low low_volts series_resistance common_resistance) h = (h.0.high_within, (h.0.low_within, tt))
 by_kind c name volts kinds.DeltaDelta h = tt
 
-pub sides_within : (c : Lists) → IsSound c → All (IsAtBus c) (flat_map sides_of c.transformers)
+pub sides_within : (c : Lists) → IsSound c → All (IsAtBus c) (flat_map rated_sides_of c.transformers)
 sides_within c sound =
-    All-from_recursion (IsAtBus c) (flat_map sides_of c.transformers)
-    (all_of_parts (IsSoundTransformer c) (IsAtBus c) sides_of (λ t h. by_kind c t.name t.high_volts t.kind h.kind_sound) c.transformers (recursion_from_All (IsSoundTransformer c) c.transformers sound.transformers_sound))
+    All-from_recursion (IsAtBus c) (flat_map rated_sides_of c.transformers)
+    (all_of_parts (IsSoundTransformer c) (IsAtBus c) rated_sides_of (λ t h. by_kind c t.name t.high_volts t.kind h.kind_sound) c.transformers (recursion_from_All (IsSoundTransformer c) c.transformers sound.transformers_sound))

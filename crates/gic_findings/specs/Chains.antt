@@ -6,13 +6,13 @@ use Rattle.gic_model.specs.Network.{ends_at}
 use Rattle.gic_model.specs.Earthing.{is_earth, joins}
 
 -- an element runs between the nodes k and m
-abbrev pub IsJoined : List Element → (k m : ℕ) → Type 0
-IsJoined elements k m = IsTrue (list_any (joins k m) elements)
+abbrev pub HasElementBetween : List Element → (k m : ℕ) → Type 0
+HasElementBetween elements k m = IsTrue (list_any (joins k m) elements)
 
 -- from the node k over these nodes, each joined to the one before, of which the last is the node m
 abbrev pub IsChain : List Element → (k : ℕ) → List ℕ → (m : ℕ) → Type 0
 IsChain elements k [] m = k ≡ m
-IsChain elements k (next ∷ rest) m = IsJoined elements k next × IsChain elements next rest m
+IsChain elements k (next ∷ rest) m = HasElementBetween elements k next × IsChain elements next rest m
 
 -- two nodes belong together that such a chain joins
 pub record AreTogether (elements : List Element) (k m : ℕ) : Type 0 where

@@ -7,7 +7,7 @@ use Rattle.gic_findings.specs.Ungrounded.{ungrounded_of}
 use Rattle.gic_findings.specs.Parts.{parts_of, ArePartSizes}
 use Rattle.gic_findings.specs.Closures.{closures_of}
 use Rattle.gic_findings.specs.Readings.{values_of}
-use Rattle.gic_findings.specs.Sides.{volts_of}
+use Rattle.gic_findings.specs.Sides.{unfit_volts}
 use Rattle.gic_findings.specs.Outside.{outside_told}
 
 -- the findings in the order of the rules, where the parts of the network have these sizes
@@ -17,7 +17,7 @@ findings_with c sizes =
     ++ (parts_of (node_names c) sizes
     ++ (closures_of c
     ++ (values_of c
-    ++ (volts_of c
+    ++ (unfit_volts c
     ++ flat_map outside_told c.transformers))))
 
 -- with the sizes that the parts have

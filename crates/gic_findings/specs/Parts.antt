@@ -14,7 +14,7 @@ pub record IsFirstOfPart (network : Network) (k : ℕ) : Type 0 where
   pub element : HasElement network.list node
 
 -- so many nodes belong to the node k
-pub record IsSize (network : Network) (k size : ℕ) : Type 0 where
+pub record IsPartSize (network : Network) (k size : ℕ) : Type 0 where
   pub belongs : ℕ → Bool
   pub together : (m : ℕ) → m < network.nodes → IsTrue (belongs m) ↔ AreTogether network.list k m
   pub counted : size ≡ count_by belongs (range_with_len 0 network.nodes)
@@ -22,7 +22,7 @@ pub record IsSize (network : Network) (k size : ℕ) : Type 0 where
 -- for each node how many nodes the part has whose first node it is, and 0 where it is no such node
 pub record ArePartSizes (network : Network) (sizes : List ℕ) : Type 0 where
   pub count : length sizes ≡ network.nodes
-  pub of_part : (k : ℕ) → k < network.nodes → IsFirstOfPart network k → IsSize network k (slice_index sizes k)
+  pub of_part : (k : ℕ) → k < network.nodes → IsFirstOfPart network k → IsPartSize network k (slice_index sizes k)
   pub of_none : (k : ℕ) → k < network.nodes → ¬ IsFirstOfPart network k → slice_index sizes k ≡ 0
 
 -- a part is told by its size and the name of its first node

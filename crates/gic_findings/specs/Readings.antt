@@ -9,18 +9,18 @@ use Rattle.gic_case.specs.declared.item.Neutral.{Neutral}
 use Rattle.gic_case.specs.declared.item.Neutral.TheVariants as devices
 use Rattle.gic_case.specs.declared.item.Transformer.{Transformer}
 use Rattle.gic_case.specs.Lists.{Lists}
-use Rattle.gic_findings.specs.declared.finding.Listed.{Listed}
-use Rattle.gic_findings.specs.declared.finding.Listed.TheVariants as lists
+use Rattle.gic_findings.specs.declared.finding.CaseList.{CaseList}
+use Rattle.gic_findings.specs.declared.finding.CaseList.TheVariants as lists
 use Rattle.gic_findings.specs.declared.finding.Finding.{Finding}
 use Rattle.gic_findings.specs.declared.finding.Finding.TheVariants.{Value}
-use Rattle.gic_findings.specs.declared.measured.Measured.{Measured}
-use Rattle.gic_findings.specs.declared.measured.Measured.TheVariants as values
+use Rattle.gic_findings.specs.declared.measured.Quantity.{Quantity}
+use Rattle.gic_findings.specs.declared.measured.Quantity.TheVariants as values
 use Rattle.gic_findings.specs.Spans.{span_of, length_of}
 use Rattle.gic_findings.specs.Usual.{is_unusual}
 
 -- what is measured, and the number
 abbrev pub Reading : Type 0
-Reading = Measured × ℕ
+Reading = Quantity × ℕ
 
 abbrev pub zone_readings : ZoneView → List Reading
 zone_readings z = (values.Latitude, z.latitude) ∷ (values.Beta, z.beta) ∷ []
@@ -61,10 +61,10 @@ abbrev pub transformer_readings : Transformer → List Reading
 transformer_readings t = (values.HighVolts, t.high_volts) ∷ (winding_readings t.kind ++ neutral_readings t.neutral)
 
 -- a reading of a row of this name is told where it is unusual
-abbrev pub value_told : Listed → List ℕ → Reading → List Finding
+abbrev pub value_told : CaseList → List ℕ → Reading → List Finding
 value_told list name r = if is_unusual r.0 r.1 then Value list name r.0 r.1 ∷ [] else []
 
-abbrev pub values_told : Listed → List ℕ → List Reading → List Finding
+abbrev pub values_told : CaseList → List ℕ → List Reading → List Finding
 values_told list name readings = flat_map (value_told list name) readings
 
 -- what is told of the values of a row of each list

@@ -21,8 +21,8 @@ sides_by name high_volts (kinds.WyeWye high low low_volts high_resistance low_re
 sides_by name high_volts (kinds.Auto high low low_volts series_resistance common_resistance) = rated name High high high_volts ∷ rated name Low low low_volts ∷ []
 sides_by name high_volts kinds.DeltaDelta = []
 
-abbrev pub sides_of : Transformer → List RatedSide
-sides_of t = sides_by t.name t.high_volts t.kind
+abbrev pub rated_sides_of : Transformer → List RatedSide
+rated_sides_of t = sides_by t.name t.high_volts t.kind
 
 -- a voltage is under nine tenths of the measure, or the measure under nine tenths of it
 abbrev pub differs : (volts measure : ℕ) → Bool
@@ -51,5 +51,5 @@ volts_from measures [] = []
 volts_from measures (s ∷ ss) = volts_told s (measure_at measures s.bus) ++ volts_from (measures_with measures s) ss
 
 -- what is told of the voltages of a case
-abbrev pub volts_of : Lists → List Finding
-volts_of c = volts_from (replicate (length c.buses) None) (flat_map sides_of c.transformers)
+abbrev pub unfit_volts : Lists → List Finding
+unfit_volts c = volts_from (replicate (length c.buses) None) (flat_map rated_sides_of c.transformers)

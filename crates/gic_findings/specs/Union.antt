@@ -7,12 +7,12 @@ use Rattle.gic_model.specs.declared.parts.Element.{Element}
 use Rattle.gic_model.specs.Network.{Network}
 
 -- the lower of two first nodes in place of both
-abbrev pub lowered : (a b first : ℕ) → ℕ
-lowered a b first = if first == max a b then min a b else first
+abbrev pub first_lowered : (a b first : ℕ) → ℕ
+first_lowered a b first = if first == max a b then min a b else first
 
 -- the first node of each node, where what belongs to two nodes is joined
 abbrev pub united : List ℕ → (one other : ℕ) → List ℕ
-united firsts one other = map (lowered (slice_index firsts one) (slice_index firsts other)) firsts
+united firsts one other = map (first_lowered (slice_index firsts one) (slice_index firsts other)) firsts
 
 -- an element joins its two nodes; earthings join nothing
 abbrev pub united_to : List ℕ → (from : ℕ) → End → List ℕ

@@ -1,22 +1,18 @@
 -- Cases worked by hand.
-use Rattle.std.specs.Prelude.{ℕ, List, [], ◌∷◌, Option, Some, None, true, false, codes, pos, neg_ℤ}
+use Rattle.std.specs.Prelude.{ℕ, List, [], ◌∷◌, Some, None, true, false, codes, pos, neg_ℤ}
 use Rattle.gic_scale.specs.ZoneView.{ZoneView}
-use Rattle.gic_case.specs.declared.item.Substation.{Substation}
 use Rattle.gic_case.specs.declared.item.Bus.{Bus}
 use Rattle.gic_case.specs.declared.item.Kind.TheVariants as kinds
 use Rattle.gic_case.specs.declared.item.Transformer.{Transformer}
-use Rattle.gic_case.specs.Lists.{Lists}
-use Rattle.gic_findings.specs.declared.finding.Listed.TheVariants as lists
+use Rattle.gic_case.specs.Lists.{Lists, substation_with}
+use Rattle.gic_findings.specs.declared.finding.CaseList.TheVariants as lists
 use Rattle.gic_findings.specs.declared.finding.Side.TheVariants.{High}
 use Rattle.gic_findings.specs.declared.finding.Finding.{Finding}
 use Rattle.gic_findings.specs.declared.finding.Finding.TheVariants as findings
-use Rattle.gic_findings.specs.declared.measured.Measured.TheVariants as values
+use Rattle.gic_findings.specs.declared.measured.Quantity.TheVariants as values
 
 abbrev pub zone : List ℕ → (latitude beta : ℕ) → ZoneView
 zone name latitude beta = record { name = name; latitude = latitude; beta = beta }
-
-abbrev pub station : List ℕ → (ground : Option ℕ) → Substation
-station name ground = record { name = name; ground = ground }
 
 abbrev pub bus : List ℕ → (substation : ℕ) → Bus
 bus name substation = record { name = name; substation = substation }
@@ -29,7 +25,7 @@ unit name high_volts high high_resistance = record { name = name; high_volts = h
 abbrev pub ungrounded_case : Lists
 ungrounded_case = record {
   zones = zone (codes "Z") 60 100 ∷ [];
-  substations = station (codes "A") (Some 1000000) ∷ station (codes "B") None ∷ [];
+  substations = substation_with (codes "A") (Some 1000000) ∷ substation_with (codes "B") None ∷ [];
   buses = bus (codes "a") 0 ∷ bus (codes "b") 1 ∷ [];
   lines = record { name = codes "L"; from = 0; to = 1; zone = 0; resistance = 3000000; north = pos 90; east = pos 0; blocked = false } ∷ [];
   transformers = unit (codes "TA") 345000 0 300000 ∷ unit (codes "TB") 34500 1 3000 ∷ [];
@@ -47,7 +43,7 @@ ungrounded_findings =
 abbrev pub turned_case : Lists
 turned_case = record {
   zones = zone (codes "Z") 6000 100 ∷ [];
-  substations = station (codes "A") (Some 400000) ∷ station (codes "B") (Some 400000) ∷ station (codes "C") (Some 400000) ∷ [];
+  substations = substation_with (codes "A") (Some 400000) ∷ substation_with (codes "B") (Some 400000) ∷ substation_with (codes "C") (Some 400000) ∷ [];
   buses = bus (codes "a") 0 ∷ bus (codes "b") 1 ∷ bus (codes "c") 2 ∷ [];
   lines =
       record { name = codes "AB"; from = 0; to = 1; zone = 0; resistance = 3000000; north = pos 100000; east = pos 0; blocked = false } ∷
@@ -64,7 +60,7 @@ turned_findings = findings.Closure (codes "CA") (pos 0) (neg_ℤ (pos 400000)) �
 abbrev pub parted_case : Lists
 parted_case = record {
   zones = zone (codes "Z") 6000 100 ∷ [];
-  substations = station (codes "East") (Some 200000) ∷ station (codes "West") (Some 300000) ∷ [];
+  substations = substation_with (codes "East") (Some 200000) ∷ substation_with (codes "West") (Some 300000) ∷ [];
   buses = bus (codes "e") 0 ∷ bus (codes "w") 1 ∷ bus (codes "x") 1 ∷ [];
   lines = [];
   transformers = unit (codes "Te") 345000 0 200000 ∷ unit (codes "Tw") 345000 1 250000 ∷ [];
@@ -77,7 +73,7 @@ parted_findings = findings.Part 2 (codes "East") ∷ findings.Part 2 (codes "Wes
 abbrev pub levels_case : Lists
 levels_case = record {
   zones = zone (codes "Z") 6000 100 ∷ [];
-  substations = station (codes "A") (Some 200000) ∷ [];
+  substations = substation_with (codes "A") (Some 200000) ∷ [];
   buses = bus (codes "a") 0 ∷ [];
   lines = [];
   transformers =

@@ -1,21 +1,21 @@
 //! Loops of spans, which close where the spans are right.
 ghost use Rattle.std.specs.Prelude.{◌≡◌, ◌<◌, ◌++◌, length, OnOk};
 ghost use Rattle.gic_case.specs.Sound.{IsSoundLine};
-ghost use Rattle.gic_findings.specs.Closures.{place_at, closure_told, told_at_line, places_after, closures_from, closures_of, AreLaidOut};
+ghost use Rattle.gic_findings.specs.Closures.{position_of_bus, closure_told, told_at_line, places_after, closures_from, closures_of, AreLaidOut};
 
 use crate::finding::Finding;
-use crate::places::{Gap, Place, gap_of, is_open, join, start_places};
+use crate::places::{Gap, Position, gap_of, is_open, join, start_places};
 use crate::span::{Span, span_of};
 use gic_base::OutOfMemory;
 use gic_case::{Case, Line};
 use std::alloc::Global;
 
 /// The place of a bus of the case: that of its substation.
-fn place_at(case: &Case, places: &[Place], bus: u16) -> Place
+fn position_of_bus(case: &Case, places: &[Position], bus: u16) -> Position
     requires bus { bus < length case.now.buses }
     requires count { length places.now ≡ length case.now.substations }
     requires laid { AreLaidOut places.now }
-    ensures { result ≡ place_at case.now.buses places.now bus }
+    ensures { result ≡ position_of_bus case.now.buses places.now bus }
 {
     let bus = &case.buses()[bus as usize];
     places[bus.substation as usize]
@@ -43,7 +43,7 @@ fn push_closure(
 /// Follows a line: it closes a loop, and is told where that stays open, or it joins two groups of places.
 fn follow(
     findings: &mut Vec<Finding>,
-    places: &mut [Place],
+    places: &mut [Position],
     case: &Case,
     line: &Line,
 ) -> Result<(), OutOfMemory>
@@ -55,8 +55,8 @@ fn follow(
 {
     case.keeps_rules();
     let span = span_of(line);
-    let from = place_at(case, places, line.from);
-    let to = place_at(case, places, line.to);
+    let from = position_of_bus(case, places, line.from);
+    let to = position_of_bus(case, places, line.to);
     let gap = gap_of(&from, &span, &to);
     if from.group == to.group {
         return push_closure(findings, line, &span, &gap);
@@ -80,7 +80,7 @@ pub(crate) fn push_closures(
 /// Follows the lines of the case, in order, from these places.
 fn push_closures_from(
     findings: &mut Vec<Finding>,
-    places: &mut [Place],
+    places: &mut [Position],
     case: &Case,
 ) -> Result<(), OutOfMemory>
     requires count { length places.old ≡ length case.now.substations }

@@ -1,10 +1,10 @@
 //! Findings, in the words of a case.
-use crate::measured::Measured;
+use crate::measured::Quantity;
 use gic_base::Name;
 
 /// A list of a case whose values are looked at.
 #[derive(Clone, Copy, PartialEq, Eq, Debug)]
-pub enum Listed {
+pub enum CaseList {
     Zone,
     Substation,
     Line,
@@ -38,9 +38,9 @@ pub enum Finding {
     },
     /// This value of a row is outside the range that is usual.
     Value {
-        list: Listed,
+        list: CaseList,
         name: Name,
-        measured: Measured,
+        measured: Quantity,
         number: u64,
     },
     /// The rated voltage of this side doesn't fit that of the first side at its bus, both in V.
@@ -50,7 +50,7 @@ pub enum Finding {
         volts: u32,
         measure: u32,
     },
-    /// A delta-delta unit above 200 kV, of which no computation says anything.
+    /// A delta-delta unit above 200 kV: it gives no element and carries 0, and its verdict is `outside`.
     Outside {
         name: Name,
     },

@@ -1,6 +1,6 @@
 //! What a case says that its writer may not have meant, by exact rules: substations without a ground to which windings
 //! run, parts that nothing joins, loops of spans that don't close, values outside their usual range, voltages at one bus
-//! that don't fit, and transformers that no computation speaks of.
+//! that don't fit, and delta-delta units at voltages that are assessed.
 #![tactic(auto)]
 
 mod closing;
@@ -17,6 +17,6 @@ mod span;
 mod ungrounded;
 mod union;
 
-pub use finding::{Finding, Listed, Side};
+pub use finding::{CaseList, Finding, Side};
 pub use gathered::findings;
-pub use measured::Measured;
+pub use measured::Quantity;

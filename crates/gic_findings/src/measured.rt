@@ -1,7 +1,7 @@
 //! The values of rows that have a usual range.
 /// What is measured of a row: a field of a case, or what is computed of some.
 #[derive(Clone, Copy, PartialEq, Eq, Debug)]
-pub enum Measured {
+pub enum Quantity {
     /// In hundredths of a degree.
     Latitude,
     /// In hundredths.
@@ -25,7 +25,7 @@ pub enum Measured {
     Neutral,
 }
 
-impl Measured {
+impl Quantity {
     ghost use Rattle.std.specs.Prelude.{◌≡◌};
     ghost use Rattle.gic_findings.specs.Usual.{is_unusual};
 
@@ -34,18 +34,18 @@ impl Measured {
         ensures { result ≡ is_unusual self number }
     {
         match self {
-            Measured::Latitude => number < 2000 || number > 7500,
-            Measured::Beta => number < 10,
-            Measured::Ground => number < 10000 || number > 10000000,
-            Measured::Resistance => number < 50000 || number > 50000000,
-            Measured::Span => number < 100,
-            Measured::PerKilometre => number < 2000 || number > 1000000,
-            Measured::HighVolts => number < 10000,
-            Measured::HighResistance
-            | Measured::LowResistance
-            | Measured::SeriesResistance
-            | Measured::CommonResistance => number < 10000 || number > 5000000,
-            Measured::Neutral => number > 100000000,
+            Quantity::Latitude => number < 2000 || number > 7500,
+            Quantity::Beta => number < 10,
+            Quantity::Ground => number < 10000 || number > 10000000,
+            Quantity::Resistance => number < 50000 || number > 50000000,
+            Quantity::Span => number < 100,
+            Quantity::PerKilometre => number < 2000 || number > 1000000,
+            Quantity::HighVolts => number < 10000,
+            Quantity::HighResistance
+            | Quantity::LowResistance
+            | Quantity::SeriesResistance
+            | Quantity::CommonResistance => number < 10000 || number > 5000000,
+            Quantity::Neutral => number > 100000000,
         }
     }
 }

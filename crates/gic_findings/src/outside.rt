@@ -1,4 +1,4 @@
-//! Transformers that no computation speaks of.
+//! Delta-delta units at voltages that are assessed.
 ghost use Rattle.std.specs.Prelude.{◌≡◌, ◌++◌, flat_map, OnOk};
 ghost use Rattle.gic_findings.specs.Outside.{is_outside, outside_told};
 
@@ -6,13 +6,16 @@ use crate::finding::Finding;
 use gic_base::OutOfMemory;
 use gic_case::{Kind, Transformer};
 
+/// The highest rated voltage in V at which no transformer is assessed.
+pub(crate) const MOST_NOT_ASSESSED: u32 = 200000;
+
 /// Whether a transformer is a delta-delta unit above 200 kV.
 fn is_outside(transformer: &Transformer) -> bool
     ensures { result ≡ is_outside transformer.now.kind transformer.now.high_volts }
 {
     match transformer.kind {
         Kind::DeltaWye { .. } | Kind::WyeWye { .. } | Kind::Auto { .. } => false,
-        Kind::DeltaDelta => transformer.high_volts > 200000,
+        Kind::DeltaDelta => transformer.high_volts > MOST_NOT_ASSESSED,
     }
 }
 

@@ -3,21 +3,21 @@ ghost use Rattle.std.specs.Prelude.{◌≡◌, ◌<◌, ◌≤◌, ◌++◌, len
 ghost use Rattle.gic_base.specs.declared.limits.TheConstants.{MOST_NODES};
 ghost use Rattle.gic_case.specs.Lists.{node_names};
 ghost use Rattle.gic_findings.specs.Parts.{part_told, parts_told, are_several, parts_of, ArePartSizes};
-ghost use Rattle.gic_findings.specs.PartSizes.{count_of, part_size, sizes_by, sizes_of};
+ghost use Rattle.gic_findings.specs.PartSizes.{times_first, part_size, sizes_by, sizes_of};
 
 use crate::finding::Finding;
 use crate::union::firsts;
 use gic_base::{Name, OutOfMemory};
 use gic_case::{Case, NodeNames};
 use gic_model::Elements;
-use std::alloc::{AllocError, Global};
+use std::alloc::Global;
 
 /// For each node how many nodes have it as their first.
-fn counts(alloc: Global, firsts: &[u16]) -> Result<Vec<u16>, AllocError>
+fn counts(alloc: Global, firsts: &[u16]) -> Result<Vec<u16>, OutOfMemory>
     requires few { length firsts.now ≤ MOST_NODES }
     requires inside { All (λ first. first < length firsts.now) firsts.now }
     ensures count { IfOk result (λ v. length v.items ≡ length firsts.now) }
-    ensures counted { IfOk result (λ v. (k : ℕ) → k < length firsts.now → slice_index v.items k ≡ count_of firsts.now k) }
+    ensures counted { IfOk result (λ v. (k : ℕ) → k < length firsts.now → slice_index v.items k ≡ times_first firsts.now k) }
 {
     let mut counts = vec![in alloc; 0u16; firsts.len()]?;
     for first in firsts {
@@ -43,7 +43,7 @@ fn size_parts(counts: &mut [u16])
 }
 
 /// For each node how many nodes the part has whose first node it is, and 0 where it is no such node.
-fn sizes(alloc: Global, firsts: &[u16]) -> Result<Vec<u16>, AllocError>
+fn sizes(alloc: Global, firsts: &[u16]) -> Result<Vec<u16>, OutOfMemory>
     requires few { length firsts.now ≤ MOST_NODES }
     requires inside { All (λ first. first < length firsts.now) firsts.now }
     ensures { IfOk result (λ v. v.items ≡ sizes_by firsts.now) }

@@ -1,10 +1,10 @@
 //! The values of the rows of a case.
 ghost use Rattle.std.specs.Prelude.{◌≡◌, ◌++◌, flat_map, OnOk};
-ghost use Rattle.gic_findings.specs.declared.finding.Listed.TheVariants as lists;
+ghost use Rattle.gic_findings.specs.declared.finding.CaseList.TheVariants as lists;
 ghost use Rattle.gic_findings.specs.Readings.{value_told, values_told, span_readings, kilometre_readings, winding_readings, neutral_readings, zone_told, substation_told, line_told, transformer_told, values_of};
 
-use crate::finding::{Finding, Listed};
-use crate::measured::Measured;
+use crate::finding::{CaseList, Finding};
+use crate::measured::Quantity;
 use crate::span::span_of;
 use gic_base::{Name, OutOfMemory};
 use gic_case::{Case, Kind, Line, Neutral, Substation, Transformer};
@@ -13,9 +13,9 @@ use gic_scale::Zone;
 /// Adds what is told of a value of a row.
 fn push_value(
     findings: &mut Vec<Finding>,
-    list: Listed,
+    list: CaseList,
     name: Name,
-    measured: Measured,
+    measured: Quantity,
     number: u64,
 ) -> Result<(), OutOfMemory>
     ensures { OnOk result (findings.new.items ≡ findings.old.items ++ value_told list name (measured, number)) }
@@ -39,12 +39,12 @@ fn push_zone(findings: &mut Vec<Finding>, zone: &Zone) -> Result<(), OutOfMemory
     let beta = u64::from(zone.beta);
     push_value(
         findings,
-        Listed::Zone,
+        CaseList::Zone,
         zone.name,
-        Measured::Latitude,
+        Quantity::Latitude,
         latitude,
     )?;
-    push_value(findings, Listed::Zone, zone.name, Measured::Beta, beta)
+    push_value(findings, CaseList::Zone, zone.name, Quantity::Beta, beta)
 }
 
 /// Adds what is told of the values of a substation.
@@ -54,9 +54,9 @@ fn push_substation(findings: &mut Vec<Finding>, substation: &Substation) -> Resu
     match substation.ground {
         Some(ohm) => push_value(
             findings,
-            Listed::Substation,
+            CaseList::Substation,
             substation.name,
-            Measured::Ground,
+            Quantity::Ground,
             u64::from(ohm),
         ),
         None => Ok(()),
@@ -71,7 +71,7 @@ fn push_span(findings: &mut Vec<Finding>, line: &Line) -> Result<(), OutOfMemory
         return Ok(());
     }
     let length = span_of(line).length();
-    push_value(findings, Listed::Line, line.name, Measured::Span, length)
+    push_value(findings, CaseList::Line, line.name, Quantity::Span, length)
 }
 
 /// Adds what is told of the resistance of a line for a kilometre.
@@ -85,9 +85,9 @@ fn push_kilometre(findings: &mut Vec<Finding>, line: &Line) -> Result<(), OutOfM
     let each = u64::from(line.resistance) * 1000 / length;
     push_value(
         findings,
-        Listed::Line,
+        CaseList::Line,
         line.name,
-        Measured::PerKilometre,
+        Quantity::PerKilometre,
         each,
     )
 }
@@ -99,9 +99,9 @@ fn push_line(findings: &mut Vec<Finding>, line: &Line) -> Result<(), OutOfMemory
     let resistance = u64::from(line.resistance);
     push_value(
         findings,
-        Listed::Line,
+        CaseList::Line,
         line.name,
-        Measured::Resistance,
+        Quantity::Resistance,
         resistance,
     )?;
     push_span(findings, line)?;
@@ -112,14 +112,14 @@ fn push_line(findings: &mut Vec<Finding>, line: &Line) -> Result<(), OutOfMemory
 fn push_ohm(
     findings: &mut Vec<Finding>,
     name: Name,
-    measured: Measured,
+    measured: Quantity,
     ohm: u32,
 ) -> Result<(), OutOfMemory>
     ensures { OnOk result (findings.new.items ≡ findings.old.items ++ value_told lists.Transformer name (measured, ohm)) }
 {
     push_value(
         findings,
-        Listed::Transformer,
+        CaseList::Transformer,
         name,
         measured,
         u64::from(ohm),
@@ -134,14 +134,14 @@ fn push_windings(findings: &mut Vec<Finding>, name: Name, kind: &Kind) -> Result
         Kind::DeltaWye {
             high_resistance,
             ..
-        } => push_ohm(findings, name, Measured::HighResistance, high_resistance),
+        } => push_ohm(findings, name, Quantity::HighResistance, high_resistance),
         Kind::WyeWye {
             high_resistance,
             low_resistance,
             ..
         } => {
-            push_ohm(findings, name, Measured::HighResistance, high_resistance)?;
-            push_ohm(findings, name, Measured::LowResistance, low_resistance)
+            push_ohm(findings, name, Quantity::HighResistance, high_resistance)?;
+            push_ohm(findings, name, Quantity::LowResistance, low_resistance)
         }
         Kind::Auto {
             series_resistance,
@@ -151,13 +151,13 @@ fn push_windings(findings: &mut Vec<Finding>, name: Name, kind: &Kind) -> Result
             push_ohm(
                 findings,
                 name,
-                Measured::SeriesResistance,
+                Quantity::SeriesResistance,
                 series_resistance,
             )?;
             push_ohm(
                 findings,
                 name,
-                Measured::CommonResistance,
+                Quantity::CommonResistance,
                 common_resistance,
             )
         }
@@ -174,7 +174,7 @@ fn push_neutral(
     ensures { OnOk result (findings.new.items ≡ findings.old.items ++ values_told lists.Transformer name (neutral_readings neutral)) }
 {
     match neutral {
-        Some(Neutral::Resistor(ohm)) => push_ohm(findings, name, Measured::Neutral, ohm),
+        Some(Neutral::Resistor(ohm)) => push_ohm(findings, name, Quantity::Neutral, ohm),
         Some(Neutral::Blocked) | None => Ok(()),
     }
 }
@@ -187,7 +187,7 @@ fn push_transformer(
     ensures { OnOk result (findings.new.items ≡ findings.old.items ++ transformer_told transformer.now) }
 {
     let name = transformer.name;
-    push_ohm(findings, name, Measured::HighVolts, transformer.high_volts)?;
+    push_ohm(findings, name, Quantity::HighVolts, transformer.high_volts)?;
     push_windings(findings, name, &transformer.kind)?;
     push_neutral(findings, name, transformer.neutral)
 }

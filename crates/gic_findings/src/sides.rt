@@ -1,6 +1,6 @@
 //! The rated voltages of the sides of transformers, compared at each bus.
 ghost use Rattle.std.specs.Prelude.{◌≡◌, ◌<◌, ◌++◌, length, flat_map, All, replicate, None, IfOk, OnOk};
-ghost use Rattle.gic_findings.specs.Sides.{rated, sides_of, differs, volts_told, measures_with, volts_from, volts_of};
+ghost use Rattle.gic_findings.specs.Sides.{rated, rated_sides_of, differs, volts_told, measures_with, volts_from, unfit_volts};
 
 use crate::finding::{Finding, Side};
 use gic_base::{Name, OutOfMemory};
@@ -30,7 +30,7 @@ fn rated(transformer: &Transformer, side: Side, bus: u16, volts: u32) -> RatedSi
 
 /// Adds the sides of a transformer that have a bus. What looks at sides reads them here alone.
 fn push_sides(sides: &mut Vec<RatedSide>, transformer: &Transformer) -> Result<(), OutOfMemory>
-    ensures { OnOk result (sides.new.items ≡ sides.old.items ++ sides_of transformer.now) }
+    ensures { OnOk result (sides.new.items ≡ sides.old.items ++ rated_sides_of transformer.now) }
 {
     let volts = transformer.high_volts;
     match transformer.kind {
@@ -62,7 +62,7 @@ fn push_sides(sides: &mut Vec<RatedSide>, transformer: &Transformer) -> Result<(
 
 /// The sides of all transformers, in order.
 fn all_sides(alloc: Global, transformers: &[Transformer]) -> Result<Vec<RatedSide>, OutOfMemory>
-    ensures { IfOk result (λ sides. sides.items ≡ flat_map sides_of transformers.now) }
+    ensures { IfOk result (λ sides. sides.items ≡ flat_map rated_sides_of transformers.now) }
 {
     let mut sides = Vec::new(alloc);
     for transformer in transformers {
@@ -137,7 +137,7 @@ pub(crate) fn push_levels(
     findings: &mut Vec<Finding>,
     case: &Case,
 ) -> Result<(), OutOfMemory>
-    ensures { OnOk result (findings.new.items ≡ findings.old.items ++ volts_of case.now) }
+    ensures { OnOk result (findings.new.items ≡ findings.old.items ++ unfit_volts case.now) }
 {
     let sides = all_sides(alloc, case.transformers())?;
     let mut measures = vec![in alloc; None; case.buses().len()]?;

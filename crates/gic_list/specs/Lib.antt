@@ -1,2 +1,3 @@
 pub mod ListText
 pub mod RightList
+pub mod Made

@@ -3,6 +3,8 @@
 
 mod mode;
 mod names;
+mod room;
 mod text;
 
 pub use mode::list;
+pub use room::{Room, make_room};

@@ -3,23 +3,27 @@ ghost use Rattle.gic_stand.specs.Needs.{Nothing};
 ghost use Rattle.gic_stand.specs.Serves.{Serves, shown};
 ghost use Rattle.gic_stand.specs.Standing.{steps_of};
 ghost use Rattle.gic_list.specs.RightList.{IsRightList};
+ghost use Rattle.gic_list.specs.Made.{IsMadeFor};
 
+use crate::room::Room;
 use crate::text::write_list;
 use gic_base::Sink;
 use gic_inputs::Inputs;
 use gic_stand::{ReportFault, ended};
-use gic_text::LineBuilder;
-use gic_winding::elements;
-use std::alloc::Global;
 
-/// Writes the elements of the case.
-pub fn list<S: Sink>(alloc: Global, inputs: &Inputs, out: &mut S) -> Result<(), ReportFault>
+/// Writes the elements of the case. Takes no memory.
+pub fn list<S: Sink>(inputs: &Inputs, room: &mut Room, out: &mut S) -> Result<(), ReportFault>
+    requires { IsMadeFor inputs.now room.old }
     ensures { Serves Nothing inputs.now.case (steps_of inputs.now) (IsRightList inputs.now)
         (shown S.written S.faults out.old) (shown S.written S.faults out.new) result }
 {
-    let mut line = LineBuilder::new(alloc)?;
-    let case = &inputs.case;
-    let elements = elements(alloc, case)?;
-    let writing = write_list(case, elements.nodes(), elements.list(), &mut line, out);
+    let elements = &room.elements;
+    let writing = write_list(
+        &inputs.case,
+        elements.nodes(),
+        elements.list(),
+        &mut room.line,
+        out,
+    );
     ended(writing)
 }

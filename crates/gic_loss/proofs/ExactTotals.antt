@@ -9,14 +9,14 @@ use Rattle.gic_fixed.specs.Rounding.{least_abs, greatest_abs}
 use Rattle.gic_fixed.specs.Sums.{sum_of}
 use Rattle.gic_fixed.proofs.Enclosures.{Encloses-abs, Encloses-add, Encloses-outer, Encloses-times}
 use Rattle.gic_view.specs.View.{View, effective_at}
-use Rattle.gic_loss.specs.LossText.{most_current, unit_loss, least_loss, most_loss}
+use Rattle.gic_loss.specs.LossText.{most_counted_current, unit_loss, least_loss, most_loss}
 use Rattle.gic_loss.specs.Bounds.{Currents, ShowsUnits, numerator_at, exact_total}
 
 -- an end that is cut is no greater, and one that is small enough isn't cut
-cut_below : (z : ℤ) → int_min z (pos most_current) ≤ℤ z
+cut_below : (z : ℤ) → int_min z (pos most_counted_current) ≤ℤ z
 cut_below z = omega (arith, ints, clamps)
 
-uncut : (lo hi : ℤ) → IsWithin most_current lo hi → greatest_abs lo hi ≤ℤ int_min (greatest_abs lo hi) (pos most_current)
+uncut : (lo hi : ℤ) → IsWithin most_counted_current lo hi → greatest_abs lo hi ≤ℤ int_min (greatest_abs lo hi) (pos most_counted_current)
 uncut lo hi within = omega (arith, ints, clamps, within.low, within.high)
 
 -- what a unit draws exactly, as a numerator
@@ -31,7 +31,7 @@ unit_encloses units view currents unit factor shows inside =
     let d = currents.denominator in
     let numerator = numerator_at currents unit in
     let absolute = Encloses-abs ends.low ends.high numerator d (shows.encloses unit inside) in
-    let counted = Encloses-outer (least_abs ends.low ends.high) (greatest_abs ends.low ends.high) (int_min (least_abs ends.low ends.high) (pos most_current)) (int_min (greatest_abs ends.low ends.high) (pos most_current)) (pos (unsigned_abs numerator)) d
+    let counted = Encloses-outer (least_abs ends.low ends.high) (greatest_abs ends.low ends.high) (int_min (least_abs ends.low ends.high) (pos most_counted_current)) (int_min (greatest_abs ends.low ends.high) (pos most_counted_current)) (pos (unsigned_abs numerator)) d
     (cut_below (least_abs ends.low ends.high)) (uncut ends.low ends.high (shows.within unit inside)) absolute in
     Encloses-times _ _ (pos (unsigned_abs numerator)) d factor counted
 

@@ -4,7 +4,7 @@ use Rattle.std.specs.List.{sum_by, enumerate_from}
 use Rattle.gic_fixed.specs.Encloses.{Encloses, IsWithin}
 use Rattle.gic_text.specs.Lines.{line_text}
 use Rattle.gic_view.specs.View.{View, effective_at}
-use Rattle.gic_loss.specs.LossText.{most_current, Total, loss_line}
+use Rattle.gic_loss.specs.LossText.{most_counted_current, Total, loss_line}
 
 -- the exact signed effective currents of units in mA per phase, as numerators over one denominator
 pub record Currents : Type 0 where
@@ -20,23 +20,23 @@ pub record ShowsUnits (units : ℕ) (view : View) (currents : Currents) : Type 0
   pub above_nought : 0 < currents.denominator
   pub encloses : (unit : ℕ) → unit < units →
       Encloses (effective_at view unit).low (effective_at view unit).high (numerator_at currents unit) currents.denominator
-  pub within : (unit : ℕ) → unit < units → IsWithin most_current (effective_at view unit).low (effective_at view unit).high
+  pub within : (unit : ℕ) → unit < units → IsWithin most_counted_current (effective_at view unit).low (effective_at view unit).high
 
 -- the exact total of factor times absolute current in milli-var, as a numerator over the same denominator
 abbrev pub exact_total : (factors : List ℕ) → Currents → ℕ
 exact_total factors currents = sum_by (λ unit. unit.1 * unsigned_abs (numerator_at currents unit.0)) (enumerate_from 0 factors)
 
 -- the exact total is at most this high end, and at least this low end
-abbrev pub IsAtMost : (factors : List ℕ) → (high : ℤ) → Currents → Type 0
-IsAtMost factors high currents = pos (exact_total factors currents) ≤ℤ (high *ℤ pos currents.denominator)
+abbrev pub IsTotalAtMost : (factors : List ℕ) → (high : ℤ) → Currents → Type 0
+IsTotalAtMost factors high currents = pos (exact_total factors currents) ≤ℤ (high *ℤ pos currents.denominator)
 
-abbrev pub IsAtLeast : (factors : List ℕ) → (low : ℤ) → Currents → Type 0
-IsAtLeast factors low currents = (low *ℤ pos currents.denominator) ≤ℤ pos (exact_total factors currents)
+abbrev pub IsTotalAtLeast : (factors : List ℕ) → (low : ℤ) → Currents → Type 0
+IsTotalAtLeast factors low currents = (low *ℤ pos currents.denominator) ≤ℤ pos (exact_total factors currents)
 
 -- one total bounds the exact ones of these steps: its high end each of them, and its low end one of them from below
 pub record BoundsLosses (factors : List ℕ) (steps : List (View × Currents)) (total : Total) : Type 0 where
-  pub most : All (λ step. IsAtMost factors total.high step.1) steps
-  pub least : Any (λ step. IsAtLeast factors total.low step.1) steps
+  pub most : All (λ step. IsTotalAtMost factors total.high step.1) steps
+  pub least : Any (λ step. IsTotalAtLeast factors total.low step.1) steps
 
 -- the text is the line of such a total
 pub record TellsBounds (word : List ℕ) (factors : List ℕ) (steps : List (View × Currents)) (text : List ℕ) : Type 0 where

@@ -14,14 +14,14 @@ use Rattle.gic_monitor.specs.RosterView.{RosterView}
 use Rattle.gic_loss.specs.declared.table_loss.NamedFactor.{NamedFactor}
 
 -- no absolute effective current counts as more than this, in mA per phase
-abbrev pub most_current : ℕ
-most_current = 2 ^ 70
+abbrev pub most_counted_current : ℕ
+most_counted_current = 2 ^ 70
 
 -- the absolute interval of a current, each end cut to this
 abbrev pub counted_current : Ends → Ends
 counted_current current = record {
-  low = int_min (least_abs current.low current.high) (pos most_current);
-  high = int_min (greatest_abs current.low current.high) (pos most_current);
+  low = int_min (least_abs current.low current.high) (pos most_counted_current);
+  high = int_min (greatest_abs current.low current.high) (pos most_counted_current);
 }
 
 -- what the unit at this place of a view draws with this factor, in milli-var

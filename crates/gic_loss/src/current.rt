@@ -1,7 +1,7 @@
 //! The absolute effective current that counts.
 ghost use Rattle.std.specs.Prelude.{◌≡◌, ◌≤ℤ◌, pos};
 ghost use Rattle.gic_fixed.specs.Ends.{ends_of};
-ghost use Rattle.gic_loss.specs.LossText.{most_current, counted_current};
+ghost use Rattle.gic_loss.specs.LossText.{most_counted_current, counted_current};
 
 use crate::limits::MOST_CURRENT;
 use gic_fixed::Interval;
@@ -10,7 +10,7 @@ use gic_fixed::Interval;
 pub(crate) fn counted_current(current: Interval) -> Interval
     ensures value { ends_of result ≡ counted_current (ends_of current) }
     ensures least { pos 0 ≤ℤ result.lo }
-    ensures most { result.hi ≤ℤ pos most_current }
+    ensures most { result.hi ≤ℤ pos most_counted_current }
 {
     let cut = Interval::new(
         current.lo.min(MOST_CURRENT).max(-MOST_CURRENT),

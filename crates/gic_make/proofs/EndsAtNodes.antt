@@ -6,7 +6,7 @@ use Rattle.std.proofs.lemmas.Bool.Decides.{nat_tests}
 use Rattle.std.proofs.lemmas.List.Sums.{sum_by-append}
 use Rattle.std.specs.List.{AllByRecursion, range_with_len}
 use Rattle.gic_base.proofs.Each.{all_joined}
-use Rattle.gic_case.specs.Lists.{ends_of, degree_of}
+use Rattle.gic_case.specs.Lists.{element_ends, degree_of}
 use Rattle.gic_model.specs.declared.parts.Element.{Element}
 use Rattle.gic_model.specs.Network.{ends_at}
 use Rattle.gic_model.proofs.Members.{or_cases}
@@ -135,7 +135,7 @@ two_ends states size some =
     (each_site HasTwoEnds (winding_at states size) 0 size (λ i low high. below_number i (size + i) (omega arith))))
 
 -- so a node has few ends by the rule of degrees
-pub few_ends : (states : List ℕ) (size k : ℕ) → 0 < size → k < 2 * size → degree_of (ends_of (drawn_case states size)) k ≤ 11
+pub few_ends : (states : List ℕ) (size k : ℕ) → 0 < size → k < 2 * size → degree_of (element_ends (drawn_case states size)) k ≤ 11
 few_ends states size k some within =
     let are = elements_are states size in
     let two = subst (AllByRecursion HasTwoEnds) (sym are) (two_ends states size some) in

@@ -25,7 +25,7 @@ use Rattle.gic_uniform.proofs.Denominators.{some_denominator}
 use Rattle.gic_make_mode.specs.declared.solving.TheConstants.{WIDTH}
 use Rattle.gic_report.specs.Counts.{counts_of}
 use Rattle.gic_make_mode.specs.Counting.{verdicts_of}
-use Rattle.gic_make_mode.specs.RightMake.{benchmark_threshold, surely_below, surely_reached, is_under, is_at_least, is_near, TellOf, AreRightCounts}
+use Rattle.gic_make_mode.specs.RightMake.{benchmark_threshold, surely_below, surely_reached, is_judged_under, is_judged_at_least, is_near, TellOf, AreRightCounts}
 use Rattle.gic_make_mode.proofs.Verdicts.{low_under, high_over, says_below, says_reaches, below_judged, reaches_judged, undecided_judged, outside_is}
 
 less_so : (a b : ℕ) → a < b → nat_lt a b ≡ true
@@ -67,13 +67,13 @@ module _ (below_law : BelowIsUnder) (reaches_law : ReachesIsAtLeast) (case : Lis
     some : (t : ℕ) → t < length case.transformers → 0 < effective_denominator case t s
     some t within = some_denominator case t s sound within solves.denominator_above_0
 
-    below_is_under : (t : ℕ) → t < length case.transformers → is_below (verdict_at case benchmark_threshold view t) ≡ true → is_under case s benchmark_threshold t ≡ true
+    below_is_under : (t : ℕ) → t < length case.transformers → is_below (verdict_at case benchmark_threshold view t) ≡ true → is_judged_under case s benchmark_threshold t ≡ true
     below_is_under t within said =
         let verdict = is_below_so (verdict_at case benchmark_threshold view t) said in
         and_from (is_judged case t) _ (below_judged (lo t) (hi t) benchmark_threshold (high_volts t) (earthed t) verdict)
         (less_so _ _ (below_law (lo t) (hi t) (effective_numerator case s t) (effective_denominator case t s) benchmark_threshold (high_volts t) (earthed t) (some t within) verdict (holds t within).below_hi))
 
-    under_is_below : (t : ℕ) → t < length case.transformers → is_under case s surely_below t ≡ true → is_below (verdict_at case benchmark_threshold view t) ≡ true
+    under_is_below : (t : ℕ) → t < length case.transformers → is_judged_under case s surely_below t ≡ true → is_below (verdict_at case benchmark_threshold view t) ≡ true
     under_is_below t within under =
         let parts = and_parts (is_judged case t) _ under in
         let low = low_under (lo t) (unsigned_abs (effective_numerator case s t)) (effective_denominator case t s) surely_below (holds t within).above_lo (so_less _ _ parts.1) in
@@ -81,13 +81,13 @@ module _ (below_law : BelowIsUnder) (reaches_law : ReachesIsAtLeast) (case : Lis
         let verdict = says_below (lo t) (hi t) benchmark_threshold (high_volts t) (earthed t) parts.0 (omega (arith, ints, low)) high in
         subst (λ (v : Verdict). is_below v ≡ true) (sym verdict) refl
 
-    reaches_is_at_least : (t : ℕ) → t < length case.transformers → is_reaching (verdict_at case benchmark_threshold view t) ≡ true → is_at_least case s benchmark_threshold t ≡ true
+    reaches_is_at_least : (t : ℕ) → t < length case.transformers → is_reaching (verdict_at case benchmark_threshold view t) ≡ true → is_judged_at_least case s benchmark_threshold t ≡ true
     reaches_is_at_least t within said =
         let verdict = is_reaching_so (verdict_at case benchmark_threshold view t) said in
         and_from (is_judged case t) _ (reaches_judged (lo t) (hi t) benchmark_threshold (high_volts t) (earthed t) verdict)
         (most_so _ _ (reaches_law (lo t) (hi t) (effective_numerator case s t) (effective_denominator case t s) benchmark_threshold (high_volts t) (earthed t) verdict (holds t within).above_lo))
 
-    at_least_is_reaches : (t : ℕ) → t < length case.transformers → is_at_least case s surely_reached t ≡ true → is_reaching (verdict_at case benchmark_threshold view t) ≡ true
+    at_least_is_reaches : (t : ℕ) → t < length case.transformers → is_judged_at_least case s surely_reached t ≡ true → is_reaching (verdict_at case benchmark_threshold view t) ≡ true
     at_least_is_reaches t within least =
         let parts = and_parts (is_judged case t) _ least in
         let high = high_over (hi t) (unsigned_abs (effective_numerator case s t)) (effective_denominator case t s) surely_reached (some t within) (holds t within).below_hi (so_most _ _ parts.1) in
@@ -116,7 +116,7 @@ module _ (below_law : BelowIsUnder) (reaches_law : ReachesIsAtLeast) (case : Lis
           | inl under ↦ under
           | inr over ↦ absurd (not_reaching t verdict (at_least_is_reaches t within (and_from (is_judged case t) _ judged (most_so _ _ over))))
         ] in
-        and_from (is_at_least case s surely_below t) _ (and_from (is_judged case t) _ judged (most_so _ _ least)) (and_from (is_judged case t) _ judged (less_so _ _ most))
+        and_from (is_judged_at_least case s surely_below t) _ (and_from (is_judged case t) _ judged (most_so _ _ least)) (and_from (is_judged case t) _ judged (less_so _ _ most))
 
     tell : TellOf case s (counts_of (verdicts_of case benchmark_threshold view))
     tell =
@@ -126,10 +126,10 @@ module _ (below_law : BelowIsUnder) (reaches_law : ReachesIsAtLeast) (case : Lis
         let reaches = counted_at (λ counts. counts.reaches) is_reaching reaches_step refl said count in
         let undecided = counted_at (λ counts. counts.undecided) is_undecided undecided_step refl said count in
         record {
-          below_most = omega (arith, below, count_le (λ t. is_below (said t)) (is_under case s benchmark_threshold) 0 count (λ t within. below_is_under t (omega (arith, within))));
-          below_least = omega (arith, below, count_le (is_under case s surely_below) (λ t. is_below (said t)) 0 count (λ t within. under_is_below t (omega (arith, within))));
-          reaches_most = omega (arith, reaches, count_le (λ t. is_reaching (said t)) (is_at_least case s benchmark_threshold) 0 count (λ t within. reaches_is_at_least t (omega (arith, within))));
-          reaches_least = omega (arith, reaches, count_le (is_at_least case s surely_reached) (λ t. is_reaching (said t)) 0 count (λ t within. at_least_is_reaches t (omega (arith, within))));
+          below_most = omega (arith, below, count_le (λ t. is_below (said t)) (is_judged_under case s benchmark_threshold) 0 count (λ t within. below_is_under t (omega (arith, within))));
+          below_least = omega (arith, below, count_le (is_judged_under case s surely_below) (λ t. is_below (said t)) 0 count (λ t within. under_is_below t (omega (arith, within))));
+          reaches_most = omega (arith, reaches, count_le (λ t. is_reaching (said t)) (is_judged_at_least case s benchmark_threshold) 0 count (λ t within. reaches_is_at_least t (omega (arith, within))));
+          reaches_least = omega (arith, reaches, count_le (is_judged_at_least case s surely_reached) (λ t. is_reaching (said t)) 0 count (λ t within. at_least_is_reaches t (omega (arith, within))));
           undecided_most = omega (arith, undecided, count_le (λ t. is_undecided (said t)) (is_near case s) 0 count (λ t within. undecided_is_near t (omega (arith, within))));
         }
 

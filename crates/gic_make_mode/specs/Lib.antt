@@ -3,3 +3,4 @@ pub mod Counting
 pub mod RightMake
 pub mod Solving
 pub mod Determines
+pub mod Made

@@ -31,8 +31,8 @@ abbrev pub surely_reached : ℕ
 surely_reached = benchmark_threshold + WIDTH
 
 -- the voltages of a case's elements in the field of 8000 mV/km to the north
-abbrev pub north_volts : Lists → ℕ → ℤ
-north_volts case = uniform_volts case (field_of Benchmark) (pos 0)
+abbrev pub benchmark_volts : Lists → ℕ → ℤ
+benchmark_volts case = uniform_volts case (field_of Benchmark) (pos 0)
 
 -- the greatest entry, over so many nodes, of the least capped vector
 pub record IsWalk (standing : List Placed) (nodes walk : ℕ) : Type 0 where
@@ -43,23 +43,23 @@ pub record IsWalk (standing : List Placed) (nodes walk : ℕ) : Type 0 where
   pub reached : Contains entries walk
 
 -- it is assessed, and its absolute effective current in a solution is under so many mA per phase
-abbrev pub is_under : Lists → Solution → (limit t : ℕ) → Bool
-is_under case s limit t = is_judged case t && nat_lt (unsigned_abs (effective_numerator case s t)) (limit * effective_denominator case t s)
+abbrev pub is_judged_under : Lists → Solution → (limit t : ℕ) → Bool
+is_judged_under case s limit t = is_judged case t && nat_lt (unsigned_abs (effective_numerator case s t)) (limit * effective_denominator case t s)
 
 -- it is assessed, and that current is so many mA per phase or more
-abbrev pub is_at_least : Lists → Solution → (limit t : ℕ) → Bool
-is_at_least case s limit t = is_judged case t && nat_le (limit * effective_denominator case t s) (unsigned_abs (effective_numerator case s t))
+abbrev pub is_judged_at_least : Lists → Solution → (limit t : ℕ) → Bool
+is_judged_at_least case s limit t = is_judged case t && nat_le (limit * effective_denominator case t s) (unsigned_abs (effective_numerator case s t))
 
 -- it is assessed, and that current is within one width of the threshold: 74900 mA per phase or more, and under 75100
 abbrev pub is_near : Lists → Solution → (t : ℕ) → Bool
-is_near case s t = is_at_least case s surely_below t && is_under case s surely_reached t
+is_near case s t = is_judged_at_least case s surely_below t && is_judged_under case s surely_reached t
 
 -- the counts tell of a solution how many transformers are on either side of the threshold, but for those within one width of it
 pub record TellOf (case : Lists) (s : Solution) (counts : Counts) : Type 0 where
-  pub below_most : counts.below ≤ transformers_with case (is_under case s benchmark_threshold)
-  pub below_least : transformers_with case (is_under case s surely_below) ≤ counts.below
-  pub reaches_most : counts.reaches ≤ transformers_with case (is_at_least case s benchmark_threshold)
-  pub reaches_least : transformers_with case (is_at_least case s surely_reached) ≤ counts.reaches
+  pub below_most : counts.below ≤ transformers_with case (is_judged_under case s benchmark_threshold)
+  pub below_least : transformers_with case (is_judged_under case s surely_below) ≤ counts.below
+  pub reaches_most : counts.reaches ≤ transformers_with case (is_judged_at_least case s benchmark_threshold)
+  pub reaches_least : transformers_with case (is_judged_at_least case s surely_reached) ≤ counts.reaches
   pub undecided_most : counts.undecided ≤ transformers_with case (is_near case s)
 
 -- each transformer is counted once, those that aren't assessed as outside, and the others as every solution has them
@@ -78,5 +78,5 @@ pub record IsRightSummary (case : Lists) (standing : List Placed) (volts : ℕ �
 -- the text is that of a right summary of the made case, all of whose elements stand
 pub record IsRightMake (seed size : ℕ) (text : List ℕ) : Type 0 where
   pub shown : Summary
-  pub answer : IsRightSummary (made_case seed size) (standing_of (made_case seed size) None) (north_volts (made_case seed size)) shown
+  pub answer : IsRightSummary (made_case seed size) (standing_of (made_case seed size) None) (benchmark_volts (made_case seed size)) shown
   pub text_is : text ≡ make_text seed size shown

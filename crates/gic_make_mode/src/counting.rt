@@ -8,8 +8,8 @@ ghost use Rattle.gic_make_mode.specs.Counting.{verdicts_of};
 
 use gic_case::{Case, Transformer};
 use gic_fixed::Interval;
-use gic_report::{Counts, counted, earthed_high, no_counts};
-use gic_screen::{Verdict, verdict};
+use gic_report::{Counts, counted, no_counts, verdict_in};
+use gic_screen::Verdict;
 use gic_view::StepView;
 
 /// The verdict on a transformer, by its signed effective current.
@@ -17,8 +17,7 @@ fn verdict_on(transformer: &Transformer, signed: Interval, threshold: u32) -> Ve
     requires { HasAbsolute (ends_of signed) }
     ensures { result ≡ verdict_on threshold transformer.now (ends_of signed) }
 {
-    let is_earthed = earthed_high(transformer.kind);
-    verdict(signed.abs(), threshold, transformer.high_volts, is_earthed)
+    verdict_in(transformer, signed.abs(), threshold)
 }
 
 /// How many transformers of a case have each verdict against a threshold in mA per phase, by the view of a step.

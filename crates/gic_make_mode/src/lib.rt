@@ -4,7 +4,9 @@
 mod counting;
 pub mod laws;
 mod mode;
+mod room;
 mod solving;
 mod text;
 
 pub use mode::make;
+pub use room::{Room, make_room};

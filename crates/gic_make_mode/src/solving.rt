@@ -4,7 +4,7 @@ ghost use Rattle.gic_model.specs.Voltages.{number_at};
 ghost use Rattle.gic_net.specs.Net.{standing};
 ghost use Rattle.gic_winding.specs.ElementList.{elements_of};
 ghost use Rattle.gic_stand.specs.Standing.{IsSolvable};
-ghost use Rattle.gic_uniform.specs.Ready.{IsRoomFor, IsReadyFor};
+ghost use Rattle.gic_uniform.specs.Ready.{IsRoomForCase, IsReadyFor};
 ghost use Rattle.gic_make_mode.specs.RightMake.{IsWalk, IsRightSummary};
 ghost use Rattle.gic_make_mode.specs.Solving.{IsSummaryRoomFor};
 
@@ -66,7 +66,7 @@ fn walk_of(net: &Net, vector: &mut BoundVector) -> u16
 /// Makes the room ready for a network that can be solved.
 fn make_ready(case: &Case, net: &Net, room: &mut Room)
     requires net { net.now.network ≡ elements_of case.now }
-    requires room { IsRoomFor case.now room.old }
+    requires room { IsRoomForCase case.now room.old }
     requires solvable { IsSolvable (standing net.now) }
     ensures { IsReadyFor case.now (standing net.now) room.new }
 {

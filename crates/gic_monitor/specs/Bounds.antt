@@ -21,12 +21,12 @@ pub record ShowsUnit (unit : ℕ) (view : View) (current : Current) : Type 0 whe
       current.numerator current.denominator
 
 -- the absolute current is the threshold or more
-abbrev pub reaches : (threshold : ℕ) → Current → Bool
-reaches threshold current = nat_le (threshold * current.denominator) (unsigned_abs current.numerator)
+abbrev pub is_at_least : (threshold : ℕ) → Current → Bool
+is_at_least threshold current = nat_le (threshold * current.denominator) (unsigned_abs current.numerator)
 
 -- at how many steps it is
 abbrev pub exact_count : (threshold : ℕ) → List (View × Current) → ℕ
-exact_count threshold steps = count_by (λ step. reaches threshold step.1) steps
+exact_count threshold steps = count_by (λ step. is_at_least threshold step.1) steps
 
 -- at no fewer steps than the certain count of the unit the exact current is the threshold or more
 abbrev pub CertainAreFewest : Type 0

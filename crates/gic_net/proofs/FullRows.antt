@@ -6,7 +6,7 @@ use Rattle.std.specs.List.{filter, enumerate_from}
 use Rattle.gic_model.specs.declared.parts.Element.{Element}
 use Rattle.gic_model.specs.Network.{ends_at}
 use Rattle.gic_net.specs.Row.{NodeRow, full_row}
-use Rattle.gic_net.specs.Rows.{row_in, places_from, AreFullRows, ArePushedAt}
+use Rattle.gic_net.specs.Rows.{node_row_at, places_from, AreFullRows, ArePushedAt}
 
 -- one more element at the end
 places_from-push : (i : ℕ) (xs : List Element) (e : Element) (k : ℕ) → places_from i (xs ++ e ∷ []) k ≡ places_from i xs k ++ cond (ends_at e k) ((i + length xs) ∷ []) []
@@ -33,12 +33,12 @@ full_more nodes list place d old lent new inside full same pushed = record {
   count = omega (arith, full.count, pushed.count, ap length same);
   each = λ k h.
       let e = get_or list place d in
-      let row = ap (λ (rows : List NodeRow). row_in rows k) same ∙ full.each k h in
+      let row = ap (λ (rows : List NodeRow). node_row_at rows k) same ∙ full.each k h in
       let now = pushed.each k (omega (arith, full.count, ap length same)) in
       let more : places_from 0 (take (place + 1) list) k ≡ places_from 0 (take place list) k ++ cond (ends_at e k) (place ∷ []) [] =
       ap (λ (xs : List Element). places_from 0 xs k) (take_more list place d inside) ∙ places_from-push 0 (take place list) e k ∙
       ap (λ n. places_from 0 (take place list) k ++ cond (ends_at e k) (n ∷ []) []) (omega (arith, length-take-le place list (omega arith))) in
-      now ∙ by (row_in lent k) (places_from 0 (take place list) k) (ends_at e k) row ∙ ap full_row (sym more);
+      now ∙ by (node_row_at lent k) (places_from 0 (take place list) k) (ends_at e k) row ∙ ap full_row (sym more);
 }
   where
     by : (r : NodeRow) (ps : List ℕ) (b : Bool) → r ≡ full_row ps → cond b (full_row (r.all ++ place ∷ [])) r ≡ full_row (ps ++ cond b (place ∷ []) [])

@@ -7,3 +7,4 @@ pub mod Places
 pub mod Stored
 pub mod Runs
 pub mod Conductors
+pub mod Already

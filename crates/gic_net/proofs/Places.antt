@@ -17,7 +17,7 @@ use Rattle.gic_net.specs.Switched.{stands_without}
 use Rattle.gic_model.proofs.Members.{kept, placed, both, filter_same}
 use Rattle.gic_net.specs.Net.{NetView, standing, stands, no_element, element_of, row_at, placed_at}
 use Rattle.gic_net.specs.Row.{NodeRow, full_row, stands_by}
-use Rattle.gic_net.specs.Rows.{row_in, places_from, IsStored}
+use Rattle.gic_net.specs.Rows.{node_row_at, places_from, IsStored}
 use Rattle.gic_net.specs.OpenSet.{open_set}
 use Rattle.gic_net.proofs.OpenSet.{stands_unmarked}
 use Rattle.gic_net.proofs.Kept.{IsIn, each_in, each_of, kept_places}
@@ -26,7 +26,7 @@ use Rattle.gic_net.proofs.Kept.{IsIn, each_in, each_of, kept_places}
 pub record AreRead (net : NetView) (rows : List NodeRow) : Type 0 where
   pub limits : IsWithinLimits net.network
   pub count : length rows ≡ net.network.nodes
-  pub each : (k : ℕ) → k < net.network.nodes → (row_in rows k).standing ≡ map (λ (p : Placed). p.0) (row_at net k)
+  pub each : (k : ℕ) → k < net.network.nodes → (node_row_at rows k).standing ≡ map (λ (p : Placed). p.0) (row_at net k)
 
 -- what a net keeps can be read so
 pub read_of : (network : Network) (opened : List Bool) (first next : List ℕ) (rows : List NodeRow) → IsStored network opened first next rows →

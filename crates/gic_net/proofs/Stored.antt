@@ -18,14 +18,14 @@ use Rattle.gic_model.proofs.Members.{filter_same}
 use Rattle.gic_net.specs.Net.{NetView, no_element, closed_net}
 use Rattle.gic_net.specs.Row.{NodeRow, item_number_at, stands_by, AreMarked, gathered}
 use Rattle.gic_net.specs.ItemIndex.{IsNextOf, IsItemIndex}
-use Rattle.gic_net.specs.Rows.{row_in, places_from, NoneEndsAt, AreFullRows, AreGatheredFor, IsStored}
+use Rattle.gic_net.specs.Rows.{node_row_at, places_from, NoneEndsAt, AreFullRows, AreGatheredFor, IsStored}
 use Rattle.gic_net.specs.OpenSet.{open_set}
 use Rattle.gic_net.proofs.OpenSet.{open_set-set, open_set-replicate, no_mark}
 use Rattle.gic_net.proofs.Kept.{EndsAt, each_ends, filter_all}
 
 -- each place of a row has a mark
 pub marked_rows : (network : Network) (opened marks : List Bool) (first next : List ℕ) (rows : List NodeRow) → IsStored network opened first next rows → length marks ≡ length first →
-    (k : ℕ) → k < length rows → AreMarked network.list marks (row_in rows k).all
+    (k : ℕ) → k < length rows → AreMarked network.list marks (node_row_at rows k).all
 marked_rows network opened marks first next rows stored same k h =
     let Q : ℕ → Type 0 = λ place. (place < length network.list) × (item_number_at network.list place < length marks) in
     let each = All-from_recursion Q (places_from 0 network.list k) (weaker (EndsAt network.list k) Q (λ place ends. (ends.0, let n = stored.index.numbers place ends.0 in omega arith)) (places_from 0 network.list k) (each_ends network.list k)) in
@@ -81,10 +81,10 @@ switched_set network opened item opens number is h has =
 
 -- the same of slices that are lent
 pub marked_lent : (network : Network) (opened marks : List Bool) (first next : List ℕ) (rows lent : List NodeRow) (list : List Element) → IsStored network opened first next rows → length marks ≡ length first →
-    lent ≡ rows → list ≡ network.list → (k : ℕ) → k < length lent → AreMarked list marks (row_in lent k).all
+    lent ≡ rows → list ≡ network.list → (k : ℕ) → k < length lent → AreMarked list marks (node_row_at lent k).all
 marked_lent network opened marks first next rows lent list stored same rows_same list_same k h =
-    subst (λ (l : List Element). AreMarked l marks (row_in lent k).all) (sym list_same)
-    (subst (λ (r : List NodeRow). AreMarked network.list marks (row_in r k).all) (sym rows_same)
+    subst (λ (l : List Element). AreMarked l marks (node_row_at lent k).all) (sym list_same)
+    (subst (λ (r : List NodeRow). AreMarked network.list marks (node_row_at r k).all) (sym rows_same)
     (marked_rows network opened marks first next rows stored same k (omega (arith, ap length rows_same))))
 
 pub stored_lent : (network : Network) (opened marks : List Bool) (first next : List ℕ) (rows lent now : List NodeRow) (list : List Element) (number : ℕ) (opens : Bool) →

@@ -1,5 +1,5 @@
 -- What a net is seen as: its elements, and the set of its items that are open.
-use Rattle.std.specs.Prelude.{ℕ, Bool, List, slice_index_or}
+use Rattle.std.specs.Prelude.{ℕ, Bool, not, ◌||◌, List, slice_index_or, if◌then◌else◌}
 use Rattle.std.specs.List.{fold}
 use Rattle.std.specs.FinSet as set
 use Rattle.gic_model.specs.declared.parts.End.TheVariants.{Earth}
@@ -11,7 +11,7 @@ use Rattle.gic_model.specs.declared.parts.Switching.{Switching}
 use Rattle.gic_model.specs.Network.{Network}
 use Rattle.gic_model.specs.Standing.{standing_elements, elements_at}
 use Rattle.gic_model.specs.Sums.{Placed}
-use Rattle.gic_net.specs.Switched.{Items, stands_without, switched}
+use Rattle.gic_net.specs.Switched.{Items, has_element, stands_without, switched}
 
 -- the elements, and the items that are open, by their numbers
 pub record NetView : Type 0 where
@@ -49,6 +49,10 @@ closed_net network = record { network = network; open_items = set.empty }
 -- the net after this item was opened or closed
 abbrev pub switched_net : NetView → Item → Bool → NetView
 switched_net net item opens = record net { open_items = switched net.network net.open_items (record { time = 0; item = item; opens = opens }) }
+
+-- whether an item is open, or closed, already; one that has no element is both
+abbrev pub is_switched : NetView → Item → Bool → Bool
+is_switched net item opens = not (has_element net.network item) || (if stands net item then not opens else opens)
 
 -- the net after the rows of a switching list, one by one
 abbrev pub net_after : NetView → List Switching → NetView

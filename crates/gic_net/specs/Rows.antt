@@ -9,8 +9,8 @@ use Rattle.gic_net.specs.Row.{NodeRow, full_row, item_number_at, stands_by, gath
 use Rattle.gic_net.specs.ItemIndex.{IsItemIndex}
 
 -- the row of the node k
-abbrev pub row_in : List NodeRow → ℕ → NodeRow
-row_in rows k = slice_index_or rows k (full_row [])
+abbrev pub node_row_at : List NodeRow → ℕ → NodeRow
+node_row_at rows k = slice_index_or rows k (full_row [])
 
 -- the places of the elements that end at the node k, where the first element has this place
 abbrev pub places_from : ℕ → List Element → ℕ → List ℕ
@@ -18,23 +18,23 @@ places_from place list k = map (λ p. p.0) (filter (λ p. ends_at p.1 k) (enumer
 
 -- in each row all elements stand
 abbrev pub AreFull : List NodeRow → Type 0
-AreFull rows = (k : ℕ) → k < length rows → (row_in rows k).standing ≡ (row_in rows k).all
+AreFull rows = (k : ℕ) → k < length rows → (node_row_at rows k).standing ≡ (node_row_at rows k).all
 
 -- the rows of this many nodes, in which all elements stand
 pub record AreFullRows (nodes : ℕ) (list : List Element) (rows : List NodeRow) : Type 0 where
   pub count : length rows ≡ nodes
-  pub each : (k : ℕ) → k < nodes → row_in rows k ≡ full_row (places_from 0 list k)
+  pub each : (k : ℕ) → k < nodes → node_row_at rows k ≡ full_row (places_from 0 list k)
 
 -- a place was added to the rows at the ends of this element
 pub record ArePushedAt (element : Element) (place : ℕ) (old new : List NodeRow) : Type 0 where
   pub count : length new ≡ length old
   pub each : (k : ℕ) → k < length old →
-      row_in new k ≡ (if ends_at element k then full_row ((row_in old k).all ++ place ∷ []) else row_in old k)
+      node_row_at new k ≡ (if ends_at element k then full_row ((node_row_at old k).all ++ place ∷ []) else node_row_at old k)
 
 -- the rows at the ends of this element were gathered by the marks
 pub record AreGatheredAt (list : List Element) (opened : List Bool) (element : Element) (old new : List NodeRow) : Type 0 where
   pub count : length new ≡ length old
-  pub each : (k : ℕ) → k < length old → row_in new k ≡ (if ends_at element k then gathered list opened (row_in old k) else row_in old k)
+  pub each : (k : ℕ) → k < length old → node_row_at new k ≡ (if ends_at element k then gathered list opened (node_row_at old k) else node_row_at old k)
 
 -- no element before this place is of the item with this number and ends at the node k
 abbrev pub NoneEndsAt : List Element → ℕ → ℕ → ℕ → Type 0
@@ -44,7 +44,7 @@ NoneEndsAt list number before k = (p : ℕ) → p < before → item_number_at li
 pub record AreGatheredFor (list : List Element) (opened : List Bool) (number before : ℕ) (old new : List NodeRow) : Type 0 where
   pub count : length new ≡ length old
   pub each : (k : ℕ) → k < length old →
-      (row_in new k ≡ gathered list opened (row_in old k)) ⊎ ((row_in new k ≡ row_in old k) × NoneEndsAt list number before k)
+      (node_row_at new k ≡ gathered list opened (node_row_at old k)) ⊎ ((node_row_at new k ≡ node_row_at old k) × NoneEndsAt list number before k)
 
 -- what a net keeps: the index of its items, for each number of an item a mark that says whether that item is open, and for each node its elements with the standing ones gathered by the marks
 pub record IsStored (network : Network) (opened : List Bool) (first next : List ℕ) (rows : List NodeRow) : Type 0 where
@@ -53,4 +53,4 @@ pub record IsStored (network : Network) (opened : List Bool) (first next : List 
   pub mark_count : length opened ≡ length first
   pub row_count : length rows ≡ network.nodes
   pub each_row : (k : ℕ) → k < network.nodes →
-      row_in rows k ≡ record { all = places_from 0 network.list k; standing = filter (stands_by network.list opened) (places_from 0 network.list k) }
+      node_row_at rows k ≡ record { all = places_from 0 network.list k; standing = filter (stands_by network.list opened) (places_from 0 network.list k) }

@@ -57,7 +57,7 @@ impl Net {
     ghost use Rattle.gic_model.specs.Standing.{is_live, is_standing};
     ghost use Rattle.gic_model.specs.Conductance.{conductance_down, conductance_up};
     ghost use Rattle.gic_net.specs.Conductor.{conductor_of};
-    ghost use Rattle.gic_net.specs.Net.{NetView, stands, standing, element_of, row_at, placed_at, closed_net, switched_net};
+    ghost use Rattle.gic_net.specs.Net.{NetView, stands, standing, element_of, row_at, placed_at, closed_net, switched_net, is_switched};
 
     /// All elements stand.
     pub fn build(alloc: Global, elements: &Elements) -> Result<Net, OutOfMemory>
@@ -94,6 +94,17 @@ impl Net {
                 number,
             );
         }
+    }
+
+    /// Whether an item is open, or closed, already. One that has no element is both.
+    pub fn is_switched(&self, item: Item, opens: bool) -> bool
+        ensures { result ≡ is_switched self.now item opens }
+    {
+        let number = number_of(item) as usize;
+        if !has_element(self.list.as_slice(), &self.index, number) {
+            return true;
+        }
+        if self.opened[number] { opens } else { !opens }
     }
 
     /// The net is within the limits. The call computes nothing: it brings this fact to where it stands.

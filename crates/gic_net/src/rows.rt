@@ -4,7 +4,7 @@ ghost use Rattle.std.specs.List.{All};
 ghost use Rattle.gic_model.specs.Limits.{IsElementWithin};
 ghost use Rattle.gic_net.specs.Row.{full_row, AreMarked};
 ghost use Rattle.gic_net.specs.ItemIndex.{IsItemIndex};
-ghost use Rattle.gic_net.specs.Rows.{AreFull, AreFullRows, ArePushedAt, AreGatheredAt, AreGatheredFor, row_in};
+ghost use Rattle.gic_net.specs.Rows.{AreFull, AreFullRows, ArePushedAt, AreGatheredAt, AreGatheredFor, node_row_at};
 
 use crate::item_index::ItemIndex;
 use crate::row::Row;
@@ -54,7 +54,7 @@ fn push_ends(rows: &mut [Row], element: Element, place: u16) -> Result<(), OutOf
 /// Gathers the rows at the ends of an element anew.
 fn gather_ends(rows: &mut [Row], list: &[Element], opened: &[bool], element: Element)
     requires within { IsElementWithin (length rows.old) element }
-    requires marked { (k : ℕ) → k < length rows.old → AreMarked list.now opened.now (row_in rows.old k).all }
+    requires marked { (k : ℕ) → k < length rows.old → AreMarked list.now opened.now (node_row_at rows.old k).all }
     ensures { AreGatheredAt list.now opened.now element rows.old rows.new }
 {
     let from = &mut rows[element.from.0 as usize];
@@ -74,7 +74,7 @@ pub fn gather_item(
     number: usize,
 )
     requires ends { All (IsElementWithin (length rows.old)) list.now }
-    requires marked { (k : ℕ) → k < length rows.old → AreMarked list.now opened.now (row_in rows.old k).all }
+    requires marked { (k : ℕ) → k < length rows.old → AreMarked list.now opened.now (node_row_at rows.old k).all }
     requires index { IsItemIndex list.now index.now.first.items index.now.next.items }
     requires number { number < length index.now.first.items }
     ensures { AreGatheredFor list.now opened.now number (length list.now) rows.old rows.new }

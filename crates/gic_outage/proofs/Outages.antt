@@ -107,8 +107,8 @@ each_has network =
     (λ e have. have (item_number e.item) (eq-eqb (item_number e.item) (item_number e.item) refl)) network.list
     (for_each (λ m e. (item_number e.item == m) ≡ true → list_any (λ x. item_number x.item == m) network.list ≡ true) network.list (λ m. any_of_each (λ x. item_number x.item == m) network.list))
 
-pub standing_without : (net : NetView) (item : Item) → standing (net_without net item) ≡ others item (standing net)
-standing_without net item =
+pub standing_others : (net : NetView) (item : Item) → standing (net_without net item) ≡ others item (standing net)
+standing_others net item =
     others_stand (stands net) (stands (net_without net item)) item net.network
     (weaker (λ e. has_element net.network e.item ≡ true) (λ e. stands (net_without net item) e.item ≡ cond (is_item item e.item) false (stands net e.item))
     (λ e have. one_row net.network net.open_items (opening item) e.item have) net.network.list (each_has net.network))

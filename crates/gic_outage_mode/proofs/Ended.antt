@@ -10,7 +10,7 @@ use Rattle.gic_report.specs.declared.counts.Counts.{Counts}
 use Rattle.gic_report.specs.Counts.{counts_of}
 use Rattle.gic_screen.specs.VerdictLaws.{UndecidedIsAcross, WorstBelowIsUnder, WorstReachesIsAtLeast}
 use Rattle.gic_screening.specs.RightRows.{IsThirdOfRight}
-use Rattle.gic_screening.specs.Rows.{Row, no_row, row_at}
+use Rattle.gic_screening.specs.Rows.{Row, no_screen_row, screen_row_at}
 use Rattle.gic_screening.specs.Screening.{AreScreened}
 use Rattle.gic_screening.proofs.RightRows.{third_right, verdict_true}
 use Rattle.gic_stand.specs.declared.fault.NetworkRefusal.{NetworkRefusal}
@@ -20,15 +20,15 @@ use Rattle.gic_stand.specs.Needs.{Solved as IsSolved, Fails}
 use Rattle.gic_stand.specs.Standing.{IsSolvable, IsNameOfUnearthed, IsNameOfUnresolved}
 use Rattle.gic_outage_mode.specs.declared.outcome.Outcome.{Outcome}
 use Rattle.gic_outage_mode.specs.declared.outcome.Outcome.TheVariants.{Solved}
-use Rattle.gic_outage_mode.specs.Outages.{standing_without, worst_at}
-use Rattle.gic_outage_mode.specs.RightOutage.{north_volts, east_volts, threshold_asked, IsTakenOut, worst_verdicts}
+use Rattle.gic_outage_mode.specs.Outages.{standing_in_outage, worst_at}
+use Rattle.gic_outage_mode.specs.RightOutage.{northward_volts, eastward_volts, threshold_asked, IsTakenOut, worst_verdicts}
 use Rattle.gic_outage_mode.specs.Taking.{worsts_in, AreRaisedBy, HasEnded, outcome_of}
 use Rattle.gic_outage_mode.proofs.CountedNear.{few_undecided}
 use Rattle.gic_outage_mode.proofs.Taken.{not_raised}
 
 -- the network is refused
 pub refused_ended : (inputs : Inputs) (item : Item) (standing : List Placed) (refusal : NetworkRefusal) (outcome : Outcome) (greatest : List (Option Ends)) → outcome ≡ outcome_of refusal
-    → IsTakenOut inputs item → standing ≡ standing_without inputs item → Fails IsSolved inputs.case 1 standing refusal → HasEnded inputs item outcome greatest greatest
+    → IsTakenOut inputs item → standing ≡ standing_in_outage inputs item → Fails IsSolved inputs.case 1 standing refusal → HasEnded inputs item outcome greatest greatest
 refused_ended inputs item standing (Unearthed step node) outcome greatest is taken_out without fails =
     subst (λ (o : Outcome). HasEnded inputs item o greatest greatest) (sym is) (record {
       worsts = [];
@@ -45,19 +45,19 @@ refused_ended inputs item standing (Unresolved step node) outcome greatest is ta
 -- it is solved
 pub solved_ended : UndecidedIsAcross → WorstBelowIsUnder → WorstReachesIsAtLeast
     → (inputs : Inputs) (item : Item) (standing : List Placed) (north east : ℕ → ℤ) (rows : List Row) (counts : Counts) (old new : List (Option Ends)) → IsSound inputs.case
-    → IsTakenOut inputs item → standing ≡ standing_without inputs item → north ≡ north_volts inputs → east ≡ east_volts inputs
+    → IsTakenOut inputs item → standing ≡ standing_in_outage inputs item → north ≡ northward_volts inputs → east ≡ eastward_volts inputs
     → IsSolvable standing → AreScreened inputs.case standing north east inputs.question.width rows
     → counts ≡ counts_of (worst_verdicts inputs.case (threshold_asked inputs) (worsts_in rows)) → AreRaisedBy (worsts_in rows) old new → HasEnded inputs item (Solved counts) old new
 solved_ended across under at_least inputs item standing north east rows counts old new sound taken_out without to_north to_east solvable screened counted raised =
     let case = inputs.case in
     let width = inputs.question.width in
     let worsts = worsts_in rows in
-    let own : AreScreened case (standing_without inputs item) (north_volts inputs) (east_volts inputs) width rows =
-    subst (λ (v : ℕ → ℤ). AreScreened case (standing_without inputs item) (north_volts inputs) v width rows) to_east
-    (subst (λ (v : ℕ → ℤ). AreScreened case (standing_without inputs item) v east width rows) to_north
+    let own : AreScreened case (standing_in_outage inputs item) (northward_volts inputs) (eastward_volts inputs) width rows =
+    subst (λ (v : ℕ → ℤ). AreScreened case (standing_in_outage inputs item) (northward_volts inputs) v width rows) to_east
+    (subst (λ (v : ℕ → ℤ). AreScreened case (standing_in_outage inputs item) v east width rows) to_north
     (subst (λ (s : List Placed). AreScreened case s north east width rows) without screened)) in
-    let right : (t : ℕ) → t < length case.transformers → IsThirdOfRight case (standing_without inputs item) (north_volts inputs) (east_volts inputs) width t (worst_at worsts t) =
-    λ t inside. record { row = row_at rows t; right = own.right t inside; is = get_or-map (λ (row : Row). row.worst) rows t no_row } in
+    let right : (t : ℕ) → t < length case.transformers → IsThirdOfRight case (standing_in_outage inputs item) (northward_volts inputs) (eastward_volts inputs) width t (worst_at worsts t) =
+    λ t inside. record { row = screen_row_at rows t; right = own.right t inside; is = get_or-map (λ (row : Row). row.worst) rows t no_screen_row } in
     record {
       worsts = worsts;
       ends = (
@@ -66,11 +66,11 @@ solved_ended across under at_least inputs item standing north east rows counts o
           solvable = subst (λ (s : List Placed). IsSolvable s) without solvable;
           count = length-map rows (λ (row : Row). row.worst) ∙ own.count;
           right = right;
-          verdicts = λ t inside. verdict_true across under at_least case (standing_without inputs item) (north_volts inputs) (east_volts inputs) (threshold_asked inputs) width t (worst_at worsts t) sound inside
-              (third_right case (standing_without inputs item) (north_volts inputs) (east_volts inputs) width t (worst_at worsts t) (right t inside));
+          verdicts = λ t inside. verdict_true across under at_least case (standing_in_outage inputs item) (northward_volts inputs) (eastward_volts inputs) (threshold_asked inputs) width t (worst_at worsts t) sound inside
+              (third_right case (standing_in_outage inputs item) (northward_volts inputs) (eastward_volts inputs) width t (worst_at worsts t) (right t inside));
           counted = counted;
-          undecided_most = λ one other solve. few_undecided case (standing_without inputs item) (north_volts inputs) (east_volts inputs) (threshold_asked inputs) width worsts sound
-              (λ t inside. third_right case (standing_without inputs item) (north_volts inputs) (east_volts inputs) width t (worst_at worsts t) (right t inside)) one other solve counts counted;
+          undecided_most = λ one other solve. few_undecided case (standing_in_outage inputs item) (northward_volts inputs) (eastward_volts inputs) (threshold_asked inputs) width worsts sound
+              (λ t inside. third_right case (standing_in_outage inputs item) (northward_volts inputs) (eastward_volts inputs) width t (worst_at worsts t) (right t inside)) one other solve counts counted;
         },
       );
       raised = raised;

@@ -8,16 +8,16 @@ use Rattle.gic_effective.specs.Narrow.{IsNoWider}
 use Rattle.gic_fixed.specs.Ends.{Ends, IsAtMostWide}
 use Rattle.gic_peaks.specs.Peaks.{greater, greater_ends}
 use Rattle.gic_peaks.proofs.Greater.{greater_assoc, greater-none}
-use Rattle.gic_outage_mode.specs.Outages.{greatest_of, greatest_at}
+use Rattle.gic_outage_mode.specs.Outages.{greatest_worst, greatest_at}
 
 -- an interval at the end is one more
-greatest-push : (cells : List (Option Ends)) (cell : Option Ends) → greatest_of (cells ++ cell ∷ []) ≡ greater (greatest_of cells) cell
+greatest-push : (cells : List (Option Ends)) (cell : Option Ends) → greatest_worst (cells ++ cell ∷ []) ≡ greater (greatest_worst cells) cell
 greatest-push [] cell = greater-none cell
-greatest-push (c ∷ cells) cell = ap (greater c) (greatest-push cells cell) ∙ sym (greater_assoc c (greatest_of cells) cell)
+greatest-push (c ∷ cells) cell = ap (greater c) (greatest-push cells cell) ∙ sym (greater_assoc c (greatest_worst cells) cell)
 
 -- the same of what is shown one after the other
-pub greatest-push_shown : {X : Type 0} (shown : X → Option Ends) (xs : List X) (x : X) → greatest_of (map shown (xs ++ x ∷ [])) ≡ greater (greatest_of (map shown xs)) (shown x)
-greatest-push_shown shown xs x = ap greatest_of (map-append shown xs (x ∷ [])) ∙ greatest-push (map shown xs) (shown x)
+pub greatest-push_shown : {X : Type 0} (shown : X → Option Ends) (xs : List X) (x : X) → greatest_worst (map shown (xs ++ x ∷ [])) ≡ greater (greatest_worst (map shown xs)) (shown x)
+greatest-push_shown shown xs x = ap greatest_worst (map-append shown xs (x ∷ [])) ∙ greatest-push (map shown xs) (shown x)
 
 -- no high end is above that of these ends, and one of the intervals begins where they begin
 pub record AreGreatest (cells : List (Option Ends)) (e : Ends) : Type 0 where
@@ -81,17 +81,17 @@ behind_some a cells (Some e) are = by (max_is_one a.low e.low)
     by (inr later) = record { most = most; place = suc are.place; shown = are.shown; is = are.is; begins = later ∙ are.begins }
 
 -- so of all
-pub all_greatest : (cells : List (Option Ends)) → AreGreatestOf cells (greatest_of cells)
+pub all_greatest : (cells : List (Option Ends)) → AreGreatestOf cells (greatest_worst cells)
 all_greatest [] = λ place. refl
-all_greatest (None ∷ cells) = behind_none cells (greatest_of cells) (all_greatest cells)
-all_greatest (Some a ∷ cells) = behind_some a cells (greatest_of cells) (all_greatest cells)
+all_greatest (None ∷ cells) = behind_none cells (greatest_worst cells) (all_greatest cells)
+all_greatest (Some a ∷ cells) = behind_some a cells (greatest_worst cells) (all_greatest cells)
 
 -- where no interval is wider than this, the greatest ends aren't either
 narrow_more : (width : ℕ) (a : Ends) (rest : Option Ends) → IsAtMostWide width a.low a.high → IsNoWider width rest → IsNoWider width (greater (Some a) rest)
 narrow_more width a None narrow rest = narrow
 narrow_more width a (Some b) narrow rest = omega (arith, ints, clamps, narrow, rest)
 
-pub greatest_narrow : (width : ℕ) (cells : List (Option Ends)) → ((place : ℕ) (shown : Ends) → greatest_at cells place ≡ Some shown → IsAtMostWide width shown.low shown.high) → IsNoWider width (greatest_of cells)
+pub greatest_narrow : (width : ℕ) (cells : List (Option Ends)) → ((place : ℕ) (shown : Ends) → greatest_at cells place ≡ Some shown → IsAtMostWide width shown.low shown.high) → IsNoWider width (greatest_worst cells)
 greatest_narrow width [] narrow = tt
 greatest_narrow width (None ∷ cells) narrow = greatest_narrow width cells (λ place. narrow (suc place))
-greatest_narrow width (Some a ∷ cells) narrow = narrow_more width a (greatest_of cells) (narrow zero a refl) (greatest_narrow width cells (λ place. narrow (suc place)))
+greatest_narrow width (Some a ∷ cells) narrow = narrow_more width a (greatest_worst cells) (narrow zero a refl) (greatest_narrow width cells (λ place. narrow (suc place)))

@@ -21,13 +21,13 @@ use Rattle.gic_report.proofs.CaseNames.{line_names, transformer_names}
 use Rattle.gic_report.proofs.CountsDetermined.{counts_are_words, same_counts}
 use Rattle.gic_report.proofs.ViewDetermined.{CellInRange, ends_words, same_ends}
 use Rattle.gic_report.proofs.WordsDetermined.{first_of_lines, pair_at, verdict_is_word, word_at}
-use Rattle.gic_screening.specs.RightRows.{worst_verdict}
-use Rattle.gic_screening.specs.Setting.{setting_line}
+use Rattle.gic_report.specs.VerdictText.{verdict_in}
+use Rattle.gic_screening.specs.Setting.{event_setting_line}
 use Rattle.gic_screening.proofs.SettingDetermined.{same_setting, setting_is_line}
 use Rattle.gic_winding.specs.ElementList.{item_name}
 use Rattle.gic_outage_mode.specs.declared.outcome.Outcome.{Outcome}
 use Rattle.gic_outage_mode.specs.declared.outcome.Outcome.TheVariants.{Idle, Unearthed, Unresolved, Solved}
-use Rattle.gic_outage_mode.specs.OutageText.{greatest_line, outage_report, outcome_line, outcome_lines, outcome_words, plan_names, transformer_line, transformer_lines}
+use Rattle.gic_outage_mode.specs.OutageText.{greatest_line, outage_report, outcome_line, outcome_lines, outcome_words, plan_names, greatest_worst_line, greatest_worst_lines}
 use Rattle.gic_outage_mode.specs.Determines.{IsShownOutcome, TextDeterminesOutage}
 use Rattle.gic_outage_mode.proofs.PlanNames as plan
 
@@ -107,12 +107,12 @@ greatest_is_line name e said n fits =
     let words = ends_words e fits in
     (word_from_test (codes "transformer") refl, (n, (word_from_test (codes "worst") refl, (words.0, (words.1.0, (verdict_is_word said, tt))))))
 
-transformer_is_line : (threshold : ℕ) (t : Transformer) (cell : Option Ends) → IsWord t.name → CellInRange cell → IsLine (transformer_line threshold t cell)
+transformer_is_line : (threshold : ℕ) (t : Transformer) (cell : Option Ends) → IsWord t.name → CellInRange cell → IsLine (greatest_worst_line threshold t cell)
 transformer_is_line threshold t None n h = (word_from_test (codes "transformer") refl, (n, (word_from_test (codes "none") refl, tt)))
-transformer_is_line threshold t (Some e) n h = greatest_is_line t.name e (worst_verdict threshold t e) n h
+transformer_is_line threshold t (Some e) n h = greatest_is_line t.name e (verdict_in threshold t e) n h
 
 are_transformer_lines : (threshold : ℕ) (ts : List Transformer) (cells : List (Option Ends)) → AllByRecursion IsWord (map (λ t. t.name) ts) → AllByRecursion CellInRange cells
-    → AllByRecursion IsLine (transformer_lines threshold ts cells ++ word_line (codes "end") ∷ [])
+    → AllByRecursion IsLine (greatest_worst_lines threshold ts cells ++ word_line (codes "end") ∷ [])
 are_transformer_lines threshold [] cells names h = ((word_from_test (codes "end") refl, tt), tt)
 are_transformer_lines threshold (t ∷ ts) [] names h = ((word_from_test (codes "end") refl, tt), tt)
 are_transformer_lines threshold (t ∷ ts) (cell ∷ cells) names h = (transformer_is_line threshold t cell names.0 h.0, are_transformer_lines threshold ts cells names.1 h.1)
@@ -126,24 +126,24 @@ unfolding greatest_line
 same_greatest name e f said told h k same = same_ends e f h k (ap (λ ws. pair_at ws 3) same)
 
 -- the line of a transformer determines its greatest interval
-same_cell : (threshold threshold' : ℕ) (t : Transformer) (x y : Option Ends) → CellInRange x → CellInRange y → transformer_line threshold t x ≡ transformer_line threshold' t y → x ≡ y
+same_cell : (threshold threshold' : ℕ) (t : Transformer) (x y : Option Ends) → CellInRange x → CellInRange y → greatest_worst_line threshold t x ≡ greatest_worst_line threshold' t y → x ≡ y
 same_cell threshold threshold' t None None h k e = refl
-same_cell threshold threshold' t None (Some f) h k e = absurd (let n : ◌≡◌ {A = ℕ} 3 6 = ap length e ∙ greatest_length t.name f (worst_verdict threshold' t f) in omega (arith, n))
-same_cell threshold threshold' t (Some f) None h k e = absurd (let n : ◌≡◌ {A = ℕ} 6 3 = sym (greatest_length t.name f (worst_verdict threshold t f)) ∙ ap length e in omega (arith, n))
-same_cell threshold threshold' t (Some f) (Some g) h k e = ap (λ z. Some z) (same_greatest t.name f g (worst_verdict threshold t f) (worst_verdict threshold' t g) h k e)
+same_cell threshold threshold' t None (Some f) h k e = absurd (let n : ◌≡◌ {A = ℕ} 3 6 = ap length e ∙ greatest_length t.name f (verdict_in threshold' t f) in omega (arith, n))
+same_cell threshold threshold' t (Some f) None h k e = absurd (let n : ◌≡◌ {A = ℕ} 6 3 = sym (greatest_length t.name f (verdict_in threshold t f)) ∙ ap length e in omega (arith, n))
+same_cell threshold threshold' t (Some f) (Some g) h k e = ap (λ z. Some z) (same_greatest t.name f g (verdict_in threshold t f) (verdict_in threshold' t g) h k e)
 
 -- the lines of the transformers determine their greatest intervals
 same_cells : (threshold threshold' : ℕ) (ts : List Transformer) (xs ys : List (Option Ends)) → length xs ≡ length ts → length ys ≡ length ts → AllByRecursion CellInRange xs → AllByRecursion CellInRange ys
-    → transformer_lines threshold ts xs ++ word_line (codes "end") ∷ [] ≡ transformer_lines threshold' ts ys ++ word_line (codes "end") ∷ [] → xs ≡ ys
+    → greatest_worst_lines threshold ts xs ++ word_line (codes "end") ∷ [] ≡ greatest_worst_lines threshold' ts ys ++ word_line (codes "end") ∷ [] → xs ≡ ys
 same_cells threshold threshold' [] [] [] p q h k e = refl
 same_cells threshold threshold' [] [] (y ∷ ys) p q h k e = absurd (omega (arith, q))
 same_cells threshold threshold' [] (x ∷ xs) ys p q h k e = absurd (omega (arith, p))
 same_cells threshold threshold' (t ∷ ts) [] ys p q h k e = absurd (omega (arith, p))
 same_cells threshold threshold' (t ∷ ts) (x ∷ xs) [] p q h k e = absurd (omega (arith, q))
 same_cells threshold threshold' (t ∷ ts) (x ∷ xs) (y ∷ ys) p q h k e =
-    let both : transformer_line threshold t x ∷ (transformer_lines threshold ts xs ++ word_line (codes "end") ∷ []) ≡ transformer_line threshold' t y ∷ (transformer_lines threshold' ts ys ++ word_line (codes "end") ∷ []) = e in
-    let line : transformer_line threshold t x ≡ transformer_line threshold' t y = cc in
-    let later : transformer_lines threshold ts xs ++ word_line (codes "end") ∷ [] ≡ transformer_lines threshold' ts ys ++ word_line (codes "end") ∷ [] = cc in
+    let both : greatest_worst_line threshold t x ∷ (greatest_worst_lines threshold ts xs ++ word_line (codes "end") ∷ []) ≡ greatest_worst_line threshold' t y ∷ (greatest_worst_lines threshold' ts ys ++ word_line (codes "end") ∷ []) = e in
+    let line : greatest_worst_line threshold t x ≡ greatest_worst_line threshold' t y = cc in
+    let later : greatest_worst_lines threshold ts xs ++ word_line (codes "end") ∷ [] ≡ greatest_worst_lines threshold' ts ys ++ word_line (codes "end") ∷ [] = cc in
     let here = same_cell threshold threshold' t x y h.0 k.0 line in
     let more = same_cells threshold threshold' ts xs ys (omega (arith, p)) (omega (arith, q)) h.1 k.1 later in
     ap (λ z. z ∷ xs) here ∙ ap (λ zs. y ∷ zs) more
@@ -165,13 +165,13 @@ report_determined case named width threshold field outcomes greatest width' thre
     let cells' = recursion_from_All (λ cell. IfSome cell AreInRange) greatest' q.greatest_fit in
     let words = plan_words case named in
     let transformers = transformer_names case named in
-    let rest = transformer_lines threshold ts greatest ++ word_line (codes "end") ∷ [] in
-    let rest' = transformer_lines threshold' ts greatest' ++ word_line (codes "end") ∷ [] in
+    let rest = greatest_worst_lines threshold ts greatest ++ word_line (codes "end") ∷ [] in
+    let rest' = greatest_worst_lines threshold' ts greatest' ++ word_line (codes "end") ∷ [] in
     let count = length-map (plan_of case) (item_name case) in
     let lines = lines_injective (outage_report case width threshold field outcomes greatest) (outage_report case width' threshold' field' outcomes' greatest')
     ((word_from_test (codes "outage") refl, tt), (setting_is_line width threshold field p.width_fits p.threshold_fits p.field_fits, are_outcome_lines names outcomes rest words fit (are_transformer_lines threshold ts greatest transformers cells)))
     ((word_from_test (codes "outage") refl, tt), (setting_is_line width' threshold' field' q.width_fits q.threshold_fits q.field_fits, are_outcome_lines names outcomes' rest' words fit' (are_transformer_lines threshold' ts greatest' transformers cells'))) e in
-    let setting : setting_line width threshold field ≡ setting_line width' threshold' field' = ap (λ ls. first_of_lines ls) (ap (drop 1) lines) in
+    let setting : event_setting_line width threshold field ≡ event_setting_line width' threshold' field' = ap (λ ls. first_of_lines ls) (ap (drop 1) lines) in
     let asked = same_setting width threshold field width' threshold' field' p.width_fits p.threshold_fits p.field_fits q.width_fits q.threshold_fits q.field_fits setting in
     let later : outcome_lines names outcomes ++ rest ≡ outcome_lines names outcomes' ++ rest' = ap (drop 2) lines in
     let items = same_outcomes names outcomes outcomes' rest rest' (p.outcome_count ∙ sym count) (q.outcome_count ∙ sym count) fit fit' later in

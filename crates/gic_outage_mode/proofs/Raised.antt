@@ -6,15 +6,15 @@ use Rattle.std.specs.Prelude.{slice_get}
 use Rattle.gic_fixed.specs.Ends.{Ends, ends_of}
 use Rattle.gic_peaks.specs.Peaks.{greater}
 use Rattle.gic_screening.specs.declared.rows.ScreenRow.{ScreenRow}
-use Rattle.gic_screening.specs.Rows.{Row, row_of}
+use Rattle.gic_screening.specs.Rows.{Row, screen_row_of}
 use Rattle.gic_outage_mode.specs.Outages.{greatest_at}
 use Rattle.gic_outage_mode.specs.Taking.{worsts_in}
 
 -- the worst interval of the row at a place
-pub row_shown : (rows : List ScreenRow) (row : ScreenRow) (place : ℕ) → place < length rows → row ≡ get_or rows place row → slice_get (worsts_in (map row_of rows)) place ≡ Some (ends_of row.worst)
+pub row_shown : (rows : List ScreenRow) (row : ScreenRow) (place : ℕ) → place < length rows → row ≡ get_or rows place row → slice_get (worsts_in (map screen_row_of rows)) place ≡ Some (ends_of row.worst)
 row_shown rows row place within is =
     let worst : Row → Ends = λ row. row.worst in
-    slice_get-map worst (map row_of rows) place ∙ ap (option_map worst) (slice_get-map row_of rows place ∙ ap (option_map row_of) (slice_get_read rows (length rows) place row refl within is))
+    slice_get-map worst (map screen_row_of rows) place ∙ ap (option_map worst) (slice_get-map screen_row_of rows place ∙ ap (option_map screen_row_of) (slice_get_read rows (length rows) place row refl within is))
 
 -- the first so many intervals are raised, and the others are as they were
 pub record AreRaisedBelow (worsts : List Ends) (place : ℕ) (old now : List (Option Ends)) : Type 0 where

@@ -31,9 +31,9 @@ use Rattle.gic_stand.specs.Standing.{IsSolvable, IsNameOfUnearthed, IsNameOfUnre
 use Rattle.gic_winding.specs.Weights.{transformer_at}
 use Rattle.gic_outage_mode.specs.declared.outcome.Outcome.{Outcome}
 use Rattle.gic_outage_mode.specs.declared.outcome.Outcome.TheVariants.{Idle, Unearthed, Unresolved, Solved}
-use Rattle.gic_outage_mode.specs.Outages.{Outage, no_outage, standing_without, item_at, outage_at, worst_at, worsts_of, greatest_of, greatest_at}
+use Rattle.gic_outage_mode.specs.Outages.{Outage, no_outage, standing_in_outage, item_at, outage_at, worst_at, worsts_of, greatest_worst, greatest_at}
 use Rattle.gic_outage_mode.specs.OutageText.{outage_text}
-use Rattle.gic_outage_mode.specs.RightOutage.{north_volts, east_volts, threshold_asked, IsTakenOut, AreRightWorsts, EndsAs, IsSolvedOutage, IsWorstAtLeastOnce, IsTrueOverOutages, IsWorstUpTo, IsWorstFrom, EnclosesGreatestWorst, greatest_over, IsRightOutage}
+use Rattle.gic_outage_mode.specs.RightOutage.{northward_volts, eastward_volts, threshold_asked, IsTakenOut, AreRightWorsts, EndsAs, IsSolvedOutage, IsWorstAtLeastOnce, IsTrueOverOutages, IsWorstUpTo, IsWorstFrom, EnclosesGreatestWorst, greatest_over, IsRightOutage}
 use Rattle.gic_outage_mode.specs.Taking.{HasTaken}
 use Rattle.gic_outage_mode.proofs.Greatest.{AreGreatest, AreGreatestOf, all_greatest, greatest_narrow}
 use Rattle.gic_outage_mode.proofs.Squared.{up_to, no_less}
@@ -69,10 +69,10 @@ record SolvedAs (inputs : Inputs) (item : Item) (worsts : List Ends) : Type 0 wh
   counts : Counts
   right : AreRightWorsts inputs item worsts counts
 
-solved_as : (inputs : Inputs) (item : Item) (worsts : List Ends) (outcome : Outcome) → IsTakenOut inputs item → IsSolvable (standing_without inputs item) → EndsAs inputs item worsts outcome → SolvedAs inputs item worsts
+solved_as : (inputs : Inputs) (item : Item) (worsts : List Ends) (outcome : Outcome) → IsTakenOut inputs item → IsSolvable (standing_in_outage inputs item) → EndsAs inputs item worsts outcome → SolvedAs inputs item worsts
 solved_as inputs item worsts Idle out solvable ends = absurd (grind (arith, out, ends.0))
-solved_as inputs item worsts (Unearthed node) out solvable ends = absurd (not_unearthed inputs.case (standing_without inputs item) node solvable ends.1)
-solved_as inputs item worsts (Unresolved node) out solvable ends = absurd (not_unresolved inputs.case (standing_without inputs item) node solvable ends.1)
+solved_as inputs item worsts (Unearthed node) out solvable ends = absurd (not_unearthed inputs.case (standing_in_outage inputs item) node solvable ends.1)
+solved_as inputs item worsts (Unresolved node) out solvable ends = absurd (not_unresolved inputs.case (standing_in_outage inputs item) node solvable ends.1)
 solved_as inputs item worsts (Solved counts) out solvable ends = record { counts = counts; right = ends.1 }
 
 -- so does one that shows a worst interval, and its network can be solved
@@ -94,7 +94,7 @@ shown_as inputs item worsts (Solved counts) t e shown ends = record { taken_out 
 cell_of : (outages : List Outage) (t place : ℕ) → greatest_at (worsts_of outages t) place ≡ slice_get (outage_at outages place).worsts t
 cell_of outages t place = get_or-map (λ (o : Outage). slice_get o.worsts t) outages place no_outage
 
-are_greatest : (outages : List Outage) (t : ℕ) (e : Ends) → greatest_of (worsts_of outages t) ≡ Some e → AreGreatest (worsts_of outages t) e
+are_greatest : (outages : List Outage) (t : ℕ) (e : Ends) → greatest_worst (worsts_of outages t) ≡ Some e → AreGreatest (worsts_of outages t) e
 are_greatest outages t e is = subst (AreGreatestOf (worsts_of outages t)) is (all_greatest (worsts_of outages t))
 
 if_some : (o : Option Ends) (P : Ends → Type 0) → ((e : Ends) → o ≡ Some e → P e) → IfSome o P
@@ -103,15 +103,15 @@ if_some (Some e) P h = h e refl
 
 -- an interval is a right worst interval of the network without an item
 abbrev IsRightOne : Inputs → Item → (t : ℕ) → Ends → Type 0
-IsRightOne inputs item t w = IsRightWorst inputs.case (standing_without inputs item) (north_volts inputs) (east_volts inputs) inputs.question.width t w
+IsRightOne inputs item t w = IsRightWorst inputs.case (standing_in_outage inputs item) (northward_volts inputs) (eastward_volts inputs) inputs.question.width t w
 
-as_worst : (inputs : Inputs) (item : Item) (t : ℕ) (w : Ends) → IsThirdOfRight inputs.case (standing_without inputs item) (north_volts inputs) (east_volts inputs) inputs.question.width t w → IsRightOne inputs item t w
-as_worst inputs item t w third = third_right inputs.case (standing_without inputs item) (north_volts inputs) (east_volts inputs) inputs.question.width t w third
+as_worst : (inputs : Inputs) (item : Item) (t : ℕ) (w : Ends) → IsThirdOfRight inputs.case (standing_in_outage inputs item) (northward_volts inputs) (eastward_volts inputs) inputs.question.width t w → IsRightOne inputs item t w
+as_worst inputs item t w third = third_right inputs.case (standing_in_outage inputs item) (northward_volts inputs) (eastward_volts inputs) inputs.question.width t w third
 
 -- it is, and the verdict on it is true
 record IsRightHere (inputs : Inputs) (item : Item) (t : ℕ) (w : Ends) : Type 0 where
   right : IsRightOne inputs item t w
-  verdict : IsTrueVerdict inputs.case (standing_without inputs item) (north_volts inputs) (east_volts inputs) (threshold_asked inputs) t w
+  verdict : IsTrueVerdict inputs.case (standing_in_outage inputs item) (northward_volts inputs) (eastward_volts inputs) (threshold_asked inputs) t w
 
 -- it is so of the network of one solved outage
 record ShownThere (inputs : Inputs) (t : ℕ) (w : Ends) : Type 0 where
@@ -128,13 +128,13 @@ record Shows (inputs : Inputs) (cells : List (Option Ends)) (t : ℕ) (item : It
 
 -- the worst current is at most a greater high end, and at least an equal low end
 under_high : (inputs : Inputs) (item : Item) (t : ℕ) (w e : Ends) → IsRightOne inputs item t w → w.high ≤ℤ e.high →
-    IsWorstUpTo inputs.case (standing_without inputs item) (north_volts inputs) (east_volts inputs) e.high t
+    IsWorstUpTo inputs.case (standing_in_outage inputs item) (northward_volts inputs) (eastward_volts inputs) e.high t
 under_high inputs item t w e right most one other solve =
     up_to w.low w.high e.high (effective_numerator inputs.case one t) (effective_denominator inputs.case t one) (effective_numerator inputs.case other t) (effective_denominator inputs.case t other)
     right.in_order most (right.holds one other solve)
 
 above_low : (inputs : Inputs) (item : Item) (t : ℕ) (w e : Ends) → IsRightOne inputs item t w → e.low ≡ w.low →
-    IsWorstFrom inputs.case (standing_without inputs item) (north_volts inputs) (east_volts inputs) e.low t
+    IsWorstFrom inputs.case (standing_in_outage inputs item) (northward_volts inputs) (eastward_volts inputs) e.low t
 above_low inputs item t w e right begins one other solve =
     no_less w.low w.high e.low (effective_numerator inputs.case one t) (effective_denominator inputs.case t one) (effective_numerator inputs.case other t) (effective_denominator inputs.case t other)
     begins (right.holds one other solve)
@@ -186,7 +186,7 @@ module _ (across : UndecidedIsAcross) (inputs : Inputs) (outages : List Outage) 
       }
 
   under_all : (t : ℕ) (e : Ends) → t < length inputs.case.transformers → AreGreatest (worsts_of outages t) e → says t e ≡ Below → (item : Item) → IsSolvedOutage inputs item →
-      IsWorstUnder inputs.case (standing_without inputs item) (north_volts inputs) (east_volts inputs) k t
+      IsWorstUnder inputs.case (standing_in_outage inputs item) (northward_volts inputs) (eastward_volts inputs) k t
   under_all t e within are said item solved =
       let own = shows t within item solved in
       let row = transformer_at inputs.case t in
@@ -221,7 +221,7 @@ module _ (across : UndecidedIsAcross) (inputs : Inputs) (outages : List Outage) 
         least = above_low inputs own.item t are.shown e own.right.right are.begins;
       }
 
-  no_wider : (t : ℕ) → t < length inputs.case.transformers → IsNoWider inputs.question.width (greatest_of (worsts_of outages t))
+  no_wider : (t : ℕ) → t < length inputs.case.transformers → IsNoWider inputs.question.width (greatest_worst (worsts_of outages t))
   no_wider t within = greatest_narrow inputs.question.width (worsts_of outages t) (λ place w is. (shown_there t place w within is).right.right.narrow)
 
 -- the text of what was taken is right
@@ -230,7 +230,7 @@ pub right_outages : UndecidedIsAcross → (inputs : Inputs) (outcomes : List Out
 right_outages across inputs outcomes greatest count taken =
     let outages = taken.outages in
     let ended : Outage → Outcome = λ o. o.outcome in
-    let over : ℕ → Option Ends = λ t. greatest_of (worsts_of outages t) in
+    let over : ℕ → Option Ends = λ t. greatest_worst (worsts_of outages t) in
     let many = length inputs.case.transformers in
     let outcomes_are : outcomes ≡ map ended outages =
     ext_get_or Idle outcomes (map ended outages) (omega (arith, count, taken.one_each, length-map outages ended))
@@ -245,10 +245,10 @@ right_outages across inputs outcomes greatest count taken =
       answer = record {
         count = taken.one_each;
         ends = taken.ends;
-        enclosed = λ t within. if_some (greatest_of (worsts_of outages t)) (EnclosesGreatestWorst inputs t)
+        enclosed = λ t within. if_some (greatest_worst (worsts_of outages t)) (EnclosesGreatestWorst inputs t)
             (λ e is. encloses across inputs outages taken.one_each taken.ends t e within (are_greatest outages t e is));
         narrow = no_wider across inputs outages taken.one_each taken.ends;
-        verdicts = λ t within. if_some (greatest_of (worsts_of outages t)) (IsTrueOverOutages inputs (threshold_asked inputs) t)
+        verdicts = λ t within. if_some (greatest_worst (worsts_of outages t)) (IsTrueOverOutages inputs (threshold_asked inputs) t)
             (λ e is. true_over across inputs outages taken.one_each taken.ends t e within (are_greatest outages t e is));
       };
       text_is = ap (λ (xs : List Outcome). outage_text inputs.case inputs.question xs greatest) outcomes_are

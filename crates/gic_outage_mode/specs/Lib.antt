@@ -3,4 +3,4 @@ pub mod RightOutage
 pub mod OutageText
 pub mod Determines
 pub mod Taking
-pub mod Room
+pub mod Made

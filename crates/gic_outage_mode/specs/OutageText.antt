@@ -11,9 +11,8 @@ use Rattle.gic_question.specs.declared.asked.Question.{Question}
 use Rattle.gic_outage.specs.Plan.{plan_of}
 use Rattle.gic_report.specs.Counts.{counts_words}
 use Rattle.gic_report.specs.SharedLines.{Words, word_line}
-use Rattle.gic_report.specs.VerdictText.{verdict_word}
-use Rattle.gic_screening.specs.RightRows.{worst_verdict}
-use Rattle.gic_screening.specs.Setting.{setting_line}
+use Rattle.gic_report.specs.VerdictText.{verdict_in, verdict_word}
+use Rattle.gic_screening.specs.Setting.{event_setting_line}
 use Rattle.gic_winding.specs.ElementList.{item_name}
 use Rattle.gic_outage_mode.specs.declared.outcome.Outcome.{Outcome}
 use Rattle.gic_outage_mode.specs.declared.outcome.Outcome.TheVariants.{Idle, Unearthed, Unresolved, Solved}
@@ -44,15 +43,15 @@ abbrev pub none_line : (name : List ℕ) → Words
 none_line name = codes "transformer" ∷ name ∷ codes "none" ∷ []
 
 -- the line of a transformer, by its greatest worst interval
-abbrev pub transformer_line : (threshold : ℕ) → Transformer → Option Ends → Words
-transformer_line threshold t None = none_line t.name
-transformer_line threshold t (Some e) = greatest_line t.name e (worst_verdict threshold t e)
+abbrev pub greatest_worst_line : (threshold : ℕ) → Transformer → Option Ends → Words
+greatest_worst_line threshold t None = none_line t.name
+greatest_worst_line threshold t (Some e) = greatest_line t.name e (verdict_in threshold t e)
 
 -- per transformer
-abbrev pub transformer_lines : (threshold : ℕ) → List Transformer → List (Option Ends) → List Words
-transformer_lines threshold [] greatest = []
-transformer_lines threshold (t ∷ ts) [] = []
-transformer_lines threshold (t ∷ ts) (e ∷ es) = transformer_line threshold t e ∷ transformer_lines threshold ts es
+abbrev pub greatest_worst_lines : (threshold : ℕ) → List Transformer → List (Option Ends) → List Words
+greatest_worst_lines threshold [] greatest = []
+greatest_worst_lines threshold (t ∷ ts) [] = []
+greatest_worst_lines threshold (t ∷ ts) (e ∷ es) = greatest_worst_line threshold t e ∷ greatest_worst_lines threshold ts es
 
 -- the names of the items of the plan
 abbrev pub plan_names : Lists → List (List ℕ)
@@ -61,8 +60,8 @@ plan_names case = map (item_name case) (plan_of case)
 -- the lines of the report
 abbrev pub outage_report : Lists → (width threshold : ℕ) → (field : ℤ) → List Outcome → List (Option Ends) → List Words
 outage_report case width threshold field outcomes greatest =
-    word_line (codes "outage") ∷ setting_line width threshold field
-    ∷ (outcome_lines (plan_names case) outcomes ++ (transformer_lines threshold case.transformers greatest ++ word_line (codes "end") ∷ []))
+    word_line (codes "outage") ∷ event_setting_line width threshold field
+    ∷ (outcome_lines (plan_names case) outcomes ++ (greatest_worst_lines threshold case.transformers greatest ++ word_line (codes "end") ∷ []))
 
 -- their text
 abbrev pub outage_text : Lists → Question → List Outcome → List (Option Ends) → List ℕ

@@ -15,8 +15,8 @@ use Rattle.gic_outage_mode.specs.declared.outcome.Outcome.{Outcome}
 use Rattle.gic_outage_mode.specs.declared.outcome.Outcome.TheVariants.{Idle}
 
 -- the elements that stand without an item: with all switchings in force, and then the item opened
-abbrev pub standing_without : Inputs → Item → List Placed
-standing_without inputs item = standing_in inputs.case (rows_in inputs.switchings ++ opening item ∷ [])
+abbrev pub standing_in_outage : Inputs → Item → List Placed
+standing_in_outage inputs item = standing_in inputs.case (rows_in inputs.switchings ++ opening item ∷ [])
 
 -- how the outage of an item ends, and the worst intervals of the transformers meanwhile, which there are only where the network is solved
 pub record Outage : Type 0 where
@@ -43,9 +43,9 @@ abbrev pub worsts_of : List Outage → (t : ℕ) → List (Option Ends)
 worsts_of outages t = map (λ outage. slice_get outage.worsts t) outages
 
 -- the greatest low end and the greatest high end of the intervals that are there; none where there is none
-abbrev pub greatest_of : List (Option Ends) → Option Ends
-greatest_of [] = None
-greatest_of (cell ∷ cells) = greater cell (greatest_of cells)
+abbrev pub greatest_worst : List (Option Ends) → Option Ends
+greatest_worst [] = None
+greatest_worst (cell ∷ cells) = greater cell (greatest_worst cells)
 
 -- the greatest worst interval of the transformer at a place
 abbrev pub greatest_at : List (Option Ends) → (t : ℕ) → Option Ends

@@ -23,15 +23,15 @@ use Rattle.gic_screening.specs.RightRows.{AreSolutionsOf, IsThirdOfRight, IsTrue
 use Rattle.gic_report.specs.VerdictText.{IsAcross, is_judged}
 use Rattle.gic_outage_mode.specs.declared.outcome.Outcome.{Outcome}
 use Rattle.gic_outage_mode.specs.declared.outcome.Outcome.TheVariants.{Idle, Unearthed, Unresolved, Solved}
-use Rattle.gic_outage_mode.specs.Outages.{Outage, standing_without, item_at, outage_at, worst_at, worsts_of, greatest_of}
+use Rattle.gic_outage_mode.specs.Outages.{Outage, standing_in_outage, item_at, outage_at, worst_at, worsts_of, greatest_worst}
 use Rattle.gic_outage_mode.specs.OutageText.{outage_text}
 
 -- the voltages in nanovolts of the field of the event that is asked for, to the north and to the east
-abbrev pub north_volts : Inputs → ℕ → ℤ
-north_volts inputs = uniform_volts inputs.case (field_of inputs.question.event) (pos 0)
+abbrev pub northward_volts : Inputs → ℕ → ℤ
+northward_volts inputs = uniform_volts inputs.case (field_of inputs.question.event) (pos 0)
 
-abbrev pub east_volts : Inputs → ℕ → ℤ
-east_volts inputs = uniform_volts inputs.case (pos 0) (field_of inputs.question.event)
+abbrev pub eastward_volts : Inputs → ℕ → ℤ
+eastward_volts inputs = uniform_volts inputs.case (pos 0) (field_of inputs.question.event)
 
 -- the threshold of the event in mA per phase
 abbrev pub threshold_asked : Inputs → ℕ
@@ -53,39 +53,39 @@ is_worst_near case width threshold one other t =
 
 -- the network without the item can be solved, each worst interval there is the third of a right row, each verdict on it is true, and the counts are those of these verdicts; in every two solutions so many transformers at least as are counted undecided have a worst current within one width of the threshold
 pub record AreRightWorsts (inputs : Inputs) (item : Item) (worsts : List Ends) (counts : Counts) : Type 0 where
-  pub solvable : IsSolvable (standing_without inputs item)
+  pub solvable : IsSolvable (standing_in_outage inputs item)
   pub count : length worsts ≡ length inputs.case.transformers
   pub right : (t : ℕ) → t < length inputs.case.transformers →
-      IsThirdOfRight inputs.case (standing_without inputs item) (north_volts inputs) (east_volts inputs) inputs.question.width t (worst_at worsts t)
+      IsThirdOfRight inputs.case (standing_in_outage inputs item) (northward_volts inputs) (eastward_volts inputs) inputs.question.width t (worst_at worsts t)
   pub verdicts : (t : ℕ) → t < length inputs.case.transformers →
-      IsTrueVerdict inputs.case (standing_without inputs item) (north_volts inputs) (east_volts inputs) (threshold_asked inputs) t (worst_at worsts t)
+      IsTrueVerdict inputs.case (standing_in_outage inputs item) (northward_volts inputs) (eastward_volts inputs) (threshold_asked inputs) t (worst_at worsts t)
   pub counted : counts ≡ counts_of (worst_verdicts inputs.case (threshold_asked inputs) worsts)
-  pub undecided_most : (one other : Solution) → AreSolutionsOf (standing_without inputs item) (north_volts inputs) (east_volts inputs) one other →
+  pub undecided_most : (one other : Solution) → AreSolutionsOf (standing_in_outage inputs item) (northward_volts inputs) (eastward_volts inputs) one other →
       counts.undecided ≤ transformers_with inputs.case (is_worst_near inputs.case inputs.question.width (threshold_asked inputs) one other)
 
 -- the outage of an item ends as its network decides: it was idle; or the network without it has this first live node that is not earthed; or all are earthed, and this is the first with the entry 4097 in the least capped vector; or it is solved
 abbrev pub EndsAs : Inputs → Item → List Ends → Outcome → Type 0
 EndsAs inputs item worsts Idle = IsTrue (is_idle (standing_of inputs.case inputs.switchings) item) × (worsts ≡ [])
-EndsAs inputs item worsts (Unearthed node) = IsTakenOut inputs item × IsNameOfUnearthed inputs.case (standing_without inputs item) node × (worsts ≡ [])
-EndsAs inputs item worsts (Unresolved node) = IsTakenOut inputs item × IsNameOfUnresolved inputs.case (standing_without inputs item) node × (worsts ≡ [])
+EndsAs inputs item worsts (Unearthed node) = IsTakenOut inputs item × IsNameOfUnearthed inputs.case (standing_in_outage inputs item) node × (worsts ≡ [])
+EndsAs inputs item worsts (Unresolved node) = IsTakenOut inputs item × IsNameOfUnresolved inputs.case (standing_in_outage inputs item) node × (worsts ≡ [])
 EndsAs inputs item worsts (Solved counts) = IsTakenOut inputs item × AreRightWorsts inputs item worsts counts
 
 -- an item of the case without which the network can be solved
 pub record IsSolvedOutage (inputs : Inputs) (item : Item) : Type 0 where
   pub planned : Contains (plan_of inputs.case) item
   pub taken_out : IsTakenOut inputs item
-  pub solvable : IsSolvable (standing_without inputs item)
+  pub solvable : IsSolvable (standing_in_outage inputs item)
 
 -- there is one without which the transformer's current for the worst orientation is the threshold or more
 pub record IsWorstAtLeastOnce (inputs : Inputs) (threshold t : ℕ) : Type 0 where
   pub item : Item
   pub solved : IsSolvedOutage inputs item
-  pub at_least : IsWorstAtLeast inputs.case (standing_without inputs item) (north_volts inputs) (east_volts inputs) threshold t
+  pub at_least : IsWorstAtLeast inputs.case (standing_in_outage inputs item) (northward_volts inputs) (eastward_volts inputs) threshold t
 
 -- the verdict on a transformer's greatest worst interval is true: below a threshold only where it is in every solved outage, reached only where it is in one, and undecided only where the interval lies across it
 pub record IsTrueOverOutages (inputs : Inputs) (threshold t : ℕ) (greatest : Ends) : Type 0 where
   pub below : worst_verdict_at inputs.case threshold t greatest ≡ Below → (item : Item) → IsSolvedOutage inputs item →
-      IsWorstUnder inputs.case (standing_without inputs item) (north_volts inputs) (east_volts inputs) threshold t
+      IsWorstUnder inputs.case (standing_in_outage inputs item) (northward_volts inputs) (eastward_volts inputs) threshold t
   pub reaches : worst_verdict_at inputs.case threshold t greatest ≡ Reaches → IsWorstAtLeastOnce inputs threshold t
   pub undecided : worst_verdict_at inputs.case threshold t greatest ≡ Undecided → IsAcross threshold greatest
 
@@ -106,22 +106,22 @@ IsWorstFrom case standing north east low t =
 -- the interval encloses the greatest of the transformer's currents for the worst orientation over the solved outages: in each of them the current is at most the high end, and in one of them it is at least the low end
 pub record EnclosesGreatestWorst (inputs : Inputs) (t : ℕ) (greatest : Ends) : Type 0 where
   pub most : (item : Item) → IsSolvedOutage inputs item →
-      IsWorstUpTo inputs.case (standing_without inputs item) (north_volts inputs) (east_volts inputs) greatest.high t
+      IsWorstUpTo inputs.case (standing_in_outage inputs item) (northward_volts inputs) (eastward_volts inputs) greatest.high t
   pub item : Item
   pub solved : IsSolvedOutage inputs item
-  pub least : IsWorstFrom inputs.case (standing_without inputs item) (north_volts inputs) (east_volts inputs) greatest.low t
+  pub least : IsWorstFrom inputs.case (standing_in_outage inputs item) (northward_volts inputs) (eastward_volts inputs) greatest.low t
 
 -- an outage for each item of the plan, which ends as its network decides, and for each transformer its greatest worst interval over them: it encloses the greatest worst current, is no wider than asked, and its verdict is true
 pub record AreRightOutages (inputs : Inputs) (outages : List Outage) : Type 0 where
   pub count : length outages ≡ length (plan_of inputs.case)
   pub ends : (place : ℕ) → place < length (plan_of inputs.case) → EndsAs inputs (item_at inputs.case place) (outage_at outages place).worsts (outage_at outages place).outcome
-  pub enclosed : (t : ℕ) → t < length inputs.case.transformers → IfSome (greatest_of (worsts_of outages t)) (EnclosesGreatestWorst inputs t)
-  pub narrow : (t : ℕ) → t < length inputs.case.transformers → IsNoWider inputs.question.width (greatest_of (worsts_of outages t))
-  pub verdicts : (t : ℕ) → t < length inputs.case.transformers → IfSome (greatest_of (worsts_of outages t)) (IsTrueOverOutages inputs (threshold_asked inputs) t)
+  pub enclosed : (t : ℕ) → t < length inputs.case.transformers → IfSome (greatest_worst (worsts_of outages t)) (EnclosesGreatestWorst inputs t)
+  pub narrow : (t : ℕ) → t < length inputs.case.transformers → IsNoWider inputs.question.width (greatest_worst (worsts_of outages t))
+  pub verdicts : (t : ℕ) → t < length inputs.case.transformers → IfSome (greatest_worst (worsts_of outages t)) (IsTrueOverOutages inputs (threshold_asked inputs) t)
 
 -- the greatest worst intervals of the transformers of a case over outages
 abbrev pub greatest_over : Lists → List Outage → List (Option Ends)
-greatest_over case outages = map (λ t. greatest_of (worsts_of outages t)) (range_with_len 0 (length case.transformers))
+greatest_over case outages = map (λ t. greatest_worst (worsts_of outages t)) (range_with_len 0 (length case.transformers))
 
 -- the text is that of such outages: one list of worst intervals stands behind the counts and the greatest intervals
 pub record IsRightOutage (inputs : Inputs) (text : List ℕ) : Type 0 where

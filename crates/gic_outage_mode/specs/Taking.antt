@@ -14,7 +14,7 @@ use Rattle.gic_screening.specs.Rows.{Row}
 use Rattle.gic_screening.specs.Screening.{AreOfEvent}
 use Rattle.gic_outage_mode.specs.declared.outcome.Outcome.{Outcome}
 use Rattle.gic_outage_mode.specs.declared.outcome.Outcome.TheVariants.{Idle, Unearthed, Unresolved}
-use Rattle.gic_outage_mode.specs.Outages.{Outage, item_at, outage_at, worsts_of, greatest_of, greatest_at}
+use Rattle.gic_outage_mode.specs.Outages.{Outage, item_at, outage_at, worsts_of, greatest_worst, greatest_at}
 use Rattle.gic_outage_mode.specs.RightOutage.{EndsAs}
 
 -- the network of the case with all switchings in force, and the voltages in the field of the event that is asked for
@@ -50,4 +50,4 @@ pub record HasTaken (inputs : Inputs) (count : ℕ) (outcomes : List Outcome) (g
   pub ends : (place : ℕ) → place < count → EndsAs inputs (item_at inputs.case place) (outage_at outages place).worsts (outage_at outages place).outcome
   pub outcomes_are : (place : ℕ) → place < count → slice_index_or outcomes place Idle ≡ (outage_at outages place).outcome
   pub greatest_count : length greatest ≡ length inputs.case.transformers
-  pub greatest_are : (t : ℕ) → t < length inputs.case.transformers → greatest_at greatest t ≡ greatest_of (worsts_of outages t)
+  pub greatest_are : (t : ℕ) → t < length inputs.case.transformers → greatest_at greatest t ≡ greatest_worst (worsts_of outages t)

@@ -12,3 +12,4 @@ mod taking;
 mod text;
 
 pub use mode::outage;
+pub use room::{Room, make_room};

@@ -1,5 +1,5 @@
 //! The report of the mode.
-ghost use Rattle.std.specs.Prelude.{◌≡◌, ◌≢◌, ◌∷◌, [], Err, OnOk, map};
+ghost use Rattle.std.specs.Prelude.{OnOk};
 ghost use Rattle.std.specs.Io.KnownBytes.{Appends};
 ghost use Rattle.gic_base.specs.Causes.{HasCause};
 ghost use Rattle.gic_base.specs.Pieces.{AppendsPart};
@@ -7,27 +7,22 @@ ghost use Rattle.gic_question.specs.Ranges.{IsWithinRanges};
 ghost use Rattle.gic_stand.specs.Needs.{Solved};
 ghost use Rattle.gic_stand.specs.Serves.{Serves, shown};
 ghost use Rattle.gic_stand.specs.Standing.{steps_of};
-ghost use Rattle.gic_stand.specs.declared.fault.ReportFault.TheVariants.{Memory};
+ghost use Rattle.gic_outage_mode.specs.Made.{IsMadeFor};
 ghost use Rattle.gic_outage_mode.specs.OutageText.{outage_text};
 ghost use Rattle.gic_outage_mode.specs.RightOutage.{IsRightOutage};
-ghost use Rattle.gic_outage_mode.specs.Room.{IsOutageRoomFor};
-ghost use Rattle.gic_outage_mode.specs.Taking.{AreGiven};
 
 use crate::outcome::Outcome;
 use crate::raising::Greatest;
-use crate::room::{OutageRoom, make_outage_room};
+use crate::room::Room;
 use crate::run::take_items;
 use crate::text::write_outage;
 use gic_base::{Sink, WriteFailed};
 use gic_inputs::Inputs;
-use gic_net::Net;
 use gic_screen::laws::verdict_law;
-use gic_screening::{FieldVolts, field_volts, setting_of};
-use gic_stand::{ReportFault, ended, standing_net};
+use gic_screening::setting_of;
+use gic_stand::{ReportFault, ended};
 use gic_text::LineBuilder;
 use gic_uniform::expect_solvable;
-use gic_winding::elements;
-use std::alloc::Global;
 
 /// Writes the report of these outcomes and greatest intervals.
 fn write_report<S: Sink>(
@@ -54,56 +49,31 @@ fn write_report<S: Sink>(
     )
 }
 
-/// Takes each item out in turn and writes the report, where the network with all its items can be solved. It takes no
-/// memory, so its answer is never want of it.
-fn report_outages<S: Sink>(
-    inputs: &Inputs,
-    net: &mut Net,
-    volts: &FieldVolts,
-    room: &mut OutageRoom,
-    line: &mut LineBuilder,
-    out: &mut S,
-) -> Result<(), ReportFault>
-    requires given { AreGiven inputs.now net.old volts.now }
+/// Takes each line and each transformer of the case out of its network in turn, with all rows of the switchings in force,
+/// screens the network without it for the worst orientation of the field of the event that is asked for, and writes how
+/// each outage ends and the greatest worst interval of each transformer over them, where the network with all its items can
+/// be solved. Takes no memory.
+pub fn outage<S: Sink>(inputs: &Inputs, room: &mut Room, out: &mut S) -> Result<(), ReportFault>
     requires ranges { IsWithinRanges inputs.now.question }
-    requires room { IsOutageRoomFor inputs.now.case room.old }
-    ensures serves { Serves Solved inputs.now.case (steps_of inputs.now) (IsRightOutage inputs.now)
+    requires room { IsMadeFor inputs.now room.old }
+    ensures { Serves Solved inputs.now.case (steps_of inputs.now) (IsRightOutage inputs.now)
         (shown S.written S.faults out.old) (shown S.written S.faults out.new) result }
-    ensures memory { result ≢ Err Memory }
 {
     verdict_law();
     let solving = &mut room.screening.solving;
-    expect_solvable(&inputs.case, net, solving)?;
+    expect_solvable(&inputs.case, &room.net, solving)?;
     room.intact.copy_from(solving.vector());
     let outcomes = room.outcomes.as_mut_slice();
     take_items(
         inputs,
         &room.plan,
-        net,
-        volts,
+        &mut room.net,
+        &room.volts,
         &room.intact,
         &mut room.screening,
         outcomes,
         &mut room.greatest,
     );
-    let writing = write_report(inputs, outcomes, &room.greatest, line, out);
+    let writing = write_report(inputs, outcomes, &room.greatest, &mut room.line, out);
     ended(writing)
-}
-
-/// Takes each line and each transformer of the case out of its network in turn, with all rows of the switchings in force,
-/// screens the network without it for the worst orientation of the field of the event that is asked for, and writes how
-/// each outage ends and the greatest worst interval of each transformer over them, where the network with all its items can
-/// be solved. All that takes memory is made before the network is looked at.
-pub fn outage<S: Sink>(alloc: Global, inputs: &Inputs, out: &mut S) -> Result<(), ReportFault>
-    requires { IsWithinRanges inputs.now.question }
-    ensures { Serves Solved inputs.now.case (steps_of inputs.now) (IsRightOutage inputs.now)
-        (shown S.written S.faults out.old) (shown S.written S.faults out.new) result }
-{
-    let mut line = LineBuilder::new(alloc)?;
-    let case = &inputs.case;
-    let elements = elements(alloc, case)?;
-    let mut net = standing_net(alloc, &elements, &inputs.switchings)?;
-    let volts = field_volts(alloc, case, &elements, inputs.question.event)?;
-    let mut room = make_outage_room(alloc, case, &net)?;
-    report_outages(inputs, &mut net, &volts, &mut room, &mut line, out)
 }

@@ -2,7 +2,7 @@
 ghost use Rattle.std.specs.Prelude.{◌≡◌, length, map, Some};
 ghost use Rattle.gic_fixed.specs.Ends.{ends_of};
 ghost use Rattle.gic_peaks.specs.Peaks.{greater};
-ghost use Rattle.gic_screening.specs.Rows.{row_of};
+ghost use Rattle.gic_screening.specs.Rows.{screen_row_of};
 ghost use Rattle.gic_view.specs.Kept.{optional_ends};
 ghost use Rattle.gic_outage_mode.specs.Taking.{worsts_in, AreRaisedBy};
 
@@ -75,7 +75,7 @@ impl Greatest {
 /// Raises the interval of each transformer by the worst interval of its row.
 pub(crate) fn raise_all(rows: &[ScreenRow], greatest: &mut Greatest)
     requires { length greatest.old ≡ length rows.now }
-    ensures { AreRaisedBy (worsts_in (map row_of rows.now)) greatest.old greatest.new }
+    ensures { AreRaisedBy (worsts_in (map screen_row_of rows.now)) greatest.old greatest.new }
 {
     for (place, row) in rows.iter().enumerate() {
         greatest.raise(place, row.worst);

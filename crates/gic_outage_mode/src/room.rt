@@ -1,22 +1,28 @@
-//! What the mode writes to.
+//! What the mode takes memory for.
 ghost use Rattle.std.specs.Prelude.{◌≡◌, length, IfOk};
-ghost use Rattle.gic_winding.specs.ElementList.{elements_of};
-ghost use Rattle.gic_outage_mode.specs.Room.{IsOutageRoomFor};
+ghost use Rattle.gic_outage_mode.specs.Made.{IsMadeFor};
 
 use crate::outcome::Outcome;
 use crate::raising::Greatest;
 use gic_base::OutOfMemory;
 use gic_bound::BoundVector;
-use gic_case::Case;
+use gic_inputs::Inputs;
 use gic_model::Item;
 use gic_net::Net;
 use gic_outage::plan;
-use gic_screening::{ScreenRoom, make_screen_room};
+use gic_screening::{FieldVolts, ScreenRoom, field_volts, make_screen_room};
+use gic_stand::standing_net;
+use gic_text::LineBuilder;
+use gic_winding::elements;
 use std::alloc::Global;
 
-/// What the mode writes to, and the items that it takes out. It is made before the network is looked at.
+/// All that the mode takes memory for, and the items that it takes out. It is made before the network is looked at.
 #[derive(Drop)]
-pub(crate) struct OutageRoom {
+pub struct Room {
+    pub(crate) line: LineBuilder,
+    pub(crate) net: Net,
+    /// The voltages of the field of the event that is asked for.
+    pub(crate) volts: FieldVolts,
     pub(crate) screening: ScreenRoom,
     pub(crate) intact: BoundVector,
     pub(crate) plan: Vec<Item>,
@@ -32,22 +38,25 @@ fn make_outcomes(alloc: Global, count: usize) -> Result<Vec<Outcome>, OutOfMemor
     Ok(outcomes)
 }
 
-/// Room for the network of a case.
+/// Room for the network of the case, with all rows of the switchings in force.
 #[tactic(auto, using(gic_stand::proofs::Rooms::room_for))]
-pub(crate) fn make_outage_room(
-    alloc: Global,
-    case: &Case,
-    net: &Net,
-) -> Result<OutageRoom, OutOfMemory>
-    requires { net.now.network ≡ elements_of case.now }
-    ensures { IfOk result (IsOutageRoomFor case.now) }
+pub fn make_room(alloc: Global, inputs: &Inputs) -> Result<Room, OutOfMemory>
+    ensures { IfOk result (IsMadeFor inputs.now) }
 {
-    let screening = make_screen_room(alloc, case, net)?;
+    let line = LineBuilder::new(alloc)?;
+    let case = &inputs.case;
+    let elements = elements(alloc, case)?;
+    let net = standing_net(alloc, &elements, &inputs.switchings)?;
+    let volts = field_volts(alloc, case, &elements, inputs.question.event)?;
+    let screening = make_screen_room(alloc, case, &net)?;
     let intact = BoundVector::new(alloc, net.nodes())?;
     let plan = plan(alloc, case)?;
     let outcomes = make_outcomes(alloc, plan.len())?;
     let greatest = Greatest::new(alloc, case.transformers().len())?;
-    Ok(OutageRoom {
+    Ok(Room {
+        line,
+        net,
+        volts,
         screening,
         intact,
         plan,

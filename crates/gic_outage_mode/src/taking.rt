@@ -6,7 +6,7 @@ ghost use Rattle.gic_net.specs.Net.{standing};
 ghost use Rattle.gic_question.specs.Ranges.{IsWithinRanges};
 ghost use Rattle.gic_screening.specs.Screening.{AreOfEvent, IsScreenRoomFor};
 ghost use Rattle.gic_winding.specs.ElementList.{elements_of};
-ghost use Rattle.gic_outage_mode.specs.Outages.{standing_without};
+ghost use Rattle.gic_outage_mode.specs.Outages.{standing_in_outage};
 ghost use Rattle.gic_outage_mode.specs.RightOutage.{IsTakenOut};
 ghost use Rattle.gic_outage_mode.specs.Taking.{AreGiven, HasEnded, outcome_of};
 
@@ -47,7 +47,7 @@ fn screen_without(
     requires ranges { IsWithinRanges inputs.now.question }
     requires room { IsScreenRoomFor inputs.now.case room.old }
     requires greatest { length greatest.old ≡ length inputs.now.case.transformers }
-    ensures ended { (item : Item) → IsTakenOut inputs.now item → standing net.now ≡ standing_without inputs.now item →
+    ensures ended { (item : Item) → IsTakenOut inputs.now item → standing net.now ≡ standing_in_outage inputs.now item →
         HasEnded inputs.now item result greatest.old greatest.new }
     ensures room { IsScreenRoomFor inputs.now.case room.new }
 {

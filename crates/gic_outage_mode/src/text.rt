@@ -7,15 +7,15 @@ ghost use Rattle.gic_fixed.specs.Ends.{ends_of};
 ghost use Rattle.gic_view.specs.Kept.{optional_ends};
 ghost use Rattle.gic_text.specs.Lines.{with_words, line_text, lines_text};
 ghost use Rattle.gic_outage_mode.specs.OutageText.{outcome_words, outcome_line, outcome_lines, greatest_line, none_line};
-ghost use Rattle.gic_outage_mode.specs.OutageText.{transformer_line, transformer_lines, plan_names, outage_report};
+ghost use Rattle.gic_outage_mode.specs.OutageText.{greatest_worst_line, greatest_worst_lines, plan_names, outage_report};
 
 use crate::outcome::Outcome;
 use gic_base::{Name, Sink, WriteFailed, write_all};
 use gic_case::{Case, Transformer};
 use gic_fixed::Interval;
-use gic_report::{add_counts, add_ends, add_verdict, write_word};
+use gic_report::{add_counts, add_ends, add_verdict, verdict_in, write_word};
 use gic_screen::Verdict;
-use gic_screening::{Setting, worst_verdict, write_setting};
+use gic_screening::{Setting, write_setting};
 use gic_text::LineBuilder;
 
 /// Adds how an outage ends to the line, which has room for it.
@@ -147,16 +147,16 @@ fn write_greatest<S: Sink>(
     out: &mut S,
 ) -> Result<(), WriteFailed>
     ensures all { OnOk result (Appends (S.written out.old) (S.written out.new)
-        (line_text (transformer_line threshold transformer.now (optional_ends greatest)))) }
+        (line_text (greatest_worst_line threshold transformer.now (optional_ends greatest)))) }
     ensures part { AppendsPart (S.written out.old) (S.written out.new)
-        (line_text (transformer_line threshold transformer.now (optional_ends greatest))) }
+        (line_text (greatest_worst_line threshold transformer.now (optional_ends greatest))) }
     ensures cause { HasCause (S.faults out.old) (S.faults out.new) result }
 {
     let name = &transformer.name;
     let Some(worst) = greatest else {
         return write_none(name, line, out);
     };
-    let said = worst_verdict(transformer, worst, threshold);
+    let said = verdict_in(transformer, worst, threshold);
     write_worst(name, worst, said, line, out)
 }
 
@@ -169,9 +169,9 @@ fn write_transformers<S: Sink>(
     out: &mut S,
 ) -> Result<(), WriteFailed>
     ensures all { OnOk result (Appends (S.written out.old) (S.written out.new)
-        (lines_text (transformer_lines threshold case.now.transformers (map optional_ends greatest.now)))) }
+        (lines_text (greatest_worst_lines threshold case.now.transformers (map optional_ends greatest.now)))) }
     ensures part { AppendsPart (S.written out.old) (S.written out.new)
-        (lines_text (transformer_lines threshold case.now.transformers (map optional_ends greatest.now))) }
+        (lines_text (greatest_worst_lines threshold case.now.transformers (map optional_ends greatest.now))) }
     ensures cause { HasCause (S.faults out.old) (S.faults out.new) result }
 {
     for (transformer, cell) in case.transformers().iter().zip(greatest) {

@@ -8,9 +8,10 @@ use Rattle.gic_cert.specs.Refusals.{IsFirstRefusal}
 use Rattle.gic_cert.specs.Written.{Certificate}
 use Rattle.gic_cert.specs.declared.refusal.CertRefusal.{CertRefusal}
 use Rattle.gic_cert.specs.declared.refusal.CertRefusal.TheVariants as cert
-use Rattle.gic_recheck.specs.Accepted.{BreaksOwn}
+use Rattle.gic_recheck.specs.Accepted.{BreaksOwn, IsRefused}
 use Rattle.gic_recheck.specs.Told.{told_as, IsNodeWithin, IsToldBreak, IsFaultOf}
-use Rattle.gic_recheck.specs.declared.fault.RecheckFault.{RecheckFault}
+use Rattle.gic_recheck.specs.declared.fault.CertificateRefusal.{CertificateRefusal}
+use Rattle.gic_recheck.specs.declared.fault.RoomFault.TheVariants.{Refused, Memory}
 use Rattle.gic_recheck.proofs.LineRefusals.{of_line}
 
 -- the node of a rule that a certificate breaks is one of the network's
@@ -59,6 +60,16 @@ break_refuses case standing bytes c (cert.Number row) read first = absurd first
 break_refuses case standing bytes c (cert.Node row) read first = absurd first
 break_refuses case standing bytes c cert.Memory read first = absurd first
 
-pub break_told : (case : Lists) (standing : List Placed) (bytes : List ℕ) (c : Certificate) (fault : RecheckFault) → cert_of (certificate_nodes case standing) bytes ≡ Ok c
-    → IsToldBreak case standing c fault → IsFaultOf case standing bytes fault
-break_told case standing bytes c fault read told = subst (IsFaultOf case standing bytes) (sym told.told) (break_refuses case standing bytes c told.refusal read told.first)
+pub break_told : (case : Lists) (standing : List Placed) (bytes : List ℕ) (c : Certificate) (named : CertificateRefusal) → cert_of (certificate_nodes case standing) bytes ≡ Ok c
+    → IsToldBreak case standing c named → IsRefused case standing bytes named
+break_told case standing bytes c named read told = subst (IsFaultOf case standing bytes) (sym told.told) (break_refuses case standing bytes c told.refusal read told.first)
+
+-- and it is no want of memory
+pub break_not_memory : (case : Lists) (standing : List Placed) (c : Certificate) (refusal : CertRefusal) → BreaksOwn case standing c refusal → told_as case refusal ≢ Memory
+break_not_memory case standing c (cert.Row node) first e = grind (arith, e)
+break_not_memory case standing c (cert.Residual node) first e = grind (arith, e)
+break_not_memory case standing c (cert.Radius node) first e = grind (arith, e)
+break_not_memory case standing c (cert.Shape row) first e = absurd first
+break_not_memory case standing c (cert.Number row) first e = absurd first
+break_not_memory case standing c (cert.Node row) first e = absurd first
+break_not_memory case standing c cert.Memory first e = absurd first

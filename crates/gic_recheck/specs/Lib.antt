@@ -3,3 +3,4 @@ pub mod Accepted
 pub mod Told
 pub mod RightRecheck
 pub mod Determines
+pub mod Made

@@ -6,21 +6,24 @@ use Rattle.gic_model.specs.Sums.{Placed}
 use Rattle.gic_cert.specs.Written.{Certificate}
 use Rattle.gic_cert.specs.declared.refusal.CertRefusal.{CertRefusal}
 use Rattle.gic_cert.specs.declared.refusal.CertRefusal.TheVariants as cert
-use Rattle.gic_stand.specs.declared.fault.ReportFault.TheVariants.{CannotWrite, Memory}
+use Rattle.gic_stand.specs.declared.fault.ReportFault.TheVariants.{CannotWrite}
+use Rattle.gic_recheck.specs.declared.fault.CertificateRefusal.{CertificateRefusal}
 use Rattle.gic_recheck.specs.declared.fault.CertificateRefusal.TheVariants.{Shape, Number, Node, Row, Residual, Radius}
 use Rattle.gic_recheck.specs.declared.fault.RecheckFault.{RecheckFault}
-use Rattle.gic_recheck.specs.declared.fault.RecheckFault.TheVariants.{Refused, Report}
+use Rattle.gic_recheck.specs.declared.fault.RecheckFault.TheVariants.{Report}
+use Rattle.gic_recheck.specs.declared.fault.RoomFault.{RoomFault}
+use Rattle.gic_recheck.specs.declared.fault.RoomFault.TheVariants.{Refused, Memory}
 use Rattle.gic_recheck.specs.Accepted.{IsRefused, BreaksOwn, name_at}
 
--- a refusal with the name of its node; want of memory is told as every mode tells it
-abbrev pub told_as : Lists → CertRefusal → RecheckFault
+-- a refusal with the name of its node
+abbrev pub told_as : Lists → CertRefusal → RoomFault
 told_as case (cert.Shape row) = Refused (Shape row)
 told_as case (cert.Number row) = Refused (Number row)
 told_as case (cert.Node row) = Refused (Node row)
 told_as case (cert.Row node) = Refused (Row (name_at case node))
 told_as case (cert.Residual node) = Refused (Residual (name_at case node))
 told_as case (cert.Radius node) = Refused (Radius (name_at case node))
-told_as case cert.Memory = Report Memory
+told_as case cert.Memory = Memory
 
 -- the node of a refusal, where it tells one, is one of the first so many
 abbrev pub IsNodeWithin : (nodes : ℕ) → CertRefusal → Type 0
@@ -29,17 +32,16 @@ IsNodeWithin nodes (cert.Residual node) = node.0 < nodes
 IsNodeWithin nodes (cert.Radius node) = node.0 < nodes
 IsNodeWithin nodes _ = ⊤
 
--- the fault tells the first rule that a certificate breaks
-pub record IsToldBreak (case : Lists) (standing : List Placed) (c : Certificate) (fault : RecheckFault) : Type 0 where
+-- the first rule that a certificate breaks is told so
+pub record IsToldBreak (case : Lists) (standing : List Placed) (c : Certificate) (named : CertificateRefusal) : Type 0 where
   pub refusal : CertRefusal
   pub first : BreaksOwn case standing c refusal
-  pub told : fault ≡ told_as case refusal
+  pub told : Refused named ≡ told_as case refusal
 
--- the fault is the refusal of these bytes, or want of memory
-abbrev pub IsFaultOf : Lists → List Placed → (bytes : List ℕ) → RecheckFault → Type 0
+-- no room is made since these bytes are refused, or for want of memory
+abbrev pub IsFaultOf : Lists → List Placed → (bytes : List ℕ) → RoomFault → Type 0
 IsFaultOf case standing bytes (Refused refusal) = IsRefused case standing bytes refusal
-IsFaultOf case standing bytes (Report Memory) = ⊤
-IsFaultOf case standing bytes (Report _) = ⊥
+IsFaultOf case standing bytes Memory = ⊤
 
 -- how the writing of a report ends
 abbrev pub shown_so : Result (Unit {0}) WriteFailed → Result (Unit {0}) RecheckFault

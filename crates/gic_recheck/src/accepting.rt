@@ -10,38 +10,37 @@ ghost use Rattle.gic_case.specs.Lists.{node_names};
 ghost use Rattle.gic_uniform.specs.Uniform.{uniform_volts};
 ghost use Rattle.gic_winding.specs.ElementList.{elements_of};
 
-use crate::fault::{CertificateRefusal, RecheckFault};
+use crate::fault::{CertificateRefusal, RoomFault};
 use gic_base::OutOfMemory;
 use gic_case::{Case, node_name};
 use gic_cert::{Cert, CertRefusal, check, read_cert};
 use gic_model::{Elements, Volts};
 use gic_net::Net;
-use gic_stand::ReportFault;
 use gic_uniform::uniform_volts;
 use std::alloc::Global;
 
 /// A refusal with the name of its node.
-fn told(case: &Case, refusal: CertRefusal) -> RecheckFault
+fn told(case: &Case, refusal: CertRefusal) -> RoomFault
     requires { IsNodeWithin (length (node_names case.now)) refusal }
     ensures { result ≡ told_as case.now refusal }
 {
     match refusal {
-        CertRefusal::Shape { row } => RecheckFault::Refused(CertificateRefusal::Shape { row }),
-        CertRefusal::Number { row } => RecheckFault::Refused(CertificateRefusal::Number { row }),
-        CertRefusal::Node { row } => RecheckFault::Refused(CertificateRefusal::Node { row }),
+        CertRefusal::Shape { row } => RoomFault::Refused(CertificateRefusal::Shape { row }),
+        CertRefusal::Number { row } => RoomFault::Refused(CertificateRefusal::Number { row }),
+        CertRefusal::Node { row } => RoomFault::Refused(CertificateRefusal::Node { row }),
         CertRefusal::Row { node } => {
             let node = node_name(case, node);
-            RecheckFault::Refused(CertificateRefusal::Row { node })
+            RoomFault::Refused(CertificateRefusal::Row { node })
         }
         CertRefusal::Residual { node } => {
             let node = node_name(case, node);
-            RecheckFault::Refused(CertificateRefusal::Residual { node })
+            RoomFault::Refused(CertificateRefusal::Residual { node })
         }
         CertRefusal::Radius { node } => {
             let node = node_name(case, node);
-            RecheckFault::Refused(CertificateRefusal::Radius { node })
+            RoomFault::Refused(CertificateRefusal::Radius { node })
         }
-        CertRefusal::Memory => RecheckFault::Report(ReportFault::Memory),
+        CertRefusal::Memory => RoomFault::Memory,
     }
 }
 
@@ -52,7 +51,7 @@ pub(crate) fn expect_passing(
     net: &Net,
     volts: &Volts,
     cert: &Cert,
-) -> Result<(), RecheckFault>
+) -> Result<(), CertificateRefusal>
     requires net { net.now.network ≡ elements_of case.now }
     requires count { length volts.now ≡ length net.now.network.list }
     requires volts { number_at volts.now ≡ uniform_volts case.now cert.now.north cert.now.east }
@@ -63,17 +62,15 @@ pub(crate) fn expect_passing(
     net.within_limits();
     match check(net, volts, cert) {
         Ok(()) => Ok(()),
-        Err(broken) => Err(told(case, broken)),
+        Err(broken) => match told(case, broken) {
+            RoomFault::Refused(refusal) => Err(refusal),
+            RoomFault::Memory => unreachable!(),
+        },
     }
 }
 
 /// Reads a certificate over the network of a case.
-pub(crate) fn read(
-    alloc: Global,
-    case: &Case,
-    net: &Net,
-    bytes: &[u8],
-) -> Result<Cert, RecheckFault>
+pub(crate) fn read(alloc: Global, case: &Case, net: &Net, bytes: &[u8]) -> Result<Cert, RoomFault>
     requires { net.now.network ≡ elements_of case.now }
     ensures read { IfOk result (λ cert. cert_of (certificate_nodes case.now (standing net.now)) bytes.now ≡ Ok cert) }
     ensures nodes { IfOk result (HasNodes net.now.network.nodes (standing net.now)) }

@@ -21,46 +21,42 @@ pub enum CertificateRefusal {
     Radius { node: Name },
 }
 
+/// Why no room is made for a certificate.
+#[derive(Clone, Copy, Debug)]
+pub enum RoomFault {
+    /// The text is no certificate of the case.
+    Refused(CertificateRefusal),
+    /// Want of memory.
+    Memory,
+}
+
+impl From<AllocError> for RoomFault {
+    ghost use Rattle.std.specs.Prelude.{◌≡◌};
+    ghost use Rattle.gic_recheck.specs.declared.fault.RoomFault.TheVariants.{Memory};
+
+    ghost from_gives = { λ _ e. e ≡ Memory };
+
+    fn from(_e: AllocError) -> RoomFault {
+        RoomFault::Memory
+    }
+}
+
+impl From<OutOfMemory> for RoomFault {
+    ghost use Rattle.std.specs.Prelude.{◌≡◌};
+    ghost use Rattle.gic_recheck.specs.declared.fault.RoomFault.TheVariants.{Memory};
+
+    ghost from_gives = { λ _ e. e ≡ Memory };
+
+    fn from(_e: OutOfMemory) -> RoomFault {
+        RoomFault::Memory
+    }
+}
+
 /// Why a report of a certificate is not written, or not the whole of it.
 #[derive(Clone, Copy, Debug)]
 pub enum RecheckFault {
     /// The certificate is refused.
     Refused(CertificateRefusal),
-    /// As in every mode: a write failed, or memory was wanting.
+    /// As in every mode: a write failed.
     Report(ReportFault),
-}
-
-impl From<AllocError> for RecheckFault {
-    ghost use Rattle.std.specs.Prelude.{◌≡◌};
-    ghost use Rattle.gic_recheck.specs.declared.fault.RecheckFault.TheVariants.{Report};
-    ghost use Rattle.gic_stand.specs.declared.fault.ReportFault.TheVariants.{Memory};
-
-    ghost from_gives = { λ _ e. e ≡ Report Memory };
-
-    fn from(_e: AllocError) -> RecheckFault {
-        RecheckFault::Report(ReportFault::Memory)
-    }
-}
-
-impl From<OutOfMemory> for RecheckFault {
-    ghost use Rattle.std.specs.Prelude.{◌≡◌};
-    ghost use Rattle.gic_recheck.specs.declared.fault.RecheckFault.TheVariants.{Report};
-    ghost use Rattle.gic_stand.specs.declared.fault.ReportFault.TheVariants.{Memory};
-
-    ghost from_gives = { λ _ e. e ≡ Report Memory };
-
-    fn from(_e: OutOfMemory) -> RecheckFault {
-        RecheckFault::Report(ReportFault::Memory)
-    }
-}
-
-impl From<ReportFault> for RecheckFault {
-    ghost use Rattle.std.specs.Prelude.{◌≡◌};
-    ghost use Rattle.gic_recheck.specs.declared.fault.RecheckFault.TheVariants.{Report};
-
-    ghost from_gives = { λ fault e. e ≡ Report fault };
-
-    fn from(fault: ReportFault) -> RecheckFault {
-        RecheckFault::Report(fault)
-    }
 }

@@ -6,7 +6,9 @@ mod fault;
 pub mod laws;
 mod mode;
 mod potentials;
+mod room;
 mod text;
 
-pub use fault::{CertificateRefusal, RecheckFault};
+pub use fault::{CertificateRefusal, RecheckFault, RoomFault};
 pub use mode::recheck;
+pub use room::{Room, make_room};

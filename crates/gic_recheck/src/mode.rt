@@ -1,21 +1,20 @@
 //! The report of the mode.
-ghost use Rattle.std.specs.Prelude.{◌≡◌, ◌≢◌, ℕ, List, length, map, Ok, Err};
+ghost use Rattle.std.specs.Prelude.{◌≡◌, ℕ, List, length, map, Ok};
 ghost use Rattle.gic_cert.specs.Passing.{HasNodes};
 ghost use Rattle.gic_cert.specs.Reading.{certificate_nodes, cert_of};
 ghost use Rattle.gic_model.specs.Voltages.{number_at};
 ghost use Rattle.gic_net.specs.Net.{standing};
+ghost use Rattle.gic_recheck.specs.Made.{IsMadeFor, IsReadFrom};
 ghost use Rattle.gic_recheck.specs.RightRecheck.{potentials_of, ServesCertificate, ServesRecheck};
 ghost use Rattle.gic_recheck.specs.Told.{shown_so};
-ghost use Rattle.gic_recheck.specs.declared.fault.RecheckFault.TheVariants.{Report};
 ghost use Rattle.gic_stand.specs.Serves.{shown};
-ghost use Rattle.gic_stand.specs.declared.fault.ReportFault.TheVariants.{Memory};
 ghost use Rattle.gic_uniform.specs.Uniform.{uniform_volts};
 ghost use Rattle.gic_view.specs.Kept.{optional_ends};
 ghost use Rattle.gic_winding.specs.ElementList.{elements_of};
 
-use crate::accepting::{expect_passing, own_volts, read};
+use crate::accepting::expect_passing;
 use crate::fault::RecheckFault;
-use crate::potentials::potentials;
+use crate::room::Room;
 use crate::text::write_recheck;
 use gic_base::{Sink, WriteFailed};
 use gic_case::Case;
@@ -26,10 +25,8 @@ use gic_fixed::Interval;
 use gic_inputs::Inputs;
 use gic_model::Volts;
 use gic_net::Net;
-use gic_stand::{ReportFault, standing_net};
+use gic_stand::ReportFault;
 use gic_text::LineBuilder;
-use gic_winding::elements;
-use std::alloc::Global;
 
 /// How the writing of a report ended.
 fn shown_so(writing: Result<(), WriteFailed>) -> Result<(), RecheckFault>
@@ -56,16 +53,15 @@ fn show<S: Sink>(
     requires volts { number_at volts.now ≡ uniform_volts case.now cert.now.north cert.now.east }
     requires nodes { HasNodes net.now.network.nodes (standing net.now) cert.now }
     requires intervals { map optional_ends intervals.now ≡ potentials_of cert.now }
-    ensures serves { (bytes : List ℕ) → cert_of (certificate_nodes case.now (standing net.now)) bytes ≡ Ok cert.now →
+    ensures { (bytes : List ℕ) → cert_of (certificate_nodes case.now (standing net.now)) bytes ≡ Ok cert.now →
         ServesCertificate case.now (standing net.now) bytes
         (shown S.written S.faults out.old) (shown S.written S.faults out.new) result }
-    ensures memory { result ≢ Err (Report Memory) }
 {
     passing_law();
     bound_networks_are_solved_law();
     net.within_limits();
     match expect_passing(case, net, volts, cert) {
-        Err(fault) => Err(fault),
+        Err(refusal) => Err(RecheckFault::Refused(refusal)),
         Ok(()) => {
             let writing = write_recheck(case, cert.north(), cert.east(), intervals, line, out);
             shown_so(writing)
@@ -73,31 +69,20 @@ fn show<S: Sink>(
     }
 }
 
-/// Writes the potentials that a certificate of the case shows, with all rows of the switchings in force, where it is
-/// accepted; it may come from anybody. All that takes memory is made before the certificate is checked.
-pub fn recheck<S: Sink>(
-    alloc: Global,
-    inputs: &Inputs,
-    bytes: &[u8],
-    out: &mut S,
-) -> Result<(), RecheckFault>
-    ensures { ServesRecheck inputs.now bytes.now
+/// Writes the potentials that the certificate in the room shows, where it is accepted over the network of the case, with all
+/// rows of the switchings in force; it may come from anybody. Takes no memory.
+pub fn recheck<S: Sink>(inputs: &Inputs, room: &mut Room, out: &mut S) -> Result<(), RecheckFault>
+    requires { IsMadeFor inputs.now room.old }
+    ensures { (bytes : List ℕ) → IsReadFrom inputs.now bytes room.old → ServesRecheck inputs.now bytes
         (shown S.written S.faults out.old) (shown S.written S.faults out.new) result }
 {
-    let mut line = LineBuilder::new(alloc)?;
-    let case = &inputs.case;
-    let elements = elements(alloc, case)?;
-    let net = standing_net(alloc, &elements, &inputs.switchings)?;
-    let cert = read(alloc, case, &net, bytes)?;
-    let volts = own_volts(alloc, case, &elements, &cert)?;
-    let intervals = potentials(alloc, net.nodes(), &cert)?;
     show(
-        case,
-        &net,
-        &volts,
-        &cert,
-        intervals.as_slice(),
-        &mut line,
+        &inputs.case,
+        &room.net,
+        &room.volts,
+        &room.cert,
+        &room.intervals,
+        &mut room.line,
         out,
     )
 }

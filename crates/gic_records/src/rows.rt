@@ -2,11 +2,12 @@
 ghost use Rattle.std.specs.Prelude.{◌≡◌, ◌≤◌, ◌<◌, ◌^◌, ℕ, List, Option, Result, None, IfOk, All, unwrap_or, vec_len};
 ghost use Rattle.std.specs.List.Sorted.{IsNonDecreasingBy};
 ghost use Rattle.csv.specs.Records.{fields_of};
-ghost use Rattle.gic_base.specs.Refusals.{Answers};
+ghost use Rattle.gic_base.specs.Refusals.{AnswersRead};
 ghost use Rattle.gic_records.specs.RowPass.{rows_in};
 
 use crate::records::Records;
 use csv::ByteRecord;
+use gic_base::ReadFault;
 use std::alloc::Global;
 
 /// How a record is read as a row. Rows are in the order of time.
@@ -27,9 +28,6 @@ pub trait RowReader {
     // How more rows than there may be are refused.
     ghost late: { Self.Refusal };
 
-    // How want of memory is refused.
-    ghost memory: { Self.Refusal };
-
     /// The row that a record is, after a record of the time before.
     fn read(
         &self,
@@ -48,10 +46,6 @@ pub trait RowReader {
     /// The refusal of more rows than there may be.
     fn too_many() -> Self::Refusal
         ensures { result ≡ late };
-
-    /// The refusal for want of memory.
-    fn out_of_memory() -> Self::Refusal
-        ensures { result ≡ memory };
 }
 
 /// The rows of the records that are left, at most so many. Their times do not fall. The first record that is no row is
@@ -61,9 +55,9 @@ pub fn read_rows<R: RowReader>(
     reader: &R,
     most: u32,
     records: &mut Records<'_>,
-) -> Result<Vec<R::Row>, R::Refusal>
+) -> Result<Vec<R::Row>, ReadFault<R::Refusal>>
     requires { most < 2 ^ 31 }
-    ensures value { Answers R.memory (λ v. v.items) result (rows_in (R.reads reader.now) R.time_of most R.late 1 None records.old) }
+    ensures value { AnswersRead (λ v. v.items) result (rows_in (R.reads reader.now) R.time_of most R.late 1 None records.old) }
     ensures few { IfOk result (λ v. vec_len v ≤ most) }
     ensures ordered { IfOk result (λ v. IsNonDecreasingBy R.time_of v.items) }
     ensures each { IfOk result (λ v. All (R.keeps reader.now) v.items) }
@@ -75,21 +69,21 @@ pub fn read_rows<R: RowReader>(
         match records.read(&mut columns) {
             Ok(true) => {}
             Ok(false) => return Ok(rows),
-            Err(_) => return Err(R::out_of_memory()),
+            Err(_) => return Err(ReadFault::Memory),
         }
         let next = match reader.read(row, before, &columns) {
             Ok(next) => next,
-            Err(refusal) => return Err(refusal),
+            Err(refusal) => return Err(ReadFault::Refused(refusal)),
         };
         before = Some(R::time(&next));
         match rows.push(next) {
             Ok(()) => {}
-            Err(_) => return Err(R::out_of_memory()),
+            Err(_) => return Err(ReadFault::Memory),
         }
     }
     match records.read(&mut columns) {
-        Ok(true) => Err(R::too_many()),
+        Ok(true) => Err(ReadFault::Refused(R::too_many())),
         Ok(false) => Ok(rows),
-        Err(_) => Err(R::out_of_memory()),
+        Err(_) => Err(ReadFault::Memory),
     }
 }

@@ -11,7 +11,7 @@ use Rattle.gic_winding.specs.ElementList.{elements_of}
 use Rattle.gic_report.specs.SharedLines.{Words}
 use Rattle.gic_report.specs.declared.rows.ItemRow.{ItemRow}
 use Rattle.gic_report.specs.Cells.{first_cell, first_ends}
-use Rattle.gic_report.specs.ItemText.{cell_words, effective_line, left_behind, node_line, node_lines, per_transformer, row_lines, row_words, rows_of, shown_words}
+use Rattle.gic_report.specs.ItemText.{cell_words, effective_line, left_behind, node_line, node_lines, per_transformer, row_lines, item_row_words, item_rows_of, shown_words}
 use Rattle.gic_report.specs.Places.{LinesShowPlaces, element_words, unblocked_lines}
 use Rattle.gic_report.proofs.RowHeads.{elements_named, heads}
 
@@ -62,11 +62,11 @@ rows_along : (rows : List ItemRow) (cells : List (Option Ends)) → unblocked_li
 rows_along [] cells = refl
 rows_along (row ∷ rows) cells =
     elim row.blocked as (λ b.
-    map (λ p. p.1) (if not b then (row, row_words row ++ shown_words b cells) ∷ filter (λ p. not p.0.blocked) (zip rows (row_lines rows (left_behind b cells)))
+    map (λ p. p.1) (if not b then (row, item_row_words row ++ shown_words b cells) ∷ filter (λ p. not p.0.blocked) (zip rows (row_lines rows (left_behind b cells)))
     else filter (λ p. not p.0.blocked) (zip rows (row_lines rows (left_behind b cells))))
-    ≡ along with_cell None (map row_words (if not b then row ∷ filter (λ r. not r.blocked) rows else filter (λ r. not r.blocked) rows)) cells) [
+    ≡ along with_cell None (map item_row_words (if not b then row ∷ filter (λ r. not r.blocked) rows else filter (λ r. not r.blocked) rows)) cells) [
       | true ↦ rows_along rows cells
-      | false ↦ ap (λ ls. with_cell (row_words row) (first_cell cells) ∷ ls) (rows_along rows (drop 1 cells))
+      | false ↦ ap (λ ls. with_cell (item_row_words row) (first_cell cells) ∷ ls) (rows_along rows (drop 1 cells))
     ]
 
 -- each row has a line
@@ -74,18 +74,18 @@ pub row_count : (rows : List ItemRow) (cells : List (Option Ends)) → length (r
 row_count [] cells = refl
 row_count (row ∷ rows) cells = ap suc (row_count rows (left_behind row.blocked cells))
 
-blocked_said : (rows : List ItemRow) (cells : List (Option Ends)) → AllByRecursion (λ p. IsTrue p.0.blocked → p.1 ≡ row_words p.0 ++ codes "blocked" ∷ []) (zip rows (row_lines rows cells))
+blocked_said : (rows : List ItemRow) (cells : List (Option Ends)) → AllByRecursion (λ p. IsTrue p.0.blocked → p.1 ≡ item_row_words p.0 ++ codes "blocked" ∷ []) (zip rows (row_lines rows cells))
 blocked_said [] cells = tt
-blocked_said (row ∷ rows) cells = (λ is. ap (λ b. row_words row ++ shown_words b cells) is, blocked_said rows (left_behind row.blocked cells))
+blocked_said (row ∷ rows) cells = (λ is. ap (λ b. item_row_words row ++ shown_words b cells) is, blocked_said rows (left_behind row.blocked cells))
 
 named_along : (f : Element → Words) (es : List Element) (cells : List (Option Ends)) → along with_cell None (map f es) cells ≡ along (λ e. with_cell (f e)) None es cells
 named_along f [] cells = refl
 named_along f (e ∷ es) cells = ap (λ ls. with_cell (f e) (first_cell cells) ∷ ls) (named_along f es (drop 1 cells))
 
 elements_along : (c : Lists) (cells : List (Option Ends))
-    → unblocked_lines (rows_of c) (row_lines (rows_of c) cells) ≡ map (λ p. with_cell (element_words c p.1) (get_or cells p.0 None)) (enumerate_from 0 (elements_of c).list)
+    → unblocked_lines (item_rows_of c) (row_lines (item_rows_of c) cells) ≡ map (λ p. with_cell (element_words c p.1) (get_or cells p.0 None)) (enumerate_from 0 (elements_of c).list)
 elements_along c cells =
-    rows_along (rows_of c) cells
+    rows_along (item_rows_of c) cells
     ∙ ap (λ hs. along with_cell None hs cells) (sym (elements_named c))
     ∙ named_along (element_words c) (elements_of c).list cells
     ∙ at_places (λ e. with_cell (element_words c e)) None (elements_of c).list cells 0
@@ -94,8 +94,8 @@ pub lines_show_places : LinesShowPlaces
 lines_show_places case view = record {
   nodes = nodes_along (node_names case) view.nodes ∙ at_places node_line None (node_names case) view.nodes 0;
   elements = elements_along case view.elements;
-  row_count = row_count (rows_of case) view.elements;
-  blocked = All-from_recursion _ _ (blocked_said (rows_of case) view.elements);
+  row_count = row_count (item_rows_of case) view.elements;
+  blocked = All-from_recursion _ _ (blocked_said (item_rows_of case) view.elements);
   effective = transformers_along (λ t e. effective_line t.name e) case.transformers view.effective
       ∙ at_places (λ t e. effective_line t.name e) no_ends case.transformers view.effective 0;
 }

@@ -20,7 +20,7 @@ use Rattle.gic_winding.specs.ElementList.{elements_of}
 use Rattle.gic_report.specs.declared.rows.ItemRow.{ItemRow}
 use Rattle.gic_report.specs.Fits.{HasNames}
 use Rattle.gic_report.specs.RoleWord.{role_word}
-use Rattle.gic_report.specs.ItemText.{all_ground_rows, all_line_rows, all_neutral_rows, all_winding_rows, ground_rows, neutral_rows, row_words, rows_of, winding_rows}
+use Rattle.gic_report.specs.ItemText.{all_ground_rows, all_line_rows, all_neutral_rows, all_winding_rows, ground_rows, neutral_rows, item_row_words, item_rows_of, winding_rows}
 use Rattle.gic_report.specs.Places.{element_words}
 use Rattle.gic_report.proofs.CaseNames.{line_names, substation_names, transformer_names}
 use Rattle.gic_report.proofs.RowHeads.{elements_named, heads}
@@ -38,18 +38,18 @@ shows (row ∷ rows) = shown row.blocked (shows rows)
 count_heads : (rows : List ItemRow) → length (heads rows) ≡ shows rows
 count_heads [] = refl
 count_heads (row ∷ rows) =
-    elim row.blocked as (λ b. length (map row_words (if not b then row ∷ filter (λ r. not r.blocked) rows else filter (λ r. not r.blocked) rows)) ≡ shown b (shows rows))
+    elim row.blocked as (λ b. length (map item_row_words (if not b then row ∷ filter (λ r. not r.blocked) rows else filter (λ r. not r.blocked) rows)) ≡ shown b (shows rows))
     [ true ↦ count_heads rows | false ↦ ap suc (count_heads rows) ]
 
 -- the elements of a case are as many as its rows that show an interval
-pub element_count : (c : Lists) → length (elements_of c).list ≡ shows (rows_of c)
-element_count c = sym (length-map (elements_of c).list (element_words c)) ∙ ap length (elements_named c) ∙ count_heads (rows_of c)
+pub element_count : (c : Lists) → length (elements_of c).list ≡ shows (item_rows_of c)
+element_count c = sym (length-map (elements_of c).list (element_words c)) ∙ ap length (elements_named c) ∙ count_heads (item_rows_of c)
 
 -- ---- named by words
 
 -- the words that name the row begin a line
 abbrev pub HasLine : ItemRow → Type 0
-HasLine row = IsLine (row_words row)
+HasLine row = IsLine (item_row_words row)
 
 two_words : (word name : List ℕ) → IsWord word → IsWord name → IsLine (word ∷ name ∷ [])
 two_words word name h k = (h, (k, tt))
@@ -98,7 +98,7 @@ neutrals_named [] h = tt
 neutrals_named (t ∷ ts) h = all_joined HasLine (neutral_rows t.name t.neutral) (all_neutral_rows ts) (neutral_named t.name t.neutral h.0) (neutrals_named ts h.1)
 
 -- the rows of a case are named by words
-pub rows_named : (c : Lists) → HasNames c → AllByRecursion HasLine (rows_of c)
+pub rows_named : (c : Lists) → HasNames c → AllByRecursion HasLine (item_rows_of c)
 rows_named c h =
     all_joined HasLine (all_ground_rows c.substations) (all_line_rows c.lines ++ (all_winding_rows c.transformers ++ all_neutral_rows c.transformers)) (grounds_named c.substations (substation_names c h))
     (all_joined HasLine (all_line_rows c.lines) (all_winding_rows c.transformers ++ all_neutral_rows c.transformers) (lines_named c.lines (line_names c h))

@@ -17,17 +17,17 @@ use Rattle.gic_model.specs.declared.parts.Role.TheVariants as role
 use Rattle.gic_winding.specs.ElementList.{all_windings_of, earthing_of, earthings_of, elements_of, item_name, line, line_of, lines_of, resistor_of, resistors_of, windings_of}
 use Rattle.gic_report.specs.SharedLines.{Words}
 use Rattle.gic_report.specs.declared.rows.ItemRow.{ItemRow}
-use Rattle.gic_report.specs.ItemText.{all_ground_rows, all_line_rows, all_neutral_rows, all_winding_rows, ground_rows, line_row, named_as, neutral_rows, row_words, rows_of, winding_rows}
+use Rattle.gic_report.specs.ItemText.{all_ground_rows, all_line_rows, all_neutral_rows, all_winding_rows, ground_rows, line_row, named_as, neutral_rows, item_row_words, item_rows_of, winding_rows}
 use Rattle.gic_report.specs.Places.{element_words}
 use Rattle.gic_report.proofs.ListParts.{drop_first}
 use Rattle.gic_report.proofs.NeutralNames.{transformers_of_neutrals}
 
 -- what names the rows that aren't blocked
 abbrev pub heads : List ItemRow → List Words
-heads rows = map row_words (filter (λ r. not r.blocked) rows)
+heads rows = map item_row_words (filter (λ r. not r.blocked) rows)
 
 heads_append : (xs ys : List ItemRow) → heads (xs ++ ys) ≡ heads xs ++ heads ys
-heads_append xs ys = ap (map row_words) (filter-append (λ r. not r.blocked) xs ys) ∙ map-append row_words (filter (λ r. not r.blocked) xs) (filter (λ r. not r.blocked) ys)
+heads_append xs ys = ap (map item_row_words) (filter-append (λ r. not r.blocked) xs ys) ∙ map-append item_row_words (filter (λ r. not r.blocked) xs) (filter (λ r. not r.blocked) ys)
 
 -- of two lists that are joined, where the parts are so
 both_named : {A : Type 0} (f : A → Words) (xs ys : List A) (rows others : List ItemRow) → map f xs ≡ heads rows → map f ys ≡ heads others → map f (xs ++ ys) ≡ heads (rows ++ others)
@@ -53,7 +53,7 @@ module _ (c : Lists) where
 
   line_named : (first n : ℕ) (l : Line) → item_name c (item.Line n) ≡ l.name → map said (line_of first n l) ≡ heads (line_row l ∷ [])
   line_named first n l e =
-      elim l.blocked as (λ b. map said (if b then [] else (line n (first + l.from) (first + l.to) l.resistance ∷ [])) ≡ map row_words (if not b then line_row l ∷ [] else []))
+      elim l.blocked as (λ b. map said (if b then [] else (line n (first + l.from) (first + l.to) l.resistance ∷ [])) ≡ map item_row_words (if not b then line_row l ∷ [] else []))
       [ true ↦ refl | false ↦ ap (λ w. named_as role.Line w ∷ []) e ]
 
   winding_named : (first n neutral : ℕ) (name : List ℕ) (kind : Kind) → item_name c (item.Transformer n) ≡ name → map said (windings_of first n neutral kind) ≡ heads (winding_rows name kind)
@@ -107,7 +107,7 @@ module _ (c : Lists) where
       ∙ ap heads (same_parts (λ t. neutral_rows t.name t.neutral) (neutrals_of c) ∙ ap (flat_map (λ t. neutral_rows t.name t.neutral)) (transformers_of_neutrals c))
 
   -- the elements of a case are named as its rows that aren't blocked
-  pub elements_named : map said (elements_of c).list ≡ heads (rows_of c)
+  pub elements_named : map said (elements_of c).list ≡ heads (item_rows_of c)
   unfolding elements_of
   elements_named =
       both_named said (earthings_of c) (lines_of c ++ (all_windings_of c ++ resistors_of c)) (all_ground_rows c.substations)

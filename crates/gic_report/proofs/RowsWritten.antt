@@ -6,7 +6,7 @@ use Rattle.gic_fixed.specs.Ends.{Ends}
 use Rattle.gic_text.specs.Lines.{line_text, lines_text}
 use Rattle.gic_report.specs.Cells.{first_cell}
 use Rattle.gic_report.specs.declared.rows.ItemRow.{ItemRow}
-use Rattle.gic_report.specs.ItemText.{left_behind, node_line, node_lines, row_line, row_lines}
+use Rattle.gic_report.specs.ItemText.{left_behind, node_line, node_lines, item_row_line, row_lines}
 use Rattle.gic_report.proofs.Written.{Written, goes_on, same_left, stops, ends}
 
 -- a part of all that was left was written
@@ -27,6 +27,6 @@ next_node names others cells left name shown e f h =
 
 -- what is left of the rows begins with the line of the next
 pub next_row : (rows others : List ItemRow) (cells left : List (Option Ends)) (row : ItemRow) → rows ≡ row ∷ others → left ≡ left_behind row.blocked cells
-    → lines_text (row_lines rows cells) ≡ line_text (row_line row cells) ++ lines_text (row_lines others left)
+    → lines_text (row_lines rows cells) ≡ line_text (item_row_line row cells) ++ lines_text (row_lines others left)
 next_row rows others cells left row e h =
-    ap (λ rs. lines_text (row_lines rs cells)) e ∙ ap (λ l. line_text (row_line row cells) ++ lines_text (row_lines others l)) (sym h)
+    ap (λ rs. lines_text (row_lines rs cells)) e ∙ ap (λ l. line_text (item_row_line row cells) ++ lines_text (row_lines others l)) (sym h)

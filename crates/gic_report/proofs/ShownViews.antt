@@ -10,7 +10,7 @@ use Rattle.gic_winding.specs.ElementList.{elements_of}
 use Rattle.gic_report.specs.SharedLines.{Words}
 use Rattle.gic_report.specs.declared.rows.ItemRow.{ItemRow}
 use Rattle.gic_report.specs.Fits.{AreInRange, HasNames, IsViewInRange}
-use Rattle.gic_report.specs.ItemText.{node_lines, row_lines, rows_of}
+use Rattle.gic_report.specs.ItemText.{node_lines, row_lines, item_rows_of}
 use Rattle.gic_report.proofs.CaseNames.{node_words, transformer_names}
 use Rattle.gic_report.proofs.RowCounts.{HasLine, element_count, rows_named, shows}
 use Rattle.gic_report.proofs.ViewDetermined.{CellInRange, are_nodes, are_rows, same_nodes, same_rows}
@@ -50,11 +50,11 @@ module _ (names : List (List ℕ)) (rows : List ItemRow) (ts : List Transformer)
 
 -- ---- on a case
 
-pub case_named : (case : Lists) → HasNames case → AreNamed (node_names case) (rows_of case) case.transformers
+pub case_named : (case : Lists) → HasNames case → AreNamed (node_names case) (item_rows_of case) case.transformers
 case_named case h = record { node_words = node_words case h; row_words = rows_named case h; transformer_words = transformer_names case h }
 
 pub case_shown : (case : Lists) (view : View) → length view.nodes ≡ length (node_names case) → length view.elements ≡ length (elements_of case).list → length view.effective ≡ length case.transformers
-    → IsViewInRange view → IsShown (node_names case) (rows_of case) case.transformers view
+    → IsViewInRange view → IsShown (node_names case) (item_rows_of case) case.transformers view
 case_shown case view nodes elements transformers fits = record {
   node_count = nodes;
   element_count = elements ∙ element_count case;

@@ -15,8 +15,8 @@ use Rattle.gic_screen.specs.declared.criterion.Verdict.{Verdict}
 use Rattle.gic_report.specs.SharedLines.{Words}
 use Rattle.gic_report.specs.declared.rows.ItemRow.{ItemRow}
 use Rattle.gic_report.specs.Fits.{AreInRange}
-use Rattle.gic_report.specs.ItemText.{cell_words, effective_line, effective_lines, left_behind, node_line, node_lines, row_lines, row_words, shown_words}
-use Rattle.gic_report.specs.VerdictText.{judged_line, transformer_lines, verdict_on}
+use Rattle.gic_report.specs.ItemText.{cell_words, effective_line, effective_lines, left_behind, node_line, node_lines, per_transformer, row_lines, item_row_words, shown_words}
+use Rattle.gic_report.specs.VerdictText.{absolute_line, judged_line, transformer_line, verdict_in, verdict_on}
 use Rattle.gic_view.specs.Absolute.{absolute_ends}
 use Rattle.gic_report.proofs.RowCounts.{HasLine, shown, shows}
 use Rattle.gic_report.proofs.WordsDetermined.{same_128, verdict_is_word, word_of_128}
@@ -93,7 +93,7 @@ pub are_rows : (rows : List ItemRow) (cells : List (Option Ends)) (rest : List W
     → AllByRecursion IsLine (row_lines rows cells ++ rest)
 are_rows [] cells rest heads h k = k
 are_rows (row ∷ rows) cells rest heads h k =
-    (line_more (row_words row) (shown_words row.blocked cells) heads.0 (are_shown row.blocked cells h), are_rows rows (left_behind row.blocked cells) rest heads.1 (behind_in_range row.blocked cells h) k)
+    (line_more (item_row_words row) (shown_words row.blocked cells) heads.0 (are_shown row.blocked cells h), are_rows rows (left_behind row.blocked cells) rest heads.1 (behind_in_range row.blocked cells h) k)
 
 same_tail : (head xs ys : Words) → head ++ xs ≡ head ++ ys → xs ≡ ys
 same_tail [] xs ys e = e
@@ -123,19 +123,27 @@ same_rows [] rest others [] (y ∷ ys) p q h k e = absurd (omega (arith, q))
 same_rows [] rest others (x ∷ xs) ys p q h k e = absurd (omega (arith, p))
 same_rows (row ∷ rows) rest others xs ys p q h k e =
     (elim row.blocked as (λ b. length xs ≡ shown b (shows rows) → length ys ≡ shown b (shows rows)
-    → (row_words row ++ shown_words b xs) ∷ (row_lines rows (left_behind b xs) ++ rest) ≡ (row_words row ++ shown_words b ys) ∷ (row_lines rows (left_behind b ys) ++ others) → (xs ≡ ys) × (rest ≡ others)) [
+    → (item_row_words row ++ shown_words b xs) ∷ (row_lines rows (left_behind b xs) ++ rest) ≡ (item_row_words row ++ shown_words b ys) ∷ (row_lines rows (left_behind b ys) ++ others) → (xs ≡ ys) × (rest ≡ others)) [
       | true ↦ λ n m f. same_rows rows rest others xs ys n m h k (ap (drop 1) f)
-      | false ↦ λ n m f. same_shown (row_words row) rows rest others (same_rows rows rest others) xs ys n m h k f
+      | false ↦ λ n m f. same_shown (item_row_words row) rows rest others (same_rows rows rest others) xs ys n m h k f
     ]) p q e
+
+-- ---- lines of transformers
+
+-- of whatever is shown of each
+abbrev AreLines : (Transformer → Ends → Words) → Type 0
+AreLines line = (ts : List Transformer) (cells : List Ends) (rest : List Words) → AllByRecursion IsWord (map (λ t. t.name) ts) → length cells ≡ length ts → AllByRecursion AreInRange cells
+    → AllByRecursion IsLine rest → AllByRecursion IsLine (per_transformer line ts cells ++ rest)
+
+are_lines : (line : Transformer → Ends → Words) → ((t : Transformer) (e : Ends) → IsWord t.name → AreInRange e → IsLine (line t e)) → AreLines line
+are_lines line each [] cells rest names p h k = k
+are_lines line each (t ∷ ts) [] rest names p h k = absurd (omega (arith, p))
+are_lines line each (t ∷ ts) (e ∷ es) rest names p h k = (each t e names.0 h.0, are_lines line each ts es rest names.1 (omega (arith, p)) h.1 k)
 
 -- ---- effective currents
 
-pub are_effectives : (ts : List Transformer) (cells : List Ends) (rest : List Words) → AllByRecursion IsWord (map (λ t. t.name) ts) → length cells ≡ length ts → AllByRecursion AreInRange cells
-    → AllByRecursion IsLine rest → AllByRecursion IsLine (effective_lines ts cells ++ rest)
-are_effectives [] cells rest names p h k = k
-are_effectives (t ∷ ts) [] rest names p h k = absurd (omega (arith, p))
-are_effectives (t ∷ ts) (e ∷ es) rest names p h k =
-    ((word_from_test (codes "effective") refl, (names.0, ends_words e h.0)), are_effectives ts es rest names.1 (omega (arith, p)) h.1 k)
+pub are_effectives : AreLines (λ t e. effective_line t.name e)
+are_effectives = are_lines (λ t e. effective_line t.name e) (λ t e name h. (word_from_test (codes "effective") refl, (name, ends_words e h)))
 
 pub same_effectives : (ts : List Transformer) (xs ys : List Ends) (rest others : List Words) → length xs ≡ length ts → length ys ≡ length ts → AllByRecursion AreInRange xs → AllByRecursion AreInRange ys
     → effective_lines ts xs ++ rest ≡ effective_lines ts ys ++ others → xs ≡ ys
@@ -178,11 +186,10 @@ judged_is_line : (name : List ℕ) (e : Ends) (v : Verdict) → IsWord name → 
 unfolding judged_line
 judged_is_line name e v n l h = (word_from_test (codes "transformer") refl, (n, (l, (h, (verdict_is_word v, tt)))))
 
-pub are_transformers : (threshold : ℕ) (ts : List Transformer) (cells : List Ends) (rest : List Words) → AllByRecursion IsWord (map (λ t. t.name) ts) → length cells ≡ length ts
-    → AllByRecursion AreInRange cells → AllByRecursion IsLine rest → AllByRecursion IsLine (transformer_lines threshold ts cells ++ rest)
-are_transformers threshold [] cells rest names p h k = k
-are_transformers threshold (t ∷ ts) [] rest names p h k = absurd (omega (arith, p))
-are_transformers threshold (t ∷ ts) (e ∷ es) rest names p h k = (
-  judged_is_line t.name (absolute_ends e) (verdict_on threshold t e) names.0 (least_is_word e h.0) (greatest_is_word e h.0),
-  are_transformers threshold ts es rest names.1 (omega (arith, p)) h.1 k,
-)
+pub are_absolutes : (threshold : ℕ) → AreLines (absolute_line threshold)
+are_absolutes threshold =
+    are_lines (absolute_line threshold) (λ t e name h. let words = ends_words e h in judged_is_line t.name e (verdict_in threshold t e) name words.0 words.1.0)
+
+pub are_transformers : (threshold : ℕ) → AreLines (transformer_line threshold)
+are_transformers threshold =
+    are_lines (transformer_line threshold) (λ t e name h. judged_is_line t.name (absolute_ends e) (verdict_on threshold t e) name (least_is_word e h) (greatest_is_word e h))

@@ -37,8 +37,8 @@ named_as role.Low name = codes "winding" ∷ name ∷ role_word role.Low ∷ []
 named_as role.Series name = codes "winding" ∷ name ∷ role_word role.Series ∷ []
 named_as role.Common name = codes "winding" ∷ name ∷ role_word role.Common ∷ []
 
-abbrev pub row_words : ItemRow → Words
-row_words row = named_as row.role row.name
+abbrev pub item_row_words : ItemRow → Words
+item_row_words row = named_as row.role row.name
 
 -- what a row shows of the intervals that are left
 abbrev pub shown_words : Bool → List (Option Ends) → Words
@@ -49,40 +49,40 @@ abbrev pub left_behind : Bool → List (Option Ends) → List (Option Ends)
 left_behind blocked cells = if blocked then cells else drop 1 cells
 
 -- the line of a row
-abbrev pub row_line : ItemRow → List (Option Ends) → Words
-row_line row cells = row_words row ++ shown_words row.blocked cells
+abbrev pub item_row_line : ItemRow → List (Option Ends) → Words
+item_row_line row cells = item_row_words row ++ shown_words row.blocked cells
 
 -- the lines of rows
 abbrev pub row_lines : List ItemRow → List (Option Ends) → List Words
 row_lines [] cells = []
-row_lines (row ∷ rows) cells = row_line row cells ∷ row_lines rows (left_behind row.blocked cells)
+row_lines (row ∷ rows) cells = item_row_line row cells ∷ row_lines rows (left_behind row.blocked cells)
 
 -- ---- the rows of a case
 
-abbrev pub row_of : Role → List ℕ → Bool → ItemRow
-row_of kept name blocked = record { role = kept; name = name; blocked = blocked }
+abbrev pub item_row_of : Role → List ℕ → Bool → ItemRow
+item_row_of kept name blocked = record { role = kept; name = name; blocked = blocked }
 
 -- a substation with a ground
 abbrev pub ground_rows : List ℕ → Option ℕ → List ItemRow
 ground_rows name None = []
-ground_rows name (Some ohm) = row_of role.Ground name false ∷ []
+ground_rows name (Some ohm) = item_row_of role.Ground name false ∷ []
 
 -- a line, blocked or not
 abbrev pub line_row : Line → ItemRow
-line_row l = row_of role.Line l.name l.blocked
+line_row l = item_row_of role.Line l.name l.blocked
 
 -- the windings of a transformer
 abbrev pub winding_rows : List ℕ → Kind → List ItemRow
-winding_rows name (kinds.DeltaWye high high_resistance) = row_of role.High name false ∷ []
-winding_rows name (kinds.WyeWye high low low_volts high_resistance low_resistance) = row_of role.High name false ∷ row_of role.Low name false ∷ []
-winding_rows name (kinds.Auto high low low_volts series_resistance common_resistance) = row_of role.Series name false ∷ row_of role.Common name false ∷ []
+winding_rows name (kinds.DeltaWye high high_resistance) = item_row_of role.High name false ∷ []
+winding_rows name (kinds.WyeWye high low low_volts high_resistance low_resistance) = item_row_of role.High name false ∷ item_row_of role.Low name false ∷ []
+winding_rows name (kinds.Auto high low low_volts series_resistance common_resistance) = item_row_of role.Series name false ∷ item_row_of role.Common name false ∷ []
 winding_rows name kinds.DeltaDelta = []
 
 -- a neutral device, which is a resistor or blocked
 abbrev pub neutral_rows : List ℕ → Option Neutral → List ItemRow
 neutral_rows name None = []
-neutral_rows name (Some (devices.Resistor ohm)) = row_of role.Neutral name false ∷ []
-neutral_rows name (Some devices.Blocked) = row_of role.Neutral name true ∷ []
+neutral_rows name (Some (devices.Resistor ohm)) = item_row_of role.Neutral name false ∷ []
+neutral_rows name (Some devices.Blocked) = item_row_of role.Neutral name true ∷ []
 
 -- the rows of each list of the case
 abbrev pub all_ground_rows : List Substation → List ItemRow
@@ -98,8 +98,8 @@ abbrev pub all_neutral_rows : List Transformer → List ItemRow
 all_neutral_rows = flat_map (λ t. neutral_rows t.name t.neutral)
 
 -- the rows of a case: grounds, lines, windings, neutral devices
-abbrev pub rows_of : Lists → List ItemRow
-rows_of c = all_ground_rows c.substations ++ (all_line_rows c.lines ++ (all_winding_rows c.transformers ++ all_neutral_rows c.transformers))
+abbrev pub item_rows_of : Lists → List ItemRow
+item_rows_of c = all_ground_rows c.substations ++ (all_line_rows c.lines ++ (all_winding_rows c.transformers ++ all_neutral_rows c.transformers))
 
 -- ---- nodes and effective currents
 
@@ -127,4 +127,4 @@ effective_lines = per_transformer (λ t e. effective_line t.name e)
 
 -- the signed items of a view: nodes, then grounds, lines, windings and neutral devices, then effective currents
 abbrev pub signed_lines : Lists → View → List Words
-signed_lines case view = node_lines (node_names case) view.nodes ++ (row_lines (rows_of case) view.elements ++ effective_lines case.transformers view.effective)
+signed_lines case view = node_lines (node_names case) view.nodes ++ (row_lines (item_rows_of case) view.elements ++ effective_lines case.transformers view.effective)

@@ -8,7 +8,7 @@ use Rattle.gic_view.specs.View.{View, node_at, element_at, effective_at}
 use Rattle.gic_winding.specs.ElementList.{elements_of, item_name}
 use Rattle.gic_report.specs.SharedLines.{Words}
 use Rattle.gic_report.specs.declared.rows.ItemRow.{ItemRow}
-use Rattle.gic_report.specs.ItemText.{cell_words, effective_line, effective_lines, named_as, node_line, node_lines, row_lines, row_words, rows_of}
+use Rattle.gic_report.specs.ItemText.{cell_words, effective_line, effective_lines, named_as, node_line, node_lines, row_lines, item_row_words, item_rows_of}
 
 -- the words that name an element of the case: what it is, and the name of its item
 abbrev pub element_words : Lists → Element → Words
@@ -25,9 +25,9 @@ unblocked_lines rows lines = map (λ p. p.1) (filter (λ p. not p.0.blocked) (zi
 -- the line of each node, element and transformer, in their order, shows the interval that the view has at that place; a blocked row says so
 pub record ShowsPlaces (case : Lists) (view : View) : Type 0 where
   pub nodes : node_lines (node_names case) view.nodes ≡ map (λ p. node_line p.1 (node_at view p.0)) (enumerate_from 0 (node_names case))
-  pub elements : unblocked_lines (rows_of case) (row_lines (rows_of case) view.elements) ≡ map (placed_line case view) (enumerate_from 0 (elements_of case).list)
-  pub row_count : length (row_lines (rows_of case) view.elements) ≡ length (rows_of case)
-  pub blocked : All (λ p. IsTrue p.0.blocked → p.1 ≡ row_words p.0 ++ codes "blocked" ∷ []) (zip (rows_of case) (row_lines (rows_of case) view.elements))
+  pub elements : unblocked_lines (item_rows_of case) (row_lines (item_rows_of case) view.elements) ≡ map (placed_line case view) (enumerate_from 0 (elements_of case).list)
+  pub row_count : length (row_lines (item_rows_of case) view.elements) ≡ length (item_rows_of case)
+  pub blocked : All (λ p. IsTrue p.0.blocked → p.1 ≡ item_row_words p.0 ++ codes "blocked" ∷ []) (zip (item_rows_of case) (row_lines (item_rows_of case) view.elements))
   pub effective : effective_lines case.transformers view.effective ≡ map (λ p. effective_line p.1.name (effective_at view p.0)) (enumerate_from 0 case.transformers)
 
 -- whatever the case and the view

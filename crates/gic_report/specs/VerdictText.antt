@@ -26,9 +26,13 @@ is_judged case t = is_assessed (transformer_at case t).high_volts (earthed_high 
 abbrev pub IsAcross : (threshold : ℕ) → Ends → Type 0
 IsAcross threshold ends = (ends.low <ℤ pos threshold) × (pos threshold ≤ℤ ends.high)
 
--- the verdict on a transformer whose signed effective current is in this interval, against a threshold in mA
+-- the verdict on a transformer whose absolute current is in this interval, against a threshold in mA
+abbrev pub verdict_in : (threshold : ℕ) → Transformer → Ends → Verdict
+verdict_in threshold t e = verdict_of e.low e.high threshold t.high_volts (earthed_high t.kind)
+
+-- the same of one whose signed effective current is in it
 abbrev pub verdict_on : (threshold : ℕ) → Transformer → Ends → Verdict
-verdict_on threshold t e = verdict_of (absolute_ends e).low (absolute_ends e).high threshold t.high_volts (earthed_high t.kind)
+verdict_on threshold t e = verdict_in threshold t (absolute_ends e)
 
 -- the verdict on the transformer at a place of the case
 abbrev pub verdict_at : Lists → (threshold : ℕ) → View → (place : ℕ) → Verdict
@@ -45,11 +49,17 @@ verdict_word Outside = codes "outside"
 unfoldable pub judged_line : (name : List ℕ) → Ends → Verdict → Words
 judged_line name e v = codes "transformer" ∷ name ∷ signed_decimal e.low ∷ signed_decimal e.high ∷ verdict_word v ∷ []
 
--- the line of a transformer, by its signed effective interval
+-- the line of a transformer, by its absolute effective interval, and by its signed one
+abbrev pub absolute_line : (threshold : ℕ) → Transformer → Ends → Words
+absolute_line threshold t e = judged_line t.name e (verdict_in threshold t e)
+
 abbrev pub transformer_line : (threshold : ℕ) → Transformer → Ends → Words
-transformer_line threshold t e = judged_line t.name (absolute_ends e) (verdict_on threshold t e)
+transformer_line threshold t e = absolute_line threshold t (absolute_ends e)
 
 -- per transformer
+abbrev pub absolute_lines : (threshold : ℕ) → List Transformer → List Ends → List Words
+absolute_lines threshold = per_transformer (absolute_line threshold)
+
 abbrev pub transformer_lines : (threshold : ℕ) → List Transformer → List Ends → List Words
 transformer_lines threshold = per_transformer (transformer_line threshold)
 

@@ -8,7 +8,7 @@ ghost use Rattle.gic_view.specs.Kept.{optional_ends};
 ghost use Rattle.gic_text.specs.Lines.{with_words, line_text, lines_text};
 ghost use Rattle.gic_case.specs.Lists.{node_names};
 ghost use Rattle.gic_report.specs.ItemText.{ends_words, cell_words, shown_words, left_behind};
-ghost use Rattle.gic_report.specs.ItemText.{row_words, row_line, row_lines, rows_of};
+ghost use Rattle.gic_report.specs.ItemText.{item_row_words, item_row_line, row_lines, item_rows_of};
 ghost use Rattle.gic_report.specs.ItemText.{node_line, node_lines, effective_line, effective_lines, signed_lines};
 
 use crate::cells::{Cells, EffectiveCells};
@@ -65,7 +65,7 @@ fn add_shown(blocked: bool, cells: &mut Cells<'_>, line: &mut LineBuilder)
 #[tactic(auto, using(gic_text::proofs::Sizes::line_room))]
 fn add_row_words(row: &ItemRow, line: &mut LineBuilder)
     requires { length line.old.bytes ≤ 400 }
-    ensures words { line.new ≡ with_words line.old (row_words row.now) }
+    ensures words { line.new ≡ with_words line.old (item_row_words row.now) }
     ensures size { length line.new.bytes ≤ length line.old.bytes + 49 }
 {
     let name = row.name.as_bytes();
@@ -99,9 +99,9 @@ fn write_row<S: Sink>(
     out: &mut S,
 ) -> Result<(), WriteFailed>
     ensures all { OnOk result (Appends (S.written out.old) (S.written out.new)
-        (line_text (row_line row.now cells.old))) }
+        (line_text (item_row_line row.now cells.old))) }
     ensures part { AppendsPart (S.written out.old) (S.written out.new)
-        (line_text (row_line row.now cells.old)) }
+        (line_text (item_row_line row.now cells.old)) }
     ensures cause { HasCause (S.faults out.old) (S.faults out.new) result }
     ensures left { cells.new ≡ left_behind row.now.blocked cells.old }
 {
@@ -161,9 +161,9 @@ pub fn write_rows<S: Sink>(
     out: &mut S,
 ) -> Result<(), WriteFailed>
     ensures all { OnOk result (Appends (S.written out.old) (S.written out.new)
-        (lines_text (row_lines (rows_of case.now) view.now.elements))) }
+        (lines_text (row_lines (item_rows_of case.now) view.now.elements))) }
     ensures part { AppendsPart (S.written out.old) (S.written out.new)
-        (lines_text (row_lines (rows_of case.now) view.now.elements)) }
+        (lines_text (row_lines (item_rows_of case.now) view.now.elements)) }
     ensures cause { HasCause (S.faults out.old) (S.faults out.new) result }
 {
     let mut cells = Cells::of_elements(view);

@@ -16,5 +16,5 @@ pub use counts::{Counts, add_counts, counted, no_counts};
 pub use items::{add_ends, write_nodes, write_rows, write_signed};
 pub use names::item_name;
 pub use role::role_word;
-pub use verdict::{add_verdict, earthed_high, write_transformers};
+pub use verdict::{add_verdict, verdict_in, write_absolutes, write_transformers};
 pub use write::{write_field_line, write_sizes, write_word};

@@ -3,7 +3,7 @@ ghost use Rattle.std.specs.Prelude.{◌≡◌, [], ◌∷◌, ◌++◌, MatchOpt
 ghost use Rattle.std.specs.Option.{option_to_list};
 ghost use Rattle.std.specs.Iterator.{YieldsFirst, item_count};
 ghost use Rattle.gic_report.specs.ItemText.{ground_rows, line_row, winding_rows, neutral_rows};
-ghost use Rattle.gic_report.specs.ItemText.{all_ground_rows, all_winding_rows, all_neutral_rows, rows_of};
+ghost use Rattle.gic_report.specs.ItemText.{all_ground_rows, all_winding_rows, all_neutral_rows, item_rows_of};
 ghost use Rattle.gic_report.specs.RowsLeft.{rows_left};
 
 use gic_base::Name;
@@ -21,11 +21,11 @@ pub struct ItemRow {
 
 impl ItemRow {
     ghost use Rattle.std.specs.Prelude.{◌≡◌, false};
-    ghost use Rattle.gic_report.specs.ItemText.{row_of};
+    ghost use Rattle.gic_report.specs.ItemText.{item_row_of};
 
     /// A row that isn't blocked.
     fn new(role: Role, name: Name) -> ItemRow
-        ensures { result ≡ row_of role name false }
+        ensures { result ≡ item_row_of role name false }
     {
         ItemRow {
             role,
@@ -50,7 +50,7 @@ pub struct ItemRows<'a> {
 impl<'a> ItemRows<'a> {
     /// The rows of all items of a case.
     pub fn of(case: &'a Case) -> ItemRows<'a>
-        ensures { rows_left result ≡ rows_of case.now }
+        ensures { rows_left result ≡ item_rows_of case.now }
     {
         ItemRows {
             grounds: case.substations(),

@@ -6,7 +6,8 @@ ghost use Rattle.gic_base.specs.Pieces.{AppendsPart};
 ghost use Rattle.gic_fixed.specs.Ends.{ends_of};
 ghost use Rattle.gic_text.specs.Lines.{with_word, line_text, lines_text};
 ghost use Rattle.gic_view.specs.Absolute.{HasAbsolute};
-ghost use Rattle.gic_report.specs.VerdictText.{earthed_high, verdict_word, judged_line, transformer_line, transformer_lines};
+ghost use Rattle.gic_report.specs.VerdictText.{earthed_high, verdict_in, verdict_word, judged_line};
+ghost use Rattle.gic_report.specs.VerdictText.{absolute_line, absolute_lines, transformer_line, transformer_lines};
 
 use crate::cells::EffectiveCells;
 use crate::items::add_ends;
@@ -18,13 +19,22 @@ use gic_text::LineBuilder;
 use gic_view::StepView;
 
 /// Whether the high side of a unit is earthed through its winding, as NERC TPL-007 asks of one that is assessed.
-pub fn earthed_high(kind: Kind) -> bool
+fn earthed_high(kind: Kind) -> bool
     ensures { result ≡ earthed_high kind }
 {
     match kind {
         Kind::DeltaWye { .. } | Kind::WyeWye { .. } | Kind::Auto { .. } => true,
         Kind::DeltaDelta => false,
     }
+}
+
+/// The verdict on a transformer whose absolute current in mA per phase, effective or for the worst orientation, is in this
+/// interval, against a threshold in mA per phase.
+pub fn verdict_in(transformer: &Transformer, current: Interval, threshold: u32) -> Verdict
+    ensures { result ≡ verdict_in threshold transformer.now (ends_of current) }
+{
+    let is_earthed = earthed_high(transformer.kind);
+    verdict(current, threshold, transformer.high_volts, is_earthed)
 }
 
 /// How the report names a verdict.
@@ -73,6 +83,24 @@ fn write_judged<S: Sink>(
     write_all(out, line.finish())
 }
 
+/// Writes the line of a transformer, by its absolute effective interval.
+fn write_absolute<S: Sink>(
+    transformer: &Transformer,
+    current: Interval,
+    threshold: u32,
+    line: &mut LineBuilder,
+    out: &mut S,
+) -> Result<(), WriteFailed>
+    ensures all { OnOk result (Appends (S.written out.old) (S.written out.new)
+        (line_text (absolute_line threshold transformer.now (ends_of current)))) }
+    ensures part { AppendsPart (S.written out.old) (S.written out.new)
+        (line_text (absolute_line threshold transformer.now (ends_of current))) }
+    ensures cause { HasCause (S.faults out.old) (S.faults out.new) result }
+{
+    let said = verdict_in(transformer, current, threshold);
+    write_judged(&transformer.name, current, said, line, out)
+}
+
 /// Writes the line of a transformer, by its signed effective interval.
 fn write_transformer<S: Sink>(
     transformer: &Transformer,
@@ -88,14 +116,32 @@ fn write_transformer<S: Sink>(
         (line_text (transformer_line threshold transformer.now (ends_of signed))) }
     ensures cause { HasCause (S.faults out.old) (S.faults out.new) result }
 {
-    let current = signed.abs();
-    let is_earthed = earthed_high(transformer.kind);
-    let said = verdict(current, threshold, transformer.high_volts, is_earthed);
-    write_judged(&transformer.name, current, said, line, out)
+    write_absolute(transformer, signed.abs(), threshold, line, out)
 }
 
-/// Writes a line for each transformer: its absolute effective interval and the verdict on it against a threshold, both
-/// in mA per phase.
+/// Writes a line for each transformer of a view whose effective intervals are absolute: its interval and the verdict on
+/// it against a threshold, both in mA per phase.
+pub fn write_absolutes<S: Sink>(
+    transformers: &[Transformer],
+    view: &StepView,
+    threshold: u32,
+    line: &mut LineBuilder,
+    out: &mut S,
+) -> Result<(), WriteFailed>
+    ensures all { OnOk result (Appends (S.written out.old) (S.written out.new)
+        (lines_text (absolute_lines threshold transformers.now view.now.effective))) }
+    ensures part { AppendsPart (S.written out.old) (S.written out.new)
+        (lines_text (absolute_lines threshold transformers.now view.now.effective)) }
+    ensures cause { HasCause (S.faults out.old) (S.faults out.new) result }
+{
+    let mut cells = EffectiveCells::of(view);
+    for transformer in transformers {
+        write_absolute(transformer, cells.take(), threshold, line, out)?;
+    }
+    Ok(())
+}
+
+/// The same of a view whose effective intervals are signed, by their absolute intervals.
 pub fn write_transformers<S: Sink>(
     transformers: &[Transformer],
     view: &StepView,

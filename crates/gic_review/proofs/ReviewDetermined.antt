@@ -9,12 +9,12 @@ use Rattle.gic_text.proofs.Injective.{lines_injective}
 use Rattle.gic_text.proofs.Words.{word_from_test, word_decimal, word_signed, word_name, signed_decimal_injective_wide}
 use Rattle.gic_findings.specs.declared.finding.Finding.{Finding}
 use Rattle.gic_findings.specs.declared.finding.Finding.TheVariants.{Ungrounded, Part, Closure, Value, Volts, Outside}
-use Rattle.gic_findings.specs.declared.finding.Listed.{Listed}
-use Rattle.gic_findings.specs.declared.finding.Listed.TheVariants as lists
+use Rattle.gic_findings.specs.declared.finding.CaseList.{CaseList}
+use Rattle.gic_findings.specs.declared.finding.CaseList.TheVariants as lists
 use Rattle.gic_findings.specs.declared.finding.Side.{Side}
 use Rattle.gic_findings.specs.declared.finding.Side.TheVariants.{High, Low}
-use Rattle.gic_findings.specs.declared.measured.Measured.{Measured}
-use Rattle.gic_findings.specs.declared.measured.Measured.TheVariants as values
+use Rattle.gic_findings.specs.declared.measured.Quantity.{Quantity}
+use Rattle.gic_findings.specs.declared.measured.Quantity.TheVariants as values
 use Rattle.gic_report.specs.SharedLines.{Words, word_line}
 use Rattle.gic_report.proofs.WordsDetermined.{word_at, same_long}
 use Rattle.gic_review.specs.FindingText.{list_word, field_word, side_word, finding_line}
@@ -27,20 +27,20 @@ use Rattle.gic_review.specs.Determines.{CanBeTold}
 abbrev tag : List ℕ → ℕ
 tag w = get_or w 0 0 * 65536 + (get_or w 1 0 * 256 + get_or w 5 0)
 
-abbrev list_of : ℕ → Listed
+abbrev list_of : ℕ → CaseList
 list_of n =
     if n == tag (codes "zone") then lists.Zone
     else if n == tag (codes "substation") then lists.Substation
     else if n == tag (codes "line") then lists.Line
     else lists.Transformer
 
-list_read : (l : Listed) → list_of (tag (list_word l)) ≡ l
+list_read : (l : CaseList) → list_of (tag (list_word l)) ≡ l
 list_read lists.Zone = refl
 list_read lists.Substation = refl
 list_read lists.Line = refl
 list_read lists.Transformer = refl
 
-same_list : (l m : Listed) → list_word l ≡ list_word m → l ≡ m
+same_list : (l m : CaseList) → list_word l ≡ list_word m → l ≡ m
 same_list l m e = sym (list_read l) ∙ ap (λ (w : List ℕ). list_of (tag w)) e ∙ list_read m
 
 abbrev side_of : ℕ → Side
@@ -53,8 +53,8 @@ side_read Low = refl
 same_side : (s t : Side) → side_word s ≡ side_word t → s ≡ t
 same_side s t e = sym (side_read s) ∙ ap (λ (w : List ℕ). side_of (tag w)) e ∙ side_read t
 
-abbrev field_of : ℕ → Measured
-field_of n =
+abbrev quantity_of : ℕ → Quantity
+quantity_of n =
     if n == tag (codes "latitude") then values.Latitude
     else if n == tag (codes "beta") then values.Beta
     else if n == tag (codes "ground") then values.Ground
@@ -68,7 +68,7 @@ field_of n =
     else if n == tag (codes "common_resistance") then values.CommonResistance
     else values.Neutral
 
-field_read : (m : Measured) → field_of (tag (field_word m)) ≡ m
+field_read : (m : Quantity) → quantity_of (tag (field_word m)) ≡ m
 field_read values.Latitude = refl
 field_read values.Beta = refl
 field_read values.Ground = refl
@@ -82,10 +82,10 @@ field_read values.SeriesResistance = refl
 field_read values.CommonResistance = refl
 field_read values.Neutral = refl
 
-same_field : (m n : Measured) → field_word m ≡ field_word n → m ≡ n
-same_field m n e = sym (field_read m) ∙ ap (λ (w : List ℕ). field_of (tag w)) e ∙ field_read n
+same_field : (m n : Quantity) → field_word m ≡ field_word n → m ≡ n
+same_field m n e = sym (field_read m) ∙ ap (λ (w : List ℕ). quantity_of (tag w)) e ∙ field_read n
 
-list_is_word : (l : Listed) → IsWord (list_word l)
+list_is_word : (l : CaseList) → IsWord (list_word l)
 list_is_word lists.Zone = word_from_test (codes "zone") refl
 list_is_word lists.Substation = word_from_test (codes "substation") refl
 list_is_word lists.Line = word_from_test (codes "line") refl
@@ -95,7 +95,7 @@ side_is_word : (s : Side) → IsWord (side_word s)
 side_is_word High = word_from_test (codes "high_volts") refl
 side_is_word Low = word_from_test (codes "low_volts") refl
 
-field_is_word : (m : Measured) → IsWord (field_word m)
+field_is_word : (m : Quantity) → IsWord (field_word m)
 field_is_word values.Latitude = word_from_test (codes "latitude") refl
 field_is_word values.Beta = word_from_test (codes "beta") refl
 field_is_word values.Ground = word_from_test (codes "ground") refl

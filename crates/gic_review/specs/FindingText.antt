@@ -3,23 +3,23 @@ use Rattle.std.specs.Prelude.{ℕ, List, [], ◌∷◌, codes, decimal}
 use Rattle.std.specs.Fmt.{signed_decimal}
 use Rattle.gic_findings.specs.declared.finding.Finding.{Finding}
 use Rattle.gic_findings.specs.declared.finding.Finding.TheVariants.{Ungrounded, Part, Closure, Value, Volts, Outside}
-use Rattle.gic_findings.specs.declared.finding.Listed.{Listed}
-use Rattle.gic_findings.specs.declared.finding.Listed.TheVariants as lists
+use Rattle.gic_findings.specs.declared.finding.CaseList.{CaseList}
+use Rattle.gic_findings.specs.declared.finding.CaseList.TheVariants as lists
 use Rattle.gic_findings.specs.declared.finding.Side.{Side}
 use Rattle.gic_findings.specs.declared.finding.Side.TheVariants.{High, Low}
-use Rattle.gic_findings.specs.declared.measured.Measured.{Measured}
-use Rattle.gic_findings.specs.declared.measured.Measured.TheVariants as values
+use Rattle.gic_findings.specs.declared.measured.Quantity.{Quantity}
+use Rattle.gic_findings.specs.declared.measured.Quantity.TheVariants as values
 use Rattle.gic_report.specs.SharedLines.{Words}
 
 -- the word of a list
-abbrev pub list_word : Listed → List ℕ
+abbrev pub list_word : CaseList → List ℕ
 list_word lists.Zone = codes "zone"
 list_word lists.Substation = codes "substation"
 list_word lists.Line = codes "line"
 list_word lists.Transformer = codes "transformer"
 
 -- what is measured goes by the key of a case, or by a word of its own
-abbrev pub field_word : Measured → List ℕ
+abbrev pub field_word : Quantity → List ℕ
 field_word values.Latitude = codes "latitude"
 field_word values.Beta = codes "beta"
 field_word values.Ground = codes "ground"

@@ -2,3 +2,4 @@ pub mod FindingText
 pub mod ReviewText
 pub mod RightReview
 pub mod Determines
+pub mod Made

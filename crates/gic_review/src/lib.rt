@@ -3,7 +3,9 @@
 
 pub mod laws;
 mod mode;
+mod room;
 mod text;
 mod words;
 
 pub use mode::review;
+pub use room::{Room, make_room};

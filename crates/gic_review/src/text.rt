@@ -9,13 +9,13 @@ ghost use Rattle.gic_review.specs.ReviewText.{findings_line, review_report};
 
 use crate::words::{field_word, list_word, side_word};
 use gic_base::{Name, Sink, WriteFailed, write_all};
-use gic_findings::{Finding, Listed, Measured};
+use gic_findings::{CaseList, Finding, Quantity};
 use gic_report::write_word;
 use gic_text::LineBuilder;
 
 /// Adds to the line of which row a value is, and which of its values.
 #[tactic(auto, using(gic_text::proofs::Sizes::line_room))]
-fn add_value(list: Listed, name: &Name, measured: Measured, line: &mut LineBuilder)
+fn add_value(list: CaseList, name: &Name, measured: Quantity, line: &mut LineBuilder)
     requires { length line.old.bytes ≤ 400 }
     ensures words { line.new ≡ with_words line.old (list_word list ∷ name.now ∷ field_word measured ∷ []) }
     ensures size { length line.new.bytes ≤ length line.old.bytes + 69 }

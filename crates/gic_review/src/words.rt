@@ -2,39 +2,39 @@
 ghost use Rattle.std.specs.Prelude.{◌≡◌, ◌≤◌, length};
 ghost use Rattle.gic_review.specs.FindingText.{list_word, field_word, side_word};
 
-use gic_findings::{Listed, Measured, Side};
+use gic_findings::{CaseList, Quantity, Side};
 
 /// The word of a list.
-pub(crate) fn list_word(list: Listed) -> &'static str
+pub(crate) fn list_word(list: CaseList) -> &'static str
     ensures word { result.now ≡ list_word list }
     ensures size { length result.now ≤ 17 }
 {
     match list {
-        Listed::Zone => "zone",
-        Listed::Substation => "substation",
-        Listed::Line => "line",
-        Listed::Transformer => "transformer",
+        CaseList::Zone => "zone",
+        CaseList::Substation => "substation",
+        CaseList::Line => "line",
+        CaseList::Transformer => "transformer",
     }
 }
 
 /// The word of what is measured of a row.
-pub(crate) fn field_word(measured: Measured) -> &'static str
+pub(crate) fn field_word(measured: Quantity) -> &'static str
     ensures word { result.now ≡ field_word measured }
     ensures size { length result.now ≤ 17 }
 {
     match measured {
-        Measured::Latitude => "latitude",
-        Measured::Beta => "beta",
-        Measured::Ground => "ground",
-        Measured::Resistance => "resistance",
-        Measured::Span => "span",
-        Measured::PerKilometre => "perkm",
-        Measured::HighVolts => "high_volts",
-        Measured::HighResistance => "high_resistance",
-        Measured::LowResistance => "low_resistance",
-        Measured::SeriesResistance => "series_resistance",
-        Measured::CommonResistance => "common_resistance",
-        Measured::Neutral => "neutral",
+        Quantity::Latitude => "latitude",
+        Quantity::Beta => "beta",
+        Quantity::Ground => "ground",
+        Quantity::Resistance => "resistance",
+        Quantity::Span => "span",
+        Quantity::PerKilometre => "perkm",
+        Quantity::HighVolts => "high_volts",
+        Quantity::HighResistance => "high_resistance",
+        Quantity::LowResistance => "low_resistance",
+        Quantity::SeriesResistance => "series_resistance",
+        Quantity::CommonResistance => "common_resistance",
+        Quantity::Neutral => "neutral",
     }
 }
 

@@ -2,7 +2,7 @@
 use Rattle.std.proofs.Common.{◌≡◌, ℕ, ◌≤◌, nat_le, List, [], ◌∷◌, Bool, Some, find, arith, inl, inr}
 use Rattle.std.proofs.lemmas.Bool.{cases_Bool}
 use Rattle.std.specs.List.{AllByRecursion}
-use Rattle.gic_scale.specs.Alpha.{latitude_table, row_at}
+use Rattle.gic_scale.specs.Alpha.{latitude_table, latitude_row}
 
 -- a scaling is from 1 to 10 tenths
 pub record IsTenths (row : ℕ × ℕ) : Type 0 where
@@ -42,6 +42,6 @@ all_tenths = (
   ),
 )
 
-pub row_tenths : (latitude : ℕ) (row : ℕ × ℕ) → row_at latitude ≡ Some row → IsTenths row
-unfolding row_at
+pub row_tenths : (latitude : ℕ) (row : ℕ × ℕ) → latitude_row latitude ≡ Some row → IsTenths row
+unfolding latitude_row
 row_tenths latitude row e = found_holds (λ r. nat_le latitude r.0) latitude_table row all_tenths e

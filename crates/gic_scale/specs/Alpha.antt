@@ -7,8 +7,8 @@ latitude_table =
     (4000, 1) ∷ (4500, 2) ∷ (5000, 3) ∷ (5400, 5) ∷ (5600, 6) ∷ (5700, 7) ∷ (5800, 8) ∷ (5900, 9) ∷ (6000, 10) ∷ []
 
 -- the first row whose latitude is at least the given one
-unfoldable pub row_at : ℕ → Option (ℕ × ℕ)
-row_at latitude = find (λ row. nat_le latitude row.0) latitude_table
+unfoldable pub latitude_row : ℕ → Option (ℕ × ℕ)
+latitude_row latitude = find (λ row. nat_le latitude row.0) latitude_table
 
 abbrev pub tenths_or_ten : Option (ℕ × ℕ) → ℕ
 tenths_or_ten None = 10
@@ -16,4 +16,4 @@ tenths_or_ten (Some row) = row.1
 
 -- the scaling of that row, and 10 if there is none
 abbrev pub alpha_of : ℕ → ℕ
-alpha_of latitude = tenths_or_ten (row_at latitude)
+alpha_of latitude = tenths_or_ten (latitude_row latitude)

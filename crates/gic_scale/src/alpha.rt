@@ -1,6 +1,6 @@
 //! The scaling of a field by geomagnetic latitude.
 ghost use Rattle.std.specs.Prelude.{◌≡◌, ◌≤◌};
-ghost use Rattle.gic_scale.specs.Alpha.{latitude_table, row_at, alpha_of};
+ghost use Rattle.gic_scale.specs.Alpha.{latitude_table, latitude_row, alpha_of};
 
 /// The rows of the table: latitudes in hundredths of a degree, and the scaling up to there in tenths. They are set after
 /// attachment 1 of NERC TPL-007 and are this project's own.
@@ -23,9 +23,9 @@ fn table() -> &'static [(u16, u8)]
 }
 
 /// The first row whose latitude is at least the given one.
-#[tactic(auto, unfolding(crate::specs::Alpha::row_at))]
-fn row_at(latitude: u16) -> Option<(u16, u8)>
-    ensures { result ≡ row_at latitude }
+#[tactic(auto, unfolding(crate::specs::Alpha::latitude_row))]
+fn latitude_row(latitude: u16) -> Option<(u16, u8)>
+    ensures { result ≡ latitude_row latitude }
 {
     table().iter().copied().find(|row| latitude <= row.0)
 }
@@ -37,7 +37,7 @@ pub fn alpha_tenths(latitude: u16) -> u8
     ensures least { 1 ≤ result }
     ensures most { result ≤ 10 }
 {
-    match row_at(latitude) {
+    match latitude_row(latitude) {
         Some(row) => row.1,
         None => 10,
     }

@@ -6,7 +6,7 @@ use Rattle.gic_model.specs.Sums.{Placed}
 use Rattle.gic_question.specs.declared.asked.Question.{Question}
 use Rattle.gic_screen.specs.Event.{threshold_of}
 use Rattle.gic_screen.specs.VerdictLaws.{UndecidedIsAcross, WorstBelowIsUnder, WorstReachesIsAtLeast}
-use Rattle.gic_screening.specs.Rows.{Row, row_at}
+use Rattle.gic_screening.specs.Rows.{Row, screen_row_at}
 use Rattle.gic_screening.specs.Screening.{AreScreened}
 use Rattle.gic_screening.proofs.RightRows.{verdict_true}
 use Rattle.gic_screen_mode.specs.RightScreen.{AreRightRows}
@@ -16,5 +16,5 @@ pub rows_right : UndecidedIsAcross → WorstBelowIsUnder → WorstReachesIsAtLea
 rows_right across under at_least case standing north east q rows sound screened = record {
   count = screened.count;
   right = screened.right;
-  verdicts = λ t inside. verdict_true across under at_least case standing north east (threshold_of q.event) q.width t (row_at rows t).worst sound inside (screened.right t inside).at_worst;
+  verdicts = λ t inside. verdict_true across under at_least case standing north east (threshold_of q.event) q.width t (screen_row_at rows t).worst sound inside (screened.right t inside).at_worst;
 }

@@ -14,15 +14,15 @@ use Rattle.gic_report.proofs.CaseNames.{transformer_names}
 use Rattle.gic_report.proofs.ViewDetermined.{ends_words, same_ends}
 use Rattle.gic_report.proofs.WordsDetermined.{first_of_lines, pair_at, verdict_is_word}
 use Rattle.gic_screening.specs.Rows.{Row}
-use Rattle.gic_screening.specs.RightRows.{worst_verdict}
-use Rattle.gic_screening.specs.Setting.{setting_line}
+use Rattle.gic_report.specs.VerdictText.{verdict_in}
+use Rattle.gic_screening.specs.Setting.{event_setting_line}
 use Rattle.gic_screening.proofs.SettingDetermined.{same_setting, setting_is_line}
-use Rattle.gic_screen_mode.specs.ScreenText.{row_line, screen_report, transformer_line, transformer_lines}
+use Rattle.gic_screen_mode.specs.ScreenText.{screened_line, screen_report, screened_transformer_line, screened_transformer_lines}
 use Rattle.gic_screen_mode.specs.Determines.{IsRowInRange, TextDeterminesScreen}
 
 -- the line of a row is one
-row_is_line : (name : List ℕ) (row : Row) (said : Verdict) → IsWord name → IsRowInRange row → IsLine (row_line name row said)
-unfolding row_line
+row_is_line : (name : List ℕ) (row : Row) (said : Verdict) → IsWord name → IsRowInRange row → IsLine (screened_line name row said)
+unfolding screened_line
 row_is_line name row said n fits =
     let north = ends_words row.north fits.north_fits in
     let east = ends_words row.east fits.east_fits in
@@ -47,17 +47,17 @@ row_is_line name row said n fits =
     )
 
 are_lines : (threshold : ℕ) (ts : List Transformer) (rows : List Row) → AllByRecursion IsWord (map (λ t. t.name) ts) → AllByRecursion IsRowInRange rows
-    → AllByRecursion IsLine (transformer_lines threshold ts rows ++ word_line (codes "end") ∷ [])
+    → AllByRecursion IsLine (screened_transformer_lines threshold ts rows ++ word_line (codes "end") ∷ [])
 are_lines threshold [] rows names h = ((word_from_test (codes "end") refl, tt), tt)
 are_lines threshold (t ∷ ts) [] names h = ((word_from_test (codes "end") refl, tt), tt)
-are_lines threshold (t ∷ ts) (row ∷ rows) names h = (row_is_line t.name row (worst_verdict threshold t row.worst) names.0 h.0, are_lines threshold ts rows names.1 h.1)
+are_lines threshold (t ∷ ts) (row ∷ rows) names h = (row_is_line t.name row (verdict_in threshold t row.worst) names.0 h.0, are_lines threshold ts rows names.1 h.1)
 
 -- the line of a row determines it
 abbrev row_with : Ends → Ends → Ends → Row
 row_with a b c = record { north = a; east = b; worst = c }
 
-same_row : (name : List ℕ) (row other : Row) (said told : Verdict) → IsRowInRange row → IsRowInRange other → row_line name row said ≡ row_line name other told → row ≡ other
-unfolding row_line
+same_row : (name : List ℕ) (row other : Row) (said told : Verdict) → IsRowInRange row → IsRowInRange other → screened_line name row said ≡ screened_line name other told → row ≡ other
+unfolding screened_line
 same_row name row other said told h k e =
     let north = same_ends row.north other.north h.north_fits k.north_fits (ap (λ ws. pair_at ws 3) e) in
     let east = same_ends row.east other.east h.east_fits k.east_fits (ap (λ ws. pair_at ws 6) e) in
@@ -66,17 +66,17 @@ same_row name row other said told h k e =
 
 -- the lines of the transformers determine the rows
 same_lines : (threshold threshold' : ℕ) (ts : List Transformer) (xs ys : List Row) → length xs ≡ length ts → length ys ≡ length ts → AllByRecursion IsRowInRange xs → AllByRecursion IsRowInRange ys
-    → transformer_lines threshold ts xs ++ word_line (codes "end") ∷ [] ≡ transformer_lines threshold' ts ys ++ word_line (codes "end") ∷ [] → xs ≡ ys
+    → screened_transformer_lines threshold ts xs ++ word_line (codes "end") ∷ [] ≡ screened_transformer_lines threshold' ts ys ++ word_line (codes "end") ∷ [] → xs ≡ ys
 same_lines threshold threshold' [] [] [] p q h k e = refl
 same_lines threshold threshold' [] [] (y ∷ ys) p q h k e = absurd (omega (arith, q))
 same_lines threshold threshold' [] (x ∷ xs) ys p q h k e = absurd (omega (arith, p))
 same_lines threshold threshold' (t ∷ ts) [] ys p q h k e = absurd (omega (arith, p))
 same_lines threshold threshold' (t ∷ ts) (x ∷ xs) [] p q h k e = absurd (omega (arith, q))
 same_lines threshold threshold' (t ∷ ts) (x ∷ xs) (y ∷ ys) p q h k e =
-    let both : transformer_line threshold t x ∷ (transformer_lines threshold ts xs ++ word_line (codes "end") ∷ []) ≡ transformer_line threshold' t y ∷ (transformer_lines threshold' ts ys ++ word_line (codes "end") ∷ []) = e in
-    let line : transformer_line threshold t x ≡ transformer_line threshold' t y = cc in
-    let later : transformer_lines threshold ts xs ++ word_line (codes "end") ∷ [] ≡ transformer_lines threshold' ts ys ++ word_line (codes "end") ∷ [] = cc in
-    let here = same_row t.name x y (worst_verdict threshold t x.worst) (worst_verdict threshold' t y.worst) h.0 k.0 line in
+    let both : screened_transformer_line threshold t x ∷ (screened_transformer_lines threshold ts xs ++ word_line (codes "end") ∷ []) ≡ screened_transformer_line threshold' t y ∷ (screened_transformer_lines threshold' ts ys ++ word_line (codes "end") ∷ []) = e in
+    let line : screened_transformer_line threshold t x ≡ screened_transformer_line threshold' t y = cc in
+    let later : screened_transformer_lines threshold ts xs ++ word_line (codes "end") ∷ [] ≡ screened_transformer_lines threshold' ts ys ++ word_line (codes "end") ∷ [] = cc in
+    let here = same_row t.name x y (verdict_in threshold t x.worst) (verdict_in threshold' t y.worst) h.0 k.0 line in
     let more = same_lines threshold threshold' ts xs ys (omega (arith, p)) (omega (arith, q)) h.1 k.1 later in
     ap (λ z. z ∷ xs) here ∙ ap (λ zs. y ∷ zs) more
 
@@ -90,9 +90,9 @@ report_determined case named width threshold field rows width' threshold' field'
     let words = lines_injective (screen_report ts width threshold field rows) (screen_report ts width' threshold' field' rows')
     ((word_from_test (codes "screen") refl, tt), (setting_is_line width threshold field p.width_fits p.threshold_fits p.field_fits, are_lines threshold ts rows names fit))
     ((word_from_test (codes "screen") refl, tt), (setting_is_line width' threshold' field' q.width_fits q.threshold_fits q.field_fits, are_lines threshold' ts rows' names fit')) e in
-    let setting : setting_line width threshold field ≡ setting_line width' threshold' field' = ap (λ ls. first_of_lines ls) (ap (drop 1) words) in
+    let setting : event_setting_line width threshold field ≡ event_setting_line width' threshold' field' = ap (λ ls. first_of_lines ls) (ap (drop 1) words) in
     let asked = same_setting width threshold field width' threshold' field' p.width_fits p.threshold_fits p.field_fits q.width_fits q.threshold_fits q.field_fits setting in
-    let later : transformer_lines threshold ts rows ++ word_line (codes "end") ∷ [] ≡ transformer_lines threshold' ts rows' ++ word_line (codes "end") ∷ [] = ap (drop 2) words in
+    let later : screened_transformer_lines threshold ts rows ++ word_line (codes "end") ∷ [] ≡ screened_transformer_lines threshold' ts rows' ++ word_line (codes "end") ∷ [] = ap (drop 2) words in
     record {
       same_width = asked.same_width;
       same_threshold = asked.same_threshold;

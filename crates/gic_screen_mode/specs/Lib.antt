@@ -1,3 +1,4 @@
 pub mod ScreenText
 pub mod RightScreen
 pub mod Determines
+pub mod Made

@@ -8,7 +8,7 @@ use Rattle.gic_question.specs.declared.asked.Question.{Question}
 use Rattle.gic_inputs.specs.declared.inputs.Inputs.{Inputs}
 use Rattle.gic_stand.specs.Standing.{standing_of}
 use Rattle.gic_uniform.specs.Uniform.{uniform_volts}
-use Rattle.gic_screening.specs.Rows.{Row, row_at}
+use Rattle.gic_screening.specs.Rows.{Row, screen_row_at}
 use Rattle.gic_screening.specs.RightRows.{IsRightRow, IsTrueVerdict}
 use Rattle.gic_screen_mode.specs.ScreenText.{screen_report}
 
@@ -19,8 +19,8 @@ screen_text case q rows = lines_text (screen_report case.transformers q.width (t
 -- one right row a transformer, each with a true verdict
 pub record AreRightRows (case : Lists) (standing : List Placed) (north east : ℕ → ℤ) (q : Question) (rows : List Row) : Type 0 where
   pub count : length rows ≡ length case.transformers
-  pub right : (t : ℕ) → t < length case.transformers → IsRightRow case standing north east q.width t (row_at rows t)
-  pub verdicts : (t : ℕ) → t < length case.transformers → IsTrueVerdict case standing north east (threshold_of q.event) t (row_at rows t).worst
+  pub right : (t : ℕ) → t < length case.transformers → IsRightRow case standing north east q.width t (screen_row_at rows t)
+  pub verdicts : (t : ℕ) → t < length case.transformers → IsTrueVerdict case standing north east (threshold_of q.event) t (screen_row_at rows t).worst
 
 -- the text is that of such rows
 pub record ShowsRightRows (case : Lists) (standing : List Placed) (north east : ℕ → ℤ) (q : Question) (text : List ℕ) : Type 0 where

@@ -4,14 +4,13 @@ use Rattle.std.specs.Fmt.{signed_decimal}
 use Rattle.gic_case.specs.declared.item.Transformer.{Transformer}
 use Rattle.gic_screen.specs.declared.criterion.Verdict.{Verdict}
 use Rattle.gic_report.specs.SharedLines.{Words, word_line}
-use Rattle.gic_report.specs.VerdictText.{verdict_word}
+use Rattle.gic_report.specs.VerdictText.{verdict_in, verdict_word}
 use Rattle.gic_screening.specs.Rows.{Row}
-use Rattle.gic_screening.specs.RightRows.{worst_verdict}
-use Rattle.gic_screening.specs.Setting.{setting_line}
+use Rattle.gic_screening.specs.Setting.{event_setting_line}
 
 -- the line of a row: the transformer's name, the three intervals, and the verdict
-unfoldable pub row_line : (name : List ℕ) → Row → Verdict → Words
-row_line name row said =
+unfoldable pub screened_line : (name : List ℕ) → Row → Verdict → Words
+screened_line name row said =
     codes "transformer" ∷ name
     ∷ codes "north" ∷ signed_decimal row.north.low ∷ signed_decimal row.north.high
     ∷ codes "east" ∷ signed_decimal row.east.low ∷ signed_decimal row.east.high
@@ -19,16 +18,16 @@ row_line name row said =
     ∷ verdict_word said ∷ []
 
 -- the line of a transformer, by its row
-abbrev pub transformer_line : (threshold : ℕ) → Transformer → Row → Words
-transformer_line threshold t row = row_line t.name row (worst_verdict threshold t row.worst)
+abbrev pub screened_transformer_line : (threshold : ℕ) → Transformer → Row → Words
+screened_transformer_line threshold t row = screened_line t.name row (verdict_in threshold t row.worst)
 
 -- per transformer
-abbrev pub transformer_lines : (threshold : ℕ) → List Transformer → List Row → List Words
-transformer_lines threshold [] rows = []
-transformer_lines threshold (t ∷ ts) [] = []
-transformer_lines threshold (t ∷ ts) (row ∷ rows) = transformer_line threshold t row ∷ transformer_lines threshold ts rows
+abbrev pub screened_transformer_lines : (threshold : ℕ) → List Transformer → List Row → List Words
+screened_transformer_lines threshold [] rows = []
+screened_transformer_lines threshold (t ∷ ts) [] = []
+screened_transformer_lines threshold (t ∷ ts) (row ∷ rows) = screened_transformer_line threshold t row ∷ screened_transformer_lines threshold ts rows
 
 -- the lines of the report
 abbrev pub screen_report : List Transformer → (width threshold : ℕ) → (field : ℤ) → List Row → List Words
 screen_report transformers width threshold field rows =
-    word_line (codes "screen") ∷ setting_line width threshold field ∷ (transformer_lines threshold transformers rows ++ word_line (codes "end") ∷ [])
+    word_line (codes "screen") ∷ event_setting_line width threshold field ∷ (screened_transformer_lines threshold transformers rows ++ word_line (codes "end") ∷ [])

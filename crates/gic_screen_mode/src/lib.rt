@@ -3,6 +3,8 @@
 
 pub mod laws;
 mod mode;
+mod room;
 mod text;
 
 pub use mode::screen;
+pub use room::{Room, make_room};

@@ -6,15 +6,15 @@ ghost use Rattle.gic_base.specs.Pieces.{AppendsPart};
 ghost use Rattle.gic_fixed.specs.Ends.{ends_of};
 ghost use Rattle.gic_text.specs.Lines.{with_words, line_text, lines_text};
 ghost use Rattle.gic_report.specs.ItemText.{ends_words};
-ghost use Rattle.gic_screening.specs.Rows.{row_of};
-ghost use Rattle.gic_screen_mode.specs.ScreenText.{row_line, transformer_line, transformer_lines, screen_report};
+ghost use Rattle.gic_screening.specs.Rows.{screen_row_of};
+ghost use Rattle.gic_screen_mode.specs.ScreenText.{screened_line, screened_transformer_line, screened_transformer_lines, screen_report};
 
 use gic_base::{Name, Sink, WriteFailed, write_all};
 use gic_case::Transformer;
 use gic_fixed::Interval;
-use gic_report::{add_ends, add_verdict, write_word};
+use gic_report::{add_ends, add_verdict, verdict_in, write_word};
 use gic_screen::Verdict;
-use gic_screening::{ScreenRow, Setting, worst_verdict, write_setting};
+use gic_screening::{ScreenRow, Setting, write_setting};
 use gic_text::LineBuilder;
 
 /// Adds what an interval is of, in at most 5 bytes, and its two ends.
@@ -30,7 +30,7 @@ fn add_current(of: &[u8], interval: Interval, line: &mut LineBuilder)
 }
 
 /// Writes the line of a row and its verdict, by the transformer's name.
-#[tactic(auto, using(gic_text::proofs::Sizes::line_room), unfolding(crate::specs::ScreenText::row_line))]
+#[tactic(auto, using(gic_text::proofs::Sizes::line_room), unfolding(crate::specs::ScreenText::screened_line))]
 fn write_row<S: Sink>(
     name: &Name,
     row: &ScreenRow,
@@ -39,9 +39,9 @@ fn write_row<S: Sink>(
     out: &mut S,
 ) -> Result<(), WriteFailed>
     ensures all { OnOk result (Appends (S.written out.old) (S.written out.new)
-        (line_text (row_line name.now (row_of row.now) said))) }
+        (line_text (screened_line name.now (screen_row_of row.now) said))) }
     ensures part { AppendsPart (S.written out.old) (S.written out.new)
-        (line_text (row_line name.now (row_of row.now) said)) }
+        (line_text (screened_line name.now (screen_row_of row.now) said)) }
     ensures cause { HasCause (S.faults out.old) (S.faults out.new) result }
 {
     line.start();
@@ -63,12 +63,12 @@ fn write_transformer<S: Sink>(
     out: &mut S,
 ) -> Result<(), WriteFailed>
     ensures all { OnOk result (Appends (S.written out.old) (S.written out.new)
-        (line_text (transformer_line threshold transformer.now (row_of row.now)))) }
+        (line_text (screened_transformer_line threshold transformer.now (screen_row_of row.now)))) }
     ensures part { AppendsPart (S.written out.old) (S.written out.new)
-        (line_text (transformer_line threshold transformer.now (row_of row.now))) }
+        (line_text (screened_transformer_line threshold transformer.now (screen_row_of row.now))) }
     ensures cause { HasCause (S.faults out.old) (S.faults out.new) result }
 {
-    let said = worst_verdict(transformer, row.worst, threshold);
+    let said = verdict_in(transformer, row.worst, threshold);
     write_row(&transformer.name, row, said, line, out)
 }
 
@@ -81,9 +81,9 @@ fn write_transformers<S: Sink>(
     out: &mut S,
 ) -> Result<(), WriteFailed>
     ensures all { OnOk result (Appends (S.written out.old) (S.written out.new)
-        (lines_text (transformer_lines threshold transformers.now (map row_of rows.now)))) }
+        (lines_text (screened_transformer_lines threshold transformers.now (map screen_row_of rows.now)))) }
     ensures part { AppendsPart (S.written out.old) (S.written out.new)
-        (lines_text (transformer_lines threshold transformers.now (map row_of rows.now))) }
+        (lines_text (screened_transformer_lines threshold transformers.now (map screen_row_of rows.now))) }
     ensures cause { HasCause (S.faults out.old) (S.faults out.new) result }
 {
     for (transformer, row) in transformers.iter().zip(rows) {
@@ -101,9 +101,9 @@ pub(crate) fn write_screen<S: Sink>(
     out: &mut S,
 ) -> Result<(), WriteFailed>
     ensures all { OnOk result (Appends (S.written out.old) (S.written out.new)
-        (lines_text (screen_report transformers.now setting.now.width setting.now.threshold setting.now.field (map row_of rows.now)))) }
+        (lines_text (screen_report transformers.now setting.now.width setting.now.threshold setting.now.field (map screen_row_of rows.now)))) }
     ensures part { AppendsPart (S.written out.old) (S.written out.new)
-        (lines_text (screen_report transformers.now setting.now.width setting.now.threshold setting.now.field (map row_of rows.now))) }
+        (lines_text (screen_report transformers.now setting.now.width setting.now.threshold setting.now.field (map screen_row_of rows.now))) }
     ensures cause { HasCause (S.faults out.old) (S.faults out.new) result }
 {
     write_word(b"screen", line, out)?;

@@ -18,7 +18,7 @@ use Rattle.gic_screen.specs.Worst.{IsWorstOf}
 use Rattle.gic_report.specs.VerdictText.{earthed_high}
 use Rattle.gic_uniform.specs.Solving.{IsSolvedView}
 use Rattle.gic_uniform.proofs.Denominators.{some_denominator}
-use Rattle.gic_screening.specs.Rows.{Row, row_at, IsRowOf}
+use Rattle.gic_screening.specs.Rows.{Row, screen_row_at, IsRowOf}
 use Rattle.gic_screening.specs.RightRows.{IsRightWorst, IsRightRow, IsThirdOfRight, IsTrueVerdict}
 use Rattle.gic_screening.specs.Screening.{AreScreened}
 
@@ -59,11 +59,11 @@ row_right case standing north east width half t north_view east_view row one oth
 pub rows_screened : (case : Lists) (standing : List Placed) (north east : ℕ → ℤ) (width half : ℕ) (north_view east_view : View) (rows : List Row)
     → IsSolvedView case standing north half north_view → IsSolvedView case standing east half east_view → 2 ≤ half → 2 * half ≤ width
     → length rows ≡ length case.transformers
-    → ((t : ℕ) → t < length rows → IsRowOf (effective_at north_view t) (effective_at east_view t) (row_at rows t))
+    → ((t : ℕ) → t < length rows → IsRowOf (effective_at north_view t) (effective_at east_view t) (screen_row_at rows t))
     → AreScreened case standing north east width rows
 rows_screened case standing north east width half north_view east_view rows one other least twice count filled = record {
   count = count;
-  right = λ t inside. row_right case standing north east width half t north_view east_view (row_at rows t) one other inside least twice (filled t (subst (λ n. t < n) (sym count) inside));
+  right = λ t inside. row_right case standing north east width half t north_view east_view (screen_row_at rows t) one other inside least twice (filled t (subst (λ n. t < n) (sym count) inside));
 }
 
 -- the third of a right row is a right worst interval

@@ -1,6 +1,5 @@
 -- What is right of a transformer in two fields of one network, and when a verdict on its worst interval is true.
 use Rattle.std.specs.Prelude.{◌≡◌, ℕ, ◌<◌, ◌≤◌, List, ℤ, ◌≤ℤ◌}
-use Rattle.gic_case.specs.declared.item.Transformer.{Transformer}
 use Rattle.gic_case.specs.Lists.{Lists}
 use Rattle.gic_fixed.specs.Ends.{Ends, IsAtMostWide}
 use Rattle.gic_model.specs.Solution.{Solution, IsSolution}
@@ -10,10 +9,9 @@ use Rattle.gic_effective.specs.RightView.{IsRightEffective}
 use Rattle.gic_effective.specs.Weighted.{effective_numerator, effective_denominator}
 use Rattle.gic_screen.specs.declared.criterion.Verdict.{Verdict}
 use Rattle.gic_screen.specs.declared.criterion.Verdict.TheVariants.{Below, Reaches, Undecided}
-use Rattle.gic_screen.specs.Verdict.{verdict_of}
 use Rattle.gic_screen.specs.VerdictLaws.{threshold_square, worst_square}
 use Rattle.gic_screen.specs.Worst.{EnclosesWorst, IsWorstOf}
-use Rattle.gic_report.specs.VerdictText.{IsAcross, earthed_high}
+use Rattle.gic_report.specs.VerdictText.{IsAcross, verdict_in}
 use Rattle.gic_screening.specs.Rows.{Row}
 
 -- solutions of one network for the voltages of the field to the north and of the field to the east
@@ -60,13 +58,9 @@ abbrev pub IsWorstAtLeast : Lists → List Placed → (north east : ℕ → ℤ)
 IsWorstAtLeast case standing north east threshold t =
     (one other : Solution) → AreSolutionsOf standing north east one other → squared_threshold case threshold t one other ≤ squared_worst case t one other
 
--- the verdict on a transformer whose current for the worst orientation is in this interval, against a threshold in mA
-abbrev pub worst_verdict : (threshold : ℕ) → Transformer → Ends → Verdict
-worst_verdict threshold t worst = verdict_of worst.low worst.high threshold t.high_volts (earthed_high t.kind)
-
--- the verdict on the transformer at a place of the case
+-- the verdict on the transformer at a place of the case whose current for the worst orientation is in this interval, against a threshold in mA
 abbrev pub worst_verdict_at : Lists → (threshold t : ℕ) → Ends → Verdict
-worst_verdict_at case threshold t worst = worst_verdict threshold (transformer_at case t) worst
+worst_verdict_at case threshold t worst = verdict_in threshold (transformer_at case t) worst
 
 -- the verdict on the worst interval is true of every two solutions, and undecided only where it lies across the threshold
 pub record IsTrueVerdict (case : Lists) (standing : List Placed) (north east : ℕ → ℤ) (threshold t : ℕ) (worst : Ends) : Type 0 where

@@ -11,16 +11,16 @@ pub record Row : Type 0 where
   pub east : Ends
   pub worst : Ends
 
-abbrev pub row_of : ScreenRow → Row
-row_of row = record { north = ends_of row.north; east = ends_of row.east; worst = ends_of row.worst }
+abbrev pub screen_row_of : ScreenRow → Row
+screen_row_of row = record { north = ends_of row.north; east = ends_of row.east; worst = ends_of row.worst }
 
 -- each interval holds 0 alone
-abbrev pub no_row : Row
-no_row = record { north = no_ends; east = no_ends; worst = no_ends }
+abbrev pub no_screen_row : Row
+no_screen_row = record { north = no_ends; east = no_ends; worst = no_ends }
 
 -- the row at this place; past the last one in which each interval holds 0 alone
-abbrev pub row_at : List Row → ℕ → Row
-row_at rows place = slice_index_or rows place no_row
+abbrev pub screen_row_at : List Row → ℕ → Row
+screen_row_at rows place = slice_index_or rows place no_screen_row
 
 -- the row of two signed intervals: the third one is their worst interval; it encloses the worst current of whatever fractions the two enclose, and where neither is wider than a width from 2 on, it is at most twice that width
 pub record IsRowOf (north_ends east_ends : Ends) (row : Row) : Type 0 where

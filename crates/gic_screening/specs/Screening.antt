@@ -7,11 +7,11 @@ use Rattle.gic_model.specs.Sums.{Placed}
 use Rattle.gic_screen.specs.declared.event.Event.{Event}
 use Rattle.gic_screen.specs.Event.{field_of}
 use Rattle.gic_winding.specs.ElementList.{elements_of}
-use Rattle.gic_uniform.specs.Ready.{IsRoomFor}
+use Rattle.gic_uniform.specs.Ready.{IsRoomForCase}
 use Rattle.gic_uniform.specs.Uniform.{uniform_field}
 use Rattle.gic_screening.specs.declared.fields.FieldVolts.{FieldVolts}
 use Rattle.gic_screening.specs.declared.screening.ScreenRoom.{ScreenRoom}
-use Rattle.gic_screening.specs.Rows.{Row, row_at}
+use Rattle.gic_screening.specs.Rows.{Row, screen_row_at}
 use Rattle.gic_screening.specs.RightRows.{IsRightRow}
 
 -- the voltages of a case's elements in the field of an event, to the north and to the east
@@ -26,7 +26,7 @@ pub record AreVoltsFor (count : ℕ) (volts : FieldVolts) : Type 0 where
 
 -- there is room for each node, element and transformer of the case
 pub record IsScreenRoomFor (case : Lists) (room : ScreenRoom) : Type 0 where
-  pub solving : IsRoomFor case room.solving
+  pub solving : IsRoomForCase case room.solving
   pub north_view : HasViewLengths case room.north
   pub east_view : HasViewLengths case room.east
   pub row_count : length room.rows ≡ length case.transformers
@@ -34,4 +34,4 @@ pub record IsScreenRoomFor (case : Lists) (room : ScreenRoom) : Type 0 where
 -- one right row a transformer
 pub record AreScreened (case : Lists) (standing : List Placed) (north east : ℕ → ℤ) (width : ℕ) (rows : List Row) : Type 0 where
   pub count : length rows ≡ length case.transformers
-  pub right : (t : ℕ) → t < length case.transformers → IsRightRow case standing north east width t (row_at rows t)
+  pub right : (t : ℕ) → t < length case.transformers → IsRightRow case standing north east width t (screen_row_at rows t)

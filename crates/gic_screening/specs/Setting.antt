@@ -4,6 +4,6 @@ use Rattle.std.specs.Fmt.{signed_decimal}
 use Rattle.gic_report.specs.SharedLines.{Words}
 
 -- the width in mA, the threshold in mA per phase, and the strength of the field in mV/km
-abbrev pub setting_line : (width threshold : ℕ) → (field : ℤ) → Words
-setting_line width threshold field =
+abbrev pub event_setting_line : (width threshold : ℕ) → (field : ℤ) → Words
+event_setting_line width threshold field =
     codes "width" ∷ decimal width ∷ codes "threshold" ∷ decimal threshold ∷ codes "field" ∷ signed_decimal field ∷ []

@@ -5,10 +5,8 @@ mod fields;
 mod rows;
 mod screening;
 mod setting;
-mod verdict;
 
 pub use fields::{FieldVolts, field_volts};
 pub use rows::{ScreenRow, ScreenRows};
 pub use screening::{ScreenRoom, make_screen_room, screen_net};
 pub use setting::{Setting, setting_of, write_setting};
-pub use verdict::worst_verdict;

@@ -3,7 +3,7 @@ ghost use Rattle.std.specs.Prelude.{◌≡◌, ℕ, ◌^◌, ◌<◌, length};
 ghost use Rattle.gic_fixed.specs.Encloses.{IsWithin};
 ghost use Rattle.gic_fixed.specs.Ends.{ends_of};
 ghost use Rattle.gic_view.specs.View.{effective_at};
-ghost use Rattle.gic_screening.specs.Rows.{row_of, row_at, IsRowOf};
+ghost use Rattle.gic_screening.specs.Rows.{screen_row_of, screen_row_at, IsRowOf};
 
 use gic_base::OutOfMemory;
 use gic_fixed::Interval;
@@ -25,7 +25,7 @@ pub struct ScreenRow {
 fn screen_row(north: Interval, east: Interval) -> ScreenRow
     requires north { IsWithin (2 ^ 52) north.lo north.hi }
     requires east { IsWithin (2 ^ 52) east.lo east.hi }
-    ensures { IsRowOf (ends_of north) (ends_of east) (row_of result) }
+    ensures { IsRowOf (ends_of north) (ends_of east) (screen_row_of result) }
 {
     ScreenRow {
         north,
@@ -42,20 +42,20 @@ pub struct ScreenRows {
 
 impl Model for ScreenRows {
     ghost use Rattle.std.specs.Prelude.{List, map};
-    ghost use Rattle.gic_screening.specs.Rows.{Row, row_of};
+    ghost use Rattle.gic_screening.specs.Rows.{Row, screen_row_of};
 
     ghost Value = { List Row };
 
-    ghost view = { λ rows. map row_of rows.list.items };
+    ghost view = { λ rows. map screen_row_of rows.list.items };
 }
 
 impl ScreenRows {
     ghost use Rattle.std.specs.Prelude.{◌≡◌, ◌<◌, length, map, replicate, slice_set, IfOk};
-    ghost use Rattle.gic_screening.specs.Rows.{row_of, no_row};
+    ghost use Rattle.gic_screening.specs.Rows.{screen_row_of, no_screen_row};
 
     /// So many rows, in which each interval holds 0 alone.
     pub(crate) fn new(alloc: Global, count: usize) -> Result<ScreenRows, OutOfMemory>
-        ensures { IfOk result (λ rows. rows ≡ replicate count no_row) }
+        ensures { IfOk result (λ rows. rows ≡ replicate count no_screen_row) }
     {
         let nought = Interval::point(0);
         let row = ScreenRow {
@@ -70,14 +70,14 @@ impl ScreenRows {
     /// Changes the row of this transformer alone.
     fn set(&mut self, transformer: u16, row: ScreenRow)
         requires { transformer < length self.old }
-        ensures { self.new ≡ slice_set self.old transformer (row_of row) }
+        ensures { self.new ≡ slice_set self.old transformer (screen_row_of row) }
     {
         self.list[transformer as usize] = row;
     }
 
     /// The rows.
     pub fn rows(&self) -> &[ScreenRow]
-        ensures { map row_of result.now ≡ self.now }
+        ensures { map screen_row_of result.now ≡ self.now }
     {
         &self.list
     }
@@ -89,7 +89,7 @@ pub(crate) fn fill_rows(north: &StepView, east: &StepView, rows: &mut ScreenRows
     requires east_count { length rows.old ≡ length east.now.effective }
     requires north_small { (t : ℕ) → t < length rows.old → IsWithin (2 ^ 52) (effective_at north.now t).low (effective_at north.now t).high }
     requires east_small { (t : ℕ) → t < length rows.old → IsWithin (2 ^ 52) (effective_at east.now t).low (effective_at east.now t).high }
-    ensures filled { (t : ℕ) → t < length rows.new → IsRowOf (effective_at north.now t) (effective_at east.now t) (row_at rows.new t) }
+    ensures filled { (t : ℕ) → t < length rows.new → IsRowOf (effective_at north.now t) (effective_at east.now t) (screen_row_at rows.new t) }
     ensures count { length rows.new ≡ length rows.old }
 {
     let (_, _, count) = north.sizes();

@@ -5,7 +5,7 @@ ghost use Rattle.gic_base.specs.Causes.{HasCause};
 ghost use Rattle.gic_base.specs.Pieces.{AppendsPart};
 ghost use Rattle.gic_screen.specs.Event.{field_of, threshold_of};
 ghost use Rattle.gic_text.specs.Lines.{line_text};
-ghost use Rattle.gic_screening.specs.Setting.{setting_line};
+ghost use Rattle.gic_screening.specs.Setting.{event_setting_line};
 
 use gic_base::{Sink, WriteFailed, write_all};
 use gic_question::Question;
@@ -40,9 +40,9 @@ pub fn write_setting<S: Sink>(
     out: &mut S,
 ) -> Result<(), WriteFailed>
     ensures all { OnOk result (Appends (S.written out.old) (S.written out.new)
-        (line_text (setting_line setting.now.width setting.now.threshold setting.now.field))) }
+        (line_text (event_setting_line setting.now.width setting.now.threshold setting.now.field))) }
     ensures part { AppendsPart (S.written out.old) (S.written out.new)
-        (line_text (setting_line setting.now.width setting.now.threshold setting.now.field)) }
+        (line_text (event_setting_line setting.now.width setting.now.threshold setting.now.field)) }
     ensures cause { HasCause (S.faults out.old) (S.faults out.new) result }
 {
     line.start();

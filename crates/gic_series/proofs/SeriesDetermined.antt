@@ -18,12 +18,12 @@ use Rattle.gic_report.proofs.ListParts.{all_at}
 use Rattle.gic_report.proofs.ViewDetermined.{ends_words, same_ends}
 use Rattle.gic_report.proofs.WordsDetermined.{first_of_lines, same_natural, word_at}
 use Rattle.gic_series.specs.Rows.{Row}
-use Rattle.gic_series.specs.SeriesText.{setting_line, step_line, series_report}
+use Rattle.gic_series.specs.SeriesText.{series_setting_line, series_step_line, series_report}
 use Rattle.gic_series.specs.Determines.{IsRowInRange, TextDeterminesSeries}
 
 -- ---- lines
 
-setting_is_line : (width : ℕ) (name : List ℕ) (steps : ℕ) → width < 2 ^ 32 → IsWord name → steps < 2 ^ 32 → IsLine (setting_line width name steps)
+setting_is_line : (width : ℕ) (name : List ℕ) (steps : ℕ) → width < 2 ^ 32 → IsWord name → steps < 2 ^ 32 → IsLine (series_setting_line width name steps)
 setting_is_line width name steps w n s = (
   word_from_test (codes "width") refl,
   (
@@ -32,7 +32,7 @@ setting_is_line width name steps w n s = (
   ),
 )
 
-step_is_line : (row : Row) → IsRowInRange row → IsLine (step_line row)
+step_is_line : (row : Row) → IsRowInRange row → IsLine (series_step_line row)
 step_is_line row h = (
   word_from_test (codes "step") refl,
   (
@@ -41,7 +41,7 @@ step_is_line row h = (
   ),
 )
 
-are_lines : (rows : List Row) → AllByRecursion IsRowInRange rows → AllByRecursion IsLine (map step_line rows ++ word_line (codes "end") ∷ [])
+are_lines : (rows : List Row) → AllByRecursion IsRowInRange rows → AllByRecursion IsLine (map series_step_line rows ++ word_line (codes "end") ∷ [])
 are_lines [] h = ((word_from_test (codes "end") refl, tt), tt)
 are_lines (row ∷ rows) h = (step_is_line row h.0, are_lines rows h.1)
 
@@ -53,7 +53,7 @@ report_is_lines width name rows w n s h = ((word_from_test (codes "series") refl
 abbrev row_with : ℕ → ℕ → Ends → Row
 row_with number time effective = record { number = number; time = time; effective = effective }
 
-same_row : (row other : Row) → IsRowInRange row → IsRowInRange other → step_line row ≡ step_line other → row ≡ other
+same_row : (row other : Row) → IsRowInRange row → IsRowInRange other → series_step_line row ≡ series_step_line other → row ≡ other
 same_row row other h k e =
     let number = same_natural row.number other.number h.number_fits k.number_fits (ap (λ ws. word_at ws 1) e) in
     let time = same_natural row.time other.time h.time_fits k.time_fits (ap (λ ws. word_at ws 3) e) in
@@ -62,14 +62,14 @@ same_row row other h k e =
 
 -- those of all steps determine the rows
 same_rows : (xs ys : List Row) → length xs ≡ length ys → AllByRecursion IsRowInRange xs → AllByRecursion IsRowInRange ys
-    → map step_line xs ++ word_line (codes "end") ∷ [] ≡ map step_line ys ++ word_line (codes "end") ∷ [] → xs ≡ ys
+    → map series_step_line xs ++ word_line (codes "end") ∷ [] ≡ map series_step_line ys ++ word_line (codes "end") ∷ [] → xs ≡ ys
 same_rows [] [] p h k e = refl
 same_rows [] (y ∷ ys) p h k e = absurd (omega (arith, p))
 same_rows (x ∷ xs) [] p h k e = absurd (omega (arith, p))
 same_rows (x ∷ xs) (y ∷ ys) p h k e =
-    let both : step_line x ∷ (map step_line xs ++ word_line (codes "end") ∷ []) ≡ step_line y ∷ (map step_line ys ++ word_line (codes "end") ∷ []) = e in
-    let line : step_line x ≡ step_line y = cc in
-    let later : map step_line xs ++ word_line (codes "end") ∷ [] ≡ map step_line ys ++ word_line (codes "end") ∷ [] = cc in
+    let both : series_step_line x ∷ (map series_step_line xs ++ word_line (codes "end") ∷ []) ≡ series_step_line y ∷ (map series_step_line ys ++ word_line (codes "end") ∷ []) = e in
+    let line : series_step_line x ≡ series_step_line y = cc in
+    let later : map series_step_line xs ++ word_line (codes "end") ∷ [] ≡ map series_step_line ys ++ word_line (codes "end") ∷ [] = cc in
     let here = same_row x y h.0 k.0 line in
     let more = same_rows xs ys (omega (arith, p)) h.1 k.1 later in
     ap (λ z. z ∷ xs) here ∙ ap (λ zs. y ∷ zs) more
@@ -135,8 +135,8 @@ report_determined case sound width t rows width' t' rows' p q e =
     let words = lines_injective (series_report width name rows) (series_report width' name' rows')
     (report_is_lines width name rows p.width_fits (word_of case sound t p.within) p.count_fits fit)
     (report_is_lines width' name' rows' q.width_fits (word_of case sound t' q.within) q.count_fits fit') e in
-    let setting : setting_line width name (length rows) ≡ setting_line width' name' (length rows') = ap (λ ls. first_of_lines ls) (ap (drop 1) words) in
-    let later : map step_line rows ++ word_line (codes "end") ∷ [] ≡ map step_line rows' ++ word_line (codes "end") ∷ [] = ap (drop 2) words in
+    let setting : series_setting_line width name (length rows) ≡ series_setting_line width' name' (length rows') = ap (λ ls. first_of_lines ls) (ap (drop 1) words) in
+    let later : map series_step_line rows ++ word_line (codes "end") ∷ [] ≡ map series_step_line rows' ++ word_line (codes "end") ∷ [] = ap (drop 2) words in
     let count = same_natural (length rows) (length rows') p.count_fits q.count_fits (ap (λ ws. word_at ws 5) setting) in
     record {
       same_width = same_natural width width' p.width_fits q.width_fits (ap (λ ws. word_at ws 1) setting);

@@ -1,4 +1,4 @@
--- What a series makes before it looks at any step. For the contracts of this crate.
+-- What a series makes before it looks at any step.
 use Rattle.std.specs.Prelude.{◌≡◌, length}
 use Rattle.gic_storm.specs.Steps.{steps_in}
 use Rattle.gic_effective.specs.ViewLengths.{HasViewLengths}

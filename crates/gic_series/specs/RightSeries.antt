@@ -8,7 +8,7 @@ use Rattle.gic_fixed.specs.Ends.{IsAtMostWide}
 use Rattle.gic_effective.specs.RightView.{IsRightEffective}
 use Rattle.gic_inputs.specs.declared.inputs.StormInputs.{StormInputs}
 use Rattle.gic_course.specs.Steps.{IsStepOf, standing_at_step, storm_volts}
-use Rattle.gic_series.specs.Rows.{Row, row_at}
+use Rattle.gic_series.specs.Rows.{Row, series_row_at}
 use Rattle.gic_series.specs.SeriesText.{series_report}
 
 -- the text of a report of these rows of the transformer at a place
@@ -25,7 +25,7 @@ pub record IsRightRow (inputs : StormInputs) (transformer number : ℕ) (row : R
 -- one right row a step, in order
 pub record AreRightRows (inputs : StormInputs) (transformer : ℕ) (rows : List Row) : Type 0 where
   pub one_each : length rows ≡ length (steps_in inputs.storm.rows)
-  pub right : (number : ℕ) → IsStepOf inputs number → IsRightRow inputs transformer number (row_at rows (number - 1))
+  pub right : (number : ℕ) → IsStepOf inputs number → IsRightRow inputs transformer number (series_row_at rows (number - 1))
 
 -- the text is that of such rows, with the name of the transformer and the width that is asked for
 pub record IsRightSeries (inputs : StormInputs) (transformer : ℕ) (text : List ℕ) : Type 0 where

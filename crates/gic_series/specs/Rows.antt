@@ -10,16 +10,16 @@ pub record Row : Type 0 where
   pub time : ℕ
   pub effective : Ends
 
-abbrev pub row_of : SeriesRow → Row
-row_of row = record { number = row.number; time = row.time; effective = ends_of row.effective }
+abbrev pub series_row_of : SeriesRow → Row
+series_row_of row = record { number = row.number; time = row.time; effective = ends_of row.effective }
 
 -- number and time 0, and an interval that holds 0 alone
-abbrev pub no_row : Row
-no_row = record { number = 0; time = 0; effective = no_ends }
+abbrev pub no_series_row : Row
+no_series_row = record { number = 0; time = 0; effective = no_ends }
 
 -- the row at this place; past the last one that of number and time 0
-abbrev pub row_at : List Row → ℕ → Row
-row_at rows place = slice_index_or rows place no_row
+abbrev pub series_row_at : List Row → ℕ → Row
+series_row_at rows place = slice_index_or rows place no_series_row
 
 -- what a view shows of the transformer at a place
 abbrev pub shown_row : View → (transformer : ℕ) → Row

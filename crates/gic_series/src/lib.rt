@@ -9,3 +9,4 @@ mod steps;
 mod text;
 
 pub use mode::series;
+pub use room::{Room, make_room};

@@ -1,19 +1,17 @@
 //! The report of the mode.
-ghost use Rattle.std.specs.Prelude.{◌≡◌, ◌≢◌, ◌<◌, Err, OnOk, length};
+ghost use Rattle.std.specs.Prelude.{◌≡◌, ◌<◌, OnOk, length};
 ghost use Rattle.std.specs.Io.KnownBytes.{Appends};
 ghost use Rattle.gic_base.specs.Causes.{HasCause};
 ghost use Rattle.gic_base.specs.Pieces.{AppendsPart};
 ghost use Rattle.gic_question.specs.Ranges.{IsWithinRanges};
-ghost use Rattle.gic_stand.specs.declared.fault.ReportFault.TheVariants.{Memory};
 ghost use Rattle.gic_stand.specs.Needs.{Solved};
 ghost use Rattle.gic_stand.specs.Serves.{Serves, shown};
 ghost use Rattle.gic_storm.specs.Steps.{steps_in};
-ghost use Rattle.gic_inputs.specs.Inputs.{IsStormOf};
 ghost use Rattle.gic_course.specs.Steps.{storm_steps};
 ghost use Rattle.gic_series.specs.Made.{IsMadeFor};
 ghost use Rattle.gic_series.specs.RightSeries.{series_text, IsRightSeries};
 
-use crate::room::{Room, make_room};
+use crate::room::Room;
 use crate::rows::SeriesRows;
 use crate::steps::fill_rows;
 use crate::text::write_series;
@@ -21,7 +19,6 @@ use gic_base::{Sink, WriteFailed};
 use gic_inputs::StormInputs;
 use gic_stand::{ReportFault, ended};
 use gic_text::LineBuilder;
-use std::alloc::Global;
 
 /// Writes the report of these rows, one for each step.
 fn write_rows<S: Sink>(
@@ -51,9 +48,9 @@ fn write_rows<S: Sink>(
     )
 }
 
-/// Shows the steps, and writes the report, where the network can be solved at each step. It takes no memory, so its answer
-/// is never want of it.
-fn series_steps<S: Sink>(
+/// Writes the signed effective current, in milliamperes per phase, of the transformer at this place of the case at each
+/// step of the storm, where the network can be solved at each step. Takes no memory.
+pub fn series<S: Sink>(
     inputs: &StormInputs,
     transformer: u16,
     room: &mut Room,
@@ -62,10 +59,9 @@ fn series_steps<S: Sink>(
     requires ranges { IsWithinRanges inputs.now.inputs.question }
     requires transformer { transformer < length inputs.now.inputs.case.transformers }
     requires room { IsMadeFor inputs.now room.old }
-    ensures serves { Serves Solved inputs.now.inputs.case (storm_steps inputs.now)
+    ensures { Serves Solved inputs.now.inputs.case (storm_steps inputs.now)
         (IsRightSeries inputs.now transformer)
         (shown S.written S.faults out.old) (shown S.written S.faults out.new) result }
-    ensures memory { result ≢ Err Memory }
 {
     room.course.expect_solvable(inputs)?;
     fill_rows(
@@ -77,24 +73,4 @@ fn series_steps<S: Sink>(
     );
     let writing = write_rows(inputs, transformer, &room.rows, &mut room.line, out);
     ended(writing)
-}
-
-/// Writes the signed effective current, in milliamperes per phase, of the transformer at this place of the case at each
-/// step of the storm, where the network can be solved at each step. All that takes memory is made before the first step is
-/// looked at.
-pub fn series<S: Sink>(
-    alloc: Global,
-    inputs: &StormInputs,
-    transformer: u16,
-    out: &mut S,
-) -> Result<(), ReportFault>
-    requires ranges { IsWithinRanges inputs.now.inputs.question }
-    requires storm { IsStormOf inputs.now }
-    requires transformer { transformer < length inputs.now.inputs.case.transformers }
-    ensures { Serves Solved inputs.now.inputs.case (storm_steps inputs.now)
-        (IsRightSeries inputs.now transformer)
-        (shown S.written S.faults out.old) (shown S.written S.faults out.new) result }
-{
-    let mut room = make_room(alloc, inputs)?;
-    series_steps(inputs, transformer, &mut room, out)
 }

@@ -13,7 +13,7 @@ use std::alloc::Global;
 
 /// All that a series takes memory for. It is made before any step is looked at.
 #[derive(Drop)]
-pub(crate) struct Room {
+pub struct Room {
     pub(crate) line: LineBuilder,
     pub(crate) course: Course,
     /// The view of each step in turn.
@@ -24,7 +24,7 @@ pub(crate) struct Room {
 
 /// Room for a series of this storm.
 #[tactic(auto, using(gic_stand::proofs::Rooms::room_for))]
-pub(crate) fn make_room(alloc: Global, inputs: &StormInputs) -> Result<Room, OutOfMemory>
+pub fn make_room(alloc: Global, inputs: &StormInputs) -> Result<Room, OutOfMemory>
     requires { IsStormOf inputs.now }
     ensures { IfOk result (IsMadeFor inputs.now) }
 {

@@ -1,6 +1,6 @@
 //! What the mode shows of each step.
 ghost use Rattle.std.specs.Prelude.{◌<◌, ◌≡◌, length};
-ghost use Rattle.gic_series.specs.Rows.{row_of, shown_row};
+ghost use Rattle.gic_series.specs.Rows.{series_row_of, shown_row};
 
 use gic_base::OutOfMemory;
 use gic_fixed::Interval;
@@ -20,7 +20,7 @@ pub(crate) struct SeriesRow {
 /// What a view shows of the transformer at this place.
 pub(crate) fn shown_row(view: &StepView, transformer: u16) -> SeriesRow
     requires { transformer < length view.now.effective }
-    ensures { row_of result ≡ shown_row view.now transformer }
+    ensures { series_row_of result ≡ shown_row view.now transformer }
 {
     SeriesRow {
         number: view.number(),
@@ -37,20 +37,20 @@ pub(crate) struct SeriesRows {
 
 impl Model for SeriesRows {
     ghost use Rattle.std.specs.Prelude.{List, map};
-    ghost use Rattle.gic_series.specs.Rows.{Row, row_of};
+    ghost use Rattle.gic_series.specs.Rows.{Row, series_row_of};
 
     ghost Value = { List Row };
 
-    ghost view = { λ rows. map row_of rows.list.items };
+    ghost view = { λ rows. map series_row_of rows.list.items };
 }
 
 impl SeriesRows {
     ghost use Rattle.std.specs.Prelude.{◌≡◌, ◌<◌, length, map, replicate, slice_set, IfOk};
-    ghost use Rattle.gic_series.specs.Rows.{row_of, no_row};
+    ghost use Rattle.gic_series.specs.Rows.{series_row_of, no_series_row};
 
     /// So many rows, of number and time 0 and of an interval that holds 0 alone.
     pub(crate) fn new(alloc: Global, count: u32) -> Result<SeriesRows, OutOfMemory>
-        ensures { IfOk result (λ rows. rows ≡ replicate count no_row) }
+        ensures { IfOk result (λ rows. rows ≡ replicate count no_series_row) }
     {
         let row = SeriesRow {
             number: 0,
@@ -64,14 +64,14 @@ impl SeriesRows {
     /// Changes the row at this place alone.
     pub(crate) fn set(&mut self, place: u32, row: SeriesRow)
         requires { place < length self.old }
-        ensures { self.new ≡ slice_set self.old place (row_of row) }
+        ensures { self.new ≡ slice_set self.old place (series_row_of row) }
     {
         self.list[place as usize] = row;
     }
 
     /// The rows.
     pub(crate) fn rows(&self) -> &[SeriesRow]
-        ensures { map row_of result.now ≡ self.now }
+        ensures { map series_row_of result.now ≡ self.now }
     {
         &self.list
     }

@@ -5,7 +5,7 @@ ghost use Rattle.gic_question.specs.Ranges.{IsWithinRanges};
 ghost use Rattle.gic_storm.specs.Steps.{steps_in};
 ghost use Rattle.gic_course.specs.CourseOf.{CanShow};
 ghost use Rattle.gic_course.specs.Steps.{IsStepOf};
-ghost use Rattle.gic_series.specs.Rows.{row_of};
+ghost use Rattle.gic_series.specs.Rows.{series_row_of};
 ghost use Rattle.gic_series.specs.RightSeries.{IsRightRow, AreRightRows};
 
 use crate::rows::{SeriesRow, SeriesRows, shown_row};
@@ -26,7 +26,7 @@ fn row_of_step(
     requires step { IsStepOf inputs.now number }
     requires shows { CanShow inputs.now course.old }
     requires view { HasViewLengths inputs.now.inputs.case view.old }
-    ensures right { IsRightRow inputs.now transformer number (row_of result) }
+    ensures right { IsRightRow inputs.now transformer number (series_row_of result) }
     ensures shows { CanShow inputs.now course.new }
     ensures view { HasViewLengths inputs.now.inputs.case view.new }
 {

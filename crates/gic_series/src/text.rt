@@ -5,8 +5,8 @@ ghost use Rattle.gic_base.specs.Causes.{HasCause};
 ghost use Rattle.gic_base.specs.Pieces.{AppendsPart};
 ghost use Rattle.gic_base.specs.declared.limits.TheConstants.{MOST_ROWS};
 ghost use Rattle.gic_text.specs.Lines.{line_text, lines_text};
-ghost use Rattle.gic_series.specs.Rows.{row_of};
-ghost use Rattle.gic_series.specs.SeriesText.{setting_line, step_line, series_report};
+ghost use Rattle.gic_series.specs.Rows.{series_row_of};
+ghost use Rattle.gic_series.specs.SeriesText.{series_setting_line, series_step_line, series_report};
 
 use crate::rows::SeriesRow;
 use gic_base::{Name, Sink, WriteFailed, write_all};
@@ -23,9 +23,9 @@ fn write_setting<S: Sink>(
     out: &mut S,
 ) -> Result<(), WriteFailed>
     ensures all { OnOk result (Appends (S.written out.old) (S.written out.new)
-        (line_text (setting_line width name.now steps))) }
+        (line_text (series_setting_line width name.now steps))) }
     ensures part { AppendsPart (S.written out.old) (S.written out.new)
-        (line_text (setting_line width name.now steps)) }
+        (line_text (series_setting_line width name.now steps)) }
     ensures cause { HasCause (S.faults out.old) (S.faults out.new) result }
 {
     line.start();
@@ -46,9 +46,9 @@ fn write_step<S: Sink>(
     out: &mut S,
 ) -> Result<(), WriteFailed>
     ensures all { OnOk result (Appends (S.written out.old) (S.written out.new)
-        (line_text (step_line (row_of row.now)))) }
+        (line_text (series_step_line (series_row_of row.now)))) }
     ensures part { AppendsPart (S.written out.old) (S.written out.new)
-        (line_text (step_line (row_of row.now))) }
+        (line_text (series_step_line (series_row_of row.now))) }
     ensures cause { HasCause (S.faults out.old) (S.faults out.new) result }
 {
     line.start();
@@ -67,9 +67,9 @@ fn write_steps<S: Sink>(
     out: &mut S,
 ) -> Result<(), WriteFailed>
     ensures all { OnOk result (Appends (S.written out.old) (S.written out.new)
-        (lines_text (map step_line (map row_of rows.now)))) }
+        (lines_text (map series_step_line (map series_row_of rows.now)))) }
     ensures part { AppendsPart (S.written out.old) (S.written out.new)
-        (lines_text (map step_line (map row_of rows.now))) }
+        (lines_text (map series_step_line (map series_row_of rows.now))) }
     ensures cause { HasCause (S.faults out.old) (S.faults out.new) result }
 {
     for row in rows {
@@ -88,9 +88,9 @@ pub(crate) fn write_series<S: Sink>(
 ) -> Result<(), WriteFailed>
     requires { length rows.now ≤ MOST_ROWS }
     ensures all { OnOk result (Appends (S.written out.old) (S.written out.new)
-        (lines_text (series_report width name.now (map row_of rows.now)))) }
+        (lines_text (series_report width name.now (map series_row_of rows.now)))) }
     ensures part { AppendsPart (S.written out.old) (S.written out.new)
-        (lines_text (series_report width name.now (map row_of rows.now))) }
+        (lines_text (series_report width name.now (map series_row_of rows.now))) }
     ensures cause { HasCause (S.faults out.old) (S.faults out.new) result }
 {
     write_word(b"series", line, out)?;

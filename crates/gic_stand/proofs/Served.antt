@@ -1,5 +1,5 @@
 -- How a mode's call ends.
-use Rattle.std.proofs.Common.{◌≡◌, ◌≢◌, ℕ, zero, suc, List, [], ◌∷◌, Result, Ok, Err, sym, ap, subst, arith}
+use Rattle.std.proofs.Common.{◌≡◌, ℕ, zero, suc, List, [], ◌∷◌, Result, Ok, Err, sym, ap, subst, arith}
 use Rattle.std.specs.Prelude.{OnOk, IsErrAnd}
 use Rattle.std.specs.Io.KnownBytes.{Appends}
 use Rattle.gic_base.specs.Causes.{HasCause}
@@ -12,7 +12,7 @@ use Rattle.gic_model.specs.Sums.{Placed}
 use Rattle.gic_stand.specs.Needs.{Need, Nothing, Meets, Fails, IsMet, IsUnmet}
 use Rattle.gic_stand.specs.Serves.{Shown, Serves, ended}
 use Rattle.gic_stand.specs.declared.fault.ReportFault.{ReportFault}
-use Rattle.gic_stand.specs.declared.fault.ReportFault.TheVariants.{Refused, Memory}
+use Rattle.gic_stand.specs.declared.fault.ReportFault.TheVariants.{Refused}
 use Rattle.gic_stand.specs.declared.fault.NetworkRefusal.{NetworkRefusal}
 
 -- what needs no network is met
@@ -49,13 +49,3 @@ pub unserved_network : (need : Need) (case : Lists) (standing : List Placed) (Is
     → IsErrAnd answer (λ e. e ≡ Refused refusal) → Fails need case 1 standing refusal → Serves need case (standing ∷ []) IsRight s s answer
 unserved_network need case standing IsRight s refusal answer h fails =
     subst (Serves need case (standing ∷ []) IsRight s s) (sym (answered answer (Refused refusal) h)) (unmet_once need case standing refusal fails, keeps-refl s.bytes)
-
--- a refusal of the network is no want of memory
-pub refused_not_memory : (refusal : NetworkRefusal) (answer : Result (Unit {0}) ReportFault) → IsErrAnd answer (λ e. e ≡ Refused refusal) → answer ≢ Err Memory
-refused_not_memory refusal (Ok done) h e = absurd h
-refused_not_memory refusal (Err fault) h e = grind (arith, h, e)
-
--- nor is the end of writing
-pub ended_not_memory : (writing : Result (Unit {0}) WriteFailed) (answer : Result (Unit {0}) ReportFault) → answer ≡ ended writing → answer ≢ Err Memory
-ended_not_memory (Ok done) answer is e = grind (arith, is, e)
-ended_not_memory (Err failed) answer is e = grind (arith, is, e)

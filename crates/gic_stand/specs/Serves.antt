@@ -1,4 +1,4 @@
--- What a mode's call promises.
+-- What a mode's call promises that runs in its room. Want of memory is no answer.
 use Rattle.std.specs.Prelude.{ℕ, List, Ok, Err, Result}
 use Rattle.std.specs.declared.option.Option.{Option}
 use Rattle.std.specs.Io.KnownBytes.{Appends, Keeps}
@@ -9,7 +9,7 @@ use Rattle.gic_case.specs.Lists.{Lists}
 use Rattle.gic_model.specs.Sums.{Placed}
 use Rattle.gic_stand.specs.Needs.{Need, IsMet, IsUnmet}
 use Rattle.gic_stand.specs.declared.fault.ReportFault.{ReportFault}
-use Rattle.gic_stand.specs.declared.fault.ReportFault.TheVariants.{Refused, CannotWrite, Memory}
+use Rattle.gic_stand.specs.declared.fault.ReportFault.TheVariants.{Refused, CannotWrite}
 
 -- what a sink shows at one moment: the bytes written, where it tells them, and the count of failed writes
 pub record Shown : Type 0 where
@@ -39,7 +39,6 @@ abbrev pub Serves : Need → Lists → List (List Placed) → (IsRight : List �
 Serves need case steps IsRight before now (Ok done) = Reports need steps IsRight before now
 Serves need case steps IsRight before now (Err CannotWrite) = ReportsPart need steps IsRight before now
 Serves need case steps IsRight before now (Err (Refused refusal)) = IsUnmet need case steps refusal × Keeps before.bytes now.bytes
-Serves need case steps IsRight before now (Err Memory) = Keeps before.bytes now.bytes
 
 -- how the writing of a report ends
 abbrev pub ended : Result (Unit {0}) WriteFailed → Result (Unit {0}) ReportFault

@@ -3,7 +3,7 @@ ghost use Rattle.std.specs.Prelude.{◌≡◌, ℕ, ◌<◌, ◌≤◌, ◌↔�
 ghost use Rattle.gic_model.specs.Bound.{IsEarthedWithin, IsLeastCappedVector};
 ghost use Rattle.gic_net.specs.Net.{standing};
 ghost use Rattle.gic_bound.specs.Entries.{IsBoundWithin};
-ghost use Rattle.gic_start.specs.ForNodes.{AreForNodes};
+ghost use Rattle.gic_start.specs.ForNodes.{IsStartForNodes};
 
 use crate::proposing::propose;
 use crate::start::Start;
@@ -18,7 +18,7 @@ const NOTHING_KNOWN: u16 = 1;
 /// capped vector. It begins with what the vector was, as with a bound vector of nearly the same net, and where that is
 /// nowhere above 1, with a proposal of its own.
 pub fn find_bound(net: &Net, out: &mut BoundVector, start: &mut Start) -> Result<(), Unresolved>
-    requires { AreForNodes net.now.network.nodes out.old start.old }
+    requires { IsStartForNodes net.now.network.nodes out.old start.old }
     ensures earthed { IsOk result ↔ IsEarthedWithin (standing net.now) MOST_WALK }
     ensures bound { OnOk result (IsBoundWithin (standing net.now) MOST_WALK (slice_index out.new)) }
 
@@ -27,7 +27,7 @@ pub fn find_bound(net: &Net, out: &mut BoundVector, start: &mut Start) -> Result
     ensures full { IfErr result (λ refusal. slice_index out.new refusal.node.0 ≡ FULL_WALK) }
     ensures first { IfErr result (λ refusal. (k : ℕ) → k < refusal.node.0 → slice_index out.new k ≤ MOST_WALK) }
 
-    ensures room { AreForNodes net.now.network.nodes out.new start.new }
+    ensures room { IsStartForNodes net.now.network.nodes out.new start.new }
 {
     if out.walk() <= NOTHING_KNOWN {
         propose(net, out, start);

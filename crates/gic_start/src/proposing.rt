@@ -1,6 +1,6 @@
 //! A vector that is proposed: a multiple of the real one for which each node's row carries its conductance.
 ghost use Rattle.std.specs.Prelude.{◌≡◌, ◌<◌, ◌≤◌, ◌*◌, ◌^◌, length};
-ghost use Rattle.gic_start.specs.ForNodes.{AreForNodes};
+ghost use Rattle.gic_start.specs.ForNodes.{IsStartForNodes};
 
 use crate::start::Start;
 use gic_base::NodeId;
@@ -27,8 +27,8 @@ const MOST_PARTS: u32 = FULL_WALK as u32 * PARTS;
 
 /// Proposes a bound vector. Nothing is known of it but that it has as many entries.
 pub(crate) fn propose(net: &Net, out: &mut BoundVector, start: &mut Start)
-    requires { AreForNodes net.now.network.nodes out.old start.old }
-    ensures { AreForNodes net.now.network.nodes out.new start.new }
+    requires { IsStartForNodes net.now.network.nodes out.old start.old }
+    ensures { IsStartForNodes net.now.network.nodes out.new start.new }
 {
     start.thinning.arrange(net);
     put_conductances(net, start.conductances.as_mut_slice());

@@ -4,7 +4,7 @@ use Rattle.std.proofs.lemmas.Bool.{cases_Bool}
 use Rattle.std.proofs.lemmas.List.Elements.{recursion_from_All}
 use Rattle.std.proofs.lemmas.List.Sorted.{All-permutation, IsPermutation-reverse}
 use Rattle.std.specs.List.{AllByRecursion}
-use Rattle.gic_storm.specs.StepFields.{is_for, last_for, field_of}
+use Rattle.gic_storm.specs.StepFields.{is_for, last_for, field_in_row}
 use Rattle.gic_storm.specs.StormView.{IsRow}
 use Rattle.gic_induce.specs.Fields.{IsField}
 use Rattle.gic_storm.specs.declared.row.Row.{Row}
@@ -19,11 +19,11 @@ found_holds P test (first ∷ xs) x all e =
     ]
 
 -- so its field is within its range
-pub last_within : (rows : List Row) (zone : ℕ) (r : Row) → All (λ q. IsField (field_of q)) rows → last_for rows zone ≡ Some r → IsField (field_of r)
+pub last_within : (rows : List Row) (zone : ℕ) (r : Row) → All (λ q. IsField (field_in_row q)) rows → last_for rows zone ≡ Some r → IsField (field_in_row r)
 unfolding last_for
 last_within rows zone r all e =
-    found_holds (λ q. IsField (field_of q)) (λ q. is_for q.zone zone) (reverse rows) r (recursion_from_All (λ q. IsField (field_of q)) (reverse rows) (All-permutation (λ q. IsField (field_of q)) rows (reverse rows) (IsPermutation-reverse rows) all)) e
+    found_holds (λ q. IsField (field_in_row q)) (λ q. is_for q.zone zone) (reverse rows) r (recursion_from_All (λ q. IsField (field_in_row q)) (reverse rows) (All-permutation (λ q. IsField (field_in_row q)) rows (reverse rows) (IsPermutation-reverse rows) all)) e
 
 -- the fields of sound rows are within their ranges
-pub fields_within : (zones : ℕ) (rows : List Row) → All (IsRow zones) rows → All (λ q. IsField (field_of q)) rows
+pub fields_within : (zones : ℕ) (rows : List Row) → All (IsRow zones) rows → All (λ q. IsField (field_in_row q)) rows
 fields_within zones rows all k d h = let sound = all k d h in (sound.north, sound.east)

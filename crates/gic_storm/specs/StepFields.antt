@@ -14,13 +14,13 @@ unfoldable pub last_for : List Row → ℕ → Option Row
 last_for rows zone = find (λ r. is_for r.zone zone) (reverse rows)
 
 -- the field of a row (north, east)
-abbrev pub field_of : Row → ℤ × ℤ
-field_of r = (r.north, r.east)
+abbrev pub field_in_row : Row → ℤ × ℤ
+field_in_row r = (r.north, r.east)
 
 -- the field of a row, and no field where there is no row
 abbrev pub field_or_none : Option Row → ℤ × ℤ
 field_or_none None = no_field
-field_or_none (Some r) = field_of r
+field_or_none (Some r) = field_in_row r
 
 -- the field of a zone at a step
 abbrev pub field_at_step : List Row → ℕ → ℤ × ℤ

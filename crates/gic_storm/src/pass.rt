@@ -2,9 +2,9 @@
 ghost use Rattle.std.specs.Prelude.{◌≡◌, ◌≤◌, IfOk, length, vec_len, All, unwrap_or};
 ghost use Rattle.std.specs.List.Sorted.{IsNonDecreasingBy};
 ghost use Rattle.csv.specs.Records.{fields_of};
-ghost use Rattle.gic_base.specs.Refusals.{Answers};
+ghost use Rattle.gic_base.specs.Refusals.{AnswersRead};
 ghost use Rattle.gic_base.specs.declared.limits.TheConstants.{MOST_ZONES};
-ghost use Rattle.gic_storm.specs.declared.refusal.StormRefusal.TheVariants.{TooMany, Memory};
+ghost use Rattle.gic_storm.specs.declared.refusal.StormRefusal.TheVariants.{TooMany};
 ghost use Rattle.gic_storm.specs.Pass.{row_in, storm_rows};
 ghost use Rattle.gic_storm.specs.StormView.{IsRow, zone_names};
 
@@ -13,6 +13,7 @@ use crate::form::Form;
 use crate::refusal::{StormField, StormRefusal};
 use crate::row::Row;
 use csv::ByteRecord;
+use gic_base::ReadFault;
 use gic_base::limits::{MOST_ROWS, MOST_ZONES};
 use gic_records::{Records, RowReader, read_rows, time_in};
 use gic_scale::Zone;
@@ -80,8 +81,6 @@ impl RowReader for StormRows<'_> {
 
     ghost late = { TooMany };
 
-    ghost memory = { Memory };
-
     fn read(
         &self,
         row: u32,
@@ -102,12 +101,6 @@ impl RowReader for StormRows<'_> {
     {
         StormRefusal::TooMany
     }
-
-    fn out_of_memory() -> StormRefusal
-        ensures { result ≡ Memory }
-    {
-        StormRefusal::Memory
-    }
 }
 
 /// The rows of the records that are left. Their times do not fall.
@@ -116,9 +109,9 @@ pub(crate) fn rows_in(
     form: Form,
     zones: &[Zone],
     records: &mut Records<'_>,
-) -> Result<Vec<Row>, StormRefusal>
+) -> Result<Vec<Row>, ReadFault<StormRefusal>>
     requires { length zones.now ≤ MOST_ZONES }
-    ensures value { Answers Memory (λ v. v.items) result (storm_rows form (zone_names zones.now) records.old) }
+    ensures value { AnswersRead (λ v. v.items) result (storm_rows form (zone_names zones.now) records.old) }
     ensures few { IfOk result (λ v. vec_len v ≤ MOST_ROWS) }
     ensures ordered { IfOk result (λ v. IsNonDecreasingBy (λ r. r.time) v.items) }
     ensures within { IfOk result (λ v. All (IsRow (length zones.now)) v.items) }

@@ -1,8 +1,4 @@
 //! Why a storm is refused.
-ghost use Rattle.std.specs.Prelude.{◌≡◌};
-ghost use Rattle.gic_storm.specs.declared.refusal.StormRefusal.TheVariants.{Memory};
-
-use std::alloc::{AllocError, AllocFailed};
 use thiserror::Error;
 
 /// A number of a row.
@@ -13,7 +9,7 @@ pub enum StormField {
     East,
 }
 
-/// The first broken rule, or want of memory. Rows count from 1; row 0 is the first record.
+/// The first broken rule. Rows count from 1; row 0 is the first record.
 #[derive(Clone, Copy, Debug, PartialEq, Eq, Error)]
 pub enum StormRefusal {
     /// The first record is none of the two that a storm may have, or a row has another number of fields.
@@ -34,23 +30,4 @@ pub enum StormRefusal {
     /// There are more than 20000 rows.
     #[error("too many rows")]
     TooMany,
-    /// There was no memory for it.
-    #[error("out of memory")]
-    Memory,
-}
-
-impl From<AllocError> for StormRefusal {
-    ghost from_gives = { λ _ e. e ≡ Memory };
-
-    fn from(_e: AllocError) -> StormRefusal {
-        StormRefusal::Memory
-    }
-}
-
-impl<T: Drop> From<AllocFailed<T>> for StormRefusal {
-    ghost from_gives = { λ _ e. e ≡ Memory };
-
-    fn from(_e: AllocFailed<T>) -> StormRefusal {
-        StormRefusal::Memory
-    }
 }

@@ -2,7 +2,7 @@
 ghost use Rattle.std.specs.Prelude.{◌≡◌, ◌≤◌, length, All};
 ghost use Rattle.gic_induce.specs.Fields.{IsField};
 ghost use Rattle.gic_storm.specs.Steps.{steps_in, step_at};
-ghost use Rattle.gic_storm.specs.StepFields.{is_for, last_for, field_of, field_at_step, fields_at_step};
+ghost use Rattle.gic_storm.specs.StepFields.{is_for, last_for, field_in_row, field_at_step, fields_at_step};
 
 use crate::row::Row;
 use crate::storm::Storm;
@@ -28,7 +28,7 @@ fn last_for(rows: &[Row], zone: u16) -> Option<Row>
 
 /// The field of a zone at a step with these rows: north and east.
 fn field_at_step(rows: &[Row], zone: u16) -> (i32, i32)
-    requires { All (λ r. IsField (field_of r)) rows.now }
+    requires { All (λ r. IsField (field_in_row r)) rows.now }
     ensures value { result ≡ field_at_step rows.now zone }
     ensures within { IsField result }
 {

@@ -1,7 +1,6 @@
 //! Storms.
 ghost use Rattle.std.specs.Prelude.{◌≡◌, ◌≤◌, ◌-◌, slice_index_or, take, drop, IfOk, length, All, None, []};
-ghost use Rattle.gic_base.specs.Refusals.{Answers};
-ghost use Rattle.gic_storm.specs.declared.refusal.StormRefusal.TheVariants.{Memory};
+ghost use Rattle.gic_base.specs.Refusals.{AnswersRead};
 ghost use Rattle.gic_storm.specs.Pass.{storm_from};
 ghost use Rattle.gic_storm.specs.Rules.{storm_of};
 ghost use Rattle.gic_storm.specs.StormView.{IsRow, IsStorm, zone_names};
@@ -12,6 +11,7 @@ use crate::pass::rows_in;
 use crate::refusal::StormRefusal;
 use crate::row::Row;
 use csv::ByteRecord;
+use gic_base::ReadFault;
 use gic_base::limits::{MOST_ROWS, MOST_ZONES};
 use gic_case::Case;
 use gic_records::Records;
@@ -71,19 +71,19 @@ fn storm_from(
     alloc: Global,
     zones: &[Zone],
     mut records: Records<'_>,
-) -> Result<Storm, StormRefusal>
+) -> Result<Storm, ReadFault<StormRefusal>>
     requires { length zones.now ≤ MOST_ZONES }
-    ensures value { Answers Memory (λ s. s) result (storm_from (zone_names zones.now) records.entry) }
+    ensures value { AnswersRead (λ s. s) result (storm_from (zone_names zones.now) records.entry) }
     ensures zones { IfOk result (λ s. s.zones ≡ length zones.now) }
 {
     let mut first = ByteRecord::new(alloc);
     if !records.read(&mut first)? {
-        return Err(StormRefusal::Shape { row: 0 });
+        return Err(ReadFault::Refused(StormRefusal::Shape { row: 0 }));
     }
-    let form = form_of(&first).ok_or(StormRefusal::Shape { row: 0 })?;
+    let form = form_of(&first).ok_or(ReadFault::Refused(StormRefusal::Shape { row: 0 }))?;
     let rows = rows_in(alloc, form, zones, &mut records)?;
     if rows.is_empty() {
-        return Err(StormRefusal::Empty);
+        return Err(ReadFault::Refused(StormRefusal::Empty));
     }
     let starts = starts_of(alloc, rows.as_slice())?;
     Ok(Storm {
@@ -97,8 +97,12 @@ fn storm_from(
 /// accepted exactly where it breaks no rule, and its rows are then the records', with places in place of the names of
 /// zones. The first broken rule answers otherwise. Want of memory may come in place of any answer.
 #[tactic(auto, using(crate::proofs::PassLaws::storm_of_law))]
-pub fn read_storm(alloc: Global, bytes: &[u8], case: &Case) -> Result<Storm, StormRefusal>
-    ensures value { Answers Memory (λ s. s) result (storm_of (zone_names case.now.zones) bytes.now) }
+pub fn read_storm(
+    alloc: Global,
+    bytes: &[u8],
+    case: &Case,
+) -> Result<Storm, ReadFault<StormRefusal>>
+    ensures value { AnswersRead (λ s. s) result (storm_of (zone_names case.now.zones) bytes.now) }
     ensures zones { IfOk result (λ s. s.zones ≡ length case.now.zones) }
 {
     storm_from(alloc, case.zones(), Records::new(alloc, bytes))

@@ -4,5 +4,5 @@ pub mod Explained
 pub mod MetNeeds
 pub mod Ended
 pub mod Statuses
-pub mod FirstBytes
+pub mod EachMode
 pub mod Certified

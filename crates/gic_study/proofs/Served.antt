@@ -1,25 +1,49 @@
 -- What is asked for was served, by the call of its mode.
-use Rattle.std.proofs.Common.{◌≡◌, ℕ, List, [], ◌∷◌, Option, None, Result, Ok, Err, sym, subst}
+use Rattle.std.proofs.Common.{◌≡◌, ℕ, ◌<◌, List, [], ◌∷◌, length, Option, None, Result, Ok, Err, sym, subst}
+use Rattle.std.specs.Prelude.{IsErrAnd}
+use Rattle.gic_base.proofs.Parts.{keeps-refl}
 use Rattle.gic_words.specs.declared.mode.NetworkMode.{NetworkMode}
 use Rattle.gic_inputs.specs.declared.inputs.Inputs.{Inputs}
 use Rattle.gic_stand.specs.Needs.{Nothing, Solved}
 use Rattle.gic_stand.specs.Serves.{Shown, Serves}
 use Rattle.gic_stand.specs.Standing.{standing_of, steps_of}
 use Rattle.gic_stand.specs.declared.fault.ReportFault.{ReportFault}
+use Rattle.gic_stand.specs.declared.fault.ReportFault.TheVariants.{Refused, CannotWrite}
 use Rattle.gic_ask.specs.declared.request.Asked.{Asked}
 use Rattle.gic_ask.specs.declared.request.Asked.TheVariants.{Network, Study, Make, Recheck, Series}
+use Rattle.gic_inputs.proofs.Answered.{answered}
 use Rattle.gic_inputs.specs.declared.inputs.StormInputs.{StormInputs}
+use Rattle.gic_monitor.specs.RosterView.{RosterView}
+use Rattle.gic_view.specs.View.{View}
 use Rattle.gic_course.specs.Steps.{storm_steps}
 use Rattle.gic_make.specs.Made.{made_case}
 use Rattle.gic_make_mode.specs.RightMake.{IsRightMake}
 use Rattle.gic_recheck.specs.RightRecheck.{ServesRecheck}
 use Rattle.gic_recheck.specs.declared.fault.RecheckFault.{RecheckFault}
 use Rattle.gic_recheck.specs.declared.fault.RecheckFault.TheVariants as recheck
+use Rattle.gic_recheck.specs.declared.fault.RoomFault.{RoomFault}
+use Rattle.gic_recheck.specs.declared.fault.RoomFault.TheVariants as room
+use Rattle.gic_recheck.specs.Told.{IsFaultOf}
 use Rattle.gic_study_mode.specs.RightStudy.{IsRightStudy}
+use Rattle.gic_study_mode.specs.Roster.{roster_of}
+use Rattle.gic_study_mode.specs.ServesStudy.{ServesStudy}
+use Rattle.gic_study_mode.specs.declared.fault.StudyFault.{StudyFault}
+use Rattle.gic_study_mode.specs.declared.fault.StudyFault.TheVariants as study
+use Rattle.gic_study_mode.proofs.RightStudies.{by_plans}
 use Rattle.gic_series.specs.RightSeries.{IsRightSeries}
 use Rattle.gic_study.specs.Answers.{Answer}
-use Rattle.gic_study.specs.Concluding.{Concludes, reported, rechecked}
+use Rattle.gic_study.specs.Concluding.{Concludes, ConcludesOverNetwork, reported, studied, rechecked, without_room}
+use Rattle.gic_study.specs.declared.fault.Fault.TheVariants.{Memory}
+use Rattle.gic_study.specs.declared.fault.Wanting.TheVariants.{Room}
 use Rattle.gic_study.specs.Modes.{Plans, need_over_network, need_of, case_asked, steps_asked, IsRightOverNetwork, IsRightText}
+
+-- what is asked for ended so
+pub of_asked : (plans : Plans) (asked is_asked : Asked) (before now : Shown) (answer : Answer) → asked ≡ is_asked → Concludes plans is_asked before now answer → Concludes plans asked before now answer
+of_asked plans asked is_asked before now answer is ended = subst (λ a. Concludes plans a before now answer) (sym is) ended
+
+-- the call of this mode did
+pub by_mode : (mode m : NetworkMode) (inputs : Inputs) (before now : Shown) (answer : Answer) → mode ≡ m → ConcludesOverNetwork m inputs before now answer → ConcludesOverNetwork mode inputs before now answer
+by_mode mode m inputs before now answer is ended = subst (λ k. ConcludesOverNetwork k inputs before now answer) (sym is) ended
 
 -- how a call ends that was reported
 concludes_reported : (plans : Plans) (asked : Asked) (before now : Shown) (answer : Result (Unit {0}) ReportFault)
@@ -37,11 +61,26 @@ pub over_network : (plans : Plans) (asked : Asked) (m : NetworkMode) (inputs : I
 over_network plans asked m inputs before now answer whole is served ends =
     subst (ConcludesSo plans before now whole) (sym is) (subst (Concludes plans (Network m inputs) before now) (sym ends) (concludes_reported plans (Network m inputs) before now answer served))
 
-pub over_storm : (plans : Plans) (asked : Asked) (inputs : StormInputs) (detail : Option ℕ) (before now : Shown) (answer : Result (Unit {0}) ReportFault) (whole : Answer) → asked ≡ Study inputs detail
-    → Serves Solved inputs.inputs.case (storm_steps inputs) (IsRightStudy inputs detail plans) before now answer → whole ≡ reported answer
+-- by the plans of monitors that have begun
+concludes_studied : (plans : Plans) (inputs : StormInputs) (detail : Option ℕ) (outlooks : List View → List (List ℕ)) (monitors : ℕ) (before now : Shown) (answer : Result (Unit {0}) StudyFault)
+    → ((views : List View) → outlooks views ≡ plans (roster_of inputs.inputs.case inputs.inputs.question.event) views)
+    → ((roster : RosterView) (views : List View) → length (plans roster views) ≡ monitors)
+    → ServesStudy inputs monitors (IsRightStudy inputs detail (λ roster views. outlooks views)) before now answer → Concludes plans (Study inputs detail) before now (studied answer)
+concludes_studied plans inputs detail outlooks monitors before now (Ok done) same count served =
+    record { met = served.met; text = served.text; right = by_plans inputs detail outlooks plans same served.text served.right; written = served.written }
+concludes_studied plans inputs detail outlooks monitors before now (Err (study.Report CannotWrite)) same count served =
+    record { met = served.met; text = served.text; right = by_plans inputs detail outlooks plans same served.text served.right; part = served.part; cause = served.cause }
+concludes_studied plans inputs detail outlooks monitors before now (Err (study.Report (Refused refusal))) same count served = served
+concludes_studied plans inputs detail outlooks monitors before now (Err study.Memory) same count served =
+    ((λ roster views. subst (λ n. 0 < n) (sym (count roster views)) served.0, served.1.0), served.1.1)
+
+pub over_storm : (plans : Plans) (asked : Asked) (inputs : StormInputs) (detail : Option ℕ) (outlooks : List View → List (List ℕ)) (monitors : ℕ) (before now : Shown) (answer : Result (Unit {0}) StudyFault) (whole : Answer) → asked ≡ Study inputs detail
+    → ((views : List View) → outlooks views ≡ plans (roster_of inputs.inputs.case inputs.inputs.question.event) views)
+    → ((roster : RosterView) (views : List View) → length (plans roster views) ≡ monitors)
+    → ServesStudy inputs monitors (IsRightStudy inputs detail (λ roster views. outlooks views)) before now answer → whole ≡ studied answer
     → Concludes plans asked before now whole
-over_storm plans asked inputs detail before now answer whole is served ends =
-    subst (ConcludesSo plans before now whole) (sym is) (subst (Concludes plans (Study inputs detail) before now) (sym ends) (concludes_reported plans (Study inputs detail) before now answer served))
+over_storm plans asked inputs detail outlooks monitors before now answer whole is same count served ends =
+    subst (ConcludesSo plans before now whole) (sym is) (subst (Concludes plans (Study inputs detail) before now) (sym ends) (concludes_studied plans inputs detail outlooks monitors before now answer same count served))
 
 pub of_transformer : (plans : Plans) (asked : Asked) (inputs : StormInputs) (transformer : ℕ) (before now : Shown) (answer : Result (Unit {0}) ReportFault) (whole : Answer) → asked ≡ Series inputs transformer
     → Serves Solved inputs.inputs.case (storm_steps inputs) (IsRightSeries inputs transformer) before now answer → whole ≡ reported answer
@@ -67,3 +106,19 @@ pub over_certificate : (plans : Plans) (asked : Asked) (inputs : Inputs) (certif
     → Concludes plans asked before now whole
 over_certificate plans asked inputs certificate before now answer whole is served ends =
     subst (ConcludesSo plans before now whole) (sym is) (subst (Concludes plans (Recheck inputs certificate) before now) (sym ends) (concludes_rechecked plans inputs certificate before now answer served))
+
+-- nothing was written, for want of memory for a room
+pub lacking_room : (plans : Plans) (asked : Asked) (s : Shown) (whole : Answer) → IsErrAnd whole (λ e. e ≡ Memory Room) → Concludes plans asked s s whole
+lacking_room plans asked s whole h = subst (Concludes plans asked s s) (sym (answered whole (Memory Room) h)) (tt, keeps-refl s.bytes)
+
+-- or since a certificate could not be read
+concludes_without : (plans : Plans) (inputs : Inputs) (certificate : List ℕ) (s : Shown) (fault : RoomFault) → IsFaultOf inputs.case (standing_of inputs.case inputs.switchings) certificate fault
+    → Concludes plans (Recheck inputs certificate) s s (Err (without_room fault))
+concludes_without plans inputs certificate s (room.Refused refusal) h = (h, keeps-refl s.bytes)
+concludes_without plans inputs certificate s room.Memory h = (tt, keeps-refl s.bytes)
+
+pub without_certificate : (plans : Plans) (asked : Asked) (inputs : Inputs) (certificate : List ℕ) (s : Shown) (fault : RoomFault) (whole : Answer) → asked ≡ Recheck inputs certificate
+    → IsFaultOf inputs.case (standing_of inputs.case inputs.switchings) certificate fault → IsErrAnd whole (λ e. e ≡ without_room fault)
+    → Concludes plans asked s s whole
+without_certificate plans asked inputs certificate s fault whole is h ends =
+    subst (ConcludesSo plans s s whole) (sym is) (subst (Concludes plans (Recheck inputs certificate) s s) (sym (answered whole (without_room fault) ends)) (concludes_without plans inputs certificate s fault h))

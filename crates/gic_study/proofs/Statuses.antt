@@ -1,6 +1,6 @@
 -- What each status says.
-use Rattle.std.proofs.Common.{ℕ, List, Option, Ok, Err, refl, sym, subst, arith}
-use Rattle.gic_base.specs.Files.{Files}
+use Rattle.std.proofs.Common.{ℕ, inl, inr, List, Option, Ok, Err, refl, sym, subst, arith}
+use Rattle.gic_files.specs.Files.{Files}
 use Rattle.gic_ask.specs.declared.fault.InputFault.TheVariants as input
 use Rattle.gic_ask.specs.declared.fault.InputRefusal.TheVariants as input_refusal
 use Rattle.gic_stand.specs.declared.fault.ReportFault.TheVariants as report
@@ -8,7 +8,7 @@ use Rattle.gic_stand.specs.declared.fault.NetworkRefusal.TheVariants as network
 use Rattle.gic_study.specs.Answers.{Moment, Answer, Explains, status_of}
 use Rattle.gic_study.specs.Laws.{StatusSays, StatusesSay}
 use Rattle.gic_study.specs.Modes.{Plans}
-use Rattle.gic_study.specs.declared.fault.Fault.TheVariants.{Input, Report, Certificate}
+use Rattle.gic_study.specs.declared.fault.Fault.TheVariants.{Input, Report, Certificate, Memory}
 
 says : (words : List (List ℕ)) (files : Option Files) (plans : Plans) (before now : Moment) (answer : Answer) → Explains words files plans before now answer
     → StatusSays words files plans before now (status_of answer)
@@ -25,6 +25,7 @@ says words files plans before now (Ok done) explained = record {
   too_long = λ e. absurd (omega (arith, e));
   transformer_unknown = λ e. absurd (omega (arith, e));
   certificate_refused = λ e. absurd (omega (arith, e));
+  memory = λ e. absurd (omega (arith, e));
   nothing = λ not_done not_unwritten. absurd (not_done refl);
 }
 says words files plans before now (Err (Input (input.Refused (input_refusal.Usage u)))) explained = record {
@@ -40,6 +41,7 @@ says words files plans before now (Err (Input (input.Refused (input_refusal.Usag
   too_long = λ e. absurd (omega (arith, e));
   transformer_unknown = λ e. absurd (omega (arith, e));
   certificate_refused = λ e. absurd (omega (arith, e));
+  memory = λ e. absurd (omega (arith, e));
   nothing = λ not_done not_unwritten. explained.kept;
 }
 says words files plans before now (Err (Input (input.CannotRead file))) explained = record {
@@ -55,6 +57,7 @@ says words files plans before now (Err (Input (input.CannotRead file))) explaine
   too_long = λ e. absurd (omega (arith, e));
   transformer_unknown = λ e. absurd (omega (arith, e));
   certificate_refused = λ e. absurd (omega (arith, e));
+  memory = λ e. absurd (omega (arith, e));
   nothing = λ not_done not_unwritten. explained.kept;
 }
 says words files plans before now (Err (Report report.CannotWrite)) explained = record {
@@ -70,6 +73,7 @@ says words files plans before now (Err (Report report.CannotWrite)) explained = 
   too_long = λ e. absurd (omega (arith, e));
   transformer_unknown = λ e. absurd (omega (arith, e));
   certificate_refused = λ e. absurd (omega (arith, e));
+  memory = λ e. absurd (omega (arith, e));
   nothing = λ not_done not_unwritten. absurd (not_unwritten refl);
 }
 says words files plans before now (Err (Input (input.Refused (input_refusal.Case r)))) explained = record {
@@ -85,6 +89,7 @@ says words files plans before now (Err (Input (input.Refused (input_refusal.Case
   too_long = λ e. absurd (omega (arith, e));
   transformer_unknown = λ e. absurd (omega (arith, e));
   certificate_refused = λ e. absurd (omega (arith, e));
+  memory = λ e. absurd (omega (arith, e));
   nothing = λ not_done not_unwritten. explained.kept;
 }
 says words files plans before now (Err (Input (input.Refused (input_refusal.Storm r)))) explained = record {
@@ -100,6 +105,7 @@ says words files plans before now (Err (Input (input.Refused (input_refusal.Stor
   too_long = λ e. absurd (omega (arith, e));
   transformer_unknown = λ e. absurd (omega (arith, e));
   certificate_refused = λ e. absurd (omega (arith, e));
+  memory = λ e. absurd (omega (arith, e));
   nothing = λ not_done not_unwritten. explained.kept;
 }
 says words files plans before now (Err (Input (input.Refused (input_refusal.Switch r)))) explained = record {
@@ -115,6 +121,7 @@ says words files plans before now (Err (Input (input.Refused (input_refusal.Swit
   too_long = λ e. absurd (omega (arith, e));
   transformer_unknown = λ e. absurd (omega (arith, e));
   certificate_refused = λ e. absurd (omega (arith, e));
+  memory = λ e. absurd (omega (arith, e));
   nothing = λ not_done not_unwritten. explained.kept;
 }
 says words files plans before now (Err (Report (report.Refused (network.Unearthed step node)))) explained = record {
@@ -130,6 +137,7 @@ says words files plans before now (Err (Report (report.Refused (network.Unearthe
   too_long = λ e. absurd (omega (arith, e));
   transformer_unknown = λ e. absurd (omega (arith, e));
   certificate_refused = λ e. absurd (omega (arith, e));
+  memory = λ e. absurd (omega (arith, e));
   nothing = λ not_done not_unwritten. explained.serves.1;
 }
 says words files plans before now (Err (Report (report.Refused (network.Unresolved step node)))) explained = record {
@@ -145,6 +153,7 @@ says words files plans before now (Err (Report (report.Refused (network.Unresolv
   too_long = λ e. absurd (omega (arith, e));
   transformer_unknown = λ e. absurd (omega (arith, e));
   certificate_refused = λ e. absurd (omega (arith, e));
+  memory = λ e. absurd (omega (arith, e));
   nothing = λ not_done not_unwritten. explained.serves.1;
 }
 says words files plans before now (Err (Input (input.Refused (input_refusal.TooLong file)))) explained = record {
@@ -160,6 +169,7 @@ says words files plans before now (Err (Input (input.Refused (input_refusal.TooL
   too_long = λ e. (file, explained);
   transformer_unknown = λ e. absurd (omega (arith, e));
   certificate_refused = λ e. absurd (omega (arith, e));
+  memory = λ e. absurd (omega (arith, e));
   nothing = λ not_done not_unwritten. explained.kept;
 }
 says words files plans before now (Err (Input input.Memory)) explained = record {
@@ -175,9 +185,10 @@ says words files plans before now (Err (Input input.Memory)) explained = record 
   too_long = λ e. absurd (omega (arith, e));
   transformer_unknown = λ e. absurd (omega (arith, e));
   certificate_refused = λ e. absurd (omega (arith, e));
+  memory = λ e. inl explained;
   nothing = λ not_done not_unwritten. explained.kept;
 }
-says words files plans before now (Err (Report report.Memory)) explained = record {
+says words files plans before now (Err (Memory wanting)) explained = record {
   done = λ e. absurd (omega (arith, e));
   usage = λ e. absurd (omega (arith, e));
   unread = λ e. absurd (omega (arith, e));
@@ -190,7 +201,8 @@ says words files plans before now (Err (Report report.Memory)) explained = recor
   too_long = λ e. absurd (omega (arith, e));
   transformer_unknown = λ e. absurd (omega (arith, e));
   certificate_refused = λ e. absurd (omega (arith, e));
-  nothing = λ not_done not_unwritten. explained.serves;
+  memory = λ e. inr (wanting, explained);
+  nothing = λ not_done not_unwritten. explained.kept;
 }
 says words files plans before now (Err (Input (input.Refused input_refusal.UnknownTransformer))) explained = record {
   done = λ e. absurd (omega (arith, e));
@@ -205,6 +217,7 @@ says words files plans before now (Err (Input (input.Refused input_refusal.Unkno
   too_long = λ e. absurd (omega (arith, e));
   transformer_unknown = λ e. explained;
   certificate_refused = λ e. absurd (omega (arith, e));
+  memory = λ e. absurd (omega (arith, e));
   nothing = λ not_done not_unwritten. explained.kept;
 }
 says words files plans before now (Err (Certificate refusal)) explained = record {
@@ -220,6 +233,7 @@ says words files plans before now (Err (Certificate refusal)) explained = record
   too_long = λ e. absurd (omega (arith, e));
   transformer_unknown = λ e. absurd (omega (arith, e));
   certificate_refused = λ e. (refusal, explained);
+  memory = λ e. absurd (omega (arith, e));
   nothing = λ not_done not_unwritten. explained.kept;
 }
 

@@ -3,7 +3,7 @@ use Rattle.std.specs.Prelude.{◌≡◌, ◌≢◌, ℕ, List, Some, Ok, Err, �
 use Rattle.std.specs.declared.option.Option.{Option}
 use Rattle.std.specs.Io.KnownBytes.{Keeps}
 use Rattle.gic_base.specs.Causes.{Rose}
-use Rattle.gic_base.specs.Files.{Files}
+use Rattle.gic_files.specs.Files.{Files}
 use Rattle.gic_ask.specs.declared.request.Asked.TheVariants.{Recheck}
 use Rattle.gic_case.specs.Sound.{IsSound}
 use Rattle.gic_case_reader.specs.declared.refusal.CaseRefusal.{CaseRefusal}
@@ -17,7 +17,7 @@ use Rattle.gic_ask.specs.Asks.{CouldNotRead}
 use Rattle.gic_ask.specs.Held.{held_for}
 use Rattle.gic_ask.specs.Outcome.{Refuses, Lacks, Accepts, outcome}
 use Rattle.gic_ask.specs.declared.fault.File.{File}
-use Rattle.gic_ask.specs.declared.fault.InputFault.TheVariants.{Refused, CannotRead}
+use Rattle.gic_ask.specs.declared.fault.InputFault.TheVariants.{Refused, CannotRead, Memory as NoMemory}
 use Rattle.gic_ask.specs.declared.fault.InputRefusal.{InputRefusal}
 use Rattle.gic_ask.specs.declared.fault.InputRefusal.TheVariants.{Usage, TooLong, Case, UnknownTransformer, Storm, Switch}
 use Rattle.gic_ask.specs.declared.request.Asked.{Asked}
@@ -27,14 +27,15 @@ use Rattle.gic_inputs.specs.declared.inputs.Inputs.{Inputs}
 use Rattle.gic_stand.specs.declared.fault.NetworkRefusal.{NetworkRefusal}
 use Rattle.gic_stand.specs.declared.fault.NetworkRefusal.TheVariants.{Unearthed, Unresolved}
 use Rattle.gic_stand.specs.declared.fault.ReportFault.TheVariants as report
-use Rattle.gic_study.specs.Answers.{Ends, Moment, Served, Unasked, Uncertified}
+use Rattle.gic_study.specs.Answers.{Ends, Moment, Served, Unasked, Uncertified, WantedMemory}
 use Rattle.gic_study.specs.Faults.{status_of_fault}
 use Rattle.gic_study.specs.Modes.{Plans, mode_asked, need_of, case_asked, steps_asked, IsRightText, AcceptsCertificate, RefusesCertificate}
 use Rattle.gic_study.specs.declared.fault.Fault.TheVariants.{Input, Report}
+use Rattle.gic_study.specs.declared.fault.Wanting.{Wanting}
 
 -- no fetch of a file that the words name failed between these moments
 abbrev pub CanRead : List (List ℕ) → (before now : Moment) → Type 0
-CanRead words before now = (file : File) → ¬ CouldNotRead words file before.failures now.failures
+CanRead words before now = (file : File) → ¬ CouldNotRead words file before.fetches.failures now.fetches.failures
 
 -- a refusal by the words and the files is answered, where no named file failed, want of memory aside
 abbrev pub RefusalsAreAnswered : Type 0
@@ -86,6 +87,7 @@ pub record StatusSays (words : List (List ℕ)) (files : Option Files) (plans : 
   pub too_long : status ≡ 10 → (file : File) × Unasked words files before now (Refused (TooLong file))
   pub transformer_unknown : status ≡ 12 → Unasked words files before now (Refused UnknownTransformer)
   pub certificate_refused : status ≡ 13 → (e : CertificateRefusal) × Uncertified words files before now e
+  pub memory : status ≡ 11 → Unasked words files before now NoMemory ⊎ ((wanting : Wanting) × WantedMemory words files plans before now wanting)
   pub nothing : status ≢ 0 → status ≢ 4 → Keeps before.out.bytes now.out.bytes
 
 abbrev pub StatusesSay : Type 0

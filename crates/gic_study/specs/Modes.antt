@@ -1,4 +1,4 @@
--- What is asked for: what it needs of the network, and what it prints.
+-- What each mode is: what it needs of the network, and what it prints.
 use Rattle.std.specs.Prelude.{ℕ, List, [], ◌∷◌, None, ⊤}
 use Rattle.gic_case.specs.Lists.{Lists}
 use Rattle.gic_model.specs.Sums.{Placed}
@@ -31,78 +31,84 @@ use Rattle.gic_course.specs.Steps.{storm_steps}
 use Rattle.gic_view.specs.View.{View}
 use Rattle.gic_monitor.specs.RosterView.{RosterView}
 
--- its mode
-abbrev pub mode_asked : Asked → Mode
-mode_asked (Network m inputs) = mode.Network m
-mode_asked (Study inputs detail) = mode.Study
-mode_asked (Make seed size) = mode.Make
-mode_asked (Recheck inputs certificate) = mode.Recheck
-mode_asked (Series inputs transformer) = mode.Series
-
--- what a mode over the network of a case needs of it at each step
-abbrev pub need_over_network : NetworkMode → Need
-need_over_network network.Volts = Nothing
-need_over_network network.List = Nothing
-need_over_network network.Check = Earthed
-need_over_network network.Field = Solved
-need_over_network network.Screen = Solved
-need_over_network network.Certify = Solved
-need_over_network network.Outage = Solved
-need_over_network network.Review = Nothing
-
--- what is needed of the network at each step
-abbrev pub need_of : Asked → Need
-need_of (Network m inputs) = need_over_network m
-need_of (Study inputs detail) = Solved
-need_of (Make seed size) = Nothing
-need_of (Recheck inputs certificate) = Nothing
-need_of (Series inputs transformer) = Solved
-
--- the case of the network
-abbrev pub case_asked : Asked → Lists
-case_asked (Network m inputs) = inputs.case
-case_asked (Study inputs detail) = inputs.inputs.case
-case_asked (Make seed size) = made_case seed size
-case_asked (Recheck inputs certificate) = inputs.case
-case_asked (Series inputs transformer) = inputs.inputs.case
-
--- the elements that stand at each step
-abbrev pub steps_asked : Asked → List (List Placed)
-steps_asked (Network m inputs) = steps_of inputs
-steps_asked (Study inputs detail) = storm_steps inputs
-steps_asked (Make seed size) = standing_of (made_case seed size) None ∷ []
-steps_asked (Recheck inputs certificate) = steps_of inputs
-steps_asked (Series inputs transformer) = storm_steps inputs
-
--- the text is a right report of the network of a case
-abbrev pub IsRightOverNetwork : NetworkMode → Inputs → (text : List ℕ) → Type 0
-IsRightOverNetwork network.Volts = IsRightVolts
-IsRightOverNetwork network.List = IsRightList
-IsRightOverNetwork network.Check = IsRightCheck
-IsRightOverNetwork network.Field = IsRightField
-IsRightOverNetwork network.Screen = IsRightScreen
-IsRightOverNetwork network.Certify = IsRightCertify
-IsRightOverNetwork network.Outage = IsRightOutage
-IsRightOverNetwork network.Review = IsRightReview
-
 -- what monitors would print, in their order, after beginning with a roster and seeing views
 abbrev pub Plans : Type 0
 Plans = RosterView → List View → List (List ℕ)
 
--- the text is a right report of what is asked for; monitors with these plans see the steps of a study
+-- a mode over the network of a case, with all its switchings in force: its need, and when a text is right
+pub record NetworkMeaning : Type 1 where
+  pub need : Need
+  pub IsRight : Inputs → (text : List ℕ) → Type 0
+
+-- one row a mode
+abbrev pub over_network : NetworkMode → NetworkMeaning
+over_network network.Volts = record { need = Nothing; IsRight = IsRightVolts }
+over_network network.List = record { need = Nothing; IsRight = IsRightList }
+over_network network.Check = record { need = Earthed; IsRight = IsRightCheck }
+over_network network.Field = record { need = Solved; IsRight = IsRightField }
+over_network network.Screen = record { need = Solved; IsRight = IsRightScreen }
+over_network network.Certify = record { need = Solved; IsRight = IsRightCertify }
+over_network network.Outage = record { need = Solved; IsRight = IsRightOutage }
+over_network network.Review = record { need = Nothing; IsRight = IsRightReview }
+
+-- what is asked for: its mode, what is needed at each step of a network, and when a text is right, where monitors with these plans see the steps of a study
+pub record Meaning : Type 1 where
+  pub mode : Mode
+  pub need : Need
+  pub case : Lists
+  -- the elements that stand at each step
+  pub steps : List (List Placed)
+  pub IsRight : Plans → (text : List ℕ) → Type 0
+  -- the certificate that is asked to be checked is accepted, or refused for this reason
+  pub Passes : Type 0
+  pub Breaks : CertificateRefusal → Type 0
+
+-- of a mode that is given no certificate
+abbrev plain : Mode → Need → Lists → (steps : List (List Placed)) → (IsRight : Plans → List ℕ → Type 0) → Meaning
+plain m need case steps IsRight =
+    record { mode = m; need = need; case = case; steps = steps; IsRight = IsRight; Passes = ⊤; Breaks = λ refusal. ⊥ }
+
+-- one row a mode
+abbrev pub meaning_of : Asked → Meaning
+meaning_of (Network m inputs) = plain (mode.Network m) (over_network m).need inputs.case (steps_of inputs) (λ plans. (over_network m).IsRight inputs)
+meaning_of (Study inputs detail) = plain mode.Study Solved inputs.inputs.case (storm_steps inputs) (IsRightStudy inputs detail)
+meaning_of (Make seed size) = plain mode.Make Nothing (made_case seed size) (standing_of (made_case seed size) None ∷ []) (λ plans. IsRightMake seed size)
+meaning_of (Recheck inputs certificate) = record {
+  mode = mode.Recheck;
+  need = Nothing;
+  case = inputs.case;
+  steps = steps_of inputs;
+  IsRight = λ plans. IsRightRecheck inputs certificate;
+  Passes = (c : Certificate) × IsAccepted inputs.case (standing_of inputs.case inputs.switchings) certificate c;
+  Breaks = IsRefused inputs.case (standing_of inputs.case inputs.switchings) certificate;
+}
+meaning_of (Series inputs transformer) = plain mode.Series Solved inputs.inputs.case (storm_steps inputs) (λ plans. IsRightSeries inputs transformer)
+
+-- ---- its fields
+
+abbrev pub need_over_network : NetworkMode → Need
+need_over_network m = (over_network m).need
+
+abbrev pub IsRightOverNetwork : NetworkMode → Inputs → (text : List ℕ) → Type 0
+IsRightOverNetwork m = (over_network m).IsRight
+
+abbrev pub mode_asked : Asked → Mode
+mode_asked asked = (meaning_of asked).mode
+
+abbrev pub need_of : Asked → Need
+need_of asked = (meaning_of asked).need
+
+abbrev pub case_asked : Asked → Lists
+case_asked asked = (meaning_of asked).case
+
+abbrev pub steps_asked : Asked → List (List Placed)
+steps_asked asked = (meaning_of asked).steps
+
 abbrev pub IsRightText : Plans → Asked → (text : List ℕ) → Type 0
-IsRightText plans (Network m inputs) = IsRightOverNetwork m inputs
-IsRightText plans (Study inputs detail) = IsRightStudy inputs detail plans
-IsRightText plans (Make seed size) = IsRightMake seed size
-IsRightText plans (Recheck inputs certificate) = IsRightRecheck inputs certificate
-IsRightText plans (Series inputs transformer) = IsRightSeries inputs transformer
+IsRightText plans asked = (meaning_of asked).IsRight plans
 
--- the certificate that is asked to be checked is accepted; other modes are given none
 abbrev pub AcceptsCertificate : Asked → Type 0
-AcceptsCertificate (Recheck inputs certificate) = (c : Certificate) × IsAccepted inputs.case (standing_of inputs.case inputs.switchings) certificate c
-AcceptsCertificate _ = ⊤
+AcceptsCertificate asked = (meaning_of asked).Passes
 
--- it is refused for this reason
 abbrev pub RefusesCertificate : Asked → CertificateRefusal → Type 0
-RefusesCertificate (Recheck inputs certificate) refusal = IsRefused inputs.case (standing_of inputs.case inputs.switchings) certificate refusal
-RefusesCertificate _ refusal = ⊥
+RefusesCertificate asked = (meaning_of asked).Breaks

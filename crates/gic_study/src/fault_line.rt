@@ -196,7 +196,6 @@ fn write_case<E: Sink>(refusal: CaseRefusal, err: &mut E) -> Result<(), WriteFai
         CaseRefusal::Degree { node } => {
             write_named(&["case:", "degree", "at", "node"], node, err)
         }
-        CaseRefusal::Memory => write_line(&["out", "of", "memory"], err),
     }
 }
 
@@ -245,7 +244,6 @@ fn write_storm<E: Sink>(refusal: StormRefusal, err: &mut E) -> Result<(), WriteF
         StormRefusal::Order { row } => write_record("storm:", "order", row, err),
         StormRefusal::Empty => write_line(&["storm:", "empty"], err),
         StormRefusal::TooMany => write_line(&["storm:", "too", "many"], err),
-        StormRefusal::Memory => write_line(&["out", "of", "memory"], err),
     }
 }
 
@@ -262,7 +260,6 @@ fn write_switchings<E: Sink>(refusal: SwitchRefusal, err: &mut E) -> Result<(), 
         SwitchRefusal::Action { row } => write_record("switch:", "action", row, err),
         SwitchRefusal::Item { row } => write_record("switch:", "item", row, err),
         SwitchRefusal::TooMany => write_line(&["switch:", "too", "many"], err),
-        SwitchRefusal::Memory => write_line(&["out", "of", "memory"], err),
     }
 }
 
@@ -346,7 +343,7 @@ pub(crate) fn write_fault<E: Sink>(fault: &Fault, err: &mut E) -> Result<(), Wri
         }
         Fault::Report(ReportFault::Refused(refusal)) => write_network(*refusal, err),
         Fault::Report(ReportFault::CannotWrite) => write_line(&["cannot", "write"], err),
-        Fault::Input(InputFault::Memory) | Fault::Report(ReportFault::Memory) => write_memory(err),
+        Fault::Input(InputFault::Memory) | Fault::Memory(_) => write_memory(err),
         Fault::Certificate(refusal) => write_certificate(*refusal, err),
     }
 }

@@ -1,20 +1,23 @@
 //! The modes.
-ghost use Rattle.std.specs.Prelude.{◌≤◌, map};
+ghost use Rattle.std.specs.Prelude.{◌<◌, ◌≤◌, length, map};
 ghost use Rattle.gic_question.specs.Ranges.{IsWithinRanges};
-ghost use Rattle.gic_stand.specs.Serves.{Serves, shown};
-ghost use Rattle.gic_stand.specs.Standing.{steps_of};
+ghost use Rattle.gic_inputs.specs.Inputs.{IsStormOf};
+ghost use Rattle.gic_stand.specs.Serves.{shown};
+ghost use Rattle.gic_words.specs.declared.mode.NetworkMode.TheVariants as network;
 ghost use Rattle.gic_ask.specs.Within.{IsAskedWithinRanges};
-ghost use Rattle.gic_study.specs.Concluding.{Concludes};
-ghost use Rattle.gic_study.specs.Modes.{need_over_network, IsRightOverNetwork};
+ghost use Rattle.gic_ask.specs.declared.request.Asked.TheVariants.{Make, Recheck, Series, Study};
+ghost use Rattle.gic_study.specs.Concluding.{Concludes, ConcludesOverNetwork};
+ghost use Rattle.gic_study.specs.Modes.{Plans};
 
-use crate::fault::{Fault, rechecked, reported};
+use crate::fault::{Fault, rechecked, reported, studied};
 use gic_ask::Asked;
 use gic_base::Sink;
 use gic_certify::certify;
 use gic_check::check;
 use gic_field::field;
-use gic_inputs::Inputs;
+use gic_inputs::{Inputs, StormInputs};
 use gic_list::list;
+use gic_make::{LEAST_SIZE, MOST_SIZE};
 use gic_make_mode::make;
 use gic_monitor::Monitor;
 use gic_outage_mode::outage;
@@ -22,36 +25,171 @@ use gic_recheck::recheck;
 use gic_review::review;
 use gic_screen_mode::screen;
 use gic_series::series;
-use gic_stand::ReportFault;
 use gic_study_mode::study;
 use gic_volts::volts;
 use gic_words::NetworkMode;
 use std::alloc::Global;
 
-/// Writes the report of a mode over the network of a case.
+/// Makes the room of `volts`, and writes its report.
+fn serve_volts<S: Sink>(alloc: Global, inputs: &Inputs, out: &mut S) -> Result<(), Fault>
+    requires { IsWithinRanges inputs.now.question }
+    ensures { ConcludesOverNetwork network.Volts inputs.now
+        (shown S.written S.faults out.old) (shown S.written S.faults out.new) result }
+{
+    let mut room = gic_volts::make_room(alloc, inputs)?;
+    reported(volts(inputs, &mut room, out))
+}
+
+/// Makes the room of `list`, and writes its report.
+fn serve_list<S: Sink>(alloc: Global, inputs: &Inputs, out: &mut S) -> Result<(), Fault>
+    ensures { ConcludesOverNetwork network.List inputs.now
+        (shown S.written S.faults out.old) (shown S.written S.faults out.new) result }
+{
+    let mut room = gic_list::make_room(alloc, inputs)?;
+    reported(list(inputs, &mut room, out))
+}
+
+/// Makes the room of `check`, and writes its report.
+fn serve_check<S: Sink>(alloc: Global, inputs: &Inputs, out: &mut S) -> Result<(), Fault>
+    ensures { ConcludesOverNetwork network.Check inputs.now
+        (shown S.written S.faults out.old) (shown S.written S.faults out.new) result }
+{
+    let mut room = gic_check::make_room(alloc, inputs)?;
+    reported(check(inputs, &mut room, out))
+}
+
+/// Makes the room of `field`, and writes its report.
+fn serve_field<S: Sink>(alloc: Global, inputs: &Inputs, out: &mut S) -> Result<(), Fault>
+    requires { IsWithinRanges inputs.now.question }
+    ensures { ConcludesOverNetwork network.Field inputs.now
+        (shown S.written S.faults out.old) (shown S.written S.faults out.new) result }
+{
+    let mut room = gic_field::make_room(alloc, inputs)?;
+    reported(field(inputs, &mut room, out))
+}
+
+/// Makes the room of `screen`, and writes its report.
+fn serve_screen<S: Sink>(alloc: Global, inputs: &Inputs, out: &mut S) -> Result<(), Fault>
+    requires { IsWithinRanges inputs.now.question }
+    ensures { ConcludesOverNetwork network.Screen inputs.now
+        (shown S.written S.faults out.old) (shown S.written S.faults out.new) result }
+{
+    let mut room = gic_screen_mode::make_room(alloc, inputs)?;
+    reported(screen(inputs, &mut room, out))
+}
+
+/// Makes the room of `certify`, and writes its report.
+fn serve_certify<S: Sink>(alloc: Global, inputs: &Inputs, out: &mut S) -> Result<(), Fault>
+    requires { IsWithinRanges inputs.now.question }
+    ensures { ConcludesOverNetwork network.Certify inputs.now
+        (shown S.written S.faults out.old) (shown S.written S.faults out.new) result }
+{
+    let room = gic_certify::make_room(alloc, inputs)?;
+    reported(certify(inputs, room, out))
+}
+
+/// Makes the room of `outage`, and writes its report.
+fn serve_outage<S: Sink>(alloc: Global, inputs: &Inputs, out: &mut S) -> Result<(), Fault>
+    requires { IsWithinRanges inputs.now.question }
+    ensures { ConcludesOverNetwork network.Outage inputs.now
+        (shown S.written S.faults out.old) (shown S.written S.faults out.new) result }
+{
+    let mut room = gic_outage_mode::make_room(alloc, inputs)?;
+    reported(outage(inputs, &mut room, out))
+}
+
+/// Makes the room of `review`, and writes its report.
+fn serve_review<S: Sink>(alloc: Global, inputs: &Inputs, out: &mut S) -> Result<(), Fault>
+    ensures { ConcludesOverNetwork network.Review inputs.now
+        (shown S.written S.faults out.old) (shown S.written S.faults out.new) result }
+{
+    let mut room = gic_review::make_room(alloc, inputs)?;
+    reported(review(inputs, &mut room, out))
+}
+
+/// Makes the room of a mode over the network of a case, and writes its report.
 fn serve_network<S: Sink>(
     alloc: Global,
     mode: NetworkMode,
     inputs: &Inputs,
     out: &mut S,
-) -> Result<(), ReportFault>
+) -> Result<(), Fault>
     requires { IsWithinRanges inputs.now.question }
-    ensures { Serves (need_over_network mode) inputs.now.case (steps_of inputs.now) (IsRightOverNetwork mode inputs.now)
+    ensures { ConcludesOverNetwork mode inputs.now
         (shown S.written S.faults out.old) (shown S.written S.faults out.new) result }
 {
     match mode {
-        NetworkMode::Volts => volts(alloc, inputs, out),
-        NetworkMode::List => list(alloc, inputs, out),
-        NetworkMode::Check => check(alloc, inputs, out),
-        NetworkMode::Field => field(alloc, inputs, out),
-        NetworkMode::Screen => screen(alloc, inputs, out),
-        NetworkMode::Certify => certify(alloc, inputs, out),
-        NetworkMode::Outage => outage(alloc, inputs, out),
-        NetworkMode::Review => review(alloc, inputs, out),
+        NetworkMode::Volts => serve_volts(alloc, inputs, out),
+        NetworkMode::List => serve_list(alloc, inputs, out),
+        NetworkMode::Check => serve_check(alloc, inputs, out),
+        NetworkMode::Field => serve_field(alloc, inputs, out),
+        NetworkMode::Screen => serve_screen(alloc, inputs, out),
+        NetworkMode::Certify => serve_certify(alloc, inputs, out),
+        NetworkMode::Outage => serve_outage(alloc, inputs, out),
+        NetworkMode::Review => serve_review(alloc, inputs, out),
     }
 }
 
-/// Writes the report that is asked for. The monitors see the steps of a study.
+/// Makes the room of a study, and writes its report. The monitors see the steps.
+fn serve_study<S: Sink>(
+    alloc: Global,
+    inputs: &StormInputs,
+    detail: Option<u32>,
+    monitors: Vec<Box<dyn Monitor>>,
+    out: &mut S,
+) -> Result<(), Fault>
+    requires ranges { IsWithinRanges inputs.now.inputs.question }
+    requires storm { IsStormOf inputs.now }
+    ensures { Concludes (λ roster views. map (λ m. plan m roster views) monitors.items) (Study inputs.now detail)
+        (shown S.written S.faults out.old) (shown S.written S.faults out.new) result }
+{
+    let mut room = gic_study_mode::make_room(alloc, inputs, detail, monitors)?;
+    studied(study(alloc, inputs, detail, &mut room, out))
+}
+
+/// Makes the room of a made case, and writes its report.
+fn serve_make<S: Sink>(alloc: Global, seed: u32, size: u16, out: &mut S) -> Result<(), Fault>
+    requires least { LEAST_SIZE ≤ size }
+    requires most { size ≤ MOST_SIZE }
+    ensures { (plans : Plans) → Concludes plans (Make seed size)
+        (shown S.written S.faults out.old) (shown S.written S.faults out.new) result }
+{
+    let mut room = gic_make_mode::make_room(alloc, seed, size)?;
+    reported(make(seed, size, &mut room, out))
+}
+
+/// Makes the room of a certificate's check, and writes its report.
+fn serve_recheck<S: Sink>(
+    alloc: Global,
+    inputs: &Inputs,
+    certificate: &[u8],
+    out: &mut S,
+) -> Result<(), Fault>
+    ensures { (plans : Plans) → Concludes plans (Recheck inputs.now certificate.now)
+        (shown S.written S.faults out.old) (shown S.written S.faults out.new) result }
+{
+    let mut room = gic_recheck::make_room(alloc, inputs, certificate)?;
+    rechecked(recheck(inputs, &mut room, out))
+}
+
+/// Makes the room of a transformer's course, and writes its report.
+fn serve_series<S: Sink>(
+    alloc: Global,
+    inputs: &StormInputs,
+    transformer: u16,
+    out: &mut S,
+) -> Result<(), Fault>
+    requires ranges { IsWithinRanges inputs.now.inputs.question }
+    requires storm { IsStormOf inputs.now }
+    requires transformer { transformer < length inputs.now.inputs.case.transformers }
+    ensures { (plans : Plans) → Concludes plans (Series inputs.now transformer)
+        (shown S.written S.faults out.old) (shown S.written S.faults out.new) result }
+{
+    let mut room = gic_series::make_room(alloc, inputs)?;
+    reported(series(inputs, transformer, &mut room, out))
+}
+
+/// Makes the room of what is asked for, and writes the report. The monitors see the steps of a study.
 pub(crate) fn serve<S: Sink>(
     alloc: Global,
     asked: &Asked,
@@ -63,16 +201,16 @@ pub(crate) fn serve<S: Sink>(
         (shown S.written S.faults out.old) (shown S.written S.faults out.new) result }
 {
     match asked {
-        Asked::Network { mode, inputs } => reported(serve_network(alloc, *mode, inputs, out)),
-        Asked::Study { inputs, detail } => reported(study(alloc, inputs, *detail, monitors, out)),
-        Asked::Make { seed, size } => reported(make(alloc, *seed, *size, out)),
+        Asked::Network { mode, inputs } => serve_network(alloc, *mode, inputs, out),
+        Asked::Study { inputs, detail } => serve_study(alloc, inputs, *detail, monitors, out),
+        Asked::Make { seed, size } => serve_make(alloc, *seed, *size, out),
         Asked::Recheck {
             inputs,
             certificate,
-        } => rechecked(recheck(alloc, inputs, certificate.as_slice(), out)),
+        } => serve_recheck(alloc, inputs, certificate.as_slice(), out),
         Asked::Series {
             inputs,
             transformer,
-        } => reported(series(alloc, inputs, *transformer, out)),
+        } => serve_series(alloc, inputs, *transformer, out),
     }
 }

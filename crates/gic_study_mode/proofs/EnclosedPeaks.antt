@@ -2,14 +2,10 @@
 use Rattle.std.proofs.Common.{◌≡◌, ℕ, zero, suc, ◌*◌, ◌<◌, ◌≤◌, List, length, Option, Some, None, ℤ, pos, ◌*ℤ◌, ◌≤ℤ◌, unsigned_abs, refl, sym, subst, ◌∙◌, arith, inl, inr}
 use Rattle.std.specs.Prelude.{IfSome, IsSome, IsNone, MatchOption, IsTrue, ⊤}
 use Rattle.std.proofs.lemmas.Bool.{cases_lt}
-use Rattle.std.proofs.lemmas.Int.{ints, clamps}
 use Rattle.std.proofs.lemmas.List.{get_or-map, get_or_past, length-map}
 use Rattle.gic_case.specs.Lists.{Lists, node_names}
 use Rattle.gic_fixed.specs.Encloses.{Encloses}
 use Rattle.gic_fixed.specs.Ends.{Ends}
-use Rattle.gic_fixed.specs.Rounding.{greatest_abs}
-use Rattle.gic_fixed.proofs.Enclosures.{Encloses-abs, ≤ℤ-times}
-use Rattle.gic_fixed.proofs.Integers.{linear}
 use Rattle.gic_model.specs.Solution.{Solution, IsSolution}
 use Rattle.gic_model.specs.Standing.{IsLive, is_standing}
 use Rattle.gic_model.specs.Sums.{Placed}
@@ -22,11 +18,10 @@ use Rattle.gic_effective.specs.ViewLengths.{HasViewLengths}
 use Rattle.gic_effective.specs.Weighted.{effective_numerator, effective_denominator}
 use Rattle.gic_peaks.specs.Peaks.{peak_of, shown_at_node, shown_at_element, shown_of_transformer, IsPeaksOf}
 use Rattle.gic_peaks.specs.PeakLaws.{cell_at, AreEnclosed, EnclosesGreatest, PeakEnclosesGreatest, TransformerPeakIsPeak}
-use Rattle.gic_view.specs.Absolute.{absolute_ends}
 use Rattle.gic_inputs.specs.declared.inputs.StormInputs.{StormInputs}
 use Rattle.gic_course.specs.Steps.{IsStepOf, standing_at_step, storm_volts}
 use Rattle.gic_course.specs.Views.{AreRightViews, view_at}
-use Rattle.gic_study_mode.specs.PeakEnclosure.{AreSolutions, EnclosesPeak, EnclosesPeakIfAny, EnclosesNodePeak, EnclosesElementPeak, EnclosesTransformerPeak, AreEnclosing}
+use Rattle.gic_study_mode.specs.PeakEnclosure.{AreStepSolutions, EnclosesPeak, EnclosesPeakIfAny, EnclosesNodePeak, EnclosesElementPeak, EnclosesTransformerPeak, AreEnclosing}
 
 -- an interval is there exactly where its step counts, and encloses n/d
 abbrev IsCell : (Counts : Type 0) → ℤ → ℕ → Option Ends → Type 0
@@ -113,27 +108,13 @@ element_cell : (standing : List Placed) (volts : ℕ → ℤ) (place : ℕ) (s :
 element_cell standing volts place s None solves right = λ stands. grind (arith, right, stands)
 element_cell standing volts place s (Some e) solves right = (right.0, right.1 s solves)
 
--- the interval of a transformer, which is never missing, and its absolute interval
+-- the interval of a transformer, which is never missing
 some_peak : (inputs : StormInputs) (Counts : ℕ → Type 0) (n : ℕ → ℤ) (d : ℕ → ℕ) (peak : Option Ends) (e : Ends) → peak ≡ Some e → EnclosesPeakIfAny inputs Counts n d peak → EnclosesPeak inputs Counts n d e
 some_peak inputs Counts n d peak e is has = subst (EnclosesPeakIfAny inputs Counts n d) is has
 
-absolute_peak : (inputs : StormInputs) (Counts : ℕ → Type 0) (n : ℕ → ℤ) (d : ℕ → ℕ) (e : Ends) → EnclosesPeak inputs Counts n d e → EnclosesPeak inputs Counts n d (absolute_ends e)
-absolute_peak inputs Counts n d e has = record {
-  most = λ number own counts. higher e (pos (unsigned_abs (n number))) (d number) (has.most number own counts);
-  step = has.step;
-  own = has.own;
-  counts = has.counts;
-  least = (Encloses-abs e.low e.high (pos (unsigned_abs (n has.step))) (d has.step) (record { above_lo = has.least; below_hi = has.most has.step has.own has.counts })).above_lo;
-}
-  where
-    higher : (ends : Ends) (m : ℤ) (times : ℕ) → m ≤ℤ (ends.high *ℤ pos times) → m ≤ℤ (greatest_abs ends.low ends.high *ℤ pos times)
-    higher ends m times most =
-        let more = ≤ℤ-times ends.high (greatest_abs ends.low ends.high) times (omega (arith, ints, clamps)) in
-        omega (arith, linear, most, more)
-
 module _ (encloses : PeakEnclosesGreatest) (is_peak : TransformerPeakIsPeak) (inputs : StormInputs) (views : List View) (peaks : View) (right : AreRightViews inputs views)
     (peaks_are : IsPeaksOf views peaks) (lengths : HasViewLengths inputs.inputs.case peaks) (some : 1 ≤ length (steps_in inputs.storm.rows))
-    (solutions : ℕ → Solution) (solve : AreSolutions inputs solutions) where
+    (solutions : ℕ → Solution) (solve : AreStepSolutions inputs solutions) where
   abbrev pub case : Lists
   case = inputs.inputs.case
 
@@ -171,8 +152,8 @@ module _ (encloses : PeakEnclosesGreatest) (is_peak : TransformerPeakIsPeak) (in
       (element_cell (standing_at_step inputs (suc place)) (storm_volts inputs (suc place)) e (solutions (suc place)) (element_at (view_at views place) e) (solve (suc place) (step_at_place place there)) ((right.right place there).right.elements e within)))
       encloses)
 
-  pub transformer_peak : (t : ℕ) → t < length case.transformers → EnclosesTransformerPeak inputs solutions t (effective_at peaks t)
-  transformer_peak t within =
+  transformer_peaks : (t : ℕ) → t < length case.transformers → EnclosesTransformerPeak inputs solutions peaks t
+  transformer_peaks t within =
       let cells = shown_of_transformer views t in
       let many : length cells ≡ length views = length-map views (λ view. Some (effective_at view t)) in
       some_peak inputs (λ number. ⊤) (λ number. effective_numerator case (solutions number) t) (λ number. effective_denominator case t (solutions number)) (peak_of cells) (effective_at peaks t)
@@ -186,8 +167,4 @@ module _ (encloses : PeakEnclosesGreatest) (is_peak : TransformerPeakIsPeak) (in
       encloses)
 
   pub enclosing : AreEnclosing inputs peaks solutions
-  enclosing = record {
-    nodes = node_peaks;
-    elements = element_peaks;
-    transformers = λ t within. absolute_peak inputs (λ number. ⊤) (λ number. effective_numerator case (solutions number) t) (λ number. effective_denominator case t (solutions number)) (effective_at peaks t) (transformer_peak t within);
-  }
+  enclosing = record { nodes = node_peaks; elements = element_peaks; transformers = transformer_peaks }

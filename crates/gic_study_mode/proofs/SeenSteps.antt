@@ -4,27 +4,26 @@ use Rattle.std.specs.Prelude.{if◌then◌else◌}
 use Rattle.std.proofs.lemmas.Bool.{cases_lt}
 use Rattle.std.proofs.lemmas.Bool.Decides.{nat_tests}
 use Rattle.std.proofs.lemmas.List.{get_or_push, get_or_append_left}
-use Rattle.std.proofs.lemmas.List.Elements.{All-nil, All-push}
+use Rattle.std.proofs.lemmas.List.Elements.{All-nil}
 use Rattle.gic_view.specs.View.{View}
 use Rattle.gic_view.specs.Kept.{blank_view}
 use Rattle.gic_effective.specs.Narrow.{IsNarrowView}
-use Rattle.gic_peaks.specs.Peaks.{HasAbsolutes, IsPeaksOf}
+use Rattle.gic_peaks.specs.Peaks.{IsPeaksOf}
 use Rattle.gic_inputs.specs.declared.inputs.StormInputs.{StormInputs}
 use Rattle.gic_course.specs.Views.{IsRightStep, view_at}
 use Rattle.gic_uniform.specs.Solving.{IsSmallView}
 use Rattle.gic_course.proofs.RightSoFar.{right_step, none_so_far, one_more_right, one_more_narrow, one_more_small}
 use Rattle.gic_study_mode.specs.declared.views.Views.{Views}
-use Rattle.gic_study_mode.specs.Seen.{IsRoomFor, is_asked, HasShown, HasSeen}
+use Rattle.gic_study_mode.specs.Seen.{IsRoomForViews, is_asked, HasShown, HasSeen}
 
 -- nothing was seen
-pub none_seen : (inputs : StormInputs) (asked : Option ℕ) (texts : List View → List (List ℕ)) (views : Views) → IsPeaksOf [] views.peaks → IsRoomFor inputs.inputs.case views → HasSeen inputs asked 0 texts texts views
+pub none_seen : (inputs : StormInputs) (asked : Option ℕ) (texts : List View → List (List ℕ)) (views : Views) → IsPeaksOf [] views.peaks → IsRoomForViews inputs.inputs.case views → HasSeen inputs asked 0 texts texts views
 none_seen inputs asked texts views none room = record {
   views = [];
   one_each = refl;
   right = none_so_far inputs;
   narrow = All-nil (IsNarrowView inputs.inputs.case inputs.inputs.question.width);
   small = All-nil (IsSmallView inputs.inputs.case);
-  absolutes = All-nil HasAbsolutes;
   peaks_are = none;
   asked_is = λ number is least most. absurd (omega (arith, least, most));
   texts = λ rest. refl;
@@ -52,14 +51,13 @@ pub next_seen : (inputs : StormInputs) (asked : Option ℕ) (count : ℕ) (befor
 next_seen inputs asked count before mid now old new seen shown =
     let views = seen.views in
     let view = shown.view in
-    let own = right_step inputs inputs.inputs.question.width (count + 1) view shown.own.solved in
+    let own = right_step inputs inputs.inputs.question.width (count + 1) view shown.own in
     record {
       views = views ++ view ∷ [];
       one_each = omega (arith, length-append views (view ∷ []), seen.one_each);
       right = one_more_right inputs views view seen.right (subst (λ n. IsRightStep inputs n view) (omega (arith, seen.one_each)) own);
-      narrow = one_more_narrow inputs.inputs.case inputs.inputs.question.width views view seen.narrow shown.own.solved.solved.narrow;
-      small = one_more_small inputs.inputs.case views view seen.small shown.own.solved.solved.small;
-      absolutes = All-push HasAbsolutes views view seen.absolutes shown.own.absolutes;
+      narrow = one_more_narrow inputs.inputs.case inputs.inputs.question.width views view seen.narrow shown.own.solved.narrow;
+      small = one_more_small inputs.inputs.case views view seen.small shown.own.solved.small;
       peaks_are = shown.raised views seen.peaks_are;
       asked_is = λ number is least most.
           asked_stays number count views view old.asked new.asked seen.one_each least most

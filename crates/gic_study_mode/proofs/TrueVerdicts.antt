@@ -1,4 +1,4 @@
--- The verdicts on peaks are true of every choice of solutions, and peaks are narrow.
+-- The verdicts on peaks are true of every choice of solutions.
 use Rattle.std.proofs.Common.{ℕ}
 use Rattle.gic_fixed.specs.Ends.{Ends}
 use Rattle.gic_case.specs.Sound.{IsSound}
@@ -8,18 +8,17 @@ use Rattle.gic_winding.specs.Weights.{transformer_at}
 use Rattle.gic_effective.specs.Weighted.{effective_numerator, effective_denominator}
 use Rattle.gic_screen.specs.VerdictLaws.{BelowIsUnder, ReachesIsAtLeast, UndecidedIsAcross}
 use Rattle.gic_report.specs.VerdictText.{earthed_high}
-use Rattle.gic_view.specs.Absolute.{absolute_ends}
 use Rattle.gic_uniform.proofs.Denominators.{some_denominator}
 use Rattle.gic_inputs.specs.declared.inputs.StormInputs.{StormInputs}
-use Rattle.gic_study_mode.specs.PeakEnclosure.{AreSolutions, AreEnclosing}
-use Rattle.gic_study_mode.specs.PeakVerdicts.{AreTrueVerdicts}
+use Rattle.gic_study_mode.specs.PeakEnclosure.{AreStepSolutions, AreEnclosing}
+use Rattle.gic_study_mode.specs.PeakVerdicts.{AreTruePeakVerdicts}
 
 pub true_verdicts : BelowIsUnder → ReachesIsAtLeast → UndecidedIsAcross → (inputs : StormInputs) (threshold : ℕ) (peaks : View) → IsSound inputs.inputs.case
-    → ((solutions : ℕ → Solution) → AreSolutions inputs solutions → AreEnclosing inputs peaks solutions)
-    → AreTrueVerdicts inputs threshold peaks
+    → ((solutions : ℕ → Solution) → AreStepSolutions inputs solutions → AreEnclosing inputs peaks solutions)
+    → AreTruePeakVerdicts inputs threshold peaks
 true_verdicts below reaches undecided inputs threshold peaks sound enclosing =
     let case = inputs.inputs.case in
-    let shown : ℕ → Ends = λ t. absolute_ends (effective_at peaks t) in
+    let shown : ℕ → Ends = λ t. effective_at peaks t in
     let row = transformer_at case in
     record {
       below = λ t within verdict solutions solve number step.

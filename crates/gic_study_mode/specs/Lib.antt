@@ -6,3 +6,4 @@ pub mod Made
 pub mod PeakEnclosure
 pub mod PeakVerdicts
 pub mod RightStudy
+pub mod ServesStudy

@@ -1,18 +1,18 @@
--- What a study makes before it looks at any step. For the contracts of this crate.
+-- What a study makes before it looks at any step.
 use Rattle.std.specs.Prelude.{◌≡◌, ℕ, [], Option, option_map}
 use Rattle.gic_peaks.specs.Peaks.{IsPeaksOf}
 use Rattle.gic_inputs.specs.declared.inputs.StormInputs.{StormInputs}
 use Rattle.gic_course.specs.CourseOf.{IsCourseOf}
 use Rattle.gic_course.specs.Steps.{storm_fields}
-use Rattle.gic_study_mode.specs.declared.room.Room.{Room}
+use Rattle.gic_study_mode.specs.declared.room.StepsRoom.{StepsRoom}
 use Rattle.gic_study_mode.specs.Asked.{asked_step}
 use Rattle.gic_study_mode.specs.Roster.{roster_of}
-use Rattle.gic_study_mode.specs.Seen.{IsRoomFor}
+use Rattle.gic_study_mode.specs.Seen.{IsRoomForViews}
 
 -- the course is that of the storm, the fields are those of the asked step, the roster is the case's, and no view was seen
-pub record IsMadeFor (inputs : StormInputs) (detail : Option ℕ) (room : Room) : Type 0 where
+pub record IsMadeFor (inputs : StormInputs) (detail : Option ℕ) (room : StepsRoom) : Type 0 where
   pub course : IsCourseOf inputs room.course
   pub fields : room.fields ≡ option_map (storm_fields inputs) (asked_step inputs detail)
   pub roster : room.roster ≡ roster_of inputs.inputs.case inputs.inputs.question.event
-  pub views : IsRoomFor inputs.inputs.case room.views
+  pub views : IsRoomForViews inputs.inputs.case room.views
   pub of_none : IsPeaksOf [] room.views.peaks

@@ -7,13 +7,12 @@ use Rattle.gic_model.specs.Standing.{IsLive, is_standing}
 use Rattle.gic_view.specs.View.{View, node_at, element_at, effective_at}
 use Rattle.gic_winding.specs.ElementList.{elements_of}
 use Rattle.gic_effective.specs.Weighted.{effective_numerator, effective_denominator}
-use Rattle.gic_view.specs.Absolute.{absolute_ends}
 use Rattle.gic_inputs.specs.declared.inputs.StormInputs.{StormInputs}
 use Rattle.gic_course.specs.Steps.{IsStepOf, standing_at_step, storm_volts}
 
 -- a solution of each step of the storm
-abbrev pub AreSolutions : StormInputs → (solutions : ℕ → Solution) → Type 0
-AreSolutions inputs solutions = (number : ℕ) → IsStepOf inputs number → IsSolution (standing_at_step inputs number) (storm_volts inputs number) (solutions number)
+abbrev pub AreStepSolutions : StormInputs → (solutions : ℕ → Solution) → Type 0
+AreStepSolutions inputs solutions = (number : ℕ) → IsStepOf inputs number → IsSolution (standing_at_step inputs number) (storm_volts inputs number) (solutions number)
 
 -- the interval encloses the greatest |n/d| over the steps that count: at each of them it is at most the high end, and at one it is at least the low end
 pub record EnclosesPeak (inputs : StormInputs) (Counts : ℕ → Type 0) (n : ℕ → ℤ) (d : ℕ → ℕ) (e : Ends) : Type 0 where
@@ -38,13 +37,13 @@ abbrev pub EnclosesElementPeak : StormInputs → (solutions : ℕ → Solution) 
 EnclosesElementPeak inputs solutions peaks place =
     EnclosesPeakIfAny inputs (λ number. IsTrue (is_standing (standing_at_step inputs number) place)) (λ number. (solutions number).current place) (λ number. 1000000 * (solutions number).denominator) (element_at peaks place)
 
--- that of a transformer is that of its effective currents over all steps. A report shows the absolute interval of it
-abbrev pub EnclosesTransformerPeak : StormInputs → (solutions : ℕ → Solution) → (t : ℕ) → Ends → Type 0
-EnclosesTransformerPeak inputs solutions t e =
-    EnclosesPeak inputs (λ number. ⊤) (λ number. effective_numerator inputs.inputs.case (solutions number) t) (λ number. effective_denominator inputs.inputs.case t (solutions number)) e
+-- that of a transformer is that of its effective currents over all steps
+abbrev pub EnclosesTransformerPeak : StormInputs → (solutions : ℕ → Solution) → (peaks : View) → (t : ℕ) → Type 0
+EnclosesTransformerPeak inputs solutions peaks t =
+    EnclosesPeak inputs (λ number. ⊤) (λ number. effective_numerator inputs.inputs.case (solutions number) t) (λ number. effective_denominator inputs.inputs.case t (solutions number)) (effective_at peaks t)
 
 -- each peak encloses the greatest absolute value over the steps
 pub record AreEnclosing (inputs : StormInputs) (peaks : View) (solutions : ℕ → Solution) : Type 0 where
   pub nodes : (k : ℕ) → k < length (node_names inputs.inputs.case) → EnclosesNodePeak inputs solutions peaks k
   pub elements : (place : ℕ) → place < length (elements_of inputs.inputs.case).list → EnclosesElementPeak inputs solutions peaks place
-  pub transformers : (t : ℕ) → t < length inputs.inputs.case.transformers → EnclosesTransformerPeak inputs solutions t (absolute_ends (effective_at peaks t))
+  pub transformers : (t : ℕ) → t < length inputs.inputs.case.transformers → EnclosesTransformerPeak inputs solutions peaks t

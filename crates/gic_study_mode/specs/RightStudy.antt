@@ -2,7 +2,7 @@
 use Rattle.std.specs.Prelude.{◌≡◌, ℕ, ◌-◌, List, length, Option, option_map}
 use Rattle.gic_storm.specs.Steps.{steps_in}
 use Rattle.gic_view.specs.View.{View}
-use Rattle.gic_effective.specs.ViewLengths.{HasViewLengths}
+use Rattle.gic_effective.specs.Narrow.{IsNarrowView}
 use Rattle.gic_screen.specs.Event.{threshold_of}
 use Rattle.gic_peaks.specs.Peaks.{IsPeaksOf}
 use Rattle.gic_model.specs.Solution.{Solution}
@@ -13,8 +13,8 @@ use Rattle.gic_course.specs.Views.{AreRightViews, AreNarrowViews, AreSmallViews,
 use Rattle.gic_study_text.specs.StudyText.{DetailView, study_text}
 use Rattle.gic_study_mode.specs.Asked.{asked_step}
 use Rattle.gic_study_mode.specs.Roster.{roster_of}
-use Rattle.gic_study_mode.specs.PeakEnclosure.{AreSolutions, AreEnclosing}
-use Rattle.gic_study_mode.specs.PeakVerdicts.{AreTrueVerdicts, AreNarrowPeaks}
+use Rattle.gic_study_mode.specs.PeakEnclosure.{AreStepSolutions, AreEnclosing}
+use Rattle.gic_study_mode.specs.PeakVerdicts.{AreTruePeakVerdicts}
 
 -- a step in detail: its fields, and its view among those of all steps
 abbrev pub detail_at : StormInputs → List View → (number : ℕ) → DetailView
@@ -38,8 +38,7 @@ pub record IsRightStudy (inputs : StormInputs) (detail : Option ℕ) (plans : Ro
   pub small : AreSmallViews inputs.inputs.case views
   pub peaks : View
   pub peaks_are : IsPeaksOf views peaks
-  pub lengths : HasViewLengths inputs.inputs.case peaks
-  pub narrow_peaks : AreNarrowPeaks inputs.inputs.case inputs.inputs.question.width peaks
-  pub enclosed : (solutions : ℕ → Solution) → AreSolutions inputs solutions → AreEnclosing inputs peaks solutions
-  pub verdicts : AreTrueVerdicts inputs (threshold_of inputs.inputs.question.event) peaks
+  pub narrow_peaks : IsNarrowView inputs.inputs.case inputs.inputs.question.width peaks
+  pub enclosed : (solutions : ℕ → Solution) → AreStepSolutions inputs solutions → AreEnclosing inputs peaks solutions
+  pub verdicts : AreTruePeakVerdicts inputs (threshold_of inputs.inputs.question.event) peaks
   pub text_is : text ≡ report_text inputs detail plans views peaks

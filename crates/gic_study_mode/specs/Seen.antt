@@ -1,9 +1,9 @@
 -- What a study has seen of a storm.
-use Rattle.std.specs.Prelude.{◌≡◌, ℕ, ◌-◌, ◌≤◌, ◌==◌, ℤ, List, [], ◌∷◌, ◌++◌, length, Bool, false, All, Option, None, Some, if◌then◌else◌}
+use Rattle.std.specs.Prelude.{◌≡◌, ℕ, ◌-◌, ◌≤◌, ◌==◌, ℤ, List, [], ◌∷◌, ◌++◌, length, Bool, false, Option, None, Some, if◌then◌else◌}
 use Rattle.gic_case.specs.Lists.{Lists}
 use Rattle.gic_view.specs.View.{View}
 use Rattle.gic_effective.specs.ViewLengths.{HasViewLengths}
-use Rattle.gic_peaks.specs.Peaks.{HasAbsolutes, IsPeaksOf}
+use Rattle.gic_peaks.specs.Peaks.{IsPeaksOf}
 use Rattle.gic_inputs.specs.declared.inputs.StormInputs.{StormInputs}
 use Rattle.gic_course.specs.Views.{IsSolvedStep, AreRightSoFar, AreNarrowViews, AreSmallViews, view_at}
 use Rattle.gic_study_text.specs.StudyText.{DetailView}
@@ -14,15 +14,14 @@ abbrev pub with_view : View → (fields : List (ℤ × ℤ)) → DetailView
 with_view view fields = record { fields = fields; view = view }
 
 -- there is room for each node, element and transformer of the case
-pub record IsRoomFor (case : Lists) (views : Views) : Type 0 where
+pub record IsRoomForViews (case : Lists) (views : Views) : Type 0 where
   pub peaks : HasViewLengths case views.peaks
   pub asked : HasViewLengths case views.asked
   pub other : HasViewLengths case views.other
 
--- the view is solved for the step, and none of its intervals is wider than asked; each has an absolute value of 128 bits
-pub record IsViewOf (inputs : StormInputs) (number : ℕ) (view : View) : Type 0 where
-  pub solved : IsSolvedStep inputs inputs.inputs.question.width number view
-  pub absolutes : HasAbsolutes view
+-- the view is solved for the step, and none of its intervals is wider than asked
+abbrev pub IsViewOf : StormInputs → (number : ℕ) → View → Type 0
+IsViewOf inputs number view = IsSolvedStep inputs inputs.inputs.question.width number view
 
 -- one view more is behind the peaks
 abbrev pub AreRaisedBy : View → (old new : View) → Type 0
@@ -44,7 +43,7 @@ pub record HasShown (inputs : StormInputs) (asked : Option ℕ) (number : ℕ) (
   pub raised : AreRaisedBy view old.peaks new.peaks
   pub stays : new.asked ≡ (if is_asked asked number then view else old.asked)
   pub texts : AreShown view before now
-  pub room : IsRoomFor inputs.inputs.case new
+  pub room : IsRoomForViews inputs.inputs.case new
 
 -- one list of views is behind the peaks, the asked view and the texts: right for the first steps, this many, narrow and small
 pub record HasSeen (inputs : StormInputs) (asked : Option ℕ) (count : ℕ) (before now : List View → List (List ℕ)) (seen : Views) : Type 0 where
@@ -53,8 +52,7 @@ pub record HasSeen (inputs : StormInputs) (asked : Option ℕ) (count : ℕ) (be
   pub right : AreRightSoFar inputs views
   pub narrow : AreNarrowViews inputs.inputs.case inputs.inputs.question.width views
   pub small : AreSmallViews inputs.inputs.case views
-  pub absolutes : All HasAbsolutes views
   pub peaks_are : IsPeaksOf views seen.peaks
   pub asked_is : (number : ℕ) → asked ≡ Some number → 1 ≤ number → number ≤ count → seen.asked ≡ view_at views (number - 1)
   pub texts : (rest : List View) → now rest ≡ before (views ++ rest)
-  pub room : IsRoomFor inputs.inputs.case seen
+  pub room : IsRoomForViews inputs.inputs.case seen

@@ -2,6 +2,7 @@
 #![tactic(auto)]
 
 mod asked;
+mod fault;
 mod mode;
 mod room;
 mod roster;
@@ -10,4 +11,6 @@ mod texts;
 mod views;
 mod writing;
 
+pub use fault::StudyFault;
 pub use mode::study;
+pub use room::{Room, StepsRoom, make_room};

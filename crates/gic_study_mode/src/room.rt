@@ -1,7 +1,10 @@
 //! What a study makes before it looks at any step.
-ghost use Rattle.std.specs.Prelude.{IfOk};
+ghost use Rattle.std.specs.Prelude.{◌≡◌, List, map, length, IfOk};
+ghost use Rattle.gic_monitor.specs.OnBoard.{monitors_of};
 ghost use Rattle.gic_inputs.specs.Inputs.{IsStormOf};
 ghost use Rattle.gic_study_mode.specs.Made.{IsMadeFor};
+ghost use Rattle.gic_study_mode.specs.Roster.{roster_of};
+ghost use Rattle.gic_view.specs.View.{View};
 
 use crate::asked::{asked_fields, asked_step};
 use crate::roster::roster_of;
@@ -10,13 +13,13 @@ use gic_base::OutOfMemory;
 use gic_course::Course;
 use gic_induce::Fields;
 use gic_inputs::StormInputs;
-use gic_monitor::Roster;
+use gic_monitor::{Board, Monitor, Roster};
 use gic_text::LineBuilder;
 use std::alloc::Global;
 
-/// What a study takes memory for before it looks at any step.
+/// What a study writes to, and what its monitors begin with.
 #[derive(Drop)]
-pub(crate) struct Room {
+pub struct StepsRoom {
     pub(crate) line: LineBuilder,
     pub(crate) course: Course,
     pub(crate) views: Views,
@@ -25,12 +28,12 @@ pub(crate) struct Room {
     pub(crate) roster: Roster,
 }
 
-/// Room for a study of this storm, with the step that is asked for in detail.
-pub(crate) fn make_room(
+/// Room for the steps of this storm, with the one that is asked for in detail.
+fn make_steps_room(
     alloc: Global,
     inputs: &StormInputs,
     detail: Option<u32>,
-) -> Result<Room, OutOfMemory>
+) -> Result<StepsRoom, OutOfMemory>
     requires { IsStormOf inputs.now }
     ensures { IfOk result (IsMadeFor inputs.now detail) }
 {
@@ -40,11 +43,37 @@ pub(crate) fn make_room(
     let roster = roster_of(alloc, &inputs.inputs.case, inputs.inputs.question.event)?;
     let course = Course::new(alloc, inputs)?;
     let views = make_views(alloc, inputs, &course)?;
-    Ok(Room {
+    Ok(StepsRoom {
         line,
         course,
         views,
         fields,
         roster,
     })
+}
+
+/// All that a study takes memory for before it looks at any step. Its monitors have begun.
+#[derive(Drop)]
+pub struct Room {
+    pub(crate) steps: StepsRoom,
+    pub(crate) board: Board,
+}
+
+/// Room for a study of this storm, with the step that is asked for in detail. The monitors begin, each once, in order.
+pub fn make_room(
+    alloc: Global,
+    inputs: &StormInputs,
+    detail: Option<u32>,
+    monitors: Vec<Box<dyn Monitor>>,
+) -> Result<Room, OutOfMemory>
+    requires { IsStormOf inputs.now }
+    ensures made { IfOk result (λ room. IsMadeFor inputs.now detail room.steps) }
+    ensures count { IfOk result (λ room. length (monitors_of room.board) ≡ length monitors.items) }
+    ensures plans { IfOk result (λ room. (views : List View) → map (λ m. (⟦<dyn Monitor as Monitor>⟧ m.vtable).outlook m.value views) (monitors_of room.board)
+        ≡ map (λ m. plan m (roster_of inputs.now.inputs.case inputs.now.inputs.question.event) views) monitors.items) }
+{
+    let steps = make_steps_room(alloc, inputs, detail)?;
+    let mut board = Board::new(monitors);
+    board.begin(&steps.roster)?;
+    Ok(Room { steps, board })
 }

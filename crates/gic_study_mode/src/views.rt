@@ -2,7 +2,7 @@
 ghost use Rattle.std.specs.Prelude.{[], IfOk};
 ghost use Rattle.gic_peaks.specs.Peaks.{IsPeaksOf};
 ghost use Rattle.gic_course.specs.CourseOf.{IsCourseOf};
-ghost use Rattle.gic_study_mode.specs.Seen.{IsRoomFor};
+ghost use Rattle.gic_study_mode.specs.Seen.{IsRoomForViews};
 
 use gic_base::OutOfMemory;
 use gic_course::Course;
@@ -30,7 +30,7 @@ pub(crate) fn make_views(
     course: &Course,
 ) -> Result<Views, OutOfMemory>
     requires { IsCourseOf inputs.now course.now }
-    ensures room { IfOk result (IsRoomFor inputs.now.inputs.case) }
+    ensures room { IfOk result (IsRoomForViews inputs.now.inputs.case) }
     ensures of_none { IfOk result (λ views. IsPeaksOf [] views.peaks) }
 {
     let asked = course.blank_view(alloc, inputs)?;

@@ -1,5 +1,5 @@
 -- What lines of zones and of the peaks of transformers determine, and how many lines there are.
-use Rattle.std.proofs.Common.{◌≡◌, ◌∙◌, ℕ, suc, Option, List, [], ◌∷◌, ◌++◌, map, length, drop, get_or, ℤ, refl, sym, ap, arith}
+use Rattle.std.proofs.Common.{◌≡◌, ◌∙◌, ℕ, suc, Option, List, [], ◌∷◌, ◌++◌, map, length, drop, get_or, ℤ, refl, ap, arith}
 use Rattle.std.specs.Prelude.{codes}
 use Rattle.std.specs.Fmt.{signed_decimal}
 use Rattle.std.specs.List.{AllByRecursion}
@@ -11,12 +11,11 @@ use Rattle.gic_case.specs.declared.item.Transformer.{Transformer}
 use Rattle.gic_report.specs.SharedLines.{Words}
 use Rattle.gic_report.specs.Fits.{AreInRange}
 use Rattle.gic_report.specs.ItemText.{node_lines, per_transformer}
-use Rattle.gic_report.specs.VerdictText.{judged_line, transformer_line, transformer_lines}
-use Rattle.gic_view.specs.Absolute.{absolute_ends}
+use Rattle.gic_report.specs.VerdictText.{absolute_line, absolute_lines, judged_line}
 use Rattle.gic_report.proofs.ViewDetermined.{same_ends}
 use Rattle.gic_report.proofs.WordsDetermined.{field_is_line, same_field_line}
 use Rattle.gic_study_text.specs.StudyText.{zone_line, zone_lines}
-use Rattle.gic_study_text.specs.Determines.{IsAbsolute, IsFieldInRange}
+use Rattle.gic_study_text.specs.Determines.{IsFieldInRange}
 
 -- ---- how many lines
 
@@ -67,28 +66,22 @@ same_zones (zone ∷ zones) (x ∷ xs) (y ∷ ys) p q h k e =
 
 -- ---- the peaks of transformers
 
-judged_ends : (threshold threshold' : ℕ) (t : Transformer) (x y : Ends) → transformer_line threshold t x ≡ transformer_line threshold' t y
-    → signed_decimal (absolute_ends x).low ∷ signed_decimal (absolute_ends x).high ∷ [] ≡ signed_decimal (absolute_ends y).low ∷ signed_decimal (absolute_ends y).high ∷ []
+judged_ends : (threshold threshold' : ℕ) (t : Transformer) (x y : Ends) → absolute_line threshold t x ≡ absolute_line threshold' t y
+    → signed_decimal x.low ∷ signed_decimal x.high ∷ [] ≡ signed_decimal y.low ∷ signed_decimal y.high ∷ []
 unfolding judged_line
 judged_ends threshold threshold' t x y e = ap (λ ws. get_or ws 2 [] ∷ get_or ws 3 [] ∷ []) e
 
-same_peak : (threshold threshold' : ℕ) (t : Transformer) (x y : Ends) → AreInRange x → AreInRange y → IsAbsolute x → IsAbsolute y
-    → transformer_line threshold t x ≡ transformer_line threshold' t y → x ≡ y
-same_peak threshold threshold' t x y h k a b e =
-    let words : Ends → Words = λ l. signed_decimal l.low ∷ signed_decimal l.high ∷ [] in
-    same_ends x y h k (ap words (sym a) ∙ judged_ends threshold threshold' t x y e ∙ ap words b)
-
 pub same_peaks : (threshold threshold' : ℕ) (ts : List Transformer) (xs ys : List Ends) → length xs ≡ length ts → length ys ≡ length ts → AllByRecursion AreInRange xs → AllByRecursion AreInRange ys
-    → AllByRecursion IsAbsolute xs → AllByRecursion IsAbsolute ys → transformer_lines threshold ts xs ≡ transformer_lines threshold' ts ys → xs ≡ ys
-same_peaks threshold threshold' [] [] [] p q h k a b e = refl
-same_peaks threshold threshold' [] [] (y ∷ ys) p q h k a b e = absurd (omega (arith, q))
-same_peaks threshold threshold' [] (x ∷ xs) ys p q h k a b e = absurd (omega (arith, p))
-same_peaks threshold threshold' (t ∷ ts) [] ys p q h k a b e = absurd (omega (arith, p))
-same_peaks threshold threshold' (t ∷ ts) (x ∷ xs) [] p q h k a b e = absurd (omega (arith, q))
-same_peaks threshold threshold' (t ∷ ts) (x ∷ xs) (y ∷ ys) p q h k a b e =
-    let both : transformer_line threshold t x ∷ transformer_lines threshold ts xs ≡ transformer_line threshold' t y ∷ transformer_lines threshold' ts ys = e in
-    let line : transformer_line threshold t x ≡ transformer_line threshold' t y = cc in
-    let later : transformer_lines threshold ts xs ≡ transformer_lines threshold' ts ys = cc in
-    let here : x ≡ y = same_peak threshold threshold' t x y h.0 k.0 a.0 b.0 line in
-    let more = same_peaks threshold threshold' ts xs ys (omega (arith, p)) (omega (arith, q)) h.1 k.1 a.1 b.1 later in
+    → absolute_lines threshold ts xs ≡ absolute_lines threshold' ts ys → xs ≡ ys
+same_peaks threshold threshold' [] [] [] p q h k e = refl
+same_peaks threshold threshold' [] [] (y ∷ ys) p q h k e = absurd (omega (arith, q))
+same_peaks threshold threshold' [] (x ∷ xs) ys p q h k e = absurd (omega (arith, p))
+same_peaks threshold threshold' (t ∷ ts) [] ys p q h k e = absurd (omega (arith, p))
+same_peaks threshold threshold' (t ∷ ts) (x ∷ xs) [] p q h k e = absurd (omega (arith, q))
+same_peaks threshold threshold' (t ∷ ts) (x ∷ xs) (y ∷ ys) p q h k e =
+    let both : absolute_line threshold t x ∷ absolute_lines threshold ts xs ≡ absolute_line threshold' t y ∷ absolute_lines threshold' ts ys = e in
+    let line : absolute_line threshold t x ≡ absolute_line threshold' t y = cc in
+    let later : absolute_lines threshold ts xs ≡ absolute_lines threshold' ts ys = cc in
+    let here : x ≡ y = same_ends x y h.0 k.0 (judged_ends threshold threshold' t x y line) in
+    let more = same_peaks threshold threshold' ts xs ys (omega (arith, p)) (omega (arith, q)) h.1 k.1 later in
     ap (λ z. z ∷ xs) here ∙ ap (λ zs. y ∷ zs) more

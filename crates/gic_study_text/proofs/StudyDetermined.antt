@@ -15,15 +15,15 @@ use Rattle.gic_effective.specs.ViewLengths.{HasViewLengths}
 use Rattle.gic_report.specs.SharedLines.{Words, word_line}
 use Rattle.gic_report.specs.declared.rows.ItemRow.{ItemRow}
 use Rattle.gic_report.specs.Fits.{HasNames, IsViewInRange}
-use Rattle.gic_report.specs.ItemText.{effective_line, effective_lines, node_lines, row_lines, rows_of}
-use Rattle.gic_report.specs.VerdictText.{transformer_line, transformer_lines}
+use Rattle.gic_report.specs.ItemText.{effective_line, effective_lines, node_lines, row_lines, item_rows_of}
+use Rattle.gic_report.specs.VerdictText.{absolute_line, absolute_lines}
 use Rattle.gic_report.proofs.CaseNames.{zone_names}
 use Rattle.gic_report.proofs.LinePlaces.{row_count}
 use Rattle.gic_report.proofs.ShownViews.{AreNamed, IsShown, are_items, case_named, case_shown, same_items}
-use Rattle.gic_report.proofs.ViewDetermined.{are_effectives, are_transformers, same_effectives}
+use Rattle.gic_report.proofs.ViewDetermined.{are_absolutes, are_effectives, same_effectives}
 use Rattle.gic_report.proofs.WordsDetermined.{first_of_lines, same_natural, word_at}
-use Rattle.gic_study_text.specs.StudyText.{DetailView, monitor_texts, setting_line, step_line, study_lines, zone_lines}
-use Rattle.gic_study_text.specs.Determines.{AreShownOf, IsAbsolute, IsDetailOf, IsFieldInRange, TextDeterminesStudy}
+use Rattle.gic_study_text.specs.StudyText.{DetailView, monitor_texts, study_setting_line, detail_step_line, study_lines, zone_lines}
+use Rattle.gic_study_text.specs.Determines.{AreShownOf, IsDetailOf, IsFieldInRange, TextDeterminesStudy}
 use Rattle.gic_study_text.proofs.Fronts.{first_lines, front_lines, split_front}
 use Rattle.gic_study_text.proofs.MonitorsDetermined.{last_line, monitors_determined}
 use Rattle.gic_study_text.proofs.PartsDetermined.{are_zones, node_count, same_peaks, same_zones, transformer_count, zone_count}
@@ -47,11 +47,11 @@ module _ (zones : List ZoneView) (names : List (List ℕ)) (rows : List ItemRow)
   signed v = node_lines names v.nodes ++ (row_lines rows v.elements ++ effective_lines ts v.effective)
 
   abbrev peaked : (threshold : ℕ) → View → List Words
-  peaked threshold v = node_lines names v.nodes ++ (row_lines rows v.elements ++ transformer_lines threshold ts v.effective)
+  peaked threshold v = node_lines names v.nodes ++ (row_lines rows v.elements ++ absolute_lines threshold ts v.effective)
 
   -- those of a step in detail, and of one that there may be
   abbrev detailed : DetailView → List Words
-  detailed d = step_line d.view.number d.view.time ∷ (zone_lines zones d.fields ++ signed d.view)
+  detailed d = detail_step_line d.view.number d.view.time ∷ (zone_lines zones d.fields ++ signed d.view)
 
   abbrev block : Option DetailView → List Words
   block None = []
@@ -79,10 +79,10 @@ module _ (zones : List ZoneView) (names : List (List ℕ)) (rows : List ItemRow)
 
   peaked_are : (threshold : ℕ) (v : View) → AreNamed names rows ts → IsShown names rows ts v → AllByRecursion IsLine (peaked threshold v)
   peaked_are threshold v n s =
-      let judged = subst (AllByRecursion IsLine) (append-nil (transformer_lines threshold ts v.effective)) (are_transformers threshold ts v.effective [] n.transformer_words s.transformer_count s.effective_fit tt) in
-      are_items names rows ts v (transformer_lines threshold ts v.effective) n s judged
+      let judged = subst (AllByRecursion IsLine) (append-nil (absolute_lines threshold ts v.effective)) (are_absolutes threshold ts v.effective [] n.transformer_words s.transformer_count s.effective_fit tt) in
+      are_items names rows ts v (absolute_lines threshold ts v.effective) n s judged
 
-  step_is : (number time : ℕ) → number < 2 ^ 32 → time < 2 ^ 32 → IsLine (step_line number time)
+  step_is : (number time : ℕ) → number < 2 ^ 32 → time < 2 ^ 32 → IsLine (detail_step_line number time)
   step_is number time h k = (word_from_test (codes "step") refl, (word_decimal number (omega (arith, h)), (word_from_test (codes "time") refl, (word_decimal time (omega (arith, k)), tt))))
 
   detailed_are : (d : DetailView) → AreAllNamed → IsDetail d → AllByRecursion IsLine (detailed d)
@@ -100,8 +100,8 @@ module _ (zones : List ZoneView) (names : List (List ℕ)) (rows : List ItemRow)
 
   peaked_count : (threshold : ℕ) (v : View) → length (peaked threshold v) ≡ length names + (length rows + length ts)
   peaked_count threshold v =
-      items_count (node_lines names v.nodes) (row_lines rows v.elements) (transformer_lines threshold ts v.effective) (length names) (length rows) (length ts)
-      (node_count names v.nodes) (row_count rows v.elements) (transformer_count (transformer_line threshold) ts v.effective)
+      items_count (node_lines names v.nodes) (row_lines rows v.elements) (absolute_lines threshold ts v.effective) (length names) (length rows) (length ts)
+      (node_count names v.nodes) (row_count rows v.elements) (transformer_count (absolute_line threshold) ts v.effective)
 
   detailed_count : (d : DetailView) → IsDetail d → length (zone_lines zones d.fields ++ signed d.view) ≡ length zones + (length names + (length rows + length ts))
   detailed_count d h = omega (arith, length-append (zone_lines zones d.fields) (signed d.view), zone_count zones d.fields h.zone_count, signed_count d.view)
@@ -123,19 +123,19 @@ module _ (zones : List ZoneView) (names : List (List ℕ)) (rows : List ItemRow)
         effective = same_effectives ts v.effective w.effective [] [] s.transformer_count t.transformer_count s.effective_fit t.effective_fit last;
       }
 
-  same_peaked : (threshold threshold' : ℕ) (v w : View) → IsShown names rows ts v → IsShown names rows ts w → AllByRecursion IsAbsolute v.effective → AllByRecursion IsAbsolute w.effective
+  same_peaked : (threshold threshold' : ℕ) (v w : View) → IsShown names rows ts v → IsShown names rows ts w
       → peaked threshold v ≡ peaked threshold' w → SameShown v w
-  same_peaked threshold threshold' v w s t a b e =
-      let items = same_items names rows ts v w (transformer_lines threshold ts v.effective) (transformer_lines threshold' ts w.effective) s t e in
+  same_peaked threshold threshold' v w s t e =
+      let items = same_items names rows ts v w (absolute_lines threshold ts v.effective) (absolute_lines threshold' ts w.effective) s t e in
       record {
         nodes = items.nodes;
         elements = items.elements;
-        effective = same_peaks threshold threshold' ts v.effective w.effective s.transformer_count t.transformer_count s.effective_fit t.effective_fit a b items.behind;
+        effective = same_peaks threshold threshold' ts v.effective w.effective s.transformer_count t.transformer_count s.effective_fit t.effective_fit items.behind;
       }
 
   same_detailed : (d e : DetailView) → IsDetail d → IsDetail e → detailed d ≡ detailed e → d ≡ e
   same_detailed d e h k same =
-      let step : step_line d.view.number d.view.time ≡ step_line e.view.number e.view.time = ap (λ ls. first_of_lines ls) same in
+      let step : detail_step_line d.view.number d.view.time ≡ detail_step_line e.view.number e.view.time = ap (λ ls. first_of_lines ls) same in
       let later : zone_lines zones d.fields ++ signed d.view ≡ zone_lines zones e.fields ++ signed e.view = ap (drop 1) same in
       let apart = split_front (zone_lines zones d.fields) (zone_lines zones e.fields) (signed d.view) (signed e.view) (zone_count zones d.fields h.zone_count ∙ sym (zone_count zones e.fields k.zone_count)) later in
       let items = same_signed d.view e.view h.shown k.shown apart.1 in
@@ -151,9 +151,9 @@ module _ (zones : List ZoneView) (names : List (List ℕ)) (rows : List ItemRow)
   is_mark = (word_from_test (codes "peaks") refl, tt)
 
   -- it begins no step in detail
-  no_detail : (d : DetailView) (more others : List Words) (r s : List ℕ) → IsDetail d → lines_text (mark ∷ more) ++ r ≡ lines_text ((step_line d.view.number d.view.time ∷ []) ++ others) ++ s → ⊥
+  no_detail : (d : DetailView) (more others : List Words) (r s : List ℕ) → IsDetail d → lines_text (mark ∷ more) ++ r ≡ lines_text ((detail_step_line d.view.number d.view.time ∷ []) ++ others) ++ s → ⊥
   no_detail d more others r s h e =
-      let first = first_lines (mark ∷ []) (step_line d.view.number d.view.time ∷ []) more others r s refl (is_mark, tt) (step_is d.view.number d.view.time h.number_fits h.time_fits, tt) e in
+      let first = first_lines (mark ∷ []) (detail_step_line d.view.number d.view.time ∷ []) more others r s refl (is_mark, tt) (step_is d.view.number d.view.time h.number_fits h.time_fits, tt) e in
       let n : ◌≡◌ {A = ℕ} 1 4 = ap (λ ls. length (first_of_lines ls)) first.0 in
       omega (arith, n)
 
@@ -170,18 +170,17 @@ module _ (zones : List ZoneView) (names : List (List ℕ)) (rows : List ItemRow)
   -- ---- all lines
 
   abbrev pub lines : (width threshold steps : ℕ) → Option DetailView → View → List Words
-  lines width threshold steps detail peaks = word_line (codes "study") ∷ setting_line width threshold steps ∷ (block detail ++ mark ∷ peaked threshold peaks)
+  lines width threshold steps detail peaks = word_line (codes "study") ∷ study_setting_line width threshold steps ∷ (block detail ++ mark ∷ peaked threshold peaks)
 
-  -- the numbers fit, the step in detail and the peaks are shown of these, and the peaks of the transformers are absolute
+  -- the numbers fit, and the step in detail and the peaks are shown of these
   pub record Shown (width threshold steps : ℕ) (detail : Option DetailView) (peaks : View) : Type 0 where
     pub width_fits : width < 2 ^ 32
     pub threshold_fits : threshold < 2 ^ 32
     pub steps_fit : steps < 2 ^ 32
     pub detail_shown : IfSome detail IsDetail
     pub peaks_shown : IsShown names rows ts peaks
-    pub absolutes : AllByRecursion IsAbsolute peaks.effective
 
-  setting_is : (width threshold steps : ℕ) → width < 2 ^ 32 → threshold < 2 ^ 32 → steps < 2 ^ 32 → IsLine (setting_line width threshold steps)
+  setting_is : (width threshold steps : ℕ) → width < 2 ^ 32 → threshold < 2 ^ 32 → steps < 2 ^ 32 → IsLine (study_setting_line width threshold steps)
   setting_is width threshold steps h k l = (
     word_from_test (codes "width") refl,
     (
@@ -191,7 +190,7 @@ module _ (zones : List ZoneView) (names : List (List ℕ)) (rows : List ItemRow)
   )
 
   -- the two lines in front
-  heads_are : (width threshold steps : ℕ) → width < 2 ^ 32 → threshold < 2 ^ 32 → steps < 2 ^ 32 → AllByRecursion IsLine (word_line (codes "study") ∷ setting_line width threshold steps ∷ [])
+  heads_are : (width threshold steps : ℕ) → width < 2 ^ 32 → threshold < 2 ^ 32 → steps < 2 ^ 32 → AllByRecursion IsLine (word_line (codes "study") ∷ study_setting_line width threshold steps ∷ [])
   heads_are width threshold steps h k l = ((word_from_test (codes "study") refl, tt), (setting_is width threshold steps h k l, tt))
 
   pub record SameLines (width threshold steps : ℕ) (detail : Option DetailView) (peaks : View) (r : List ℕ)
@@ -209,10 +208,10 @@ module _ (zones : List ZoneView) (names : List (List ℕ)) (rows : List ItemRow)
       → lines_text (lines width threshold steps detail peaks) ++ r ≡ lines_text (lines width' threshold' steps' detail' peaks') ++ r'
       → SameLines width threshold steps detail peaks r width' threshold' steps' detail' peaks' r'
   lines_determined width threshold steps detail peaks r width' threshold' steps' detail' peaks' r' n s s' e =
-      let heads = first_lines (word_line (codes "study") ∷ setting_line width threshold steps ∷ []) (word_line (codes "study") ∷ setting_line width' threshold' steps' ∷ [])
+      let heads = first_lines (word_line (codes "study") ∷ study_setting_line width threshold steps ∷ []) (word_line (codes "study") ∷ study_setting_line width' threshold' steps' ∷ [])
       (block detail ++ mark ∷ peaked threshold peaks) (block detail' ++ mark ∷ peaked threshold' peaks') r r' refl
       (heads_are width threshold steps s.width_fits s.threshold_fits s.steps_fit) (heads_are width' threshold' steps' s'.width_fits s'.threshold_fits s'.steps_fit) e in
-      let setting : setting_line width threshold steps ≡ setting_line width' threshold' steps' = ap (λ ls. first_of_lines ls) (ap (drop 1) heads.0) in
+      let setting : study_setting_line width threshold steps ≡ study_setting_line width' threshold' steps' = ap (λ ls. first_of_lines ls) (ap (drop 1) heads.0) in
       let inner = same_block detail detail' (peaked threshold peaks) (peaked threshold' peaks') r r' n s.detail_shown s'.detail_shown heads.1 in
       let last = front_lines (mark ∷ peaked threshold peaks) (mark ∷ peaked threshold' peaks') r r' (omega (arith, peaked_count threshold peaks, peaked_count threshold' peaks'))
       (is_mark, peaked_are threshold peaks n.items s.peaks_shown) (is_mark, peaked_are threshold' peaks' n.items s'.peaks_shown) inner.1 in
@@ -222,19 +221,19 @@ module _ (zones : List ZoneView) (names : List (List ℕ)) (rows : List ItemRow)
         same_threshold = same_natural threshold threshold' s.threshold_fits s'.threshold_fits (ap (λ ws. word_at ws 3) setting);
         same_steps = same_natural steps steps' s.steps_fit s'.steps_fit (ap (λ ws. word_at ws 5) setting);
         same_detail = inner.0;
-        same_shown = same_peaked threshold threshold' peaks peaks' s.peaks_shown s'.peaks_shown s.absolutes s'.absolutes shown;
+        same_shown = same_peaked threshold threshold' peaks peaks' s.peaks_shown s'.peaks_shown shown;
         same_behind = last.1;
       }
 
 -- ---- on a case
 
-all_named : (case : Lists) → HasNames case → AreAllNamed case.zones (node_names case) (rows_of case) case.transformers
+all_named : (case : Lists) → HasNames case → AreAllNamed case.zones (node_names case) (item_rows_of case) case.transformers
 all_named case h = record { zone_words = zone_names case h; items = case_named case h }
 
-shown_view : (case : Lists) (view : View) → HasViewLengths case view → IsViewInRange view → IsShown (node_names case) (rows_of case) case.transformers view
+shown_view : (case : Lists) (view : View) → HasViewLengths case view → IsViewInRange view → IsShown (node_names case) (item_rows_of case) case.transformers view
 shown_view case view lengths fits = case_shown case view lengths.nodes lengths.elements lengths.transformers fits
 
-shown_detail : (case : Lists) (detail : Option DetailView) → IfSome detail (IsDetailOf case) → IfSome detail (IsDetail case.zones (node_names case) (rows_of case) case.transformers)
+shown_detail : (case : Lists) (detail : Option DetailView) → IfSome detail (IsDetailOf case) → IfSome detail (IsDetail case.zones (node_names case) (item_rows_of case) case.transformers)
 shown_detail case None h = tt
 shown_detail case (Some d) h = record {
   shown = shown_view case d.view h.lengths h.ends_fit;
@@ -245,19 +244,18 @@ shown_detail case (Some d) h = record {
 }
 
 shown_of : (case : Lists) (width threshold steps : ℕ) (detail : Option DetailView) (peaks : View) (texts : List (List ℕ)) → AreShownOf case width threshold steps detail peaks texts
-    → Shown case.zones (node_names case) (rows_of case) case.transformers width threshold steps detail peaks
+    → Shown case.zones (node_names case) (item_rows_of case) case.transformers width threshold steps detail peaks
 shown_of case width threshold steps detail peaks texts s = record {
   width_fits = s.width_fits;
   threshold_fits = s.threshold_fits;
   steps_fit = s.steps_fit;
   detail_shown = shown_detail case detail s.detail_of;
   peaks_shown = shown_view case peaks s.lengths s.ends_fit;
-  absolutes = recursion_from_All IsAbsolute peaks.effective s.absolutes;
 }
 
 -- the block by its case
 same_lines : (case : Lists) (width threshold steps : ℕ) (detail : Option DetailView) (peaks : View)
-    → study_lines case width threshold steps detail peaks ≡ lines case.zones (node_names case) (rows_of case) case.transformers width threshold steps detail peaks
+    → study_lines case width threshold steps detail peaks ≡ lines case.zones (node_names case) (item_rows_of case) case.transformers width threshold steps detail peaks
 same_lines case width threshold steps None peaks = refl
 same_lines case width threshold steps (Some d) peaks = refl
 
@@ -265,7 +263,7 @@ same_lines case width threshold steps (Some d) peaks = refl
 pub study_determined : TextDeterminesStudy
 study_determined case named width threshold steps detail peaks texts width' threshold' steps' detail' peaks' texts' p q e =
     let behind : List (List ℕ) → List ℕ = λ ts. monitor_texts 1 ts ++ last_line in
-    let same = lines_determined case.zones (node_names case) (rows_of case) case.transformers width threshold steps detail peaks (behind texts) width' threshold' steps' detail' peaks' (behind texts')
+    let same = lines_determined case.zones (node_names case) (item_rows_of case) case.transformers width threshold steps detail peaks (behind texts) width' threshold' steps' detail' peaks' (behind texts')
     (all_named case named) (shown_of case width threshold steps detail peaks texts p) (shown_of case width' threshold' steps' detail' peaks' texts' q)
     (ap (λ ls. lines_text ls ++ behind texts) (sym (same_lines case width threshold steps detail peaks)) ∙ e ∙ ap (λ ls. lines_text ls ++ behind texts') (same_lines case width' threshold' steps' detail' peaks')) in
     record {

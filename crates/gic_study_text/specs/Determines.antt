@@ -2,11 +2,9 @@
 use Rattle.std.specs.Prelude.{◌≡◌, ℕ, ◌<◌, ◌^◌, ℤ, FitsSigned, List, length, All, Option, IfSome}
 use mir.Syntax.{w32}
 use Rattle.gic_case.specs.Lists.{Lists}
-use Rattle.gic_fixed.specs.Ends.{Ends}
 use Rattle.gic_view.specs.View.{View}
 use Rattle.gic_effective.specs.ViewLengths.{HasViewLengths}
 use Rattle.gic_report.specs.Fits.{HasNames, IsViewInRange}
-use Rattle.gic_view.specs.Absolute.{absolute_ends}
 use Rattle.gic_study_text.specs.StudyText.{DetailView, study_text}
 use Rattle.gic_study_text.specs.Given.{HasZonesOf}
 
@@ -24,16 +22,12 @@ pub record IsDetailOf (case : Lists) (d : DetailView) : Type 0 where
   pub fields_fit : All IsFieldInRange d.fields
   pub ends_fit : IsViewInRange d.view
 
--- the interval is its own absolute interval, so it doesn't begin below 0
-abbrev pub IsAbsolute : Ends → Type 0
-IsAbsolute e = absolute_ends e ≡ e
-
 -- texts of so many bytes, and so many texts, as memory has room for
 pub record AreTexts (texts : List (List ℕ)) : Type 0 where
   pub few : length texts < 2 ^ 64
   pub short : All (λ text. length text < 2 ^ 64) texts
 
--- what a study can show of a case: also, the peaks of the transformers are absolute intervals
+-- what a study can show of a case
 pub record AreShownOf (case : Lists) (width threshold steps : ℕ) (detail : Option DetailView) (peaks : View) (texts : List (List ℕ)) : Type 0 where
   pub width_fits : width < 2 ^ 32
   pub threshold_fits : threshold < 2 ^ 32
@@ -41,7 +35,6 @@ pub record AreShownOf (case : Lists) (width threshold steps : ℕ) (detail : Opt
   pub detail_of : IfSome detail (IsDetailOf case)
   pub lengths : HasViewLengths case peaks
   pub ends_fit : IsViewInRange peaks
-  pub absolutes : All IsAbsolute peaks.effective
   pub texts_fit : AreTexts texts
 
 -- all that is printed is equal: the number and the time of the peaks are not. A detail is equal in its number, its time, its fields and its intervals

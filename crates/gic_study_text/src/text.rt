@@ -1,18 +1,17 @@
 //! The report of a study.
-ghost use Rattle.std.specs.Prelude.{◌≡◌, ◌+◌, ◌<◌, map, length, All, OnOk};
+ghost use Rattle.std.specs.Prelude.{◌≡◌, ◌+◌, ◌<◌, map, length, OnOk};
 ghost use Rattle.std.specs.Io.KnownBytes.{Appends};
 ghost use Rattle.gic_base.specs.Causes.{HasCause};
 ghost use Rattle.gic_base.specs.Pieces.{AppendsPart};
 ghost use Rattle.gic_induce.specs.Fields.{field_at};
 ghost use Rattle.gic_text.specs.Lines.{line_text, lines_text};
-ghost use Rattle.gic_view.specs.Absolute.{HasAbsolute};
-ghost use Rattle.gic_study_text.specs.StudyText.{setting_line, step_line, zone_line, zone_lines, detail_lines, detail_block, peak_lines, study_lines, monitor_line, monitor_text, monitor_texts, study_text};
+ghost use Rattle.gic_study_text.specs.StudyText.{study_setting_line, detail_step_line, zone_line, zone_lines, detail_lines, detail_block, peak_lines, study_lines, monitor_line, monitor_text, monitor_texts, study_text};
 ghost use Rattle.gic_study_text.specs.Given.{lent, lent_detail, HasZonesOf, HasZones};
 
 use gic_base::{Name, Sink, WriteFailed, write_all};
 use gic_case::Case;
 use gic_induce::Fields;
-use gic_report::{write_nodes, write_rows, write_signed, write_transformers, write_word};
+use gic_report::{write_absolutes, write_nodes, write_rows, write_signed, write_word};
 use gic_scale::Zone;
 use gic_text::LineBuilder;
 use gic_view::StepView;
@@ -40,9 +39,9 @@ fn write_setting<S: Sink>(
     out: &mut S,
 ) -> Result<(), WriteFailed>
     ensures all { OnOk result (Appends (S.written out.old) (S.written out.new)
-        (line_text (setting_line setting.now.width setting.now.threshold setting.now.steps))) }
+        (line_text (study_setting_line setting.now.width setting.now.threshold setting.now.steps))) }
     ensures part { AppendsPart (S.written out.old) (S.written out.new)
-        (line_text (setting_line setting.now.width setting.now.threshold setting.now.steps)) }
+        (line_text (study_setting_line setting.now.width setting.now.threshold setting.now.steps)) }
     ensures cause { HasCause (S.faults out.old) (S.faults out.new) result }
 {
     line.start();
@@ -63,9 +62,9 @@ fn write_step<S: Sink>(
     out: &mut S,
 ) -> Result<(), WriteFailed>
     ensures all { OnOk result (Appends (S.written out.old) (S.written out.new)
-        (line_text (step_line view.now.number view.now.time))) }
+        (line_text (detail_step_line view.now.number view.now.time))) }
     ensures part { AppendsPart (S.written out.old) (S.written out.new)
-        (line_text (step_line view.now.number view.now.time)) }
+        (line_text (detail_step_line view.now.number view.now.time)) }
     ensures cause { HasCause (S.faults out.old) (S.faults out.new) result }
 {
     line.start();
@@ -171,7 +170,6 @@ fn write_peaks<S: Sink>(
     line: &mut LineBuilder,
     out: &mut S,
 ) -> Result<(), WriteFailed>
-    requires { All HasAbsolute peaks.now.effective }
     ensures all { OnOk result (Appends (S.written out.old) (S.written out.new)
         (lines_text (peak_lines case.now threshold peaks.now))) }
     ensures part { AppendsPart (S.written out.old) (S.written out.new)
@@ -180,7 +178,7 @@ fn write_peaks<S: Sink>(
 {
     write_nodes(case, peaks, line, out)?;
     write_rows(case, peaks, line, out)?;
-    write_transformers(case.transformers(), peaks, threshold, line, out)
+    write_absolutes(case.transformers(), peaks, threshold, line, out)
 }
 
 /// Writes all lines in front of the monitors.
@@ -192,8 +190,7 @@ fn write_lines<S: Sink>(
     line: &mut LineBuilder,
     out: &mut S,
 ) -> Result<(), WriteFailed>
-    requires zones { HasZones case.now (lent_detail detail) }
-    requires absolutes { All HasAbsolute peaks.now.effective }
+    requires { HasZones case.now (lent_detail detail) }
     ensures all { OnOk result (Appends (S.written out.old) (S.written out.new)
         (lines_text (study_lines case.now setting.now.width setting.now.threshold setting.now.steps (lent_detail detail.entry) peaks.now))) }
     ensures part { AppendsPart (S.written out.old) (S.written out.new)
@@ -274,8 +271,7 @@ pub fn write_study<S: Sink>(
     line: &mut LineBuilder,
     out: &mut S,
 ) -> Result<(), WriteFailed>
-    requires zones { HasZones case.now (lent_detail detail) }
-    requires absolutes { All HasAbsolute peaks.now.effective }
+    requires { HasZones case.now (lent_detail detail) }
     ensures all { OnOk result (Appends (S.written out.old) (S.written out.new)
         (study_text case.now setting.now.width setting.now.threshold setting.now.steps (lent_detail detail.entry) peaks.now (map (λ t. t.items) texts.now))) }
     ensures part { AppendsPart (S.written out.old) (S.written out.new)

@@ -7,7 +7,7 @@ abbrev pub AreCut : (ℕ → ℤ) → Type 0
 AreCut x = (k : ℕ) → unsigned_abs (x k) ≤ most_guess
 
 -- a solver has as much room again for the guesses before a writing and for residuals, and a thinning for as many nodes
-pub record IsRoomFor (guesses before low high : List ℤ) (thinned : ℕ) : Type 0 where
+pub record IsRoomForGuesses (guesses before low high : List ℤ) (thinned : ℕ) : Type 0 where
   pub room : length before ≡ length guesses
   pub low_room : length low ≡ length guesses
   pub high_room : length high ≡ length guesses

@@ -31,13 +31,13 @@ pub struct Solver {
 
 impl Model for Solver {
     ghost use Rattle.std.specs.Prelude.{List, ℤ};
-    ghost use Rattle.gic_sweep.specs.Guesses.{IsRoomFor};
+    ghost use Rattle.gic_sweep.specs.Guesses.{IsRoomForGuesses};
 
     ghost Value = { List ℤ };
 
     ghost view = { λ s. s.guesses };
 
-    ghost invariant = { λ s. IsRoomFor s.guesses s.before.items s.low.items s.high.items s.thinning };
+    ghost invariant = { λ s. IsRoomForGuesses s.guesses s.before.items s.low.items s.high.items s.thinning };
 }
 
 ghost use Rattle.std.specs.Prelude.{◌≡◌, ℕ, ℤ, ◌+◌, ◌^◌, ◌<◌, ◌≤◌, ◌*◌, length, IfOk, replicate, pos, unsigned_abs, IsTrue, IfSome, IfNone};

@@ -18,7 +18,7 @@ use Rattle.gic_model.specs.declared.parts.Item.TheVariants as items
 use Rattle.gic_switch.specs.Columns.{is_head, action_in, follows}
 use Rattle.gic_switch.specs.Items.{item_in}
 use Rattle.gic_switch.specs.Pass.{row_in, switching_rows, switchings_from}
-use Rattle.gic_switch.specs.Rules.{action_of, breaks_record, broken, row_of, list_of, switchings_of}
+use Rattle.gic_switch.specs.Rules.{action_or_open, breaks_record, broken, switching_of, list_of, switchings_of}
 use Rattle.gic_switch.specs.declared.action.Action.TheVariants.{Open}
 use Rattle.gic_switch.specs.declared.refusal.SwitchRefusal.{SwitchRefusal}
 use Rattle.gic_switch.specs.declared.refusal.SwitchRefusal.TheVariants as refusals
@@ -30,29 +30,29 @@ breaks_columns case row before columns =
     ++ (unless (is_some (time_in columns)) (refusals.Number row)
     ++ (unless (follows before (time_of columns)) (refusals.Order row)
     ++ (unless (is_some (action_in columns)) (refusals.Action row)
-    ++ unless (is_some (item_in case (action_of columns) (text_at columns 1))) (refusals.Item row))))
+    ++ unless (is_some (item_in case (action_or_open columns) (text_at columns 1))) (refusals.Item row))))
 
 -- one record
 row_law : (case : Lists) (row : ℕ) (before : Option ℕ) (columns : List (List ℕ))
-    → row_in case row before columns ≡ settle (breaks_columns case row before columns) (row_of case columns)
-unfolding row_in row_of
+    → row_in case row before columns ≡ settle (breaks_columns case row before columns) (switching_of case columns)
+unfolding row_in switching_of
 row_law case row before columns =
     then_law _ _ _ _ _ _ (test_law (length columns == 3) (refusals.Shape row))
     (then_law _ _ _ _ _ _ (value_law (time_in columns) (refusals.Number row) 0)
     (then_law _ _ _ _ _ _ (test_law (follows before (time_of columns)) (refusals.Order row))
     (then_law _ _ _ _ _ _ (value_law (action_in columns) (refusals.Action row) Open)
-    (last_law _ _ _ _ (value_law (item_in case (action_of columns) (text_at columns 1)) (refusals.Item row) (items.Line 0))))))
+    (last_law _ _ _ _ (value_law (item_in case (action_or_open columns) (text_at columns 1)) (refusals.Item row) (items.Line 0))))))
 
-time_row : (case : Lists) (columns : List (List ℕ)) → (row_of case columns).time ≡ time_of columns
-unfolding row_of
+time_row : (case : Lists) (columns : List (List ℕ)) → (switching_of case columns).time ≡ time_of columns
+unfolding switching_of
 time_row case columns = refl
 
 -- the records after the first
 rows_law : (case : Lists) (records : List (List (List ℕ)))
-    → switching_rows case records ≡ settle (breaks_records (breaks_record case) 1 None records) (map (row_of case) records)
+    → switching_rows case records ≡ settle (breaks_records (breaks_record case) 1 None records) (map (switching_of case) records)
 unfolding breaks_record
 rows_law case records =
-    all_rows_law (row_in case) (λ (s : Switching). s.time) MOST_SWITCHINGS refusals.TooMany (breaks_columns case) (row_of case) (row_law case) (time_row case) 1 None records
+    all_rows_law (row_in case) (λ (s : Switching). s.time) MOST_SWITCHINGS refusals.TooMany (breaks_columns case) (switching_of case) (row_law case) (time_row case) 1 None records
 
 -- all records
 switchings_law : (case : Lists) (records : List (List (List ℕ))) → switchings_from case records ≡ settle (broken case records) (list_of case records)

@@ -16,8 +16,8 @@ use Rattle.gic_switch.specs.declared.refusal.SwitchRefusal.{SwitchRefusal}
 use Rattle.gic_switch.specs.declared.refusal.SwitchRefusal.TheVariants as refusals
 
 -- the action of a record, open where it has none
-abbrev pub action_of : List (List ℕ) → Action
-action_of columns = unwrap_or (action_in columns) Open
+abbrev pub action_or_open : List (List ℕ) → Action
+action_or_open columns = unwrap_or (action_in columns) Open
 
 -- the rules of one record, over a case, after a record of the time before
 unfoldable pub breaks_record : Lists → (row : ℕ) → (before : Option ℕ) → (columns : List (List ℕ)) → List SwitchRefusal
@@ -27,7 +27,7 @@ breaks_record case row before columns =
     ++ (unless (is_some (time_in columns)) (refusals.Number row)
     ++ (unless (follows before (time_of columns)) (refusals.Order row)
     ++ (unless (is_some (action_in columns)) (refusals.Action row)
-    ++ unless (is_some (item_in case (action_of columns) (text_at columns 1))) (refusals.Item row)))))
+    ++ unless (is_some (item_in case (action_or_open columns) (text_at columns 1))) (refusals.Item row)))))
 
 -- all rules on the records, in their order: the first one is time,item,action, and each further one keeps its rules
 abbrev pub broken : Lists → List (List (List ℕ)) → List SwitchRefusal
@@ -35,17 +35,17 @@ broken case [] = refusals.Shape 0 ∷ []
 broken case (first ∷ records) = unless (is_head first) (refusals.Shape 0) ++ breaks_records (breaks_record case) 1 None records
 
 -- the switching that a record is, a field that breaks its rule taken as nought
-unfoldable pub row_of : Lists → List (List ℕ) → Switching
-row_of case columns = record {
+unfoldable pub switching_of : Lists → List (List ℕ) → Switching
+switching_of case columns = record {
   time = time_of columns;
-  item = unwrap_or (item_in case (action_of columns) (text_at columns 1)) (items.Line 0);
-  opens = opens (action_of columns);
+  item = unwrap_or (item_in case (action_or_open columns) (text_at columns 1)) (items.Line 0);
+  opens = opens (action_or_open columns);
 }
 
 -- the switchings that the records after the first are
 abbrev pub list_of : Lists → List (List (List ℕ)) → List Switching
 list_of case [] = []
-list_of case (first ∷ records) = map (row_of case) records
+list_of case (first ∷ records) = map (switching_of case) records
 
 -- the switchings that the bytes are, or the first rule that they break
 unfoldable pub switchings_of : Lists → List ℕ → Result (List Switching) SwitchRefusal

@@ -3,9 +3,9 @@ ghost use Rattle.std.specs.Prelude.{◌≡◌, ◌≤◌, IfOk, vec_len, unwrap_
 ghost use Rattle.std.specs.List.Sorted.{IsNonDecreasingBy};
 ghost use Rattle.std.specs.HashMap.{get};
 ghost use Rattle.csv.specs.Records.{fields_of};
-ghost use Rattle.gic_base.specs.Refusals.{Answers};
+ghost use Rattle.gic_base.specs.Refusals.{AnswersRead};
 ghost use Rattle.gic_case.specs.Names.{same};
-ghost use Rattle.gic_switch.specs.declared.refusal.SwitchRefusal.TheVariants.{TooMany, Memory};
+ghost use Rattle.gic_switch.specs.declared.refusal.SwitchRefusal.TheVariants.{TooMany};
 ghost use Rattle.gic_switch.specs.ItemsOf.{FindsNamed, IsItemOf, AreItemsOf};
 ghost use Rattle.gic_switch.specs.Pass.{row_in, switching_rows};
 
@@ -13,8 +13,8 @@ use crate::action::{action_in, follows};
 use crate::item::item_in;
 use crate::refusal::SwitchRefusal;
 use csv::ByteRecord;
-use gic_base::Name;
 use gic_base::limits::MOST_SWITCHINGS;
+use gic_base::{Name, ReadFault};
 use gic_case::Case;
 use gic_model::{Item, Switching};
 use gic_records::{Records, RowReader, read_rows, text_at, time_in};
@@ -74,8 +74,6 @@ impl RowReader for SwitchRows<'_> {
 
     ghost late = { TooMany };
 
-    ghost memory = { Memory };
-
     fn read(
         &self,
         row: u32,
@@ -96,12 +94,6 @@ impl RowReader for SwitchRows<'_> {
     {
         SwitchRefusal::TooMany
     }
-
-    fn out_of_memory() -> SwitchRefusal
-        ensures { result ≡ Memory }
-    {
-        SwitchRefusal::Memory
-    }
 }
 
 /// The switchings of the records that are left. Their times do not fall.
@@ -110,9 +102,9 @@ pub(crate) fn rows_in(
     case: &Case,
     items: &HashMap<Name, Item>,
     records: &mut Records<'_>,
-) -> Result<Vec<Switching>, SwitchRefusal>
+) -> Result<Vec<Switching>, ReadFault<SwitchRefusal>>
     requires { FindsNamed case.now (get same items.now) }
-    ensures value { Answers Memory (λ v. v.items) result (switching_rows case.now records.old) }
+    ensures value { AnswersRead (λ v. v.items) result (switching_rows case.now records.old) }
     ensures few { IfOk result (λ v. vec_len v ≤ MOST_SWITCHINGS) }
     ensures ordered { IfOk result (λ v. IsNonDecreasingBy (λ s. s.time) v.items) }
     ensures items { IfOk result (λ v. AreItemsOf case.now v.items) }

@@ -1,11 +1,7 @@
 //! Why switchings are refused.
-ghost use Rattle.std.specs.Prelude.{◌≡◌};
-ghost use Rattle.gic_switch.specs.declared.refusal.SwitchRefusal.TheVariants.{Memory};
-
-use std::alloc::{AllocError, AllocFailed};
 use thiserror::Error;
 
-/// The first broken rule, or want of memory. Rows count from 1; row 0 is the first record.
+/// The first broken rule. Rows count from 1; row 0 is the first record.
 #[derive(Clone, Copy, Debug, PartialEq, Eq, Error)]
 pub enum SwitchRefusal {
     /// The first record is not `time,item,action`, or a row has another number of fields.
@@ -26,23 +22,4 @@ pub enum SwitchRefusal {
     /// There are more than 4096 rows.
     #[error("too many rows")]
     TooMany,
-    /// There was no memory for it.
-    #[error("out of memory")]
-    Memory,
-}
-
-impl From<AllocError> for SwitchRefusal {
-    ghost from_gives = { λ _ e. e ≡ Memory };
-
-    fn from(_e: AllocError) -> SwitchRefusal {
-        SwitchRefusal::Memory
-    }
-}
-
-impl<T: Drop> From<AllocFailed<T>> for SwitchRefusal {
-    ghost from_gives = { λ _ e. e ≡ Memory };
-
-    fn from(_e: AllocFailed<T>) -> SwitchRefusal {
-        SwitchRefusal::Memory
-    }
 }

@@ -1,7 +1,6 @@
 //! Lists of switchings.
 ghost use Rattle.std.specs.Prelude.{◌≡◌, IfOk};
-ghost use Rattle.gic_base.specs.Refusals.{Answers};
-ghost use Rattle.gic_switch.specs.declared.refusal.SwitchRefusal.TheVariants.{Memory};
+ghost use Rattle.gic_base.specs.Refusals.{AnswersRead};
 ghost use Rattle.gic_switch.specs.ItemsOf.{AreItemsOf};
 ghost use Rattle.gic_switch.specs.Pass.{switchings_from};
 ghost use Rattle.gic_switch.specs.Rules.{switchings_of};
@@ -12,6 +11,7 @@ use crate::names::named_items;
 use crate::pass::rows_in;
 use crate::refusal::SwitchRefusal;
 use csv::ByteRecord;
+use gic_base::ReadFault;
 use gic_case::Case;
 use gic_model::Switching;
 use gic_records::Records;
@@ -42,16 +42,16 @@ fn switchings_from(
     alloc: Global,
     case: &Case,
     mut records: Records<'_>,
-) -> Result<Switchings, SwitchRefusal>
-    ensures value { Answers Memory (λ s. s) result (switchings_from case.now records.entry) }
+) -> Result<Switchings, ReadFault<SwitchRefusal>>
+    ensures value { AnswersRead (λ s. s) result (switchings_from case.now records.entry) }
     ensures items { IfOk result (λ s. AreItemsOf case.now s) }
 {
     let mut first = ByteRecord::new(alloc);
     if !records.read(&mut first)? {
-        return Err(SwitchRefusal::Shape { row: 0 });
+        return Err(ReadFault::Refused(SwitchRefusal::Shape { row: 0 }));
     }
     if !is_head(&first) {
-        return Err(SwitchRefusal::Shape { row: 0 });
+        return Err(ReadFault::Refused(SwitchRefusal::Shape { row: 0 }));
     }
     let items = named_items(alloc, case)?;
     let rows = rows_in(alloc, case, &items, &mut records)?;
@@ -66,8 +66,8 @@ pub fn read_switchings(
     alloc: Global,
     bytes: &[u8],
     case: &Case,
-) -> Result<Switchings, SwitchRefusal>
-    ensures value { Answers Memory (λ s. s) result (switchings_of case.now bytes.now) }
+) -> Result<Switchings, ReadFault<SwitchRefusal>>
+    ensures value { AnswersRead (λ s. s) result (switchings_of case.now bytes.now) }
     ensures items { IfOk result (λ s. AreItemsOf case.now s) }
 {
     switchings_from(alloc, case, Records::new(alloc, bytes))

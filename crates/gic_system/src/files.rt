@@ -3,10 +3,10 @@ ghost use Rattle.std.specs.Prelude.{◌≡◌, ℕ, ◌<◌, ◌≤◌, List, []
 ghost use Rattle.std.specs.declared.option.Option.{Option};
 ghost use Rattle.std.specs.FinMap.{get};
 ghost use Rattle.std.specs.Io.{StartsWith};
-ghost use Rattle.gic_base.specs.Files.{Files};
+ghost use Rattle.gic_files.specs.Files.{Files};
 
 use crate::tries::read_some;
-use gic_base::{FetchRefusal, Library, failed_fetch};
+use gic_files::{FetchRefusal, Library, failed_fetch, keep_name};
 use std::alloc::Global;
 use std::fs::File;
 use std::io::Read;
@@ -51,26 +51,28 @@ impl Opener for SystemFiles {
     }
 }
 
-/// The files that an opener opens. It keeps the names whose fetch failed; where no memory is found for one, the answer is
-/// want of memory.
+/// The files that an opener opens. It keeps the names that are fetched, each before its file is opened, and those whose
+/// fetch failed; where no memory is found for one, the answer is want of memory.
 #[derive(Drop)]
 pub struct FileLibrary<O> {
     alloc: Global,
     opener: O,
+    fetched: Vec<String>,
     failures: Vec<String>,
 }
 
 impl<O: Opener> FileLibrary<O> {
-    /// A library without failures. Takes no memory; the handle is kept for later growth.
+    /// A library without fetches. Takes no memory; the handle is kept for later growth.
     pub fn new(alloc: Global, opener: O) -> FileLibrary<O>
         ensures opener { result.opener ≡ opener }
+        ensures fetched { result.fetched.items ≡ [] }
         ensures failures { result.failures.items ≡ [] }
     {
-        let failures = Vec::new(alloc);
         FileLibrary {
             alloc,
             opener,
-            failures,
+            fetched: Vec::new(alloc),
+            failures: Vec::new(alloc),
         }
     }
 }
@@ -109,9 +111,12 @@ fn read_to_end<R: Read>(
 impl<O: Opener> Library for FileLibrary<O> {
     ghost content = { λ s. O.content s.opener };
 
+    ghost fetched = { λ s. map string_bytes s.fetched.items };
+
     ghost failures = { λ s. map string_bytes s.failures.items };
 
     fn fetch(&mut self, name: &str, limit: usize, into: &mut Vec<u8>) -> Result<(), FetchRefusal> {
+        keep_name(self.alloc, &mut self.fetched, name)?;
         let Ok(mut file) = self.opener.open(name) else {
             return Err(failed_fetch(self.alloc, &mut self.failures, name));
         };

@@ -1,4 +1,4 @@
-//! The files and the streams of the system, as the traits of `gic_base` have them.
+//! The files and the streams of the system, as the traits of `gic_files` and `gic_base` have them.
 #![tactic(auto)]
 
 mod files;

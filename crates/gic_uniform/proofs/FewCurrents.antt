@@ -34,8 +34,8 @@ use Rattle.gic_effective.proofs.Weighings.{weighed, weights_most}
 abbrev pub most_potential : ℕ
 most_potential = 4096 * 60000000000000
 
-abbrev pub most_current : ℕ
-most_current = 3000 * (2 * most_potential + 60000000000000)
+abbrev pub most_element_current : ℕ
+most_element_current = 3000 * (2 * most_potential + 60000000000000)
 
 -- over plain numbers: what falls over an element and what drives it are limited, and so is its current
 few_driven : (a b u : ℤ) (d : ℕ) → unsigned_abs a ≤ most_potential * d → unsigned_abs b ≤ most_potential * d → unsigned_abs u ≤ 60000000000000
@@ -69,9 +69,9 @@ value_few live x m few Earth alive = omega arith
 
 module _ (nodes : ℕ) (standing : List Placed) (within : AllByRecursion (λ p. IsElementWithin nodes p.1) standing) (volts : ℕ → ℤ) (driven : AreVolts volts)
     (s : Solution) (solves : IsSolution standing volts s) (few : (k : ℕ) → IsLive standing k → unsigned_abs (s.potential k) ≤ most_potential * s.denominator) where
-  each_few : AllByRecursion (λ p. unsigned_abs (s.current p.0) ≤ most_current * s.denominator) standing
+  each_few : AllByRecursion (λ p. unsigned_abs (s.current p.0) ≤ most_element_current * s.denominator) standing
   each_few =
-      weaker (λ p. (IsElementWithin nodes p.1 × IsOhm volts s p) × ((m : ℕ) → ends_at p.1 m ≡ true → is_live standing m ≡ true)) (λ p. unsigned_abs (s.current p.0) ≤ most_current * s.denominator)
+      weaker (λ p. (IsElementWithin nodes p.1 × IsOhm volts s p) × ((m : ℕ) → ends_at p.1 m ≡ true → is_live standing m ≡ true)) (λ p. unsigned_abs (s.current p.0) ≤ most_element_current * s.denominator)
       (λ p h.
       let drive = few_driven (s.potential p.1.from.0) (value_at s.potential p.1.to) (volts p.0) s.denominator
       (few p.1.from.0 (from_own p.1 (is_live standing) h.1))
@@ -82,12 +82,12 @@ module _ (nodes : ℕ) (standing : List Placed) (within : AllByRecursion (λ p. 
       (both (λ p. IsElementWithin nodes p.1) (IsOhm volts s) standing within (recursion_from_All (IsOhm volts s) standing solves.ohm)) (ends_live standing))
 
   -- the current at each place
-  pub current_few : (place : ℕ) → unsigned_abs (s.current place) ≤ most_current * s.denominator
+  pub current_few : (place : ℕ) → unsigned_abs (s.current place) ≤ most_element_current * s.denominator
   current_few place = by (is_standing standing place) refl
     where
-      by : (b : Bool) → is_standing standing place ≡ b → unsigned_abs (s.current place) ≤ most_current * s.denominator
+      by : (b : Bool) → is_standing standing place ≡ b → unsigned_abs (s.current place) ≤ most_element_current * s.denominator
       by true stands =
-          by_any (λ p. p.0 == place) (λ p. unsigned_abs (s.current p.0) ≤ most_current * s.denominator)
+          by_any (λ p. p.0 == place) (λ p. unsigned_abs (s.current p.0) ≤ most_element_current * s.denominator)
           (λ p is h. let same = ap (λ k. unsigned_abs (s.current k)) (eqb-true p.0 place is) in omega (arith, h, same)) standing each_few stands
       by false out = let none = ap unsigned_abs (solves.none_if_open place out) in omega (arith, none)
 

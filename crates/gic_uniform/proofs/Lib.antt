@@ -1,5 +1,5 @@
 pub mod UniformFields
-pub mod ServedField
+pub mod InField
 pub mod FewCurrents
 pub mod SmallEnds
 pub mod Denominators

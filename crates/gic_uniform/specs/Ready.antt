@@ -9,7 +9,7 @@ use Rattle.gic_winding.specs.ElementList.{elements_of}
 use Rattle.gic_uniform.specs.declared.room.Room.{Room}
 
 -- there is room for each node of the case
-pub record IsRoomFor (case : Lists) (room : Room) : Type 0 where
+pub record IsRoomForCase (case : Lists) (room : Room) : Type 0 where
   pub scratch : room.scratch.nodes ≡ (elements_of case).nodes
   pub vector : length room.vector ≡ (elements_of case).nodes
   pub start : room.start ≡ (elements_of case).nodes
@@ -18,6 +18,6 @@ pub record IsRoomFor (case : Lists) (room : Room) : Type 0 where
 
 -- these standing elements can be solved, and the room has a bound vector of theirs
 pub record IsReadyFor (case : Lists) (standing : List Placed) (room : Room) : Type 0 where
-  pub has_room : IsRoomFor case room
+  pub has_room : IsRoomForCase case room
   pub solvable : IsSolvable standing
   pub bound : IsBoundWithin standing MOST_WALK (slice_index room.vector)

@@ -1,7 +1,7 @@
 //! What a solve writes to.
 ghost use Rattle.std.specs.Prelude.{◌≡◌, IfOk};
 ghost use Rattle.gic_winding.specs.ElementList.{elements_of};
-ghost use Rattle.gic_uniform.specs.Ready.{IsRoomFor};
+ghost use Rattle.gic_uniform.specs.Ready.{IsRoomForCase};
 
 use gic_base::OutOfMemory;
 use gic_bound::BoundVector;
@@ -54,7 +54,7 @@ impl Room {
 #[tactic(auto, using(gic_stand::proofs::Rooms::room_for))]
 pub fn make_room(alloc: Global, case: &Case, net: &Net) -> Result<Room, OutOfMemory>
     requires { net.now.network ≡ elements_of case.now }
-    ensures { IfOk result (IsRoomFor case.now) }
+    ensures { IfOk result (IsRoomForCase case.now) }
 {
     let nodes = net.nodes();
     let scratch = Scratch::new(alloc, nodes)?;

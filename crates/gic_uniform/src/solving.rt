@@ -11,7 +11,7 @@ ghost use Rattle.gic_winding.specs.ElementList.{elements_of};
 ghost use Rattle.gic_effective.specs.ViewLengths.{HasViewLengths};
 ghost use Rattle.gic_stand.specs.Needs.{Solved, Fails};
 ghost use Rattle.gic_uniform.specs.Solving.{IsSolvedView};
-ghost use Rattle.gic_uniform.specs.Ready.{IsRoomFor, IsReadyFor};
+ghost use Rattle.gic_uniform.specs.Ready.{IsRoomForCase, IsReadyFor};
 
 use crate::room::Room;
 use gic_bound::BoundVector;
@@ -32,10 +32,10 @@ use std::sync::ledger::{Blank, Ledger};
 /// every solve, found from the entries there. Takes no memory.
 pub fn expect_solvable(case: &Case, net: &Net, room: &mut Room) -> Result<(), NetworkRefusal>
     requires net { net.now.network ≡ elements_of case.now }
-    requires room { IsRoomFor case.now room.old }
+    requires room { IsRoomForCase case.now room.old }
     ensures ready { OnOk result (IsReadyFor case.now (standing net.now) room.new) }
     ensures err { IfErr result (Fails Solved case.now 1 (standing net.now)) }
-    ensures room { IsRoomFor case.now room.new }
+    ensures room { IsRoomForCase case.now room.new }
 {
     expect_earthed(case, net, 1, &mut room.scratch)?;
     expect_resolved(case, net, 1, &mut room.vector, &mut room.start)

@@ -1,3 +1,4 @@
 pub mod VoltsText
 pub mod RightVolts
 pub mod Determines
+pub mod Made

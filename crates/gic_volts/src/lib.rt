@@ -4,6 +4,8 @@
 pub mod laws;
 mod lines;
 mod mode;
+mod room;
 mod text;
 
 pub use mode::volts;
+pub use room::{Room, make_room};

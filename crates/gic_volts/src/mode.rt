@@ -5,13 +5,13 @@ ghost use Rattle.gic_base.specs.Causes.{HasCause};
 ghost use Rattle.gic_base.specs.Pieces.{AppendsPart};
 ghost use Rattle.gic_text.specs.Lines.{lines_text};
 ghost use Rattle.gic_volts.specs.VoltsText.{volts_report};
-ghost use Rattle.gic_question.specs.Ranges.{IsWithinRanges};
 ghost use Rattle.gic_stand.specs.Needs.{Nothing};
 ghost use Rattle.gic_stand.specs.Serves.{Serves, shown};
 ghost use Rattle.gic_stand.specs.Standing.{steps_of};
+ghost use Rattle.gic_volts.specs.Made.{IsMadeFor};
 ghost use Rattle.gic_volts.specs.RightVolts.{IsRightVolts};
 
-use crate::lines::line_volts;
+use crate::room::Room;
 use crate::text::write_volts;
 use gic_base::{Sink, WriteFailed};
 use gic_case::Case;
@@ -19,7 +19,6 @@ use gic_inputs::Inputs;
 use gic_question::Question;
 use gic_stand::{ReportFault, ended};
 use gic_text::LineBuilder;
-use std::alloc::Global;
 
 /// Writes the report of these voltages.
 fn write_lines<S: Sink>(
@@ -45,14 +44,18 @@ fn write_lines<S: Sink>(
     )
 }
 
-/// Writes the voltage of each line in nanovolts, in the field that is asked for.
-pub fn volts<S: Sink>(alloc: Global, inputs: &Inputs, out: &mut S) -> Result<(), ReportFault>
-    requires { IsWithinRanges inputs.now.question }
+/// Writes the voltage of each line in nanovolts, in the field that is asked for. Takes no memory.
+pub fn volts<S: Sink>(inputs: &Inputs, room: &mut Room, out: &mut S) -> Result<(), ReportFault>
+    requires { IsMadeFor inputs.now room.old }
     ensures { Serves Nothing inputs.now.case (steps_of inputs.now) (IsRightVolts inputs.now)
         (shown S.written S.faults out.old) (shown S.written S.faults out.new) result }
 {
-    let mut line = LineBuilder::new(alloc)?;
-    let volts = line_volts(alloc, &inputs.case, &inputs.question)?;
-    let writing = write_lines(&inputs.case, &inputs.question, &volts, &mut line, out);
+    let writing = write_lines(
+        &inputs.case,
+        &inputs.question,
+        &room.nanovolts,
+        &mut room.line,
+        out,
+    );
     ended(writing)
 }

@@ -13,7 +13,7 @@ use Rattle.gic_case.specs.declared.item.Kind.TheVariants as kinds
 use Rattle.gic_case.specs.declared.item.Transformer.{Transformer}
 use Rattle.gic_case.specs.declared.item.Neutral.{Neutral}
 use Rattle.gic_case.specs.declared.item.Neutral.TheVariants as devices
-use Rattle.gic_case.specs.Lists.{Lists, degree_of, earthing_ends, line_ends, winding_ends, device_ends, ends_of, grid_of, neutrals_of}
+use Rattle.gic_case.specs.Lists.{Lists, degree_of, earthing_ends, line_ends, winding_ends, device_ends, element_ends, grid_of, neutrals_of}
 use Rattle.gic_case.proofs.Earthings.{earthing_ends_from}
 use Rattle.gic_model.specs.declared.parts.Element.{Element}
 use Rattle.gic_model.specs.Network.{is_node, ends_at}
@@ -84,8 +84,8 @@ resistor_many k place neutral grid (Some (devices.Resistor ohm)) two = omega (ar
 resistor_many k place neutral grid (Some devices.Blocked) two = omega arith
 
 -- as many elements of a case end at a node as its degree
-pub as_many_at_a_node : (c : Lists) (k : ℕ) → AreAsManyAt k (element_list c) (ends_of c)
-unfolding ends_of
+pub as_many_at_a_node : (c : Lists) (k : ℕ) → AreAsManyAt k (element_list c) (element_ends c)
+unfolding element_ends
 as_many_at_a_node c k =
     let first_bus = length c.substations in
     let line_at = λ (l : Line). if l.blocked then [] else (first_bus + l.from) ∷ (first_bus + l.to) ∷ [] in

@@ -13,7 +13,7 @@ use Rattle.gic_case.specs.declared.item.Kind.TheVariants as kinds
 use Rattle.gic_case.specs.declared.item.Neutral.{Neutral}
 use Rattle.gic_case.specs.declared.item.Neutral.TheVariants as devices
 use Rattle.gic_case.specs.declared.item.Transformer.{Transformer}
-use Rattle.gic_case.specs.Lists.{Lists, with_device, node_names, ends_of, degree_of, grid_of, neutrals_of, has_windings}
+use Rattle.gic_case.specs.Lists.{Lists, with_device, node_names, element_ends, degree_of, grid_of, neutrals_of, has_windings}
 use Rattle.gic_case.specs.Sound.{IsSound, IsSoundSubstation, IsSoundLine, IsSoundTransformer}
 use Rattle.gic_model.specs.declared.parts.Element.{Element}
 use Rattle.gic_model.specs.Network.{ends_at}
@@ -114,7 +114,7 @@ two_ends nodes [] all = tt
 two_ends nodes (e ∷ es) all = (all.0.ends_differ, two_ends nodes es all.1)
 
 -- as many elements end at a node of a sound case as the rule of degrees counts there
-pub degrees_count : (c : Lists) (k : ℕ) → IsSound c → count_by (λ e. ends_at e k) (elements_of c).list ≡ degree_of (ends_of c) k
+pub degrees_count : (c : Lists) (k : ℕ) → IsSound c → count_by (λ e. ends_at e k) (elements_of c).list ≡ degree_of (element_ends c) k
 unfolding elements_of
 degrees_count c k sound = as_many_at_a_node c k (two_ends (length (node_names c)) (element_list c) (each_element c sound))
 

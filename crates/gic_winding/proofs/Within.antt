@@ -11,7 +11,7 @@ use Rattle.gic_case.specs.declared.item.Kind.TheVariants as kinds
 use Rattle.gic_case.specs.declared.item.Neutral.{Neutral}
 use Rattle.gic_case.specs.declared.item.Neutral.TheVariants as devices
 use Rattle.gic_case.specs.Lists.{Lists, has_windings}
-use Rattle.gic_case.specs.Sound.{IsSoundLine, IsSoundKind, IsSoundDevice, IsOhm}
+use Rattle.gic_case.specs.Sound.{IsSoundLine, IsSoundKind, IsSoundDevice, IsResistance}
 use Rattle.gic_model.specs.declared.parts.Role.{Role}
 use Rattle.gic_model.specs.Limits.{IsElementWithin}
 use Rattle.gic_winding.specs.ElementList.{earthing_of, line_of, winding, windings_of, resistor_of}
@@ -33,7 +33,7 @@ all_placed bound P i (x ∷ xs) room h = (record { below = omega arith; fact = h
 other_number : (a b : ℕ) → a ≢ b → (a == b) ≡ false
 other_number a b apart = grind (arith, nat_tests, apart)
 
-pub earthing_within : (nodes place : ℕ) (ohm : Option ℕ) → place < nodes → IfSome ohm IsOhm → AllByRecursion (IsElementWithin nodes) (earthing_of place ohm)
+pub earthing_within : (nodes place : ℕ) (ohm : Option ℕ) → place < nodes → IfSome ohm IsResistance → AllByRecursion (IsElementWithin nodes) (earthing_of place ohm)
 earthing_within nodes place None inside h = tt
 earthing_within nodes place (Some ohm) inside h = (
   record {
@@ -66,7 +66,7 @@ line_within c nodes place l buses h =
     ]
 
 -- a winding between two different nodes
-winding_within : (nodes place : ℕ) (r : Role) (from to ohm : ℕ) → from < nodes → to < nodes → from ≢ to → IsOhm ohm → IsElementWithin nodes (winding place r from to ohm)
+winding_within : (nodes place : ℕ) (r : Role) (from to ohm : ℕ) → from < nodes → to < nodes → from ≢ to → IsResistance ohm → IsElementWithin nodes (winding place r from to ohm)
 winding_within nodes place r from to ohm from_inside to_inside apart h = record {
   from_node = from_inside;
   to_end = to_inside;

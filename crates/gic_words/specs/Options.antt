@@ -2,7 +2,7 @@
 use Rattle.std.specs.Prelude.{ℕ, List, [], ◌∷◌, ℤ, pos, unsigned_abs, Some, None, Ok, Err, Result, is_some, unwrap_or, option_map, option_and_then, if◌then◌else◌}
 use Rattle.std.specs.declared.option.Option.{Option}
 use Rattle.clap.specs.Words.{Kinds, Row}
-use Rattle.gic_words.specs.Table.{all_options, form_of, mode_of, use_of}
+use Rattle.gic_words.specs.Table.{ModeRow, all_options, form_of, row_named, use_of}
 use Rattle.gic_words.specs.Command.{given, given_mode, faults_of, matches_of_words}
 use Rattle.gic_screen.specs.declared.event.Event.{Event as NamedEvent}
 use Rattle.gic_screen.specs.declared.event.Event.TheVariants.{Benchmark}
@@ -39,35 +39,35 @@ use_fault Allowed o None = None
 use_fault Allowed o (Some text) = value_fault o text
 
 -- the fault of one option
-abbrev pub option_fault : Mode → Opt → Option (List ℕ) → Option Usage
-option_fault m o value = use_fault (use_of m o) o value
+abbrev pub option_fault : ModeRow → Opt → Option (List ℕ) → Option Usage
+option_fault r o value = use_fault (use_of r o) o value
 
 abbrev pub or_next : Option Usage → Option Usage → Option Usage
 or_next (Some u) next = Some u
 or_next None next = next
 
 -- the first fault of these options
-abbrev pub first_fault : Mode → List Row → List Opt → Option Usage
-first_fault m rows [] = None
-first_fault m rows (o ∷ os) = or_next (option_fault m o (given rows o)) (first_fault m rows os)
+abbrev pub first_fault : ModeRow → List Row → List Opt → Option Usage
+first_fault r rows [] = None
+first_fault r rows (o ∷ os) = or_next (option_fault r o (given rows o)) (first_fault r rows os)
 
 -- ---- what the options are, where they have no fault
 
 -- a number that may be given
-abbrev pub number_of : List Row → Opt → Option ℤ
-number_of rows o = option_and_then (number_in o) (given rows o)
+abbrev pub number_given : List Row → Opt → Option ℤ
+number_given rows o = option_and_then (number_in o) (given rows o)
 
 -- a number that isn't negative, where it is given
-abbrev pub count_of : List Row → Opt → Option ℕ
-count_of rows o = option_map unsigned_abs (number_of rows o)
+abbrev pub count_given : List Row → Opt → Option ℕ
+count_given rows o = option_map unsigned_abs (number_given rows o)
 
 -- the field in one direction, 0 where it is not given
-abbrev pub field_of : List Row → Opt → ℤ
-field_of rows o = unwrap_or (number_of rows o) (pos 0)
+abbrev pub field_given : List Row → Opt → ℤ
+field_given rows o = unwrap_or (number_given rows o) (pos 0)
 
 -- the width, 100 where it is not given
-abbrev pub width_of : List Row → ℕ
-width_of rows = unwrap_or (count_of rows Width) 100
+abbrev pub width_given : List Row → ℕ
+width_given rows = unwrap_or (count_given rows Width) 100
 
 -- the event, the benchmark one where none is given
 abbrev pub named_event : List Row → NamedEvent
@@ -75,7 +75,7 @@ named_event rows = unwrap_or (option_and_then event_of (given rows Event)) Bench
 
 -- the question of the words, with a default for what is not given
 abbrev pub question_of : List Row → Question
-question_of rows = record { north = field_of rows North; east = field_of rows East; width = width_of rows; event = named_event rows }
+question_of rows = record { north = field_given rows North; east = field_given rows East; width = width_given rows; event = named_event rows }
 
 -- the options of a mode: the files that the words name, the question, the step in detail, and the seed and the sites of a made case
 abbrev pub options_by : Mode → List Row → Options
@@ -85,9 +85,9 @@ options_by m rows = record {
   storm = given rows Storm;
   switch = given rows Switch;
   question = question_of rows;
-  detail = count_of rows Detail;
-  seed = count_of rows Seed;
-  size = count_of rows Size;
+  detail = count_given rows Detail;
+  seed = count_given rows Seed;
+  size = count_given rows Size;
   cert = given rows Cert;
   transformer = given rows Transformer;
 }
@@ -95,18 +95,18 @@ options_by m rows = record {
 -- ---- the words
 
 -- the options, unless there is a fault
-abbrev pub unless : Option Usage → Options → Result Options Usage
-unless (Some u) o = Err u
-unless None o = Ok o
+abbrev pub unless_refused : Option Usage → Options → Result Options Usage
+unless_refused (Some u) o = Err u
+unless_refused None o = Ok o
 
 -- the options of a mode, or their first fault
-abbrev pub options_in_mode : Option Mode → List Row → Result Options Usage
+abbrev pub options_in_mode : Option ModeRow → List Row → Result Options Usage
 options_in_mode None rows = Err usage.Mode
-options_in_mode (Some m) rows = unless (first_fault m rows all_options) (options_by m rows)
+options_in_mode (Some r) rows = unless_refused (first_fault r rows all_options) (options_by r.mode rows)
 
--- the mode that the matches name
-abbrev pub mode_in : List Row → Option Mode
-mode_in rows = option_and_then mode_of (given_mode rows)
+-- the row of the mode that the matches name
+abbrev pub mode_in : List Row → Option ModeRow
+mode_in rows = option_and_then row_named (given_mode rows)
 
 -- the options of clap's matches
 abbrev pub options_of_rows : List Row → Result Options Usage

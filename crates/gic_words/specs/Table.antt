@@ -6,7 +6,6 @@ use Rattle.std.specs.Str.{bytes_eq}
 use Rattle.gic_base.specs.declared.limits.TheConstants.{MOST_FIELD, MOST_ROWS}
 use Rattle.gic_words.specs.declared.option.Form.{Form}
 use Rattle.gic_words.specs.declared.option.Form.TheVariants as form
-use Rattle.gic_words.specs.declared.mode.NetworkMode.{NetworkMode}
 use Rattle.gic_words.specs.declared.mode.NetworkMode.TheVariants as network
 use Rattle.gic_words.specs.declared.mode.Mode.{Mode}
 use Rattle.gic_words.specs.declared.mode.Mode.TheVariants as mode
@@ -17,58 +16,46 @@ use Rattle.gic_words.specs.declared.option.Opt.TheVariants.{Case, Storm, Switch,
 
 -- ---- the options
 
--- the name of an option, without its hyphens
+-- an option: its place in the order in which faults are found, its name without its hyphens, and the form of its values
+pub record OptionRow : Type 0 where
+  pub place : ℕ
+  pub name : List ℕ
+  pub form : Form
+
+abbrev option_row : (place : ℕ) → (name : List ℕ) → Form → OptionRow
+option_row place name form = record { place = place; name = name; form = form }
+
+-- one row an option; fields are within `MOST_FIELD`, 20000 mV/km, either way, widths from 10 to 10000 mV or mA, a storm has at most `MOST_ROWS`, 20000, steps, seeds are numbers of 32 bits, and made cases have from 2 to 1000 sites
+abbrev pub row_of_option : Opt → OptionRow
+row_of_option Case = option_row 0 (codes "case") form.Name
+row_of_option Storm = option_row 1 (codes "storm") form.Name
+row_of_option Switch = option_row 2 (codes "switch") form.Name
+row_of_option North = option_row 3 (codes "north") (form.Number (neg_ℤ (pos MOST_FIELD)) (pos MOST_FIELD))
+row_of_option East = option_row 4 (codes "east") (form.Number (neg_ℤ (pos MOST_FIELD)) (pos MOST_FIELD))
+row_of_option Width = option_row 5 (codes "width") (form.Number (pos 10) (pos 10000))
+row_of_option Detail = option_row 6 (codes "detail") (form.Number (pos 1) (pos MOST_ROWS))
+row_of_option Seed = option_row 7 (codes "seed") (form.Number (pos 0) (pos 4294967295))
+row_of_option Size = option_row 8 (codes "size") (form.Number (pos 2) (pos 1000))
+row_of_option Event = option_row 9 (codes "event") form.Event
+row_of_option Cert = option_row 10 (codes "cert") form.Name
+row_of_option Transformer = option_row 11 (codes "transformer") form.Name
+
+abbrev pub place_of : Opt → ℕ
+place_of o = (row_of_option o).place
+
 abbrev pub name_of : Opt → List ℕ
-name_of Case = codes "case"
-name_of Storm = codes "storm"
-name_of Switch = codes "switch"
-name_of North = codes "north"
-name_of East = codes "east"
-name_of Width = codes "width"
-name_of Detail = codes "detail"
-name_of Seed = codes "seed"
-name_of Size = codes "size"
-name_of Event = codes "event"
-name_of Cert = codes "cert"
-name_of Transformer = codes "transformer"
+name_of o = (row_of_option o).name
+
+abbrev pub form_of : Opt → Form
+form_of o = (row_of_option o).form
 
 -- an option as it is written
 abbrev pub flag : Opt → List ℕ
 flag option = codes "--" ++ name_of option
 
--- in the order in which their faults are found
+-- in the order of their places
 abbrev pub all_options : List Opt
 all_options = Case ∷ Storm ∷ Switch ∷ North ∷ East ∷ Width ∷ Detail ∷ Seed ∷ Size ∷ Event ∷ Cert ∷ Transformer ∷ []
-
--- the form of the values of an option; fields are within `MOST_FIELD`, 20000 mV/km, either way, widths from 10 to 10000 mV or mA, a storm has at most `MOST_ROWS`, 20000, steps, seeds are numbers of 32 bits, and made cases have from 2 to 1000 sites
-abbrev pub form_of : Opt → Form
-form_of Case = form.Name
-form_of Storm = form.Name
-form_of Switch = form.Name
-form_of North = form.Number (neg_ℤ (pos MOST_FIELD)) (pos MOST_FIELD)
-form_of East = form.Number (neg_ℤ (pos MOST_FIELD)) (pos MOST_FIELD)
-form_of Width = form.Number (pos 10) (pos 10000)
-form_of Detail = form.Number (pos 1) (pos MOST_ROWS)
-form_of Seed = form.Number (pos 0) (pos 4294967295)
-form_of Size = form.Number (pos 2) (pos 1000)
-form_of Event = form.Event
-form_of Cert = form.Name
-form_of Transformer = form.Name
-
--- the place of an option in the table
-abbrev pub place_of : Opt → ℕ
-place_of Case = 0
-place_of Storm = 1
-place_of Switch = 2
-place_of North = 3
-place_of East = 4
-place_of Width = 5
-place_of Detail = 6
-place_of Seed = 7
-place_of Size = 8
-place_of Event = 9
-place_of Cert = 10
-place_of Transformer = 11
 
 -- whether an option is one of these
 unfoldable pub is_among : Opt → List Opt → Bool
@@ -76,62 +63,42 @@ is_among o options = list_any (λ other. place_of other == place_of o) options
 
 -- ---- the modes
 
--- the word that asks for a mode over the network of a case
-abbrev pub network_word_of : NetworkMode → List ℕ
-network_word_of network.Volts = codes "volts"
-network_word_of network.List = codes "list"
-network_word_of network.Check = codes "check"
-network_word_of network.Field = codes "field"
-network_word_of network.Screen = codes "screen"
-network_word_of network.Certify = codes "certify"
-network_word_of network.Outage = codes "outage"
-network_word_of network.Review = codes "review"
+-- a mode: the word that asks for it, the options that it requires, and the further ones that it may have
+pub record ModeRow : Type 0 where
+  pub mode : Mode
+  pub word : List ℕ
+  pub required : List Opt
+  pub allowed : List Opt
 
--- the word that asks for a mode
-abbrev pub word_of : Mode → List ℕ
-word_of (mode.Network m) = network_word_of m
-word_of mode.Study = codes "study"
-word_of mode.Make = codes "make"
-word_of mode.Recheck = codes "recheck"
-word_of mode.Series = codes "series"
+abbrev mode_row : Mode → (word : List ℕ) → (required allowed : List Opt) → ModeRow
+mode_row m word required allowed = record { mode = m; word = word; required = required; allowed = allowed }
 
-abbrev pub all_modes : List Mode
-all_modes =
-    mode.Network network.Volts ∷ mode.Network network.List ∷ mode.Network network.Check ∷ mode.Network network.Field ∷ mode.Network network.Screen
-    ∷ mode.Network network.Certify ∷ mode.Network network.Outage ∷ mode.Study ∷ mode.Make ∷ mode.Recheck ∷ mode.Series ∷ mode.Network network.Review ∷ []
+-- one row a mode
+abbrev pub mode_rows : List ModeRow
+mode_rows =
+    mode_row (mode.Network network.Volts) (codes "volts") (Case ∷ []) (North ∷ East ∷ [])
+    ∷ mode_row (mode.Network network.List) (codes "list") (Case ∷ []) []
+    ∷ mode_row (mode.Network network.Check) (codes "check") (Case ∷ []) (Switch ∷ [])
+    ∷ mode_row (mode.Network network.Field) (codes "field") (Case ∷ []) (North ∷ East ∷ Switch ∷ Width ∷ Event ∷ [])
+    ∷ mode_row (mode.Network network.Screen) (codes "screen") (Case ∷ []) (Switch ∷ Width ∷ Event ∷ [])
+    ∷ mode_row (mode.Network network.Certify) (codes "certify") (Case ∷ []) (North ∷ East ∷ Switch ∷ [])
+    ∷ mode_row (mode.Network network.Outage) (codes "outage") (Case ∷ []) (Switch ∷ Width ∷ Event ∷ [])
+    ∷ mode_row mode.Study (codes "study") (Case ∷ Storm ∷ []) (Switch ∷ Width ∷ Detail ∷ Event ∷ [])
+    ∷ mode_row mode.Make (codes "make") (Seed ∷ Size ∷ []) []
+    ∷ mode_row mode.Recheck (codes "recheck") (Case ∷ Cert ∷ []) (Switch ∷ [])
+    ∷ mode_row mode.Series (codes "series") (Case ∷ Storm ∷ Transformer ∷ []) (Switch ∷ Width ∷ [])
+    ∷ mode_row (mode.Network network.Review) (codes "review") (Case ∷ []) []
+    ∷ []
 
--- the mode that a word names
-unfoldable pub mode_of : List ℕ → Option Mode
-mode_of word = find (λ m. bytes_eq (word_of m) word) all_modes
+-- the first of these rows that has the word
+abbrev pub first_named : List ℕ → List ModeRow → Option ModeRow
+first_named word rows = find (λ r. bytes_eq r.word word) rows
 
--- the options that a mode requires
-abbrev pub required_by : Mode → List Opt
-required_by (mode.Network m) = Case ∷ []
-required_by mode.Study = Case ∷ Storm ∷ []
-required_by mode.Make = Seed ∷ Size ∷ []
-required_by mode.Recheck = Case ∷ Cert ∷ []
-required_by mode.Series = Case ∷ Storm ∷ Transformer ∷ []
-
--- the further options that a mode over the network of a case may have
-abbrev pub allowed_over_network : NetworkMode → List Opt
-allowed_over_network network.Volts = North ∷ East ∷ []
-allowed_over_network network.List = []
-allowed_over_network network.Check = Switch ∷ []
-allowed_over_network network.Field = North ∷ East ∷ Switch ∷ Width ∷ Event ∷ []
-allowed_over_network network.Screen = Switch ∷ Width ∷ Event ∷ []
-allowed_over_network network.Certify = North ∷ East ∷ Switch ∷ []
-allowed_over_network network.Outage = Switch ∷ Width ∷ Event ∷ []
-allowed_over_network network.Review = []
-
--- the further options that a mode may have
-abbrev pub allowed_by : Mode → List Opt
-allowed_by (mode.Network m) = allowed_over_network m
-allowed_by mode.Study = Switch ∷ Width ∷ Detail ∷ Event ∷ []
-allowed_by mode.Make = []
-allowed_by mode.Recheck = Switch ∷ []
-allowed_by mode.Series = Switch ∷ Width ∷ []
+-- the row that a word names
+unfoldable pub row_named : List ℕ → Option ModeRow
+row_named word = first_named word mode_rows
 
 -- what use a mode has for an option
-unfoldable pub use_of : Mode → Opt → Use
-use_of m o = if is_among o (required_by m) then Required
-    else (if is_among o (allowed_by m) then Allowed else Unused)
+unfoldable pub use_of : ModeRow → Opt → Use
+use_of r o = if is_among o r.required then Required
+    else (if is_among o r.allowed then Allowed else Unused)

@@ -12,5 +12,5 @@ IsWithinForm (form.Number least most) n = (least ≤ℤ n) × (n ≤ℤ most)
 IsWithinForm form.Event n = ⊥
 
 -- the number lies in the range of the option
-abbrev pub IsWithin : Opt → ℤ → Type 0
-IsWithin o n = IsWithinForm (form_of o) n
+abbrev pub IsWithinOption : Opt → ℤ → Type 0
+IsWithinOption o n = IsWithinForm (form_of o) n

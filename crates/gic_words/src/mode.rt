@@ -1,6 +1,7 @@
-//! The modes, and the options that each has a use for.
-ghost use Rattle.std.specs.Prelude.{◌≡◌};
-ghost use Rattle.gic_words.specs.Table.{network_word_of, word_of, all_modes, mode_of, required_by, allowed_over_network, allowed_by, use_of};
+//! The table of modes: the word of each, and the options that it has a use for.
+ghost use Rattle.std.specs.Prelude.{◌≡◌, map, option_map};
+ghost use Rattle.gic_words.specs.Table.{mode_rows, row_named, use_of};
+ghost use Rattle.gic_words.specs.Seen.{row_seen};
 
 use crate::option::Opt;
 
@@ -51,118 +52,122 @@ pub(crate) enum Use {
     Unused,
 }
 
-static ALL: [Mode; 12] = [
-    Mode::Network(NetworkMode::Volts),
-    Mode::Network(NetworkMode::List),
-    Mode::Network(NetworkMode::Check),
-    Mode::Network(NetworkMode::Field),
-    Mode::Network(NetworkMode::Screen),
-    Mode::Network(NetworkMode::Certify),
-    Mode::Network(NetworkMode::Outage),
-    Mode::Study,
-    Mode::Make,
-    Mode::Recheck,
-    Mode::Series,
-    Mode::Network(NetworkMode::Review),
-];
-
-impl NetworkMode {
+/// A mode, and what words say of it.
+pub(crate) struct ModeRow {
+    pub(crate) mode: Mode,
     /// The word that asks for it.
-    fn word(self) -> &'static str
-        ensures { result.now ≡ network_word_of self }
-    {
-        match self {
-            NetworkMode::Volts => "volts",
-            NetworkMode::List => "list",
-            NetworkMode::Check => "check",
-            NetworkMode::Field => "field",
-            NetworkMode::Screen => "screen",
-            NetworkMode::Certify => "certify",
-            NetworkMode::Outage => "outage",
-            NetworkMode::Review => "review",
-        }
-    }
-
-    /// The options that it may have besides the case.
-    fn allowed(self) -> &'static [Opt]
-        ensures { result.now ≡ allowed_over_network self }
-    {
-        match self {
-            NetworkMode::Volts => &[Opt::North, Opt::East],
-            NetworkMode::List => &[],
-            NetworkMode::Check => &[Opt::Switch],
-            NetworkMode::Field => &[Opt::North, Opt::East, Opt::Switch, Opt::Width, Opt::Event],
-            NetworkMode::Screen => &[Opt::Switch, Opt::Width, Opt::Event],
-            NetworkMode::Certify => &[Opt::North, Opt::East, Opt::Switch],
-            NetworkMode::Outage => &[Opt::Switch, Opt::Width, Opt::Event],
-            NetworkMode::Review => &[],
-        }
-    }
+    word: &'static str,
+    /// The options that it requires.
+    required: &'static [Opt],
+    /// The further options that it may have.
+    allowed: &'static [Opt],
 }
 
-impl Mode {
-    /// The word that asks for it.
-    fn word(self) -> &'static str
-        ensures { result.now ≡ word_of self }
+/// One row a mode.
+static ROWS: [ModeRow; 12] = [
+    ModeRow {
+        mode: Mode::Network(NetworkMode::Volts),
+        word: "volts",
+        required: &[Opt::Case],
+        allowed: &[Opt::North, Opt::East],
+    },
+    ModeRow {
+        mode: Mode::Network(NetworkMode::List),
+        word: "list",
+        required: &[Opt::Case],
+        allowed: &[],
+    },
+    ModeRow {
+        mode: Mode::Network(NetworkMode::Check),
+        word: "check",
+        required: &[Opt::Case],
+        allowed: &[Opt::Switch],
+    },
+    ModeRow {
+        mode: Mode::Network(NetworkMode::Field),
+        word: "field",
+        required: &[Opt::Case],
+        allowed: &[Opt::North, Opt::East, Opt::Switch, Opt::Width, Opt::Event],
+    },
+    ModeRow {
+        mode: Mode::Network(NetworkMode::Screen),
+        word: "screen",
+        required: &[Opt::Case],
+        allowed: &[Opt::Switch, Opt::Width, Opt::Event],
+    },
+    ModeRow {
+        mode: Mode::Network(NetworkMode::Certify),
+        word: "certify",
+        required: &[Opt::Case],
+        allowed: &[Opt::North, Opt::East, Opt::Switch],
+    },
+    ModeRow {
+        mode: Mode::Network(NetworkMode::Outage),
+        word: "outage",
+        required: &[Opt::Case],
+        allowed: &[Opt::Switch, Opt::Width, Opt::Event],
+    },
+    ModeRow {
+        mode: Mode::Study,
+        word: "study",
+        required: &[Opt::Case, Opt::Storm],
+        allowed: &[Opt::Switch, Opt::Width, Opt::Detail, Opt::Event],
+    },
+    ModeRow {
+        mode: Mode::Make,
+        word: "make",
+        required: &[Opt::Seed, Opt::Size],
+        allowed: &[],
+    },
+    ModeRow {
+        mode: Mode::Recheck,
+        word: "recheck",
+        required: &[Opt::Case, Opt::Cert],
+        allowed: &[Opt::Switch],
+    },
+    ModeRow {
+        mode: Mode::Series,
+        word: "series",
+        required: &[Opt::Case, Opt::Storm, Opt::Transformer],
+        allowed: &[Opt::Switch, Opt::Width],
+    },
+    ModeRow {
+        mode: Mode::Network(NetworkMode::Review),
+        word: "review",
+        required: &[Opt::Case],
+        allowed: &[],
+    },
+];
+
+/// The rows of the table.
+fn rows() -> &'static [ModeRow]
+    ensures { map row_seen result.now ≡ mode_rows }
+{
+    &ROWS
+}
+
+impl ModeRow {
+    /// The row of the mode that a word names.
+    #[tactic(auto, unfolding(crate::specs::Table::row_named))]
+    pub(crate) fn named(word: &str) -> Option<&'static ModeRow>
+        ensures { option_map (λ r. row_seen r.now) result ≡ row_named word.now }
     {
-        match self {
-            Mode::Network(mode) => mode.word(),
-            Mode::Study => "study",
-            Mode::Make => "make",
-            Mode::Recheck => "recheck",
-            Mode::Series => "series",
+        for row in rows() {
+            if row.word == word {
+                return Some(row);
+            }
         }
+        None
     }
 
-    /// The modes.
-    fn all() -> &'static [Mode]
-        ensures { result.now ≡ all_modes }
-    {
-        &ALL
-    }
-
-    /// The mode that a word names.
-    #[tactic(auto, unfolding(crate::specs::Table::mode_of))]
-    pub(crate) fn read(word: &str) -> Option<Mode>
-        ensures { result ≡ mode_of word.now }
-    {
-        Mode::all().iter().copied().find(|mode| mode.word() == word)
-    }
-
-    /// The options that it requires.
-    fn required(self) -> &'static [Opt]
-        ensures { result.now ≡ required_by self }
-    {
-        match self {
-            Mode::Network(_) => &[Opt::Case],
-            Mode::Study => &[Opt::Case, Opt::Storm],
-            Mode::Make => &[Opt::Seed, Opt::Size],
-            Mode::Recheck => &[Opt::Case, Opt::Cert],
-            Mode::Series => &[Opt::Case, Opt::Storm, Opt::Transformer],
-        }
-    }
-
-    /// The further options that it may have.
-    fn allowed(self) -> &'static [Opt]
-        ensures { result.now ≡ allowed_by self }
-    {
-        match self {
-            Mode::Network(mode) => mode.allowed(),
-            Mode::Study => &[Opt::Switch, Opt::Width, Opt::Detail, Opt::Event],
-            Mode::Make => &[],
-            Mode::Recheck => &[Opt::Switch],
-            Mode::Series => &[Opt::Switch, Opt::Width],
-        }
-    }
-
-    /// What use it has for an option.
+    /// What use the mode has for an option.
     #[tactic(auto, unfolding(crate::specs::Table::use_of))]
-    pub(crate) fn use_of(self, option: Opt) -> Use
-        ensures { result ≡ use_of self option }
+    pub(crate) fn use_of(&self, option: Opt) -> Use
+        ensures { result ≡ use_of (row_seen self.now) option }
     {
-        if option.is_among(self.required()) {
+        if option.is_among(self.required) {
             Use::Required
-        } else if option.is_among(self.allowed()) {
+        } else if option.is_among(self.allowed) {
             Use::Allowed
         } else {
             Use::Unused

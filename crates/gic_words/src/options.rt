@@ -1,18 +1,19 @@
 //! The words, read as a mode with its options.
-ghost use Rattle.std.specs.Prelude.{◌≡◌, ◌≤◌, IfOk, IfSome, map, string_bytes, unsigned_abs};
+ghost use Rattle.std.specs.Prelude.{◌≡◌, ◌≤◌, IfOk, IfSome, map, option_map, string_bytes, unsigned_abs};
 ghost use Rattle.clap.specs.Words.{rows_of, found_of};
 ghost use Rattle.gic_base.specs.declared.limits.TheConstants.{MOST_FIELD};
 ghost use Rattle.gic_question.specs.Ranges.{IsWithinRanges};
 ghost use Rattle.gic_words.specs.Required.{IsSize, AreWithinRanges};
 ghost use Rattle.gic_words.specs.Command.{given};
-ghost use Rattle.gic_words.specs.Within.{IsWithin};
-ghost use Rattle.gic_words.specs.Options.{number_of, count_of, field_of, width_of, named_event, question_of, options_by, mode_in};
+ghost use Rattle.gic_words.specs.Within.{IsWithinOption};
+ghost use Rattle.gic_words.specs.Options.{number_given, count_given, field_given, width_given, named_event, question_of, options_by, mode_in};
 ghost use Rattle.gic_words.specs.Options.{options_of, options_of_rows};
 ghost use Rattle.gic_words.specs.Reads.{ReadsWords, KeepsTaken};
+ghost use Rattle.gic_words.specs.Seen.{row_seen};
 
 use crate::command::{ParseRefusal, mode_word, parse, value_of};
 use crate::fault::{Usage, WordsRefusal, first_fault};
-use crate::mode::Mode;
+use crate::mode::{Mode, ModeRow};
 use crate::name::{FileName, Text};
 use crate::option::Opt;
 use crate::value::{read_event, read_number};
@@ -77,15 +78,15 @@ fn text(alloc: Global, matches: &ArgMatches<'_>, option: Opt) -> Result<Option<T
 
 /// A number that may be given.
 fn number(matches: &ArgMatches<'_>, option: Opt) -> Option<i64>
-    ensures value { result ≡ number_of (rows_of (found_of matches.now)) option }
-    ensures within { IfSome result (IsWithin option) }
+    ensures value { result ≡ number_given (rows_of (found_of matches.now)) option }
+    ensures within { IfSome result (IsWithinOption option) }
 {
     read_number(option, value_of(matches, option)?)
 }
 
 /// The field to the north, in mV/km.
 fn north(matches: &ArgMatches<'_>) -> i32
-    ensures value { result ≡ field_of (rows_of (found_of matches.now)) Opt.North }
+    ensures value { result ≡ field_given (rows_of (found_of matches.now)) Opt.North }
     ensures small { unsigned_abs result ≤ MOST_FIELD }
 {
     match number(matches, Opt::North) {
@@ -96,7 +97,7 @@ fn north(matches: &ArgMatches<'_>) -> i32
 
 /// The field to the east, in mV/km.
 fn east(matches: &ArgMatches<'_>) -> i32
-    ensures value { result ≡ field_of (rows_of (found_of matches.now)) Opt.East }
+    ensures value { result ≡ field_given (rows_of (found_of matches.now)) Opt.East }
     ensures small { unsigned_abs result ≤ MOST_FIELD }
 {
     match number(matches, Opt::East) {
@@ -107,7 +108,7 @@ fn east(matches: &ArgMatches<'_>) -> i32
 
 /// The width of an interval, in mV or mA.
 fn width(matches: &ArgMatches<'_>) -> u32
-    ensures value { result ≡ width_of (rows_of (found_of matches.now)) }
+    ensures value { result ≡ width_given (rows_of (found_of matches.now)) }
     ensures least { 10 ≤ result }
     ensures most { result ≤ 10000 }
 {
@@ -119,7 +120,7 @@ fn width(matches: &ArgMatches<'_>) -> u32
 
 /// The step that is shown in detail.
 fn detail(matches: &ArgMatches<'_>) -> Option<u32>
-    ensures { result ≡ count_of (rows_of (found_of matches.now)) Opt.Detail }
+    ensures { result ≡ count_given (rows_of (found_of matches.now)) Opt.Detail }
 {
     match number(matches, Opt::Detail) {
         Some(value) => Some(value as u32),
@@ -129,7 +130,7 @@ fn detail(matches: &ArgMatches<'_>) -> Option<u32>
 
 /// The seed of a made case.
 fn seed(matches: &ArgMatches<'_>) -> Option<u32>
-    ensures { result ≡ count_of (rows_of (found_of matches.now)) Opt.Seed }
+    ensures { result ≡ count_given (rows_of (found_of matches.now)) Opt.Seed }
 {
     match number(matches, Opt::Seed) {
         Some(value) => Some(value as u32),
@@ -139,7 +140,7 @@ fn seed(matches: &ArgMatches<'_>) -> Option<u32>
 
 /// The number of sites of a made case.
 fn size(matches: &ArgMatches<'_>) -> Option<u16>
-    ensures value { result ≡ count_of (rows_of (found_of matches.now)) Opt.Size }
+    ensures value { result ≡ count_given (rows_of (found_of matches.now)) Opt.Size }
     ensures within { IfSome result IsSize }
 {
     match number(matches, Opt::Size) {
@@ -198,11 +199,11 @@ fn options_by(alloc: Global, mode: Mode, matches: &ArgMatches<'_>) -> Result<Opt
     })
 }
 
-/// The mode of the matches.
-fn mode_of(matches: &ArgMatches<'_>) -> Option<Mode>
-    ensures { result ≡ mode_in (rows_of (found_of matches.now)) }
+/// The row of the mode that the matches name.
+fn mode_in(matches: &ArgMatches<'_>) -> Option<&'static ModeRow>
+    ensures { option_map (λ r. row_seen r.now) result ≡ mode_in (rows_of (found_of matches.now)) }
 {
-    Mode::read(mode_word(matches)?)
+    ModeRow::named(mode_word(matches)?)
 }
 
 /// The options of the matches.
@@ -210,13 +211,13 @@ fn read_matches(alloc: Global, matches: &ArgMatches<'_>) -> Result<Options, Word
     ensures right { ReadsWords (options_of_rows (rows_of (found_of matches.now))) result }
     ensures within { IfOk result AreWithinRanges }
 {
-    let Some(mode) = mode_of(matches) else {
+    let Some(row) = mode_in(matches) else {
         return Err(WordsRefusal::Usage(Usage::Mode));
     };
-    if let Some(fault) = first_fault(mode, matches) {
+    if let Some(fault) = first_fault(row, matches) {
         return Err(WordsRefusal::Usage(fault));
     }
-    let options = options_by(alloc, mode, matches)?;
+    let options = options_by(alloc, row.mode, matches)?;
     Ok(options)
 }
 

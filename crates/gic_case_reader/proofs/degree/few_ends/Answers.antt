@@ -1,14 +1,14 @@
 use Rattle.std.proofs.Common.{◌≡◌, ◌<◌, ◌≤◌, length, get_or, arith, ap, sym, ◌∙◌}
 use Rattle.std.proofs.lemmas.Grind.{common_steps}
 use Rattle.gic_base.specs.Refusals.{settle}
-use Rattle.gic_case.specs.Lists.{node_names, ends_of, degree_of}
+use Rattle.gic_case.specs.Lists.{node_names, element_ends, degree_of}
 use Rattle.gic_case_reader.proofs.Degrees.{degree_step}
 use Rattle.gic_case_reader.proofs.degree.few_ends.Goals as goal
 
 pub loop-node-preserved : goal.loop-node-preserved
 loop-node-preserved c =
     let names = node_names c.args.network.now in
-    let ends = ends_of c.args.network.now in
+    let ends = element_ends c.args.network.now in
     let node = c.loop-node.node in
     let nodes : c.node_count-nodes.result ≡ length names = c.node_count-nodes.ensures in
     let below : node < c.from.result = grind (arith, common_steps) in

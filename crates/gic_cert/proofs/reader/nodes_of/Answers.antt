@@ -4,7 +4,7 @@ use Rattle.gic_model.specs.Network.{Network}
 use Rattle.gic_net.specs.Net.{standing}
 use Rattle.gic_winding.specs.ElementList.{elements_of}
 use Rattle.gic_cert.specs.declared.rows.NodeName.{NodeName}
-use Rattle.gic_cert.specs.Rows.{named}
+use Rattle.gic_cert.specs.Rows.{named_nodes}
 use Rattle.gic_cert.proofs.Placed.{next_named, nodes_from}
 use Rattle.gic_cert.proofs.reader.nodes_of.Goals as goal
 
@@ -43,8 +43,8 @@ loop-name-preserved c =
       count = grind (arith, pushed, c.loop-name.invariant.count);
       left = omega (arith, left, c.loop-name.invariant.left);
       nodes =
-          ap (λ (ns : List NodeName). named ns ++ nodes_from s (node + 1) (names_left c.next.new.self)) c.in_ok-push.ensures.items ∙
-          ap (λ b. named (c.loop-name.nodes.items ++ record { name = c.in-Some.name; live = b } ∷ []) ++ nodes_from s (node + 1) (names_left c.next.new.self)) c.live-live.ensures ∙
+          ap (λ (ns : List NodeName). named_nodes ns ++ nodes_from s (node + 1) (names_left c.next.new.self)) c.in_ok-push.ensures.items ∙
+          ap (λ b. named_nodes (c.loop-name.nodes.items ++ record { name = c.in-Some.name; live = b } ∷ []) ++ nodes_from s (node + 1) (names_left c.next.new.self)) c.live-live.ensures ∙
           next_named s c.loop-name.nodes.items (names_left c.loop-name.name-iterator) (names_left c.next.new.self) c.in-Some.name node more ∙
           c.loop-name.invariant.nodes;
     }

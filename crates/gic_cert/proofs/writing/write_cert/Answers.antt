@@ -5,14 +5,14 @@ use Rattle.gic_case.specs.Lists.{Lists, node_names}
 use Rattle.gic_report.specs.SharedLines.{Words, word_line}
 use Rattle.gic_report.proofs.Framed.{part_first, part_second, part_body, part_last, all_written}
 use Rattle.gic_cert.specs.Written.{Certificate}
-use Rattle.gic_cert.specs.Text.{nodes_line, node_lines}
+use Rattle.gic_cert.specs.Text.{nodes_line, written_lines}
 use Rattle.gic_cert.proofs.writing.write_cert.Goals as goal
 
 second : Certificate → Words
 second c = nodes_line (length c.nodes) c.north c.east
 
 body : Lists → Certificate → List Words
-body case c = node_lines (node_names case) c.nodes
+body case c = written_lines (node_names case) c.nodes
 
 pub returns-in_err-write_word-clause-part : goal.returns-in_err-write_word-clause-part
 unfolding second body

@@ -1,15 +1,25 @@
+use Rattle.std.proofs.Common.{ℕ, ℤ, List, [], ◌∷◌, ap, sym, subst}
+use Rattle.gic_cert.specs.CertRoomFor.{IsCertRoomFor}
+use Rattle.gic_model.specs.Network.{Network}
+use Rattle.gic_model.specs.Sums.{Placed}
 use Rattle.gic_net.specs.Net.{standing}
 use Rattle.gic_stand.specs.Needs.{Solved}
-use Rattle.gic_stand.specs.Serves.{shown}
-use Rattle.gic_uniform.proofs.ServedField.{serves_in_field}
+use Rattle.gic_stand.specs.Serves.{Serves, shown}
+use Rattle.gic_uniform.proofs.InField.{in_field}
 use Rattle.gic_certify.specs.RightCertify.{ShowsPassing}
 use Rattle.gic_certify.proofs.mode.certify.Goals as goal
+
+pub certify_net-requires-clause-places : goal.certify_net-requires-clause-places
+certify_net-requires-clause-places g c =
+    subst (λ n. IsCertRoomFor n c.args.room.certificate) (sym (ap (λ (n : Network). n.nodes) c.requires.room.network)) c.requires.room.certificate
 
 pub returns : goal.returns
 returns g c =
     let inputs = c.args.inputs.now in
+    let case = inputs.case in
     let question = inputs.question in
-    serves_in_field Solved inputs.case inputs.switchings _ (standing c.in_ok-net.net) question.north question.east c.in_ok-volts.volts
-    (λ stands volts. ShowsPassing inputs.case stands volts question.north question.east)
-    (shown g.S.Sink.written g.S.Sink.faults c.args.out.now) (shown g.S.Sink.written g.S.Sink.faults c.certify_net.new.out) c.certify_net.result
-    c.in_ok-elements.ensures c.in_ok-net.ensures.standing c.requires.north c.requires.east c.in_ok-volts.ensures c.certify_net.ensures.serves
+    let room = c.args.room in
+    in_field case inputs.switchings question.north question.east (standing room.net) room.volts
+    (λ (s : List Placed) (v : ℕ → ℤ). Serves Solved case (s ∷ []) (ShowsPassing case s v question.north question.east)
+    (shown g.S.Sink.written g.S.Sink.faults c.args.out.now) (shown g.S.Sink.written g.S.Sink.faults c.certify_net.new.out) c.certify_net.result)
+    c.requires.room.stands c.requires.room.volts c.certify_net.ensures

@@ -6,8 +6,8 @@ use Rattle.gic_winding.specs.ElementList.{elements_of}
 use Rattle.gic_cert.specs.Certifiable.{IsCertifiable}
 use Rattle.gic_certify.proofs.mode.settled_certificate.Goals as goal
 
-pub from_solver-requires-clause-certifiable : goal.from_solver-requires-clause-certifiable
-from_solver-requires-clause-certifiable c =
+pub from_solver-certificate-requires-clause-certifiable : goal.from_solver-certificate-requires-clause-certifiable
+from_solver-certificate-requires-clause-certifiable c =
     let net = c.args.net.now in
     let volts = c.args.volts.now in
     let room = c.settle_guesses.new.room in

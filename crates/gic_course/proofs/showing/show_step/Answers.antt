@@ -1,18 +1,15 @@
 use Rattle.std.proofs.Common.{◌≡◌, ℕ, List, length, ap, sym, subst, ◌∙◌}
-use Rattle.std.specs.Prelude.{slice_index, All}
-use Rattle.gic_base.specs.declared.limits.TheConstants.{MOST_WALK}
-use Rattle.gic_net.specs.Net.{standing}
-use Rattle.gic_bound.specs.Entries.{IsBoundWithin}
-use Rattle.gic_bases.specs.Bases.{ZoneBases, AreSettledBases}
+use Rattle.std.specs.Prelude.{All}
 use Rattle.gic_view.specs.View.{View}
 use Rattle.gic_effective.specs.Narrow.{IsNarrowView}
 use Rattle.gic_view.specs.Absolute.{HasAbsolute}
 use Rattle.gic_course.specs.declared.room.Room.{Room}
 use Rattle.gic_course.proofs.Told.{narrow_told, have_absolutes, fields-count}
+use Rattle.gic_course.proofs.KeptReady.{settled_with_fields}
 use Rattle.gic_course.proofs.showing.show_step.Goals as goal
 
-pub step_uncounted-requires-clause-room : goal.step_uncounted-requires-clause-room
-step_uncounted-requires-clause-room c =
+pub take_step-requires-clause-room : goal.take_step-requires-clause-room
+take_step-requires-clause-room c =
     let space = c.requires.ready.space in
     record {
       scratch = space.scratch;
@@ -25,8 +22,8 @@ step_uncounted-requires-clause-room c =
       };
     }
 
-pub step_uncounted-requires-clause-settled : goal.step_uncounted-requires-clause-settled
-step_uncounted-requires-clause-settled c = record { bound = c.requires.ready.settled.bound; bases = c.requires.ready.settled.bases }
+pub take_step-requires-clause-settled : goal.take_step-requires-clause-settled
+take_step-requires-clause-settled c = settled_with_fields c.args.way c.args.inputs.now.inputs.case c.args.net.now c.args.room.now _ c.requires.ready.settled
 
 both_told : (view numbered timed : View) (number time : ℕ) → numbered ≡ record view { number = number } → timed ≡ record numbered { time = time } → timed ≡ record view { number = number; time = time }
 both_told view numbered timed number time first second = second ∙ ap (λ (v : View). record v { time = time }) first
@@ -34,7 +31,7 @@ both_told view numbered timed number time first second = second ∙ ap (λ (v : 
 pub returns-clause-narrow : goal.returns-clause-narrow
 returns-clause-narrow c =
     let case = c.args.inputs.now.inputs.case in
-    let narrow = c.fill_view.ensures.narrow c.args.width c.requires.width.least c.step_uncounted.ensures.solved.sharp in
+    let narrow = c.fill_view.ensures.narrow c.args.width c.requires.width.least c.take_step.ensures.stepped.solved.sharp in
     subst (IsNarrowView case c.args.width) (sym (both_told c.fill_view.new.out c.set_number.new.self c.set_time.new.self _ _ c.set_number.ensures c.set_time.ensures))
     (narrow_told case c.args.width c.fill_view.new.out _ _ narrow)
 
@@ -44,17 +41,11 @@ returns-clause-absolutes c =
     subst (All HasAbsolute) (sym same) (have_absolutes c.fill_view.new.out c.fill_view.ensures.small)
 
 pub returns-clause-stays : goal.returns-clause-stays
-returns-clause-stays c = λ other ready.
-    let net = c.args.net.now in
-    let rest = c.step_uncounted.ensures.rest in
-    record {
-      storm = ready.storm;
-      step = ready.step;
-      network = ready.network;
-      stands = ready.stands;
-      space = c.step_uncounted.ensures.room;
-      settled = record {
-        bound = subst (λ (v : List ℕ). IsBoundWithin (standing net) MOST_WALK (slice_index v)) (sym (ap (λ (r : Room). r.vector) rest)) ready.settled.bound;
-        bases = subst (λ (b : List ZoneBases). AreSettledBases (standing net) c.args.inputs.now.inputs.case net.network.list b) (sym (ap (λ (r : Room). r.bases) rest)) ready.settled.bases;
-      };
-    }
+returns-clause-stays c = record {
+  storm = c.requires.ready.storm;
+  step = c.requires.ready.step;
+  network = c.requires.ready.network;
+  stands = c.requires.ready.stands;
+  space = c.take_step.ensures.stepped.room;
+  settled = c.take_step.ensures.settled;
+}

@@ -8,25 +8,26 @@ use Rattle.gic_course.proofs.walking.expect_epochs.Goals as goal
 
 pub expect_epoch-requires-clause-epoch : goal.expect_epoch-requires-clause-epoch
 expect_epoch-requires-clause-epoch c =
-    let i = c.loop-epoch.epoch-index in
+    let i = c.loop-place.place in
     next_epoch c.args.inputs.now _ (drop (i + 1) c.args.epochs.now)
-    (walked_at c.args.inputs.now c.args.epochs.now i _ c.loop-epoch-test.true c.loop-epoch.invariant.walked)
+    (walked_at c.args.inputs.now c.args.epochs.now i _ c.loop-place-test.true c.loop-place.invariant.walked)
 
 pub returns-in_err-expect_epoch-clause-unmet : goal.returns-in_err-expect_epoch-clause-unmet
 returns-in_err-expect_epoch-clause-unmet c =
     let inputs = c.args.inputs.now in
-    let i = c.loop-epoch.epoch-index in
+    let i = c.loop-place.place in
     refused c.from_residual.result c.in_err-expect_epoch.field-0.0 (IsUnmet Solved inputs.inputs.case (storm_steps inputs)) c.from_residual.ensures.1
     (walk_stops inputs _ (drop (i + 1) c.args.epochs.now) c.in_err-expect_epoch.field-0.0
-    (walked_at inputs c.args.epochs.now i _ c.loop-epoch-test.true c.loop-epoch.invariant.walked) c.in_err-expect_epoch.ensures.err)
+    (walked_at inputs c.args.epochs.now i _ c.loop-place-test.true c.loop-place.invariant.walked) c.in_err-expect_epoch.ensures.err)
 
-pub loop-epoch-preserved : goal.loop-epoch-preserved
-loop-epoch-preserved c =
+pub loop-place-preserved : goal.loop-place-preserved
+loop-place-preserved c =
     let inputs = c.args.inputs.now in
-    let i = c.loop-epoch.epoch-index in
+    let i = c.loop-place.place in
     record {
       walked = walk_goes_on inputs _ (drop (i + 1) c.args.epochs.now)
-          (walked_at inputs c.args.epochs.now i _ c.loop-epoch-test.true c.loop-epoch.invariant.walked) c.in_ok-expect_epoch.ensures.solvable;
+          (walked_at inputs c.args.epochs.now i _ c.loop-place-test.true c.loop-place.invariant.walked) c.in_ok-expect_epoch.ensures.solvable;
+      seen = λ some. c.in_ok-expect_epoch.ensures.net;
       switched = c.expect_epoch.ensures.switched;
       space = c.expect_epoch.ensures.room;
     }
@@ -34,6 +35,6 @@ loop-epoch-preserved c =
 pub returns-clause-met : goal.returns-clause-met
 returns-clause-met c =
     let inputs = c.args.inputs.now in
-    let i = c.loop-epoch.epoch-index in
-    let end : length c.args.epochs.now ≤ i = omega (arith, c.loop-epoch-test.false, c.loop-epoch.auto.epoch-index-end) in
-    walk_ends inputs (subst (Walked inputs) (drop_all i c.args.epochs.now end) c.loop-epoch.invariant.walked)
+    let i = c.loop-place.place in
+    let end : length c.args.epochs.now ≤ i = omega (arith, c.loop-place-test.false, c.loop-place.auto.place-end) in
+    walk_ends inputs (subst (Walked inputs) (drop_all i c.args.epochs.now end) c.loop-place.invariant.walked)

@@ -1,13 +1,16 @@
-use Rattle.std.proofs.Common.{drop}
+use Rattle.std.proofs.Common.{ℕ, ◌<◌, drop}
+use Rattle.gic_net.specs.Net.{standing}
+use Rattle.gic_stand.specs.Standing.{IsSolvable}
 use Rattle.gic_course.specs.Ready.{IsSwitchedFor}
-use Rattle.gic_course.specs.RoomFor.{IsRoomFor}
+use Rattle.gic_course.specs.RoomFor.{IsRoomForCourse}
 use Rattle.gic_course.proofs.Walked.{Walked}
 use Rattle.gic_course.proofs.walking.expect_epochs.Given as goal
 
--- the steps of the epochs so far can be solved
-abbrev pub invariant-loop-epoch : goal.invariant-loop-epoch
-invariant-loop-epoch l = record {
-  walked : Walked l.inputs (drop l.epoch-index l.epochs);
+-- the steps of the epochs so far can be solved, and the net as it stands behind one
+abbrev pub invariant-loop-place : goal.invariant-loop-place
+invariant-loop-place l = record {
+  walked : Walked l.inputs (drop l.place l.epochs);
+  seen : 0 < l.place → IsSolvable (standing l.switched.net);
   switched : IsSwitchedFor l.inputs l.switched;
-  space : IsRoomFor l.inputs.inputs.case l.room;
+  space : IsRoomForCourse l.inputs.inputs.case l.room;
 }

@@ -3,7 +3,7 @@ use Rattle.gic_sweep.specs.Sweep.{IsSweep}
 use Rattle.gic_model.specs.Voltages.{number_at}
 use Rattle.gic_model.specs.Guess.{IsSettled}
 use Rattle.gic_net.specs.Net.{standing, stands}
-use Rattle.gic_converge.specs.Near.{IsNear}
+use Rattle.gic_converge.specs.Near.{AreNearGuesses}
 use Rattle.gic_enclose.proofs.Turns.{left, room, less, phase_done}
 use Rattle.gic_enclose.proofs.settling.settle.Goals as goal
 
@@ -31,7 +31,7 @@ loop-turn-preserved g c =
     let next = c.sweeps_converge_law.ensures.next net.network (stands net) volts i.near.0 y z v (left phase turn) (2 ^ (97 - phase)) c.within_limits.ensures c.requires.bound c.within_limit.ensures
     (room phase turn c.loop-phase-test.true c.loop-turn-test.true) i.near.1 swept in
     record {
-      near = (y, subst (λ (n : ℕ). IsNear (standing net) volts v n y z) (less phase turn c.loop-phase-test.true c.loop-turn-test.true) next);
+      near = (y, subst (λ (n : ℕ). AreNearGuesses (standing net) volts v n y z) (less phase turn c.loop-phase-test.true c.loop-turn-test.true) next);
       same_length = omega (arith, c.sweep-in-loop-turn.ensures.same_length, ap length c.is_seen_settled.ensures.same, i.same_length);
       ticks = omega (arith, c.sweep-in-loop-turn.ensures.tick, i.ticks);
     }
@@ -45,7 +45,7 @@ loop-phase-preserved g c =
     let end : c.loop-turn.turn ≡ 8192 = omega (arith, c.loop-turn-test.false, c.loop-turn.auto.turn-end) in
     let done = phase_done c.loop-phase.phase c.loop-turn.turn c.loop-phase-test.true end in
     record {
-      near = (i.near.0, subst (λ (n : ℕ). IsNear (standing net) volts v n i.near.0 (number_at c.loop-turn.solver)) done i.near.1);
+      near = (i.near.0, subst (λ (n : ℕ). AreNearGuesses (standing net) volts v n i.near.0 (number_at c.loop-turn.solver)) done i.near.1);
       same_length = i.same_length;
       ticks = omega (arith, i.ticks, end);
     }
@@ -59,7 +59,7 @@ returns-clause-settled g c =
     let y = number_at c.loop-phase.solver in
     let last : c.loop-phase.phase ≡ 98 = omega (arith, c.loop-phase-test.false, c.loop-phase.auto.phase-end) in
     let one : 8192 * 2 ^ (98 - c.loop-phase.phase) ≡ 8192 = ap (λ n. 8192 * 2 ^ (98 - n)) last in
-    let near : IsNear (standing net) volts v 8192 i.near.0 y = subst (λ (n : ℕ). IsNear (standing net) volts v n i.near.0 y) one i.near.1 in
+    let near : AreNearGuesses (standing net) volts v 8192 i.near.0 y = subst (λ (n : ℕ). AreNearGuesses (standing net) volts v n i.near.0 y) one i.near.1 in
     c.sweeps_converge_law.ensures.last net.network (stands net) volts i.near.0 y v c.within_limits.ensures c.requires.bound c.within_limit.ensures near
 
 pub returns-then-is_seen_settled-clause-settled : goal.returns-then-is_seen_settled-clause-settled

@@ -4,6 +4,7 @@ use Rattle.std.proofs.lemmas.List.{length-replicate, get_or-replicate, get_or_pa
 use Rattle.gic_model.specs.Voltages.{number_at}
 use Rattle.gic_model.specs.Guess.{IsSettled}
 use Rattle.gic_net.specs.Net.{standing}
+use Rattle.gic_cert.specs.CertRoomFor.{IsCertRoomFor}
 use Rattle.gic_cert.specs.declared.limits.TheConstants.{MOST_WRITTEN_GUESS}
 use Rattle.gic_examples_parts.proofs.certificates.made.Goals as goal
 
@@ -13,8 +14,8 @@ zero_there n k =
     (λ past. get_or_past (replicate n (pos 0)) k (pos 0) (omega (arith, past, length-replicate n (pos 0))))
     (cases_lt k n)
 
-pub from_solver-requires-clause-certifiable : goal.from_solver-requires-clause-certifiable
-from_solver-requires-clause-certifiable c =
+pub from_solver-cert-requires-clause-certifiable : goal.from_solver-cert-requires-clause-certifiable
+from_solver-cert-requires-clause-certifiable c =
     let grounded = c.args.grounded.now in
     let nodes = c.nodes-nodes.result in
     let same = c.is_settled.ensures.same in
@@ -29,3 +30,6 @@ from_solver-requires-clause-certifiable c =
           (c.is_settled.ensures.settled c.if-not-is_settled.false);
       written = λ k live. subst (λ (z : ℤ). unsigned_abs z ≤ MOST_WRITTEN_GUESS) (sym (ap (λ xs. number_at xs k) zeros ∙ zero_there nodes k)) (omega arith);
     }
+
+pub from_solver-cert-requires-clause-room : goal.from_solver-cert-requires-clause-room
+from_solver-cert-requires-clause-room c = subst (λ n. IsCertRoomFor n c.in_ok-room.room) c.nodes-nodes.ensures.value c.in_ok-room.ensures

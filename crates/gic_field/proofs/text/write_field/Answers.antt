@@ -5,14 +5,14 @@ use Rattle.gic_case.specs.Lists.{Lists}
 use Rattle.gic_view.specs.View.{View}
 use Rattle.gic_report.specs.SharedLines.{Words, word_line}
 use Rattle.gic_report.specs.ItemText.{signed_lines}
-use Rattle.gic_field.specs.FieldText.{setting_line}
+use Rattle.gic_field.specs.FieldText.{field_setting_line}
 use Rattle.gic_report.specs.VerdictText.{transformer_lines}
 use Rattle.gic_field.specs.declared.text.Setting.{Setting}
 use Rattle.gic_report.proofs.Framed.{part_first, part_second, part_body, part_last, all_written}
 use Rattle.gic_field.proofs.text.write_field.Goals as goal
 
 asked : Setting → Words
-asked s = setting_line s.north s.east s.width s.threshold
+asked s = field_setting_line s.north s.east s.width s.threshold
 
 items : Lists → View → Setting → List Words
 items case view s = signed_lines case view ++ transformer_lines s.threshold case.transformers view.effective

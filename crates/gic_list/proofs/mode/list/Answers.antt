@@ -12,5 +12,5 @@ use Rattle.gic_list.proofs.mode.list.Goals as goal
 pub returns : goal.returns
 returns g c =
     served Nothing c.args.inputs.now.case (steps_of c.args.inputs.now) (IsRightList c.args.inputs.now) _ _ _ c.write_list-writing.result c.ended.result
-    (met_nothing (steps_of c.args.inputs.now)) (ap (λ n. lines_text (list_report c.args.inputs.now.case n c.list.result.now)) (c.nodes.ensures.value ∙ ap (λ (n : Network). n.nodes) c.in_ok-elements.ensures)
-    ∙ ap (λ l. lines_text (list_report c.args.inputs.now.case (elements_of c.args.inputs.now.case).nodes l)) (c.list.ensures.value ∙ ap (λ (n : Network). n.list) c.in_ok-elements.ensures)) c.write_list-writing.ensures.all c.write_list-writing.ensures.part c.write_list-writing.ensures.cause c.ended.ensures
+    (met_nothing (steps_of c.args.inputs.now)) (ap (λ n. lines_text (list_report c.args.inputs.now.case n c.list.result.now)) (c.nodes.ensures.value ∙ ap (λ (n : Network). n.nodes) c.requires)
+    ∙ ap (λ l. lines_text (list_report c.args.inputs.now.case (elements_of c.args.inputs.now.case).nodes l)) (c.list.ensures.value ∙ ap (λ (n : Network). n.list) c.requires)) c.write_list-writing.ensures.all c.write_list-writing.ensures.part c.write_list-writing.ensures.cause c.ended.ensures

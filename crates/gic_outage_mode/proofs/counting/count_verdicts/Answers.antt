@@ -8,8 +8,9 @@ use Rattle.gic_report.specs.Counts.{counted, total_of}
 use Rattle.gic_report.proofs.CountedVerdicts.{total_at, counts_next}
 use Rattle.gic_screen.specs.declared.criterion.Verdict.{Verdict}
 use Rattle.gic_screening.specs.declared.rows.ScreenRow.{ScreenRow}
-use Rattle.gic_screening.specs.RightRows.{worst_verdict, worst_verdict_at}
-use Rattle.gic_screening.specs.Rows.{row_of}
+use Rattle.gic_report.specs.VerdictText.{verdict_in}
+use Rattle.gic_screening.specs.RightRows.{worst_verdict_at}
+use Rattle.gic_screening.specs.Rows.{screen_row_of}
 use Rattle.gic_winding.specs.Weights.{transformer_at, no_transformer}
 use Rattle.gic_outage_mode.specs.Outages.{worst_at}
 use Rattle.gic_outage_mode.specs.Taking.{worsts_in}
@@ -19,7 +20,7 @@ use Rattle.gic_outage_mode.proofs.counting.count_verdicts.Goals as goal
 pub counted-counts-requires : goal.counted-counts-requires
 counted-counts-requires c =
     let l = c.loop-place in
-    let said : ℕ → Verdict = λ t. worst_verdict_at c.args.case.now c.args.threshold t (worst_at (worsts_in (map row_of c.args.rows.now)) t) in
+    let said : ℕ → Verdict = λ t. worst_verdict_at c.args.case.now c.args.threshold t (worst_at (worsts_in (map screen_row_of c.args.rows.now)) t) in
     let total = ap (λ (counts : Counts). total_of counts) l.invariant in
     omega (arith, total, total_at said l.place, c.loop-place-test.true, ap length c.transformers-transformer-items.ensures.value, c.transformers-transformer-items.ensures.sound.few_transformers)
 
@@ -29,7 +30,7 @@ loop-place-preserved c =
     let case = c.args.case.now in
     let rows = c.args.rows.now in
     let threshold = c.args.threshold in
-    let worsts = worsts_in (map row_of rows) in
+    let worsts = worsts_in (map screen_row_of rows) in
     let row = c.index-rows-place.result in
     let said : ℕ → Verdict = λ t. worst_verdict_at case threshold t (worst_at worsts t) in
     let first : l.place < length case.transformers = omega (arith, c.loop-place-test.true, ap length c.transformers-transformer-items.ensures.value) in
@@ -39,7 +40,7 @@ loop-place-preserved c =
     let shown : worst_at worsts l.place ≡ ends_of row.worst =
     get_or_from_slice_get worsts l.place (ends_of row.worst) no_ends (row_shown rows row l.place (omega (arith, first, c.requires)) c.index-rows-place.is) in
     let row_is : ends_of (get_or rows l.place row).worst ≡ ends_of row.worst = ap (λ (r : ScreenRow). ends_of r.worst) (sym c.index-rows-place.is) in
-    let this : c.worst_verdict-said.result ≡ said l.place =
-    c.worst_verdict-said.ensures ∙ ap (worst_verdict threshold c.transformer-item.result) (row_is ∙ sym shown)
-    ∙ ap (λ t. worst_verdict threshold t (worst_at worsts l.place)) transformer in
+    let this : c.verdict_in-said.result ≡ said l.place =
+    c.verdict_in-said.ensures ∙ ap (verdict_in threshold c.transformer-item.result) (row_is ∙ sym shown)
+    ∙ ap (λ t. verdict_in threshold t (worst_at worsts l.place)) transformer in
     c.counted-counts.ensures ∙ ap (counted l.counts) this ∙ ap (λ (counts : Counts). counted counts (said l.place)) l.invariant ∙ sym (counts_next said l.place)

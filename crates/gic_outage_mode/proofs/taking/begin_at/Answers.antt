@@ -1,6 +1,6 @@
 use Rattle.std.proofs.Common.{◌∙◌, ap, sym, subst}
 use Rattle.gic_uniform.specs.declared.room.Room.{Room}
-use Rattle.gic_uniform.specs.Ready.{IsRoomFor}
+use Rattle.gic_uniform.specs.Ready.{IsRoomForCase}
 use Rattle.gic_outage_mode.proofs.taking.begin_at.Goals as goal
 
 pub returns-clause-proposed : goal.returns-clause-proposed
@@ -10,7 +10,7 @@ pub returns-clause-room : goal.returns-clause-room
 returns-clause-room c = λ case fit.
     let old = c.args.room.now.solving in
     let put : Room = record old { vector = c.args.vector.now } in
-    let there : IsRoomFor case put = record {
+    let there : IsRoomForCase case put = record {
       scratch = fit.solving.scratch;
       vector = c.requires ∙ fit.solving.vector;
       start = fit.solving.start;
@@ -18,7 +18,7 @@ returns-clause-room c = λ case fit.
       potentials = fit.solving.potentials;
     } in
     record {
-      solving = subst (λ (room : Room). IsRoomFor case room) (sym c.propose.ensures) there;
+      solving = subst (λ (room : Room). IsRoomForCase case room) (sym c.propose.ensures) there;
       north_view = fit.north_view;
       east_view = fit.east_view;
       row_count = fit.row_count;

@@ -2,8 +2,8 @@ use Rattle.std.proofs.Common.{◌≡◌, List, map, ap, subst, ◌∙◌}
 use Rattle.gic_model.specs.Voltages.{number_at}
 use Rattle.gic_net.specs.Net.{standing}
 use Rattle.gic_report.specs.Counts.{counts_of}
-use Rattle.gic_screening.specs.Rows.{Row, row_of}
-use Rattle.gic_outage_mode.specs.RightOutage.{north_volts, east_volts, threshold_asked, worst_verdicts}
+use Rattle.gic_screening.specs.Rows.{Row, screen_row_of}
+use Rattle.gic_outage_mode.specs.RightOutage.{northward_volts, eastward_volts, threshold_asked, worst_verdicts}
 use Rattle.gic_outage_mode.specs.Taking.{worsts_in, AreRaisedBy}
 use Rattle.gic_outage_mode.proofs.Ended.{refused_ended, solved_ended}
 use Rattle.gic_outage_mode.proofs.taking.screen_without.Goals as goal
@@ -18,12 +18,12 @@ returns-clause-ended c = λ item taken_out without.
     let case = inputs.case in
     let rows = c.screen_net.new.room.rows in
     let list = c.rows-rows.result.now in
-    let north : number_at c.args.volts.now.north ≡ north_volts inputs = ap number_at c.requires.volts.in_north in
-    let east : number_at c.args.volts.now.east ≡ east_volts inputs = ap number_at c.requires.volts.in_east in
-    let shown : map row_of list ≡ rows = c.rows-rows.ensures in
+    let north : number_at c.args.volts.now.north ≡ northward_volts inputs = ap number_at c.requires.volts.in_north in
+    let east : number_at c.args.volts.now.east ≡ eastward_volts inputs = ap number_at c.requires.volts.in_east in
+    let shown : map screen_row_of list ≡ rows = c.rows-rows.ensures in
     let counts : c.count_verdicts.result ≡ counts_of (worst_verdicts case (threshold_asked inputs) (worsts_in rows)) =
     c.count_verdicts.ensures
-    ∙ ap (λ threshold. counts_of (worst_verdicts case threshold (worsts_in (map row_of list)))) c.threshold.ensures
+    ∙ ap (λ threshold. counts_of (worst_verdicts case threshold (worsts_in (map screen_row_of list)))) c.threshold.ensures
     ∙ ap (λ (rows : List Row). counts_of (worst_verdicts case (threshold_asked inputs) (worsts_in rows))) shown in
     let raised : AreRaisedBy (worsts_in rows) c.args.greatest.now c.raise_all.new.greatest =
     subst (λ (rows : List Row). AreRaisedBy (worsts_in rows) c.args.greatest.now c.raise_all.new.greatest) shown c.raise_all.ensures in

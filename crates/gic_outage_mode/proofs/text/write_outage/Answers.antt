@@ -6,20 +6,20 @@ use Rattle.gic_fixed.specs.declared.interval.Interval.{Interval}
 use Rattle.gic_view.specs.Kept.{optional_ends}
 use Rattle.gic_report.specs.SharedLines.{Words, word_line}
 use Rattle.gic_screening.specs.declared.setting.Setting.{Setting}
-use Rattle.gic_screening.specs.Setting.{setting_line}
+use Rattle.gic_screening.specs.Setting.{event_setting_line}
 use Rattle.gic_outage_mode.specs.declared.outcome.Outcome.{Outcome}
-use Rattle.gic_outage_mode.specs.OutageText.{outcome_lines, plan_names, transformer_lines}
+use Rattle.gic_outage_mode.specs.OutageText.{outcome_lines, plan_names, greatest_worst_lines}
 use Rattle.gic_outage_mode.proofs.OutageWritten.{part_first, part_second, part_outages, part_transformers, part_last, all_written}
 use Rattle.gic_outage_mode.proofs.text.write_outage.Goals as goal
 
 asked : Setting → Words
-asked s = setting_line s.width s.threshold s.field
+asked s = event_setting_line s.width s.threshold s.field
 
 outages : Lists → List Outcome → List Words
 outages case outcomes = outcome_lines (plan_names case) outcomes
 
 transformers : Lists → Setting → List (Option Interval) → List Words
-transformers case s greatest = transformer_lines s.threshold case.transformers (map optional_ends greatest)
+transformers case s greatest = greatest_worst_lines s.threshold case.transformers (map optional_ends greatest)
 
 pub returns-in_err-write_word-clause-part : goal.returns-in_err-write_word-clause-part
 unfolding asked outages transformers

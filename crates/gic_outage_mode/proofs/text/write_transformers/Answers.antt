@@ -7,18 +7,18 @@ use Rattle.gic_case.specs.declared.item.Transformer.{Transformer}
 use Rattle.gic_fixed.specs.declared.interval.Interval.{Interval}
 use Rattle.gic_view.specs.Kept.{optional_ends}
 use Rattle.gic_report.proofs.Written.{begins, goes_on, same_left, stops, ends}
-use Rattle.gic_outage_mode.specs.OutageText.{transformer_line, transformer_lines}
+use Rattle.gic_outage_mode.specs.OutageText.{greatest_worst_line, greatest_worst_lines}
 use Rattle.gic_outage_mode.proofs.text.write_transformers.Goals as goal
 
 -- what is left begins with the next line
 next_line : (threshold : ℕ) (ts later : List Transformer) (cells others : List (Option Interval)) (t : Transformer) (cell : Option Interval) → (ts ≡ t ∷ later) × (cells ≡ cell ∷ others)
-    → lines_text (transformer_lines threshold ts (map optional_ends cells)) ≡ line_text (transformer_line threshold t (optional_ends cell)) ++ lines_text (transformer_lines threshold later (map optional_ends others))
+    → lines_text (greatest_worst_lines threshold ts (map optional_ends cells)) ≡ line_text (greatest_worst_line threshold t (optional_ends cell)) ++ lines_text (greatest_worst_lines threshold later (map optional_ends others))
 next_line threshold ts later cells others t cell e =
-    ap (λ l. lines_text (transformer_lines threshold l (map optional_ends cells))) e.0
-    ∙ ap (λ l. lines_text (transformer_lines threshold (t ∷ later) (map optional_ends l))) e.1
+    ap (λ l. lines_text (greatest_worst_lines threshold l (map optional_ends cells))) e.0
+    ∙ ap (λ l. lines_text (greatest_worst_lines threshold (t ∷ later) (map optional_ends l))) e.1
 
 -- and where no transformer or no interval is left, nothing
-no_line_left : (threshold : ℕ) (ts : List Transformer) (cells : List (Option Interval)) → (ts ≡ []) ⊎ (cells ≡ []) → lines_text (transformer_lines threshold ts (map optional_ends cells)) ≡ []
+no_line_left : (threshold : ℕ) (ts : List Transformer) (cells : List (Option Interval)) → (ts ≡ []) ⊎ (cells ≡ []) → lines_text (greatest_worst_lines threshold ts (map optional_ends cells)) ≡ []
 no_line_left threshold [] cells e = refl
 no_line_left threshold (t ∷ ts) [] e = refl
 no_line_left threshold (t ∷ ts) (cell ∷ cells) (inl e) = absurd (let f : t ∷ ts ≡ [] = e in cc)
@@ -28,8 +28,8 @@ pub loop-transformer-init : goal.loop-transformer-init
 loop-transformer-init g c =
     let first : iter_rest (zip_first c.into_iter-transformer-iterator.result) ≡ c.args.case.now.transformers = search rules in
     let second : iter_rest (zip_second c.into_iter-transformer-iterator.result) ≡ c.args.greatest.now = search rules in
-    let same = ap (λ l. lines_text (transformer_lines c.args.threshold l (map optional_ends c.args.greatest.now))) (sym first)
-    ∙ ap (λ l. lines_text (transformer_lines c.args.threshold (iter_rest (zip_first c.into_iter-transformer-iterator.result)) (map optional_ends l))) (sym second) in
+    let same = ap (λ l. lines_text (greatest_worst_lines c.args.threshold l (map optional_ends c.args.greatest.now))) (sym first)
+    ∙ ap (λ l. lines_text (greatest_worst_lines c.args.threshold (iter_rest (zip_first c.into_iter-transformer-iterator.result)) (map optional_ends l))) (sym second) in
     record { written = begins _ _ _ same; kept = omega arith }
 
 pub loop-transformer-preserved : goal.loop-transformer-preserved

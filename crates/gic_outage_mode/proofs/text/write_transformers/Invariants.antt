@@ -4,13 +4,13 @@ use Rattle.std.specs.Slice.Iter.{iter_rest}
 use Rattle.gic_text.specs.Lines.{lines_text}
 use Rattle.gic_view.specs.Kept.{optional_ends}
 use Rattle.gic_report.proofs.Written.{Written}
-use Rattle.gic_outage_mode.specs.OutageText.{transformer_lines}
+use Rattle.gic_outage_mode.specs.OutageText.{greatest_worst_lines}
 use Rattle.gic_outage_mode.proofs.text.write_transformers.Given as goal
 
 -- all is written but the lines that are left
 abbrev pub invariant-loop-transformer : goal.invariant-loop-transformer
 invariant-loop-transformer g l = record {
-  written : Written (g.S.Sink.written l.fn.out) (g.S.Sink.written l.out) (lines_text (transformer_lines l.threshold l.case.transformers (map optional_ends l.greatest)))
-      (lines_text (transformer_lines l.threshold (iter_rest (zip_first l.transformer-iterator)) (map optional_ends (iter_rest (zip_second l.transformer-iterator)))));
+  written : Written (g.S.Sink.written l.fn.out) (g.S.Sink.written l.out) (lines_text (greatest_worst_lines l.threshold l.case.transformers (map optional_ends l.greatest)))
+      (lines_text (greatest_worst_lines l.threshold (iter_rest (zip_first l.transformer-iterator)) (map optional_ends (iter_rest (zip_second l.transformer-iterator)))));
   kept : g.S.Sink.faults l.fn.out ≤ g.S.Sink.faults l.out;
 }

@@ -8,20 +8,21 @@ use Rattle.gic_cert.specs.Written.{entry_of}
 use Rattle.gic_induce.specs.Voltage.{IsFieldWithin}
 use Rattle.gic_model.specs.Network.{Network}
 use Rattle.gic_net.specs.Net.{standing, stands}
+use Rattle.gic_stand.specs.Serves.{shown}
 use Rattle.gic_winding.proofs.Limits.{nodes_named}
 use Rattle.gic_text.specs.Lines.{lines_text}
 use Rattle.gic_uniform.specs.Uniform.{uniform_volts}
 use Rattle.gic_view.specs.Kept.{optional_ends}
 use Rattle.gic_winding.specs.ElementList.{elements_of}
 use Rattle.gic_recheck.specs.RecheckText.{recheck_report}
-use Rattle.gic_recheck.proofs.Endings.{writing_served, writing_not_memory, fault_served, break_not_memory}
+use Rattle.gic_recheck.proofs.Endings.{writing_served, refusal_served}
 use Rattle.gic_recheck.proofs.Holds.{shows_right}
 use Rattle.gic_recheck.proofs.Telling.{break_told}
 use Rattle.gic_recheck.proofs.OwnReport.{own_report}
 use Rattle.gic_recheck.proofs.mode.show.Goals as goal
 
-pub returns-in-Ok-clause-serves : goal.returns-in-Ok-clause-serves
-returns-in-Ok-clause-serves g c = λ bytes read.
+pub returns-in-Ok : goal.returns-in-Ok
+returns-in-Ok g c = λ bytes read.
     let case = c.args.case.now in
     let net = c.args.net.now in
     let cert = c.args.cert.now in
@@ -48,14 +49,7 @@ returns-in-Ok-clause-serves g c = λ bytes read.
     (subst (AppendsPart _ _) text c.write_recheck-writing.ensures.part)
     c.write_recheck-writing.ensures.cause c.shown_so.ensures
 
-pub returns-in-Ok-clause-memory : goal.returns-in-Ok-clause-memory
-returns-in-Ok-clause-memory g c = writing_not_memory c.write_recheck-writing.result c.shown_so.result c.shown_so.ensures
-
-pub returns-in-Err-clause-serves : goal.returns-in-Err-clause-serves
-returns-in-Err-clause-serves g c = λ bytes read.
-    fault_served c.args.case.now (standing c.args.net.now) bytes _ c.in-Err.fault
-    (break_told c.args.case.now (standing c.args.net.now) bytes c.args.cert.now c.in-Err.fault read c.in-Err.ensures.refused)
-
-pub returns-in-Err-clause-memory : goal.returns-in-Err-clause-memory
-returns-in-Err-clause-memory g c = λ e.
-    break_not_memory c.args.case.now (standing c.args.net.now) c.args.cert.now c.in-Err.fault c.in-Err.ensures.refused (grind (arith, e))
+pub returns-in-Err : goal.returns-in-Err
+returns-in-Err g c = λ bytes read.
+    refusal_served c.args.case.now (standing c.args.net.now) bytes (shown g.S.Sink.written g.S.Sink.faults c.args.out.now) c.in-Err.refusal
+    (break_told c.args.case.now (standing c.args.net.now) bytes c.args.cert.now c.in-Err.refusal read c.in-Err.ensures.refused)

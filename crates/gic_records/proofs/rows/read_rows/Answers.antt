@@ -1,6 +1,7 @@
 use Rattle.std.proofs.Common.{Err, ◌≡◌, ◌∙◌, ap, sym, arith}
 use Rattle.std.proofs.lemmas.List.Elements.{All-push}
 use Rattle.std.proofs.lemmas.List.Sorted.{IsNonDecreasingBy-push}
+use Rattle.gic_base.proofs.RefusalLaws.{same_refusal}
 use Rattle.gic_records.proofs.ReadRows.{read_end, read_row, read_bad, read_late, last_time}
 use Rattle.gic_records.proofs.rows.read_rows.Goals as goal
 
@@ -14,7 +15,7 @@ pub returns-in-Err-read-clause-value : goal.returns-in-Err-read-clause-value
 returns-in-Err-read-clause-value g c =
     let l = c.loop-row in
     let some = rw c.in-Ok-true.field-0-test at c.in-Ok-true.ensures in
-    λ other. sym l.invariant.rest ∙ read_bad (g.R.RowReader.reads c.args.reader.now) g.R.RowReader.time_of c.args.most g.R.RowReader.late l.rows.items l.row l.before l.records _ _ c.in-Err-read.refusal (omega arith) some (sym c.in-Err-read.ensures.value)
+    λ e is. sym l.invariant.rest ∙ read_bad (g.R.RowReader.reads c.args.reader.now) g.R.RowReader.time_of c.args.most g.R.RowReader.late l.rows.items l.row l.before l.records _ _ c.in-Err-read.refusal (omega arith) some (sym c.in-Err-read.ensures.value) ∙ ap (λ r. Err r) (same_refusal _ e is)
 
 pub loop-row-preserved : goal.loop-row-preserved
 loop-row-preserved g c =
@@ -35,7 +36,7 @@ pub returns-in-Ok-true-read-clause-value : goal.returns-in-Ok-true-read-clause-v
 returns-in-Ok-true-read-clause-value g c =
     let l = c.loop-row in
     let some = rw c.in-Ok-true-read.field-0-test at c.in-Ok-true-read.ensures in
-    λ other. sym l.invariant.rest ∙ read_late (g.R.RowReader.reads c.args.reader.now) g.R.RowReader.time_of c.args.most g.R.RowReader.late l.rows.items l.row l.before l.records _ _ (omega arith) some ∙ sym (ap (λ e. Err e) c.too_many.ensures)
+    λ e is. sym l.invariant.rest ∙ read_late (g.R.RowReader.reads c.args.reader.now) g.R.RowReader.time_of c.args.most g.R.RowReader.late l.rows.items l.row l.before l.records _ _ (omega arith) some ∙ ap (λ r. Err r) (sym c.too_many.ensures ∙ same_refusal _ e is)
 
 pub returns-in-Ok-false-read-clause-value : goal.returns-in-Ok-false-read-clause-value
 returns-in-Ok-false-read-clause-value g c =

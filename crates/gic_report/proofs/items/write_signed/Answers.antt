@@ -4,7 +4,7 @@ use Rattle.gic_case.specs.Lists.{Lists, node_names}
 use Rattle.gic_view.specs.View.{View}
 use Rattle.gic_text.specs.Lines.{lines_text}
 use Rattle.gic_report.specs.SharedLines.{Words}
-use Rattle.gic_report.specs.ItemText.{effective_lines, node_lines, row_lines, rows_of}
+use Rattle.gic_report.specs.ItemText.{effective_lines, node_lines, row_lines, item_rows_of}
 use Rattle.gic_report.proofs.LinesWritten.{lines_go_on, lines_stop}
 use Rattle.gic_report.proofs.Written.{begins, same_left}
 use Rattle.gic_report.proofs.RowsWritten.{last_stop, last_written}
@@ -14,7 +14,7 @@ nodes : Lists → View → List Words
 nodes case view = node_lines (node_names case) view.nodes
 
 rows : Lists → View → List Words
-rows case view = row_lines (rows_of case) view.elements
+rows case view = row_lines (item_rows_of case) view.elements
 
 effectives : Lists → View → List Words
 effectives case view = effective_lines case.transformers view.effective

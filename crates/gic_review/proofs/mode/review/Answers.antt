@@ -11,5 +11,5 @@ returns g c =
     let inputs = c.args.inputs.now in
     served Nothing inputs.case (steps_of inputs) (IsRightReview inputs) _ _ _ c.write_review-writing.result c.ended.result
     (met_nothing (steps_of inputs))
-    (record { findings = c.deref.result.now; of_case = subst (AreFindingsOf inputs.case) (sym c.deref.ensures.value) c.in_ok-findings.ensures; text_is = refl })
+    (record { findings = c.deref.result.now; of_case = subst (AreFindingsOf inputs.case) (sym c.deref.ensures.value) c.requires; text_is = refl })
     c.write_review-writing.ensures.all c.write_review-writing.ensures.part c.write_review-writing.ensures.cause c.ended.ensures

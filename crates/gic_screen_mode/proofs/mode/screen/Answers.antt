@@ -1,12 +1,16 @@
-use Rattle.std.proofs.Common.{◌≡◌, ℕ, ℤ, pos, [], ◌∷◌, ap, subst}
+use Rattle.std.proofs.Common.{◌≡◌, ℕ, ℤ, List, [], ◌∷◌, pos, refl, sym, subst}
+use Rattle.gic_model.specs.Sums.{Placed}
 use Rattle.gic_model.specs.Voltages.{number_at}
 use Rattle.gic_net.specs.Net.{standing}
 use Rattle.gic_screen.specs.Event.{field_of}
-use Rattle.gic_stand.specs.Needs.{Solved}
+use Rattle.gic_stand.specs.Needs.{Solved, Fails}
 use Rattle.gic_stand.specs.Serves.{Serves, shown}
-use Rattle.gic_stand.proofs.StandingOf.{serves_case}
+use Rattle.gic_stand.specs.Standing.{standing_of, steps_of}
+use Rattle.gic_stand.proofs.Served.{served, met_once, unserved_network}
 use Rattle.gic_uniform.specs.Uniform.{uniform_volts}
-use Rattle.gic_screen_mode.specs.RightScreen.{ShowsRightRows}
+use Rattle.gic_uniform.proofs.InField.{in_field, in_volts}
+use Rattle.gic_screen_mode.specs.RightScreen.{ShowsRightRows, IsRightScreen}
+use Rattle.gic_screen_mode.proofs.RightScreens.{rows_right}
 use Rattle.gic_screen_mode.proofs.mode.screen.Goals as goal
 
 pub returns : goal.returns
@@ -14,16 +18,31 @@ returns g c =
     let inputs = c.args.inputs.now in
     let case = inputs.case in
     let question = inputs.question in
+    let room = c.args.room.now in
+    let stands = standing room.net in
+    let north : ℕ → ℤ = number_at room.volts.north in
+    let east : ℕ → ℤ = number_at room.volts.east in
+    let rows = c.screen_net.new.room.rows in
     let before = shown g.S.Sink.written g.S.Sink.faults c.args.out.now in
-    let now = shown g.S.Sink.written g.S.Sink.faults c.report_net.new.out in
-    let volts = c.in_ok-volts.volts in
-    let stands = standing c.in_ok-net.net in
-    let to_north : ℕ → ℤ = uniform_volts case (field_of question.event) (pos 0) in
+    let now = shown g.S.Sink.written g.S.Sink.faults c.write_rows-writing.new.out in
+    let answer = rows_right c.verdict_law.ensures.undecided c.worst_verdict_law.ensures.below c.worst_verdict_law.ensures.reaches
+    case stands north east question rows c.keeps_rules.ensures c.in_ok-screen_net.ensures.right in
     let to_east : ℕ → ℤ = uniform_volts case (pos 0) (field_of question.event) in
-    let north : number_at volts.north ≡ to_north = ap number_at c.in_ok-volts.ensures.in_north in
-    let east : number_at volts.east ≡ to_east = ap number_at c.in_ok-volts.ensures.in_east in
-    serves_case Solved case inputs.switchings _ stands (λ s. ShowsRightRows case s to_north to_east question) before now c.report_net.result
-    c.in_ok-elements.ensures c.in_ok-net.ensures.standing
-    (subst (λ (v : ℕ → ℤ). Serves Solved case (stands ∷ []) (ShowsRightRows case stands v to_east question) before now c.report_net.result) north
-    (subst (λ (v : ℕ → ℤ). Serves Solved case (stands ∷ []) (ShowsRightRows case stands (number_at volts.north) v question) before now c.report_net.result) east
-    c.report_net.ensures.serves))
+    in_field case inputs.switchings (field_of question.event) (pos 0) stands room.volts.north
+    (λ (s : List Placed) (v : ℕ → ℤ). Serves Solved case (s ∷ []) (ShowsRightRows case s v to_east question) before now c.ended.result)
+    c.requires.room.stands c.requires.room.volts.in_north
+    (in_volts case (pos 0) (field_of question.event) room.volts.east
+    (λ (v : ℕ → ℤ). Serves Solved case (stands ∷ []) (ShowsRightRows case stands north v question) before now c.ended.result)
+    c.requires.room.volts.in_east
+    (served Solved case _ (ShowsRightRows case stands north east question) _ _ _ c.write_rows-writing.result c.ended.result
+    (met_once Solved stands c.in_ok-screen_net.ensures.solvable)
+    (record { rows = rows; answer = answer; text_is = refl })
+    c.write_rows-writing.ensures.all c.write_rows-writing.ensures.part c.write_rows-writing.ensures.cause c.ended.ensures))
+
+pub returns-in_err-screen_net : goal.returns-in_err-screen_net
+returns-in_err-screen_net g c =
+    let inputs = c.args.inputs.now in
+    let refusal = c.in_err-screen_net.field-0.0 in
+    unserved_network Solved inputs.case (standing_of inputs.case inputs.switchings) (IsRightScreen inputs) (shown g.S.Sink.written g.S.Sink.faults c.args.out.now) refusal
+    c.from_residual.result c.from_residual.ensures.1
+    (subst (λ (s : List Placed). Fails Solved inputs.case 1 s refusal) c.requires.room.stands c.in_err-screen_net.ensures.err)

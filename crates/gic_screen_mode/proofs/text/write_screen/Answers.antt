@@ -6,16 +6,16 @@ use Rattle.gic_report.specs.SharedLines.{Words, word_line}
 use Rattle.gic_report.proofs.Framed.{part_first, part_second, part_body, part_last, all_written}
 use Rattle.gic_screening.specs.declared.rows.ScreenRow.{ScreenRow}
 use Rattle.gic_screening.specs.declared.setting.Setting.{Setting}
-use Rattle.gic_screening.specs.Rows.{row_of}
-use Rattle.gic_screening.specs.Setting.{setting_line}
-use Rattle.gic_screen_mode.specs.ScreenText.{transformer_lines}
+use Rattle.gic_screening.specs.Rows.{screen_row_of}
+use Rattle.gic_screening.specs.Setting.{event_setting_line}
+use Rattle.gic_screen_mode.specs.ScreenText.{screened_transformer_lines}
 use Rattle.gic_screen_mode.proofs.text.write_screen.Goals as goal
 
 asked : Setting → Words
-asked s = setting_line s.width s.threshold s.field
+asked s = event_setting_line s.width s.threshold s.field
 
 items : List Transformer → Setting → List ScreenRow → List Words
-items ts s rows = transformer_lines s.threshold ts (map row_of rows)
+items ts s rows = screened_transformer_lines s.threshold ts (map screen_row_of rows)
 
 pub returns-in_err-write_word-clause-part : goal.returns-in_err-write_word-clause-part
 unfolding asked items

@@ -6,19 +6,19 @@ use Rattle.gic_text.specs.Lines.{line_text, lines_text}
 use Rattle.gic_case.specs.declared.item.Transformer.{Transformer}
 use Rattle.gic_report.proofs.Written.{begins, goes_on, same_left, stops, ends}
 use Rattle.gic_screening.specs.declared.rows.ScreenRow.{ScreenRow}
-use Rattle.gic_screening.specs.Rows.{row_of}
-use Rattle.gic_screen_mode.specs.ScreenText.{transformer_line, transformer_lines}
+use Rattle.gic_screening.specs.Rows.{screen_row_of}
+use Rattle.gic_screen_mode.specs.ScreenText.{screened_transformer_line, screened_transformer_lines}
 use Rattle.gic_screen_mode.proofs.text.write_transformers.Goals as goal
 
 -- what is left begins with the next line
 next_line : (threshold : ℕ) (ts later : List Transformer) (rows others : List ScreenRow) (t : Transformer) (row : ScreenRow) → (ts ≡ t ∷ later) × (rows ≡ row ∷ others)
-    → lines_text (transformer_lines threshold ts (map row_of rows)) ≡ line_text (transformer_line threshold t (row_of row)) ++ lines_text (transformer_lines threshold later (map row_of others))
+    → lines_text (screened_transformer_lines threshold ts (map screen_row_of rows)) ≡ line_text (screened_transformer_line threshold t (screen_row_of row)) ++ lines_text (screened_transformer_lines threshold later (map screen_row_of others))
 next_line threshold ts later rows others t row e =
-    ap (λ l. lines_text (transformer_lines threshold l (map row_of rows))) e.0
-    ∙ ap (λ l. lines_text (transformer_lines threshold (t ∷ later) (map row_of l))) e.1
+    ap (λ l. lines_text (screened_transformer_lines threshold l (map screen_row_of rows))) e.0
+    ∙ ap (λ l. lines_text (screened_transformer_lines threshold (t ∷ later) (map screen_row_of l))) e.1
 
 -- and where no transformer or no row is left, nothing
-no_line_left : (threshold : ℕ) (ts : List Transformer) (rows : List ScreenRow) → (ts ≡ []) ⊎ (rows ≡ []) → lines_text (transformer_lines threshold ts (map row_of rows)) ≡ []
+no_line_left : (threshold : ℕ) (ts : List Transformer) (rows : List ScreenRow) → (ts ≡ []) ⊎ (rows ≡ []) → lines_text (screened_transformer_lines threshold ts (map screen_row_of rows)) ≡ []
 no_line_left threshold [] rows e = refl
 no_line_left threshold (t ∷ ts) [] e = refl
 no_line_left threshold (t ∷ ts) (row ∷ rows) (inl e) = absurd (let f : t ∷ ts ≡ [] = e in cc)
@@ -28,8 +28,8 @@ pub loop-transformer-init : goal.loop-transformer-init
 loop-transformer-init g c =
     let first : iter_rest (zip_first c.into_iter-transformer-iterator.result) ≡ c.args.transformers.now = search rules in
     let second : iter_rest (zip_second c.into_iter-transformer-iterator.result) ≡ c.args.rows.now = search rules in
-    let same = ap (λ l. lines_text (transformer_lines c.args.threshold l (map row_of c.args.rows.now))) (sym first)
-    ∙ ap (λ l. lines_text (transformer_lines c.args.threshold (iter_rest (zip_first c.into_iter-transformer-iterator.result)) (map row_of l))) (sym second) in
+    let same = ap (λ l. lines_text (screened_transformer_lines c.args.threshold l (map screen_row_of c.args.rows.now))) (sym first)
+    ∙ ap (λ l. lines_text (screened_transformer_lines c.args.threshold (iter_rest (zip_first c.into_iter-transformer-iterator.result)) (map screen_row_of l))) (sym second) in
     record { written = begins _ _ _ same; kept = omega arith }
 
 pub loop-transformer-preserved : goal.loop-transformer-preserved

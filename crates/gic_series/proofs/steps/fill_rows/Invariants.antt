@@ -2,7 +2,7 @@ use Rattle.std.proofs.Common.{◌≡◌, ℕ, ◌+◌, ◌<◌, length}
 use Rattle.gic_effective.specs.ViewLengths.{HasViewLengths}
 use Rattle.gic_storm.specs.Steps.{steps_in}
 use Rattle.gic_course.specs.CourseOf.{CanShow}
-use Rattle.gic_series.specs.Rows.{row_at}
+use Rattle.gic_series.specs.Rows.{series_row_at}
 use Rattle.gic_series.specs.RightSeries.{IsRightRow}
 use Rattle.gic_series.proofs.steps.fill_rows.Given as goal
 
@@ -12,5 +12,5 @@ invariant-loop-place l = record {
   shows : CanShow l.inputs l.course;
   view : HasViewLengths l.inputs.inputs.case l.view;
   one_each : length l.rows ≡ length (steps_in l.inputs.storm.rows);
-  filled : (k : ℕ) → k < l.place → IsRightRow l.inputs l.transformer (k + 1) (row_at l.rows k);
+  filled : (k : ℕ) → k < l.place → IsRightRow l.inputs l.transformer (k + 1) (series_row_at l.rows k);
 }

@@ -8,22 +8,22 @@ use Rattle.gic_text.specs.Lines.{lines_text}
 use Rattle.gic_report.specs.SharedLines.{Words, word_line}
 use Rattle.gic_report.proofs.Framed.{whole, part_first, part_second, part_body, part_last, all_written}
 use Rattle.gic_series.specs.declared.rows.SeriesRow.{SeriesRow}
-use Rattle.gic_series.specs.Rows.{row_of}
-use Rattle.gic_series.specs.SeriesText.{setting_line, step_line, series_report}
+use Rattle.gic_series.specs.Rows.{series_row_of}
+use Rattle.gic_series.specs.SeriesText.{series_setting_line, series_step_line, series_report}
 use Rattle.gic_series.proofs.text.write_series.Goals as goal
 
 -- the line of what is asked, with the count that is passed, and the lines of the steps
 asked : ℕ → List ℕ → List SeriesRow → Words
-asked width name rows = setting_line width name (length rows)
+asked width name rows = series_setting_line width name (length rows)
 
 steps : List SeriesRow → List Words
-steps rows = map step_line (map row_of rows)
+steps rows = map series_step_line (map series_row_of rows)
 
 same_report : (width : ℕ) (name : List ℕ) (rows : List SeriesRow)
-    → whole (word_line (codes "series")) (asked width name rows) (steps rows) (word_line (codes "end")) ≡ lines_text (series_report width name (map row_of rows))
+    → whole (word_line (codes "series")) (asked width name rows) (steps rows) (word_line (codes "end")) ≡ lines_text (series_report width name (map series_row_of rows))
 unfolding asked steps
 same_report width name rows =
-    ap (λ (n : ℕ). whole (word_line (codes "series")) (setting_line width name n) (map step_line (map row_of rows)) (word_line (codes "end"))) (sym (length-map rows row_of))
+    ap (λ (n : ℕ). whole (word_line (codes "series")) (series_setting_line width name n) (map series_step_line (map series_row_of rows)) (word_line (codes "end"))) (sym (length-map rows series_row_of))
 
 pub returns-in_err-write_word-clause-part : goal.returns-in_err-write_word-clause-part
 returns-in_err-write_word-clause-part g c =

@@ -1,34 +1,32 @@
-use Rattle.std.proofs.Common.{ℕ, List, subst}
-use Rattle.gic_recheck.specs.RightRecheck.{ServesRecheck}
+use Rattle.std.proofs.Common.{List, ℕ, map, sym, subst}
+use Rattle.gic_ask.specs.declared.request.Asked.{Asked}
+use Rattle.gic_ask.specs.declared.request.Asked.TheVariants.{Recheck}
 use Rattle.gic_stand.specs.Serves.{shown}
-use Rattle.gic_study.proofs.Served.{over_network, over_storm, of_transformer, of_made_case, over_certificate}
+use Rattle.gic_study.specs.Concluding.{Concludes}
+use Rattle.gic_study.specs.Modes.{Plans}
+use Rattle.gic_study.proofs.Served.{of_asked}
 use Rattle.gic_study.proofs.modes.serve.Goals as goal
 
 pub returns-in-Network : goal.returns-in-Network
 returns-in-Network g c =
-    over_network _ c.args.asked.now c.in-Network.mode c.in-Network.inputs (shown g.S.Sink.written g.S.Sink.faults c.args.out.now) (shown g.S.Sink.written g.S.Sink.faults c.serve_network.new.out)
-    c.serve_network.result c.reported.result c.in-Network.is c.serve_network.ensures c.reported.ensures
+    of_asked _ c.args.asked.now _ (shown g.S.Sink.written g.S.Sink.faults c.args.out.now) (shown g.S.Sink.written g.S.Sink.faults c.serve_network.new.out) c.serve_network.result c.in-Network.is (c.serve_network.ensures _)
 
 pub returns-in-Study : goal.returns-in-Study
 returns-in-Study g c =
-    over_storm _ c.args.asked.now c.in-Study.inputs c.in-Study.detail (shown g.S.Sink.written g.S.Sink.faults c.args.out.now) (shown g.S.Sink.written g.S.Sink.faults c.study.new.out)
-    c.study.result c.reported-in-Study.result c.in-Study.is c.study.ensures c.reported-in-Study.ensures
+    of_asked _ c.args.asked.now _ (shown g.S.Sink.written g.S.Sink.faults c.args.out.now) (shown g.S.Sink.written g.S.Sink.faults c.serve_study.new.out) c.serve_study.result c.in-Study.is c.serve_study.ensures
 
 pub returns-in-Make : goal.returns-in-Make
 returns-in-Make g c =
-    of_made_case _ c.args.asked.now c.in-Make.seed c.in-Make.size (shown g.S.Sink.written g.S.Sink.faults c.args.out.now) (shown g.S.Sink.written g.S.Sink.faults c.make.new.out)
-    c.make.result c.reported-in-Make.result c.in-Make.is c.make.ensures c.reported-in-Make.ensures
+    of_asked _ c.args.asked.now _ (shown g.S.Sink.written g.S.Sink.faults c.args.out.now) (shown g.S.Sink.written g.S.Sink.faults c.serve_make.new.out) c.serve_make.result c.in-Make.is (c.serve_make.ensures _)
 
 pub returns-in-Recheck : goal.returns-in-Recheck
 returns-in-Recheck g c =
+    let plans : Plans = λ roster views. map (λ m. (goal.Monitor-dyn g (m.vtable, m.value)).plan m.value roster views) c.args.monitors.items in
     let before = shown g.S.Sink.written g.S.Sink.faults c.args.out.now in
-    let now = shown g.S.Sink.written g.S.Sink.faults c.recheck.new.out in
-    over_certificate _ c.args.asked.now c.in-Recheck.inputs c.in-Recheck.certificate before now
-    c.recheck.result c.rechecked.result c.in-Recheck.is
-    (subst (λ (bytes : List ℕ). ServesRecheck c.in-Recheck.inputs bytes before now c.recheck.result) c.as_slice.ensures c.recheck.ensures)
-    c.rechecked.ensures
+    let now = shown g.S.Sink.written g.S.Sink.faults c.serve_recheck.new.out in
+    of_asked plans c.args.asked.now _ before now c.serve_recheck.result c.in-Recheck.is
+    (subst (λ (bytes : List ℕ). Concludes plans (Recheck c.in-Recheck.inputs bytes) before now c.serve_recheck.result) c.as_slice.ensures (c.serve_recheck.ensures plans))
 
 pub returns-in-Series : goal.returns-in-Series
 returns-in-Series g c =
-    of_transformer _ c.args.asked.now c.in-Series.inputs c.in-Series.transformer (shown g.S.Sink.written g.S.Sink.faults c.args.out.now) (shown g.S.Sink.written g.S.Sink.faults c.series.new.out)
-    c.series.result c.reported-in-Series.result c.in-Series.is c.series.ensures c.reported-in-Series.ensures
+    of_asked _ c.args.asked.now _ (shown g.S.Sink.written g.S.Sink.faults c.args.out.now) (shown g.S.Sink.written g.S.Sink.faults c.serve_series.new.out) c.serve_series.result c.in-Series.is (c.serve_series.ensures _)

@@ -7,12 +7,12 @@ use Rattle.gic_report.specs.ItemText.{signed_lines}
 use Rattle.gic_report.proofs.LinesWritten.{lines_go_on, lines_stop}
 use Rattle.gic_report.proofs.Written.{begins, goes_on, same_left, stops}
 use Rattle.gic_report.proofs.RowsWritten.{last_stop, last_written}
-use Rattle.gic_study_text.specs.StudyText.{DetailView, step_line, zone_lines}
+use Rattle.gic_study_text.specs.StudyText.{DetailView, detail_step_line, zone_lines}
 use Rattle.gic_study_text.specs.Given.{lent}
 use Rattle.gic_study_text.proofs.text.write_detail.Goals as goal
 
 step : DetailView → List ℕ
-step d = line_text (step_line d.view.number d.view.time)
+step d = line_text (detail_step_line d.view.number d.view.time)
 
 zones : Lists → DetailView → List Words
 zones case d = zone_lines case.zones d.fields

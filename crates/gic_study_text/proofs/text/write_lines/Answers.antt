@@ -8,7 +8,7 @@ use Rattle.gic_text.proofs.Joined.{lines_text-append}
 use Rattle.gic_report.specs.SharedLines.{word_line}
 use Rattle.gic_report.proofs.Written.{Written, begins, goes_on, stops}
 use Rattle.gic_report.proofs.RowsWritten.{last_stop, last_written}
-use Rattle.gic_study_text.specs.StudyText.{DetailView, detail_block, peak_lines, setting_line, study_lines}
+use Rattle.gic_study_text.specs.StudyText.{DetailView, detail_block, peak_lines, study_setting_line, study_lines}
 use Rattle.gic_study_text.specs.Given.{lent_detail}
 use Rattle.gic_study_text.specs.declared.text.Setting.{Setting}
 use Rattle.gic_study_text.proofs.text.write_lines.Goals as goal
@@ -17,7 +17,7 @@ title : List ℕ
 title = line_text (word_line (codes "study"))
 
 asked : Setting → List ℕ
-asked s = line_text (setting_line s.width s.threshold s.steps)
+asked s = line_text (study_setting_line s.width s.threshold s.steps)
 
 block : Lists → Option DetailView → List ℕ
 block case detail = lines_text (detail_block case detail)
@@ -34,7 +34,7 @@ nothing_yet : (case : Lists) (s : Setting) (detail : Option DetailView) (peaks :
 unfolding title asked block mark shown
 nothing_yet case s detail peaks old =
     begins old _ _
-    (ap (λ l. line_text (word_line (codes "study")) ++ (line_text (setting_line s.width s.threshold s.steps) ++ l))
+    (ap (λ l. line_text (word_line (codes "study")) ++ (line_text (study_setting_line s.width s.threshold s.steps) ++ l))
     (lines_text-append (detail_block case detail) (word_line (codes "peaks") ∷ peak_lines case s.threshold peaks)))
 
 pub returns-in_err-write_word-clause-part : goal.returns-in_err-write_word-clause-part

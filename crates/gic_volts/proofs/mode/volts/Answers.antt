@@ -10,4 +10,4 @@ use Rattle.gic_volts.proofs.mode.volts.Goals as goal
 pub returns : goal.returns
 returns g c =
     served Nothing c.args.inputs.now.case (steps_of c.args.inputs.now) (IsRightVolts c.args.inputs.now) _ _ _ c.write_lines-writing.result c.ended.result
-    (met_nothing (steps_of c.args.inputs.now)) (ap (λ l. lines_text (volts_report c.args.inputs.now.case.lines c.args.inputs.now.question.north c.args.inputs.now.question.east l)) (c.deref.ensures.value ∙ c.in_ok-volts.ensures)) c.write_lines-writing.ensures.all c.write_lines-writing.ensures.part c.write_lines-writing.ensures.cause c.ended.ensures
+    (met_nothing (steps_of c.args.inputs.now)) (ap (λ l. lines_text (volts_report c.args.inputs.now.case.lines c.args.inputs.now.question.north c.args.inputs.now.question.east l)) (c.deref.ensures.value ∙ c.requires)) c.write_lines-writing.ensures.all c.write_lines-writing.ensures.part c.write_lines-writing.ensures.cause c.ended.ensures

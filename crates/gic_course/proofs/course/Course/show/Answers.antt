@@ -11,15 +11,15 @@ use Rattle.gic_course.proofs.course.Course.show.Goals as goal
 
 pub returns-clause-shows : goal.returns-clause-shows
 returns-clause-shows c =
-    let was = c.be_ready_for.ensures.shows in
-    let now = c.be_ready_for.new.self in
+    let was = c.be_ready_for-way.ensures.shows in
+    let now = c.be_ready_for-way.new.self in
     record {
       own = record {
         storm = was.own.storm;
         epochs = was.own.epochs;
         switched = was.own.switched;
-        space = (c.show_step.ensures.stays c.args.number c.be_ready_for.ensures.ready).space;
-        ready = still_ready c.args.inputs.now now.ready now.switched.net now.room c.show_step.new.room c.show_step.ensures.stays was.own.ready;
+        space = c.show_step.ensures.stays.space;
+        ready = still_ready c.args.inputs.now now.ready now.switched.net now.room c.show_step.new.room c.args.number c.be_ready_for-way.result c.be_ready_for-way.ensures.way c.show_step.ensures.stays was.own.ready;
       };
       solvable = was.solvable;
     }

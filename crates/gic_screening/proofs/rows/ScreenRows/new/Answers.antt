@@ -1,7 +1,7 @@
 use Rattle.std.proofs.Common.{rules, ◌≡◌, pos, map, replicate, ap, ◌∙◌}
 use Rattle.gic_fixed.specs.Ends.{Ends, ends_of, no_ends}
 use Rattle.gic_base.proofs.Each.{map-replicate}
-use Rattle.gic_screening.specs.Rows.{Row, row_of}
+use Rattle.gic_screening.specs.Rows.{Row, screen_row_of}
 use Rattle.gic_screening.proofs.rows.ScreenRows.new.Goals as goal
 
 pub returns : goal.returns
@@ -10,6 +10,6 @@ returns c =
     let high : c.point-nought.result.hi ≡ pos 0 = search (rules, c.point-nought.ensures.high) in
     let zero : ends_of c.point-nought.result ≡ no_ends = cc in
     let three : Ends → Row = λ e. record { north = e; east = e; worst = e } in
-    ap (map row_of) (c.in_ok-list.ensures.items_if_clones_equal (λ y e. e))
-    ∙ map-replicate row_of c.args.count _
+    ap (map screen_row_of) (c.in_ok-list.ensures.items_if_clones_equal (λ y e. e))
+    ∙ map-replicate screen_row_of c.args.count _
     ∙ ap (λ e. replicate c.args.count (three e)) zero

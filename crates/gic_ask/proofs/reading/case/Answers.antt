@@ -1,0 +1,23 @@
+use Rattle.std.proofs.Common.{rules}
+use Rattle.gic_case_reader.specs.Rules.{case_of}
+use Rattle.gic_ask.specs.declared.fault.File.TheVariants as file
+use Rattle.gic_ask.specs.declared.fault.InputRefusal.TheVariants.{Case}
+use Rattle.gic_ask.proofs.InTurn.{gives_by, gives_fault, gives_read, gives_refused, gives_memory}
+use Rattle.gic_ask.proofs.reading.case.Goals as goal
+
+pub returns-in_err-bytes-clause-gives : goal.returns-in_err-bytes-clause-gives
+returns-in_err-bytes-clause-gives g c =
+    gives_by _ _ _ _ _ _ c.from_residual.result c.in_err-bytes.field-0.0 c.from_residual.ensures.1
+    (gives_fault _ _ file.Case Case case_of _ _ c.in_err-bytes.field-0.0 c.in_err-bytes.ensures.gives)
+
+pub returns-in-Ok-clause-gives : goal.returns-in-Ok-clause-gives
+returns-in-Ok-clause-gives g c =
+    gives_read _ _ file.Case Case case_of _ _ c.in_ok-bytes.bytes c.as_slice.result.now c.as_slice.ensures c.in_ok-bytes.ensures.gives c.in-Ok.case c.in-Ok.ensures
+
+pub returns-in-Err-Memory-clause-gives : goal.returns-in-Err-Memory-clause-gives
+returns-in-Err-Memory-clause-gives g c =
+    gives_memory _ _ file.Case Case case_of _ _ c.in_ok-bytes.bytes c.as_slice.result.now c.as_slice.ensures c.in_ok-bytes.ensures.gives
+
+pub returns-clause-gives : goal.returns-clause-gives
+returns-clause-gives g c =
+    gives_refused _ _ file.Case Case case_of _ _ c.in_ok-bytes.bytes c.as_slice.result.now c.as_slice.ensures c.in_ok-bytes.ensures.gives c.in-Err-Refused.refusal (c.in-Err-Refused.ensures c.in-Err-Refused.refusal (search rules))

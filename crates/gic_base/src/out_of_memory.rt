@@ -1,0 +1,18 @@
+//! Want of memory.
+use std::alloc::{AllocError, AllocFailed};
+
+/// Want of memory, where nothing else can be refused.
+#[derive(Clone, Copy, Debug, PartialEq, Eq)]
+pub struct OutOfMemory;
+
+impl From<AllocError> for OutOfMemory {
+    fn from(_refusal: AllocError) -> OutOfMemory {
+        OutOfMemory
+    }
+}
+
+impl<T: Drop> From<AllocFailed<T>> for OutOfMemory {
+    fn from(_refusal: AllocFailed<T>) -> OutOfMemory {
+        OutOfMemory
+    }
+}

@@ -1,0 +1,40 @@
+//! What the mode takes memory for.
+ghost use Rattle.std.specs.Prelude.{IfOk};
+ghost use Rattle.gic_check.specs.Made.{IsMadeFor};
+
+use crate::live::blank_live;
+use gic_base::OutOfMemory;
+use gic_inputs::Inputs;
+use gic_island::Scratch;
+use gic_net::Net;
+use gic_stand::standing_net;
+use gic_text::LineBuilder;
+use gic_winding::elements;
+use std::alloc::Global;
+
+/// All that the mode takes memory for. It is made before the network is looked at.
+#[derive(Drop)]
+pub struct Room {
+    pub(crate) line: LineBuilder,
+    pub(crate) net: Net,
+    pub(crate) scratch: Scratch,
+    /// Whether each node is live.
+    pub(crate) live: Vec<bool>,
+}
+
+/// Room for the network of the case, with all rows of the switchings in force.
+pub fn make_room(alloc: Global, inputs: &Inputs) -> Result<Room, OutOfMemory>
+    ensures { IfOk result (IsMadeFor inputs.now) }
+{
+    let line = LineBuilder::new(alloc)?;
+    let elements = elements(alloc, &inputs.case)?;
+    let net = standing_net(alloc, &elements, &inputs.switchings)?;
+    let scratch = Scratch::new(alloc, net.nodes())?;
+    let live = blank_live(alloc, net.nodes())?;
+    Ok(Room {
+        line,
+        net,
+        scratch,
+        live,
+    })
+}

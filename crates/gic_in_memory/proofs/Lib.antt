@@ -1,0 +1,2 @@
+mod FilesAsk
+mod AfterRun

@@ -1,0 +1,2 @@
+pub mod ProgramPlans
+pub mod ProgramEnds

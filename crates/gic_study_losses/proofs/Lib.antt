@@ -1,2 +1,0 @@
-pub mod CommonDenominator
-pub mod ShownUnits

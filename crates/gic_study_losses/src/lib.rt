@@ -1,4 +1,0 @@
-//! Why the law of losses speaks of the text of a study: laws alone.
-#![tactic(auto)]
-
-pub mod laws;

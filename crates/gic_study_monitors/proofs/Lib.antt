@@ -1,0 +1,5 @@
+pub mod CommonDenominator
+pub mod ShownUnits
+pub mod NearCounts
+pub mod TrueDwells
+pub mod TrueEarthings

@@ -1,0 +1,4 @@
+pub mod Losses
+pub mod Printed
+pub mod Dwells
+pub mod Earthings

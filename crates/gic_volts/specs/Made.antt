@@ -1,0 +1,9 @@
+-- What the mode takes memory for.
+use Rattle.std.specs.Prelude.{◌≡◌}
+use Rattle.gic_inputs.specs.declared.inputs.Inputs.{Inputs}
+use Rattle.gic_volts.specs.RightVolts.{line_volts}
+use Rattle.gic_volts.specs.declared.room.Room.{Room}
+
+-- it has the voltage of each line in the field that is asked for
+abbrev pub IsMadeFor : Inputs → Room → Type 0
+IsMadeFor inputs room = room.nanovolts.items ≡ line_volts inputs.case inputs.question.north inputs.question.east
