@@ -1,5 +1,5 @@
 #!/usr/bin/env python3
-"""Tests of definitions.py and links.py.
+"""Tests of definitions.py, claim.py and links.py.
 
     python3 docs/test_documents.py
 """
@@ -10,6 +10,7 @@ import tempfile
 import unittest
 from pathlib import Path
 
+import claim
 import definitions
 import links
 
@@ -101,6 +102,78 @@ class Definitions(unittest.TestCase):
                 "docs/MAP.md has gic_old 1 times in its table of crates",
             ],
         )
+
+
+class Claim(unittest.TestCase):
+    """Two files: `Near` cites `Far`, whose second definition nothing cites, and a type of the code."""
+
+    FAR = """-- What is far.
+use Rattle.std.specs.Prelude.{ℕ}
+use Rattle.gic_low.specs.declared.part.Item.{Item}
+use Rattle.gic_low.specs.declared.part.Item.TheVariants as item
+
+-- how far an item is
+abbrev pub far : Item → ℕ
+far item.Line = 1
+
+-- unread
+abbrev pub unread : ℕ
+unread = 2
+
+-- near, or far by a number
+pub data Place : Type 0 where
+  Here : Place
+  There : ℕ → Place
+"""
+    NEAR = """-- What is near.
+use Rattle.gic_low.specs.Far.{far as how_far, There}
+
+-- is it? (unread is a word of this remark)
+abbrev pub near : Item → ℕ
+near i = how_far i + twice (There 1)
+
+abbrev twice : ℕ → ℕ
+twice n = n * 2
+"""
+
+    def setUp(self) -> None:
+        self.files = {
+            "gic_low/Far": claim.read_file("gic_low/Far", self.FAR),
+            "gic_top/Near": claim.read_file("gic_top/Near", self.NEAR),
+        }
+        self.known = claim.resolve(self.files)
+
+    def test_a_definition_cites_what_its_code_names(self) -> None:
+        near = self.known["gic_top/Near.near"]
+        self.assertEqual(near.cites, ["gic_low/Far.far", "gic_top/Near.twice", "gic_low/Far.Place"])
+        self.assertEqual(near.lines[0], "-- is it? (unread is a word of this remark)")
+
+    def test_a_type_of_the_code_is_named_by_its_variants_too(self) -> None:
+        self.assertEqual(set(self.known["gic_low/Far.far"].types), {"gic_low/part.Item"})
+
+    def test_only_what_is_reached_is_read(self) -> None:
+        found = claim.reached(self.known, ("gic_top/Near.near",))
+        self.assertNotIn("gic_low/Far.unread", found)
+        order = claim.in_order([d for f in self.files.values() for d in f.definitions if d.key in found], ["gic_low", "gic_top"])
+        self.assertEqual([d.names[0] for d in order], ["far", "Place", "near", "twice"])
+
+    def test_what_comes_later_is_told(self) -> None:
+        part = claim.Part("one", [self.known["gic_top/Near.near"], self.known["gic_low/Far.far"]])
+        self.assertEqual(len(claim.late_cites([part])), 3)
+        self.assertEqual(part.lines, 6)
+
+    def test_a_declaration_is_told_without_what_the_proof_adds(self) -> None:
+        with tempfile.TemporaryDirectory() as folder:
+            text = "use x;\n\n/// What is switched.\n#[derive(Clone)]\npub enum Item {\n    Line,\n}\n\npub const MOST: u8 = 3;\n"
+            written(Path(folder), {"crates/gic_low/src/part.rt": text})
+            item = claim.declaration(Path(folder), "gic_low/part.Item")
+            most = claim.declaration(Path(folder), "gic_low/part.MOST")
+        self.assertEqual(item[2:], ["    /// What is switched.", "    pub enum Item {", "        Line,", "    }"])
+        self.assertEqual(most[2:], ["    pub const MOST: u8 = 3;"])
+
+    def test_the_table_of_a_document_is_replaced(self) -> None:
+        words = "a\n\n| part | files | lines | minutes |\n|---|---|---|---|\n| old | | 1 | 1 |\n\nb\n"
+        self.assertEqual(claim.with_table(words, ["| part |", "|---|"]), "a\n\n| part |\n|---|\n\nb\n")
 
 
 class Links(unittest.TestCase):
