@@ -24,6 +24,7 @@ from pathlib import Path
 TOP = Path(__file__).resolve().parent.parent
 CLAIM = "docs/CLAIM.txt"
 WORDS = "docs/DEFINITIONS.md"
+CALL = "crates/gic_study/src/study.rt"
 # lines of definitions that a reader who looks up nothing takes in a minute, as the first path was read with a clock
 LINES_A_MINUTE = 13
 FIRST = "`field`"
@@ -44,18 +45,63 @@ PARTS = (
     ("The lines of faults", ("gic_study/Faults.line_of_fault", "gic_study/Faults.status_of_fault")),
     (HEADLINE, ("gic_study/Answers.Ends",)),
 )
-# the chapters of the first part, and the crates or files of each
+# the chapters of the first part, and the crates or files of each, in order
 CHAPTERS = (
     ("Whole numbers and intervals", ("gic_fixed",)),
     ("A network, what stands, and a solution", ("gic_model/Network", "gic_model/Sums", "gic_model/Standing", "gic_model/Voltages", "gic_model/Solution")),
-    ("What is earthed and can be solved", ("gic_model/Earthing", "gic_model/Bound")),
-    ("The case and its elements", ("gic_scale", "gic_case", "gic_winding/ElementList", "gic_winding/InForce", "gic_inputs")),
+    ("Chains to earth, and how far a node lies from it", ("gic_model/Earthing", "gic_model/Bound")),
+    ("The case and its elements", ("gic_scale", "gic_case", "gic_inputs", "gic_winding/ElementList", "gic_winding/InForce")),
     ("The voltages of a field", ("gic_induce", "gic_uniform")),
     ("A right view", ("gic_view", "gic_winding/Weights", "gic_effective")),
     ("The text", ("gic_text", "gic_screen", "gic_report", "gic_field/FieldText")),
     ("A right report", ("gic_stand/Standing", "gic_field/RightField")),
     ("How the call ends", ("gic_base", "gic_stand/Needs", "gic_stand/Serves")),
 )
+PREFACE = """\
+THE CLAIM
+
+All definitions that the headline of gicstudy says, in the order in which a reader needs them; made by
+`python3 docs/claim.py --write`. docs/DEFINITIONS.md has the words, the units, and a table of the parts with lines and
+minutes; docs/PROMISES.md says in sentences what is claimed, and which laws stand beside it. Imports are left out. Under each
+definition stands which others cite it; none cites one that comes later. The types and the constants of the code stand in
+front of the first definition that speaks of them, with the file that declares them; `steps` of a storm, certificates and
+monitors come in parts 3, 5 and 3.
+
+Notation. A record holds where all its fields do; `A -> Type 0` is a predicate; `abbrev` and `unfoldable` stand in front of
+definitions, of which the second are unfolded only where a proof asks for it. `pos n` is the natural number n as a whole
+number; the signs with a Z are on whole numbers, those without on natural ones, where `a - b` is 0 where b is above a.
+`p.0` and `p.1` are the parts of a pair, and `.0` is the number in a place such as `NodeId`. `x or y` as a type is
+written with a plus in a ring, `and` as a product; `Unit {0}` and the T sign are true, the turned one false. A value of the
+code stands for what it holds: a number of 16 bits for that number, a `Name` for its bytes, a `Case` for its `Lists`,
+`Switchings` for the list of its rows.
+
+From the standard library. `codes "w"` are the bytes of a word, `decimal n` and `signed_decimal z` the digits of a number
+without zeros in front, with `-` below 0. `enumerate_from n xs` pairs each entry with its place, counted from n;
+`slice_index_or xs k d` is the entry at place k, and d past the end; `option_map_or f o d` is f of what is there, else d.
+`int_div_euclid z d` is the quotient rounded down for d above 0. `All P xs` says P of each entry, `IfSome o P` of what is
+there. `Appends old new bytes` says of bytes that are told (`Some`) that the new ones are the old ones and then `bytes`;
+`Keeps old new` that they are the same; of bytes that aren't told (`None`) both say nothing.
+"""
+# what a reader of a part should know that its definitions don't say
+NOTES = {
+    FIRST: (
+        "Every claim is of all solutions. That there is one where each live node is earthed, and that any two agree at live nodes",
+        "and in currents, are laws (`solutions_exist_law` of gic_claims, `agreement_law` of gic_model). An accepted case keeps the",
+        "rules of part 11: no line with one bus for two, resistances from 1000 to 10^9 micro-ohm, both buses of a transformer in one",
+        "substation, no low voltage above the high one, and high voltages of at least 1000 V; where a definition says something odd",
+        "of other cases (a denominator 0, a difference cut at 0), no accepted case gets there. What follows of a right report, as",
+        "that its verdicts are true, is said by laws beside it.",
+    ),
+    HEADLINE: (
+        "A call has an answer: done (status 0), or one fault. Faults of input (2, 3, 5, 6, 7, 10, 12) are told by parts 11 and 12,",
+        "8 and 9 are that the network doesn't meet the need of the mode, 4 that the output can't be written, 13 that a certificate",
+        "is refused, and 11 that memory is wanting, which is an answer to any call: that an answer other than 11 comes is no part",
+        "of the headline, but said by laws of gic_study (PROMISES), and in the contract of each mode's call, which has no such",
+        "answer once its room is made. The streams and the files of the system tell no bytes: of a run over them the headline",
+        "says that some right text was written, or which fault there was; the same code over a sink that tells its bytes is proved",
+        "to write that text (gic_in_memory).",
+    ),
+}
 USE = re.compile(r"^(?:pub )?use Rattle\.(\w+)\.specs\.([\w.]+?)(?:\.\{(.*)\}| as (\w+))?$")
 DEFINED = re.compile(r"^(?:unfoldable |abbrev )*(?:pub )?(?:(record|data) )?(\S+)")
 TOKEN = re.compile(r"[A-Za-z_][\w'-]*(?:\.[A-Za-z_][\w'-]*)*|>>=|←")
@@ -204,11 +250,19 @@ def reached(known: dict[str, Definition], roots: tuple[str, ...]) -> dict[str, D
     return found
 
 
+def place_of(file: str) -> tuple[int, int]:
+    """The chapter of the first part to which a file belongs, and its place there."""
+    crate = file.partition("/")[0]
+    for chapter, (_, members) in enumerate(CHAPTERS):
+        for place, member in enumerate(members):
+            if member in (file, crate):
+                return chapter, place
+    return len(CHAPTERS), 0
+
+
 def chapter_of(file: str) -> int:
     """The chapter of the first part to which a file belongs."""
-    crate = file.partition("/")[0]
-    places = [place for place, (_, members) in enumerate(CHAPTERS) if file in members or crate in members]
-    return places[0] if places else len(CHAPTERS)
+    return place_of(file)[0]
 
 
 def in_order(found: list[Definition], crates: list[str]) -> list[Definition]:
@@ -227,7 +281,7 @@ def in_order(found: list[Definition], crates: list[str]) -> list[Definition]:
     while len(done) < len(by_file):
         ready = [name for name in by_file if name not in done and needs[name] <= done]
         assert ready, "files of definitions that cite one another"
-        name = min(ready, key=lambda n: (chapter_of(n), place.get(n.partition("/")[0], 0), n))
+        name = min(ready, key=lambda n: (place_of(n), place.get(n.partition("/")[0], 0), n))
         done.add(name)
         order.extend(by_file[name])
     return order
@@ -299,9 +353,19 @@ def table_of(parts: list[Part]) -> list[str]:
 
 def cited_line(definition: Definition) -> str:
     """Which others cite a definition."""
-    names = definition.cited_in
+    names = list(dict.fromkeys(definition.cited_in))
     shown = ", ".join(names[:4]) + (f" and {len(names) - 4} more" if len(names) > 4 else "")
     return f"    -- cited by {shown}" if names else "    -- cited by the clause of the call"
+
+
+def declared_in(top: Path) -> dict[str, str]:
+    """Each type that the code of the project's crates declares, with its key `gic_x/file.Type`, where no other has its name."""
+    found: dict[str, list[str]] = {}
+    for path in sorted(top.glob("crates/gic_*/src/**/*.rt")):
+        crate, _, rest = str(path.relative_to(top / "crates")).partition("/src/")
+        for name in re.findall(r"(?m)^pub (?:struct|enum) (\w+)", path.read_text(encoding="utf-8")):
+            found.setdefault(name, []).append(f"{crate}/{rest.removesuffix('.rt')}.{name}")
+    return {name: keys[0] for name, keys in found.items() if len(keys) == 1}
 
 
 def declaration(top: Path, key: str) -> list[str]:
@@ -316,25 +380,39 @@ def declaration(top: Path, key: str) -> list[str]:
             while first > 0 and lines[first - 1].startswith(("///", "#[")):
                 first -= 1
             if not line.endswith(";"):
-                last = next((end for end in range(place, len(lines)) if lines[end].startswith("}") or lines[end].endswith("}")), place)
+                last = next((end for end in range(place, len(lines)) if lines[end].endswith("}") and not lines[end].startswith(" ")), place)
             told = [each for each in lines[first : last + 1] if each.strip() and not each.startswith("#[") and "ghost" not in each]
             return ["", f"    crates/{crate}/src/{module}.rt", *("    " + each for each in told)]
     return []
 
 
+def declarations(top: Path, key: str, known: dict[str, str], told: set[str]) -> list[str]:
+    """The declaration of a type or a constant, behind those of the types that it names, but for what was told already."""
+    if key in told:
+        return []
+    told.add(key)
+    lines = declaration(top, key)
+    code = "\n".join(line for line in lines[2:] if not line.strip().startswith("///"))
+    below = [known[word] for word in re.findall(r"[:(<,] *(?:pub )?([A-Z]\w+)", code) if word in known]
+    return [line for other in dict.fromkeys(below) for line in declarations(top, other, known, told)] + lines
+
+
+def clause(top: Path) -> list[str]:
+    """The head of the call whose clause the headline is, with that clause."""
+    text = (top / CALL).read_text(encoding="utf-8")
+    head = text[text.index("pub fn gicstudy") :]
+    return head[: head.index("\n{")].splitlines()
+
+
 def text_of(top: Path, files: dict[str, File], parts: list[Part]) -> str:
     """The text of the file that is printed."""
-    lines = ["THE CLAIM", ""]
-    lines += [
-        "All definitions that the headline of gicstudy says, in the order in which a reader needs them; made by",
-        "`python3 docs/claim.py --write`. docs/DEFINITIONS.md has the words and units, and the table of the parts with lines and",
-        "minutes; docs/PROMISES.md says in sentences what is claimed. Imports are left out. Under each definition stands which",
-        "others cite it; none cites one that comes later. The types and the constants of the code stand where they are first",
-        "spoken of, with the file that declares them.",
-    ]
+    lines = PREFACE.rstrip("\n").splitlines()
+    known = declared_in(top)
     declared: set[str] = set()
     for number, part in enumerate(parts, 1):
         lines += ["", "=" * 100, f"{number}. {part.title} ({len(part.definitions)} definitions, {part.lines} lines)", "=" * 100]
+        if part.title in NOTES:
+            lines += ["", *NOTES[part.title]]
         chapter = file = None
         for definition in part.definitions:
             if number == 1 and chapter_of(definition.file) != chapter:
@@ -345,10 +423,9 @@ def text_of(top: Path, files: dict[str, File], parts: list[Part]) -> str:
                 crate, _, name = file.partition("/")
                 lines += ["", f"crates/{crate}/specs/{name}.antt", *files[file].says]
             for key in dict.fromkeys(definition.types):
-                if key not in declared:
-                    declared.add(key)
-                    lines += declaration(top, key)
+                lines += declarations(top, key, known, declared)
             lines += ["", *definition.lines, cited_line(definition)]
+    lines += ["", "---- The clause ----", "", CALL, "", *clause(top)]
     return "\n".join(lines) + "\n"
 
 

@@ -8,7 +8,7 @@ use Rattle.std.proofs.lemmas.List.FromFn.{length-map-range_with_len, get_or-map-
 use Rattle.gic_model.specs.Limits.{IsElementWithin}
 use Rattle.gic_model.specs.Standing.{is_live, IsLive, elements_at}
 use Rattle.gic_model.specs.Sums.{Placed}
-use Rattle.gic_model.specs.Bound.{IsRowPositive, IsCappedVector, IsLeastCappedVector}
+use Rattle.gic_model.specs.Bound.{MeetsRowRule, IsCappedVector, IsLeastCappedVector}
 use Rattle.gic_model.proofs.Ends.{live_within, ohms_at_node, standing_within}
 use Rattle.gic_bound.specs.Shares.{entries_where_live}
 use Rattle.gic_bound.specs.Raising.{IsUnderCapped, IsTooSmall}
@@ -172,7 +172,7 @@ module _ (standing : List Placed) where
 
 module _ (nodes : ℕ) (standing : List Placed) (within : AllByRecursion (λ p. IsElementWithin nodes p.1) standing) where
   -- where no entry of v is above that of other and they have the same entry at k, v's row holds where other's does
-  row_from : (v other : ℕ → ℕ) (k : ℕ) → IsNotAbove v other → other k ≤ v k → IsRowPositive standing other k → IsRowPositive standing v k
+  row_from : (v other : ℕ → ℕ) (k : ℕ) → IsNotAbove v other → other k ≤ v k → MeetsRowRule standing other k → MeetsRowRule standing v k
   row_from v other k below same holds =
       let order = parts_le v other k (elements_at standing k) (ohms_at_node nodes standing k within) below same in
       omega (arith, ints, holds, order)

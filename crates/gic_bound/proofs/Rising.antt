@@ -9,7 +9,7 @@ use Rattle.std.proofs.lemmas.List.Sums.{sum_by-set, sum_by-le}
 use Rattle.gic_model.specs.Limits.{IsElementWithin}
 use Rattle.gic_model.specs.Standing.{is_live, IsLive, elements_at}
 use Rattle.gic_model.specs.Sums.{Placed, sum_of}
-use Rattle.gic_model.specs.Bound.{row_part, IsRowPositive}
+use Rattle.gic_model.specs.Bound.{row_part, MeetsRowRule}
 use Rattle.gic_model.proofs.Ends.{live_within}
 use Rattle.gic_bound.specs.Raising.{IsUnderCapped, IsTooSmall}
 
@@ -18,7 +18,7 @@ no_way e = cc
 
 -- the entry at the node k is not too small
 abbrev pub IsEnough : List Placed → (ℕ → ℕ) → (ℕ → ℕ) → ℕ → Type 0
-IsEnough standing cap v k = IsLive standing k → v k < cap k → IsRowPositive standing v k
+IsEnough standing cap v k = IsLive standing k → v k < cap k → MeetsRowRule standing v k
 
 -- w is v with the entry at the node k raised by 1
 abbrev pub IsRaisedAt : (ℕ → ℕ) → ℕ → (ℕ → ℕ) → Type 0

@@ -3,7 +3,7 @@ use Rattle.std.specs.Prelude.{ℕ, ◌≡◌, ◌≤◌, ◌<◌, List, IsFalse}
 use Rattle.gic_base.specs.declared.limits.TheConstants.{FULL_WALK}
 use Rattle.gic_model.specs.Sums.{Placed}
 use Rattle.gic_model.specs.Standing.{IsLive, is_live}
-use Rattle.gic_model.specs.Bound.{IsCappedVector, IsRowPositive}
+use Rattle.gic_model.specs.Bound.{IsCappedVector, MeetsRowRule}
 
 -- in the ranges of a capped vector, and at no node above any capped vector
 pub record IsUnderCapped (standing : List Placed) (v : ℕ → ℕ) : Type 0 where
@@ -16,4 +16,4 @@ pub record IsUnderCapped (standing : List Placed) (v : ℕ → ℕ) : Type 0 whe
 pub record IsTooSmall (standing : List Placed) (cap v : ℕ → ℕ) (k : ℕ) : Type 0 where
   pub live : IsLive standing k
   pub room : v k < cap k
-  pub row : ¬ (IsRowPositive standing v k)
+  pub row : ¬ (MeetsRowRule standing v k)

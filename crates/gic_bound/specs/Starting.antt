@@ -3,7 +3,7 @@ use Rattle.std.specs.Prelude.{ℕ, ◌≡◌, ◌≤◌, ◌<◌, ◌+◌, ◌-�
 use Rattle.gic_base.specs.declared.limits.TheConstants.{FULL_WALK}
 use Rattle.gic_model.specs.Sums.{Placed}
 use Rattle.gic_model.specs.Standing.{IsLive, is_live}
-use Rattle.gic_model.specs.Bound.{IsCappedVector, IsRowPositive}
+use Rattle.gic_model.specs.Bound.{IsCappedVector, MeetsRowRule}
 use Rattle.gic_bound.specs.Shares.{entries_where_live}
 
 -- both lists have this length
@@ -25,7 +25,7 @@ pub record IsInRange (standing : List Placed) (v : ℕ → ℕ) : Type 0 where
 pub record IsHeld (standing : List Placed) (low cap v : ℕ → ℕ) : Type 0 where
   pub from_low : IsNotAbove low v
   pub to_cap : IsNotAbove v cap
-  pub rows : (k : ℕ) → IsLive standing k → v k < cap k → IsRowPositive standing v k
+  pub rows : (k : ℕ) → IsLive standing k → v k < cap k → MeetsRowRule standing v k
 
 -- the held vector that is at no node above any other held vector
 pub record IsLeastHeld (standing : List Placed) (low cap v : ℕ → ℕ) : Type 0 where

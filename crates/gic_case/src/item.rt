@@ -17,8 +17,8 @@ pub struct Bus {
 }
 
 /// A line between two buses, through one zone; these are places in the case's lists, from 0. The resistance is in
-/// micro-ohm per phase, from 1000 to 1000000000; the span to the north and to the east is in metres, from -1000000 to
-/// 1000000. A blocked line has a series capacitor, which passes no direct current.
+/// micro-ohm per phase, from 1000 to 1000000000; the span, how far `to` lies to the north and to the east of `from`, is in
+/// metres, from -1000000 to 1000000. A blocked line has a series capacitor, which passes no direct current.
 #[derive(Clone, Copy, Debug, PartialEq, Eq)]
 pub struct Line {
     pub name: Name,

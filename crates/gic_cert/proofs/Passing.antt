@@ -5,7 +5,7 @@ use Rattle.std.specs.Option.{option_map_or, is_some}
 use Rattle.std.proofs.lemmas.Bool.{cases_lt}
 use Rattle.std.proofs.lemmas.List.{get_or_past}
 use Rattle.gic_model.specs.Limits.{IsElementWithin}
-use Rattle.gic_model.specs.Bound.{IsBoundVector, IsRowPositive}
+use Rattle.gic_model.specs.Bound.{IsBoundVector, MeetsRowRule}
 use Rattle.gic_model.specs.Sums.{Placed}
 use Rattle.gic_model.proofs.Ends.{live_within}
 use Rattle.gic_cert.specs.Written.{Written, Certificate, IsWritten, IsWrittenNode, written_at, entry_of}
@@ -27,7 +27,7 @@ no_entry (Some w) is = absurd (no_way is)
 
 -- its entries are a bound vector where the row rule holds
 pub bound_vector : (nodes : ℕ) (standing : List Placed) → AllByRecursion (λ p. IsElementWithin nodes p.1) standing → (c : Certificate) → IsWritten c → HasNodes nodes standing c →
-    HoldsWhereLive standing (IsRowPositive standing (entry_of c)) → IsBoundVector standing (entry_of c)
+    HoldsWhereLive standing (MeetsRowRule standing (entry_of c)) → IsBoundVector standing (entry_of c)
 bound_vector nodes standing within c written has rows = record {
   live_above_0 = λ k live. some_entry (written_at c k) (has.live k (live_within nodes standing k within live) ∙ live) (written.each k);
   dead_0 = λ k dead. ⊎_elim

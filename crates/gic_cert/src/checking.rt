@@ -1,6 +1,6 @@
 //! Whether a certificate passes.
 ghost use Rattle.std.specs.Prelude.{◌≡◌, ◌*◌, ◌<◌, ◌≤◌, ◌↔◌, length, IsOk, IfErr, IfNone, IfSome, IsTrue};
-ghost use Rattle.gic_model.specs.Bound.{IsRowPositive};
+ghost use Rattle.gic_model.specs.Bound.{MeetsRowRule};
 ghost use Rattle.gic_model.specs.Voltages.{number_at};
 ghost use Rattle.gic_net.specs.Net.{standing};
 ghost use Rattle.gic_base.specs.declared.limits.TheConstants.{MOST_WALK};
@@ -23,7 +23,7 @@ use gic_net::Net;
 fn is_row_right(net: &Net, cert: &Cert, node: NodeId) -> bool
     requires nodes { length cert.now.nodes ≡ net.now.network.nodes }
     requires node { node.0 < net.now.network.nodes }
-    ensures { IsTrue result ↔ IsRowPositive (standing net.now) (entry_of cert.now) node.0 }
+    ensures { IsTrue result ↔ MeetsRowRule (standing net.now) (entry_of cert.now) node.0 }
 {
     is_row_positive(net, cert.entries(), node)
 }
@@ -59,8 +59,8 @@ fn is_radius_enough(cert: &Cert, node: NodeId, step: u128) -> bool
 /// The first live node at which the row rule fails.
 fn first_wrong_row(net: &Net, cert: &Cert) -> Option<NodeId>
     requires { length cert.now.nodes ≡ net.now.network.nodes }
-    ensures none { IfNone result (HoldsWhereLive (standing net.now) (IsRowPositive (standing net.now) (entry_of cert.now))) }
-    ensures first { IfSome result (λ node. IsFirstBreak (standing net.now) (IsRowPositive (standing net.now) (entry_of cert.now)) node.0) }
+    ensures none { IfNone result (HoldsWhereLive (standing net.now) (MeetsRowRule (standing net.now) (entry_of cert.now))) }
+    ensures first { IfSome result (λ node. IsFirstBreak (standing net.now) (MeetsRowRule (standing net.now) (entry_of cert.now)) node.0) }
 {
     for node in 0..net.nodes() {
         let node = NodeId(node);

@@ -9,7 +9,7 @@ use Rattle.gic_fixed.proofs.Integers.{linear, *ℤ-≤ℤ, ≤ℤ-from_*ℤ}
 use Rattle.gic_model.specs.declared.parts.End.{End}
 use Rattle.gic_model.specs.declared.parts.End.TheVariants.{Node, Earth}
 use Rattle.gic_model.specs.declared.parts.Element.{Element}
-use Rattle.gic_model.specs.Bound.{row_part, IsRowPositive, IsBoundVector}
+use Rattle.gic_model.specs.Bound.{row_part, MeetsRowRule, IsBoundVector}
 use Rattle.gic_model.specs.Earthing.{is_earth, joins, IsJoined, LeadsToEarth, IsEarthed}
 use Rattle.gic_model.specs.Limits.{IsElementWithin}
 use Rattle.gic_model.specs.Network.{is_node, ends_at}
@@ -83,7 +83,7 @@ each_shows nodes standing k within =
     (for_each (λ m p. joins k m p.1 ≡ true → IsJoined standing k m) standing (λ m. any_of_each (λ p. joins k m p.1) standing)))
 
 -- each live node has a way down
-way_down : (nodes : ℕ) (standing : List Placed) (v : ℕ → ℕ) (k : ℕ) → AllByRecursion (λ p. IsElementWithin nodes p.1) standing → IsLive standing k → IsRowPositive standing v k
+way_down : (nodes : ℕ) (standing : List Placed) (v : ℕ → ℕ) (k : ℕ) → AllByRecursion (λ p. IsElementWithin nodes p.1) standing → IsLive standing k → MeetsRowRule standing v k
     → HasWayDown standing v k
 way_down nodes standing v k within live row =
     some_of (row_part v k) (λ p. (ends_at p.1 k ≡ true) × ShowsWay nodes standing k p)
@@ -99,7 +99,7 @@ joined_live standing k m joined =
     (any_of_each (λ p. ends_at p.1 m) standing) joined
 
 -- down to earth, by the size of the entry
-earthed_below : (nodes : ℕ) (standing : List Placed) (v : ℕ → ℕ) → AllByRecursion (λ p. IsElementWithin nodes p.1) standing → ((k : ℕ) → IsLive standing k → IsRowPositive standing v k)
+earthed_below : (nodes : ℕ) (standing : List Placed) (v : ℕ → ℕ) → AllByRecursion (λ p. IsElementWithin nodes p.1) standing → ((k : ℕ) → IsLive standing k → MeetsRowRule standing v k)
     → (n k : ℕ) → IsLive standing k → v k < n → IsEarthed standing k
 earthed_below nodes standing v within rows zero k live less = absurd (omega (arith, less))
 earthed_below nodes standing v within rows (suc n) k live less = elim (way_down nodes standing v k within live (rows k live)) [

@@ -8,7 +8,7 @@ use Rattle.std.proofs.lemmas.List.{length-map}
 use Rattle.std.proofs.lemmas.List.FromFn.{length-range_with_len}
 use Rattle.std.proofs.lemmas.List.Elements.{All-from_get_or}
 use Rattle.gic_fixed.specs.Encloses.{IsWithin}
-use Rattle.gic_fixed.specs.Ends.{Ends, no_ends}
+use Rattle.gic_fixed.specs.Ends.{Ends, zero_ends}
 use Rattle.gic_case.specs.Lists.{Lists}
 use Rattle.gic_view.specs.View.{View, effective_at}
 use Rattle.gic_effective.specs.Narrow.{IsNarrowView}
@@ -31,7 +31,7 @@ has_absolute e small = fits_signed_from_abs w128 (neg_ℤ e.low) (omega (arith, 
 
 -- in each interval of a view
 pub have_absolutes : (view : View) → ((t : ℕ) → t < length view.effective → IsWithin (2 ^ 113) (effective_at view t).low (effective_at view t).high) → All HasAbsolute view.effective
-have_absolutes view small = All-from_get_or HasAbsolute view.effective no_ends (λ t within. has_absolute (effective_at view t) (small t within))
+have_absolutes view small = All-from_get_or HasAbsolute view.effective zero_ends (λ t within. has_absolute (effective_at view t) (small t within))
 
 -- there is a field for each zone
 pub fields-count : (zones : ℕ) (rows : List Row) → length (fields_at_step zones rows) ≡ zones

@@ -12,7 +12,7 @@ use Rattle.gic_case.specs.Lists.{Lists}
 use Rattle.gic_case.specs.Sound.{IsSoundKind}
 use Rattle.gic_fixed.specs.Encloses.{Encloses}
 use Rattle.gic_fixed.specs.Rounding.{floor_div, ceil_div}
-use Rattle.gic_fixed.specs.Ends.{Ends, no_ends, IsAtMostWide}
+use Rattle.gic_fixed.specs.Ends.{Ends, zero_ends, IsAtMostWide}
 use Rattle.gic_fixed.proofs.Divisions.{floor_is, ceil_is}
 use Rattle.gic_fixed.proofs.Integers.{linear}
 use Rattle.gic_model.specs.declared.parts.Role.{Role}
@@ -97,7 +97,7 @@ module _ (standing : List Placed) (volts : ℕ → ℤ) (potentials : List Ends)
 abbrev pub ends_by : ℤ → ℤ → Ends
 ends_by lo hi = record { low = lo; high = hi }
 
-pub quotients_nought : (a b lo hi : ℤ) (d : ℕ) → 0 < d → lo ≡ floor_div a (pos d) → hi ≡ ceil_div b (pos d) → a ≡ pos 0 → b ≡ pos 0 → ends_by lo hi ≡ no_ends
+pub quotients_nought : (a b lo hi : ℤ) (d : ℕ) → 0 < d → lo ≡ floor_div a (pos d) → hi ≡ ceil_div b (pos d) → a ≡ pos 0 → b ≡ pos 0 → ends_by lo hi ≡ zero_ends
 quotients_nought a b lo hi d some low high e f =
     let least = low ∙ ap (λ (z : ℤ). floor_div z (pos d)) e ∙ floor_is (pos 0) d (pos 0) some (omega (arith, linear)) (omega (arith, linear)) in
     let most = high ∙ ap (λ (z : ℤ). ceil_div z (pos d)) f ∙ ceil_is (pos 0) d (pos 0) some (omega (arith, linear)) (omega (arith, linear)) in

@@ -2,7 +2,7 @@
 use Rattle.std.specs.Prelude.{◌≡◌, ℕ, ◌*◌, ◌<◌, Option, None, Some, List, All, length, IsFalse, IsTrue, ℤ}
 use Rattle.gic_case.specs.Lists.{Lists, node_names}
 use Rattle.gic_fixed.specs.Encloses.{Encloses}
-use Rattle.gic_fixed.specs.Ends.{Ends, no_ends}
+use Rattle.gic_fixed.specs.Ends.{Ends, zero_ends}
 use Rattle.gic_model.specs.Standing.{IsLive, is_live, is_standing}
 use Rattle.gic_model.specs.Solution.{Solution, IsSolution}
 use Rattle.gic_model.specs.Sums.{Placed}
@@ -32,7 +32,7 @@ HasNoStandingWinding case standing t = All (λ winding. IsFalse (is_standing sta
 pub record IsRightEffective (case : Lists) (standing : List Placed) (volts : ℕ → ℤ) (t : ℕ) (ends : Ends) : Type 0 where
   pub holds : (s : Solution) → IsSolution standing volts s →
       Encloses ends.low ends.high (effective_numerator case s t) (effective_denominator case t s)
-  pub nought : HasNoStandingWinding case standing t → ends ≡ no_ends
+  pub nought : HasNoStandingWinding case standing t → ends ≡ zero_ends
 
 -- the view has a place for each node, element and transformer of the case, and what stands there is right for these standing elements and voltages
 pub record IsRightView (case : Lists) (standing : List Placed) (volts : ℕ → ℤ) (view : View) : Type 0 where

@@ -5,12 +5,12 @@ use Rattle.gic_model.specs.Solution.{Solution, IsSolution}
 use Rattle.gic_fixed.specs.Encloses.{Encloses}
 use Rattle.gic_model.specs.Sums.{Placed}
 use Rattle.gic_enclose.specs.Ends.{potential_ends}
-use Rattle.gic_fixed.specs.Ends.{Ends, no_ends, IsAtMostWide}
+use Rattle.gic_fixed.specs.Ends.{Ends, zero_ends, IsAtMostWide}
 
 -- the interval holds the potential of the node k in every solution, where k is live, and is the point 0 where it is dead
 pub record IsCertainAt (standing : List Placed) (volts : ℕ → ℤ) (k : ℕ) (ends : Ends) : Type 0 where
   pub live : IsLive standing k → (s : Solution) → IsSolution standing volts s → Encloses ends.low ends.high (pos (2 ^ 36) *ℤ s.potential k) s.denominator
-  pub dead : IsFalse (is_live standing k) → ends ≡ no_ends
+  pub dead : IsFalse (is_live standing k) → ends ≡ zero_ends
 
 -- so does each node's interval
 abbrev pub AreCertain : List Placed → (ℕ → ℤ) → List Ends → Type 0

@@ -3,12 +3,12 @@ use Rattle.std.specs.Prelude.{ℕ, ◌≡◌, List, length, ℤ, slice_index_or}
 use Rattle.std.specs.List.{All}
 use Rattle.gic_fixed.specs.Encloses.{IsWithin}
 use Rattle.gic_fixed.specs.declared.interval.Interval.{Interval}
-use Rattle.gic_fixed.specs.Ends.{Ends, no_ends}
+use Rattle.gic_fixed.specs.Ends.{Ends, zero_ends}
 use Rattle.gic_model.specs.Guess.{most_guess}
 
 -- the ends at the node k, and each of them
 abbrev pub potential_ends : List Ends → ℕ → Ends
-potential_ends potentials k = slice_index_or potentials k no_ends
+potential_ends potentials k = slice_index_or potentials k zero_ends
 
 abbrev pub low_at : List Ends → ℕ → ℤ
 low_at potentials k = (potential_ends potentials k).low

@@ -36,11 +36,11 @@ impl Potentials {
     ghost use Rattle.gic_net.specs.Net.{standing};
     ghost use Rattle.gic_sweep.specs.Residuals.{most_reach};
     ghost use Rattle.gic_enclose.specs.Ends.{low_at, high_at};
-    ghost use Rattle.gic_fixed.specs.Ends.{ends_of, no_ends};
+    ghost use Rattle.gic_fixed.specs.Ends.{ends_of, zero_ends};
 
     /// For a network of this many nodes; each interval is the point 0.
     pub fn new(alloc: Global, nodes: u16) -> Result<Potentials, OutOfMemory>
-        ensures { IfOk result (λ potentials. potentials ≡ replicate nodes no_ends) }
+        ensures { IfOk result (λ potentials. potentials ≡ replicate nodes zero_ends) }
     {
         let low = zeros(alloc, nodes)?;
         let high = zeros(alloc, nodes)?;

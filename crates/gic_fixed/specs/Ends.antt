@@ -12,8 +12,8 @@ abbrev pub ends_of : Interval → Ends
 ends_of interval = record { low = interval.lo; high = interval.hi }
 
 -- those of the point 0
-abbrev pub no_ends : Ends
-no_ends = record { low = pos 0; high = pos 0 }
+abbrev pub zero_ends : Ends
+zero_ends = record { low = pos 0; high = pos 0 }
 
 -- the interval from lo to hi is at most this wide
 abbrev pub IsAtMostWide : ℕ → ℤ → ℤ → Type 0

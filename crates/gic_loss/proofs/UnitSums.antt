@@ -2,7 +2,7 @@
 use Rattle.std.proofs.Common.{◌≡◌, ℕ, zero, suc, ◌+◌, ◌<◌, ◌≤◌, List, [], ◌∷◌, length, take, drop, get_or, ℤ, pos, ◌+ℤ◌, ◌*ℤ◌, refl, sym, ap, ◌∙◌, arith, drop-cons, add-one}
 use Rattle.std.specs.List.{enumerate_from}
 use Rattle.std.proofs.lemmas.List.{get_or_past}
-use Rattle.gic_fixed.specs.Ends.{Ends, no_ends}
+use Rattle.gic_fixed.specs.Ends.{Ends, zero_ends}
 use Rattle.gic_fixed.specs.Sums.{sum_of}
 use Rattle.gic_fixed.proofs.Integers.{linear}
 use Rattle.gic_view.specs.View.{View}
@@ -32,10 +32,10 @@ sum_of-front f n (suc m) (x ∷ xs) none =
     ap (λ z. f (n, x) +ℤ z) (sum_of-front f (n + 1) m xs (λ k y h. none k y (omega arith)))
 
 -- a unit that the view doesn't have draws nothing
-no_loss : (view : View) (k x : ℕ) → length view.effective ≤ k → unit_loss view (k, x) ≡ no_ends
+no_loss : (view : View) (k x : ℕ) → length view.effective ≤ k → unit_loss view (k, x) ≡ zero_ends
 no_loss view k x past =
     ap (λ (e : Ends). let loss : Ends = record { low = pos x *ℤ (counted_current e).low; high = pos x *ℤ (counted_current e).high } in loss)
-    (get_or_past view.effective k no_ends past)
+    (get_or_past view.effective k zero_ends past)
     ∙ ap (λ (z : ℤ). let loss : Ends = record { low = z; high = z } in loss) (*ℤ-zero (pos x))
 
 -- so the units that the view has make the whole

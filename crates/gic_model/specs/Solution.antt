@@ -10,7 +10,7 @@ pub record Solution : Type 0 where
   pub current : ℕ → ℤ
   pub denominator : ℕ
 
--- R I = times 10^6 (P_from - P_to + volts), over the solution's denominator
+-- R I = times 10^6 (P_from - P_to + volts), over the solution's denominator; the voltages are in nanovolts
 abbrev pub IsOhm : (ℕ → ℤ) → Solution → Placed → Type 0
 IsOhm volts s p =
     pos p.1.micro_ohm *ℤ s.current p.0 ≡
@@ -20,7 +20,7 @@ IsOhm volts s p =
 abbrev pub IsKirchhoff : List Placed → Solution → ℕ → Type 0
 IsKirchhoff standing s k = sum_of (λ p. leaving k p.1 (s.current p.0)) (elements_at standing k) ≡ pos 0
 
--- the numbers solve the network of these standing elements
+-- the numbers solve the network of these standing elements. Where each live node is earthed there are such numbers (`solutions_exist_law`), and any two agree (`agreement_law`)
 pub record IsSolution (standing : List Placed) (volts : ℕ → ℤ) (s : Solution) : Type 0 where
   pub denominator_above_0 : 0 < s.denominator
   pub ohm : All (IsOhm volts s) standing

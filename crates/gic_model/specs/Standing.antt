@@ -22,7 +22,7 @@ item_number (Neutral place) = 4 * place + 3
 abbrev pub is_item : Item → Item → Bool
 is_item a b = item_number a == item_number b
 
--- an item stands after the rows of a switching list where the last row that names it does not open it, or no row names it
+-- an item stands after all rows of a switching list, whatever their times, where the last row that names it does not open it, or no row names it
 abbrev pub stands_after : List Switching → Item → Bool
 stands_after rows item = option_map_or (λ row. not row.opens) (find (λ row. is_item row.item item) (reverse rows)) true
 

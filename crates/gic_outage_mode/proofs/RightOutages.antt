@@ -12,7 +12,7 @@ use Rattle.std.proofs.lemmas.Option.{slice_get-get_or, get_or_from_slice_get}
 use Rattle.gic_case.specs.Lists.{Lists}
 use Rattle.gic_effective.specs.Narrow.{IsNoWider}
 use Rattle.gic_effective.specs.Weighted.{effective_numerator, effective_denominator}
-use Rattle.gic_fixed.specs.Ends.{Ends, no_ends}
+use Rattle.gic_fixed.specs.Ends.{Ends, zero_ends}
 use Rattle.gic_model.specs.declared.parts.Item.{Item}
 use Rattle.gic_model.specs.declared.parts.Item.TheVariants.{Line}
 use Rattle.gic_model.specs.Bound.{IsCappedVector}
@@ -165,7 +165,7 @@ module _ (across : UndecidedIsAcross) (inputs : Inputs) (outages : List Outage) 
       record {
         item = item;
         solved = record { planned = Contains-get_or (plan_of inputs.case) place (Line 0) here; taken_out = ended.taken_out; solvable = ended.right.solvable };
-        right = subst (IsRightHere inputs item t) (get_or_from_slice_get worsts t w no_ends shown) (record { right = as_worst inputs item t (worst_at worsts t) (ended.right.right t within); verdict = ended.right.verdicts t within });
+        right = subst (IsRightHere inputs item t) (get_or_from_slice_get worsts t w zero_ends shown) (record { right = as_worst inputs item t (worst_at worsts t) (ended.right.right t within); verdict = ended.right.verdicts t within });
       }
 
   -- each solved outage shows it
@@ -181,7 +181,7 @@ module _ (across : UndecidedIsAcross) (inputs : Inputs) (outages : List Outage) 
       record {
         place = place;
         w = worst_at worsts t;
-        shown = cell_of outages t place ∙ slice_get-get_or worsts t no_ends there;
+        shown = cell_of outages t place ∙ slice_get-get_or worsts t zero_ends there;
         right = record { right = as_worst inputs item t (worst_at worsts t) (right.right t within); verdict = right.verdicts t within };
       }
 

@@ -1,7 +1,7 @@
 -- One item out of a network: how that ends, and the worst intervals over all items.
 use Rattle.std.specs.Prelude.{ℕ, List, [], ◌∷◌, ◌++◌, map, slice_get, slice_index_or, Option, None}
 use Rattle.gic_case.specs.Lists.{Lists}
-use Rattle.gic_fixed.specs.Ends.{Ends, no_ends}
+use Rattle.gic_fixed.specs.Ends.{Ends, zero_ends}
 use Rattle.gic_model.specs.declared.parts.Item.{Item}
 use Rattle.gic_model.specs.declared.parts.Item.TheVariants.{Line}
 use Rattle.gic_model.specs.Sums.{Placed}
@@ -36,7 +36,7 @@ outage_at outages place = slice_index_or outages place no_outage
 
 -- the worst interval of the transformer at a place
 abbrev pub worst_at : List Ends → (t : ℕ) → Ends
-worst_at worsts t = slice_index_or worsts t no_ends
+worst_at worsts t = slice_index_or worsts t zero_ends
 
 -- the worst intervals of a transformer in these outages, none where the network isn't solved
 abbrev pub worsts_of : List Outage → (t : ℕ) → List (Option Ends)

@@ -3,7 +3,7 @@ use Rattle.std.proofs.Common.{◌≡◌, List, [], ◌∷◌, ◌++◌, map, Opt
 use Rattle.std.proofs.lemmas.Int.{ints, clamps}
 use Rattle.std.proofs.lemmas.List.{map-append}
 use Rattle.std.specs.Int.{int_max}
-use Rattle.gic_fixed.specs.Ends.{Ends, no_ends}
+use Rattle.gic_fixed.specs.Ends.{Ends, zero_ends}
 use Rattle.gic_fixed.specs.Rounding.{least_abs, greatest_abs}
 use Rattle.gic_view.specs.View.{View}
 use Rattle.gic_peaks.specs.Peaks.{greater_ends, greater, peak_of}
@@ -41,7 +41,7 @@ above_nought : (a : ℤ) → pos 0 ≤ℤ a → a ≡ int_max (pos 0) a
 above_nought a h = omega (arith, ints, clamps)
 
 -- 0 to 0 in place of no peak takes nothing from an absolute interval
-pub unwrapped : (peak : Option Ends) (e : Ends) → e.low ≤ℤ e.high → greater_ends (unwrap_or peak no_ends) (absolute_ends e) ≡ unwrap_or (greater peak (Some (absolute_ends e))) no_ends
+pub unwrapped : (peak : Option Ends) (e : Ends) → e.low ≤ℤ e.high → greater_ends (unwrap_or peak zero_ends) (absolute_ends e) ≡ unwrap_or (greater peak (Some (absolute_ends e))) zero_ends
 unwrapped None e ordered = sym (same_ends _ _ _ _
     (above_nought (least_abs e.low e.high) (omega (arith, ints, clamps)))
     (above_nought (greatest_abs e.low e.high) (omega (arith, ints, clamps, ordered))))

@@ -4,7 +4,7 @@ use Rattle.std.proofs.lemmas.Int.{ints, clamps}
 use Rattle.std.proofs.lemmas.List.Elements.{All-head, All-tail}
 use Rattle.std.specs.Int.{int_max}
 use Rattle.gic_fixed.specs.Encloses.{EnclosesAbsolute}
-use Rattle.gic_fixed.specs.Ends.{Ends, no_ends}
+use Rattle.gic_fixed.specs.Ends.{Ends, zero_ends}
 use Rattle.gic_fixed.specs.Rounding.{least_abs, greatest_abs}
 use Rattle.gic_fixed.proofs.Enclosures.{Encloses-abs, ≤ℤ-times}
 use Rattle.gic_fixed.proofs.Integers.{linear}
@@ -108,7 +108,7 @@ peak_not_negative [] = tt
 peak_not_negative (None ∷ cells) = peak_not_negative cells
 peak_not_negative (Some e ∷ cells) = greater_not_negative (absolute_ends e) (peak_of cells) (omega (arith, ints, clamps))
 
-unwrapped_peak : (e peak : Ends) (rest : Option Ends) → peak ≡ unwrap_or (greater (Some e) rest) no_ends → greater (Some e) rest ≡ Some peak
+unwrapped_peak : (e peak : Ends) (rest : Option Ends) → peak ≡ unwrap_or (greater (Some e) rest) zero_ends → greater (Some e) rest ≡ Some peak
 unwrapped_peak e peak None h = ap Some (sym h)
 unwrapped_peak e peak (Some other) h = ap Some (sym h)
 

@@ -1,7 +1,7 @@
 -- The peaks with one more view.
 use Rattle.std.proofs.Common.{◌≡◌, ℕ, ◌<◌, List, [], ◌∷◌, ◌++◌, length, slice_index_or, Option, None, Some, option_map, unwrap_or, ◌≤ℤ◌, sym, ap, ◌∙◌, subst}
 use Rattle.std.proofs.lemmas.List.Elements.{All-push, All-weaker}
-use Rattle.gic_fixed.specs.Ends.{Ends, no_ends}
+use Rattle.gic_fixed.specs.Ends.{Ends, zero_ends}
 use Rattle.gic_view.specs.View.{View, node_at, element_at, effective_at}
 use Rattle.gic_peaks.specs.Peaks.{greater, greater_ends, peak_of, shown_of_transformer, HasLengthsOf, IsPeaksOf}
 use Rattle.gic_view.specs.Absolute.{absolute_ends}
@@ -42,7 +42,7 @@ peaks_seen views before view after fits seen peaks = record {
       seen.transformers t within
       ∙ ap (λ (e : Ends). greater_ends e (absolute_ends (effective_at view t))) (peaks.transformers t within)
       ∙ unwrapped (peak_of (shown_of_transformer views t)) (effective_at view t) (seen.ordered t within)
-      ∙ ap (λ (o : Option Ends). unwrap_or o no_ends) (sym (peak-push_shown (λ v. Some (effective_at v t)) views view));
+      ∙ ap (λ (o : Option Ends). unwrap_or o zero_ends) (sym (peak-push_shown (λ v. Some (effective_at v t)) views view));
 }
 
 -- the three lists one after the other
@@ -71,7 +71,7 @@ seen_in_turn before view one two after first second third node_count element_cou
           ∙ subst (λ xs. element_at two k ≡ greater (slice_index_or xs k None) (option_map absolute_ends (element_at view k))) one_elements
           (elements k (subst (λ xs. k < length xs) (sym one_elements) inside));
       transformers = λ t inside.
-          subst (λ xs. effective_at after t ≡ greater_ends (slice_index_or xs t no_ends) (absolute_ends (effective_at view t))) two_effective
+          subst (λ xs. effective_at after t ≡ greater_ends (slice_index_or xs t zero_ends) (absolute_ends (effective_at view t))) two_effective
           (transformers t (subst (λ xs. t < length xs) (sym two_effective) inside));
       ordered = λ t inside. ordered t (subst (λ xs. t < length xs) (sym two_effective) inside);
     }

@@ -1,7 +1,7 @@
 -- The peak of intervals, and the peaks of views.
 use Rattle.std.specs.Prelude.{◌≡◌, ℕ, ◌<◌, List, [], ◌∷◌, map, length, All, Option, Some, None, IfSome, option_map, unwrap_or}
 use Rattle.std.specs.Int.{int_max}
-use Rattle.gic_fixed.specs.Ends.{Ends, no_ends}
+use Rattle.gic_fixed.specs.Ends.{Ends, zero_ends}
 use Rattle.gic_view.specs.View.{View, node_at, element_at, effective_at}
 use Rattle.gic_view.specs.Absolute.{absolute_ends, HasAbsolute}
 
@@ -42,7 +42,7 @@ pub record IsPeaksOf (views : List View) (peaks : View) : Type 0 where
   pub lengths : All (HasLengthsOf peaks) views
   pub nodes : (k : ℕ) → k < length peaks.nodes → node_at peaks k ≡ peak_of (shown_at_node views k)
   pub elements : (place : ℕ) → place < length peaks.elements → element_at peaks place ≡ peak_of (shown_at_element views place)
-  pub transformers : (t : ℕ) → t < length peaks.effective → effective_at peaks t ≡ unwrap_or (peak_of (shown_of_transformer views t)) no_ends
+  pub transformers : (t : ℕ) → t < length peaks.effective → effective_at peaks t ≡ unwrap_or (peak_of (shown_of_transformer views t)) zero_ends
 
 -- each interval of a view has an absolute one of 128 bits
 pub record HasAbsolutes (view : View) : Type 0 where

@@ -6,7 +6,7 @@ use Rattle.std.proofs.lemmas.List.Elements.{All-from_recursion}
 use Rattle.gic_case.specs.declared.item.Transformer.{Transformer}
 use Rattle.gic_case.specs.Lists.{Lists, node_names}
 use Rattle.gic_model.specs.declared.parts.Element.{Element}
-use Rattle.gic_fixed.specs.Ends.{Ends, no_ends}
+use Rattle.gic_fixed.specs.Ends.{Ends, zero_ends}
 use Rattle.gic_winding.specs.ElementList.{elements_of}
 use Rattle.gic_report.specs.SharedLines.{Words}
 use Rattle.gic_report.specs.declared.rows.ItemRow.{ItemRow}
@@ -48,7 +48,7 @@ nodes_along : (names : List (List ℕ)) (cells : List (Option Ends)) → node_li
 nodes_along [] cells = refl
 nodes_along (name ∷ names) cells = ap (λ ls. node_line name (first_cell cells) ∷ ls) (nodes_along names (drop 1 cells))
 
-transformers_along : (line : Transformer → Ends → Words) (ts : List Transformer) (cells : List Ends) → per_transformer line ts cells ≡ along line no_ends ts cells
+transformers_along : (line : Transformer → Ends → Words) (ts : List Transformer) (cells : List Ends) → per_transformer line ts cells ≡ along line zero_ends ts cells
 transformers_along line [] cells = refl
 transformers_along line (t ∷ ts) cells = ap (λ ls. line t (first_ends cells) ∷ ls) (transformers_along line ts (drop 1 cells))
 
@@ -97,5 +97,5 @@ lines_show_places case view = record {
   row_count = row_count (item_rows_of case) view.elements;
   blocked = All-from_recursion _ _ (blocked_said (item_rows_of case) view.elements);
   effective = transformers_along (λ t e. effective_line t.name e) case.transformers view.effective
-      ∙ at_places (λ t e. effective_line t.name e) no_ends case.transformers view.effective 0;
+      ∙ at_places (λ t e. effective_line t.name e) zero_ends case.transformers view.effective 0;
 }

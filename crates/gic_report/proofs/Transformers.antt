@@ -1,6 +1,6 @@
 -- The lines of the transformers that are left.
 use Rattle.std.proofs.Common.{◌≡◌, ◌∙◌, ℕ, ◌+◌, ◌<◌, zero, suc, List, [], ◌∷◌, ◌++◌, length, drop, get_or, All, refl, sym, ap, arith, rules, add-one, drop-cons}
-use Rattle.gic_fixed.specs.Ends.{Ends, no_ends}
+use Rattle.gic_fixed.specs.Ends.{Ends, zero_ends}
 use Rattle.gic_text.specs.Lines.{line_text, lines_text}
 use Rattle.gic_case.specs.declared.item.Transformer.{Transformer}
 use Rattle.gic_report.specs.SharedLines.{Words}
@@ -30,7 +30,7 @@ later_absolute (e ∷ es) h = λ n d lt. h (suc n) d (omega (arith, lt))
 
 -- the line at a place
 pub line_at : (line : Transformer → Ends → Words) (ts : List Transformer) (cells : List Ends) (place : ℕ) (d : Transformer) → place < length ts
-    → get_or (per_transformer line ts cells) place [] ≡ line (get_or ts place d) (get_or cells place no_ends)
+    → get_or (per_transformer line ts cells) place [] ≡ line (get_or ts place d) (get_or cells place zero_ends)
 line_at line [] cells place d h = absurd (omega (arith, h))
 line_at line (t ∷ ts) cells zero d h = refl
 line_at line (t ∷ ts) [] (suc place) d h = line_at line ts [] place d (omega (arith, h))

@@ -52,7 +52,7 @@ left_behind blocked cells = if blocked then cells else drop 1 cells
 abbrev pub item_row_line : ItemRow → List (Option Ends) → Words
 item_row_line row cells = item_row_words row ++ shown_words row.blocked cells
 
--- the lines of rows
+-- the lines of rows: that of each element shows the interval at its place (`item_lines_law`)
 abbrev pub row_lines : List ItemRow → List (Option Ends) → List Words
 row_lines [] cells = []
 row_lines (row ∷ rows) cells = item_row_line row cells ∷ row_lines rows (left_behind row.blocked cells)

@@ -14,7 +14,7 @@ use Rattle.gic_screen.specs.Verdict.{is_assessed, verdict_of}
 use Rattle.gic_report.specs.SharedLines.{Words}
 use Rattle.gic_report.specs.ItemText.{per_transformer}
 
--- the high side is earthed through its winding, as NERC TPL-007 asks: only a delta-delta unit has no such winding
+-- the high side has a winding to the neutral or to one that leads there, as NERC TPL-007 asks, whatever neutral device there is: only a delta-delta unit has none
 abbrev pub earthed_high : Kind → Bool
 earthed_high kind = has_windings kind
 

@@ -2,7 +2,7 @@
 use Rattle.std.proofs.Common.{◌≡◌, ◌∙◌, ℕ, zero, suc, ◌+◌, ◌*◌, ◌<◌, ◌≤◌, ◌⊎◌, inl, inr, ℤ, pos, negsuc, ◌≤ℤ◌, unsigned_abs, ap, arith}
 use Rattle.std.proofs.lemmas.Bool.{cases_lt}
 use Rattle.std.proofs.lemmas.Int.{ints}
-use Rattle.gic_fixed.specs.Ends.{Ends, no_ends}
+use Rattle.gic_fixed.specs.Ends.{Ends, zero_ends}
 use Rattle.gic_fixed.specs.Roots.{IsFloorRoot, IsCeilRoot}
 use Rattle.gic_screen.specs.Worst.{IsWorstOf, WorstIsDetermined, WorstOfNoughtIsNought, WorstAboutNought, ends_about_nought, ends_up_to_2}
 use Rattle.gic_screen.proofs.Squares.{square-le}
@@ -46,7 +46,7 @@ worst_determined north east worst other one two =
     ap (λ l. from_to l worst.high) low ∙ ap (λ h. from_to other.low h) high
 
 -- of two points 0
-nought_is : IsWorstOf no_ends no_ends no_ends
+nought_is : IsWorstOf zero_ends zero_ends zero_ends
 nought_is = record {
   not_negative = omega (arith, ints);
   in_order = omega (arith, ints);
@@ -55,7 +55,7 @@ nought_is = record {
 }
 
 pub worst_of_nought : WorstOfNoughtIsNought
-worst_of_nought worst is = worst_determined no_ends no_ends worst no_ends is nought_is
+worst_of_nought worst is = worst_determined zero_ends zero_ends worst zero_ends is nought_is
 
 -- of two intervals about 0
 two_at_least : (k : ℕ) → 2 ≤ k * k → 2 ≤ k

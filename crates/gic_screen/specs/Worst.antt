@@ -1,6 +1,6 @@
 -- The greatest current over all orientations of a uniform field.
 use Rattle.std.specs.Prelude.{ℕ, ◌+◌, ◌*◌, ◌≤◌, ◌≡◌, ℤ, pos, negsuc, ◌*ℤ◌, ◌≤ℤ◌, unsigned_abs}
-use Rattle.gic_fixed.specs.Ends.{Ends, no_ends}
+use Rattle.gic_fixed.specs.Ends.{Ends, zero_ends}
 use Rattle.gic_fixed.specs.Rounding.{least_abs, greatest_abs}
 use Rattle.gic_fixed.specs.Roots.{IsFloorRoot, IsCeilRoot}
 
@@ -27,7 +27,7 @@ WorstIsDetermined = (north east worst other : Ends) → IsWorstOf north east wor
 
 -- that of two points 0 is the point 0
 abbrev pub WorstOfNoughtIsNought : Type 0
-WorstOfNoughtIsNought = (worst : Ends) → IsWorstOf no_ends no_ends worst → worst ≡ no_ends
+WorstOfNoughtIsNought = (worst : Ends) → IsWorstOf zero_ends zero_ends worst → worst ≡ zero_ends
 
 -- that of two intervals from -1 to 1 goes from 0 to 2
 abbrev pub ends_about_nought : Ends

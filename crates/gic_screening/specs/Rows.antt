@@ -1,7 +1,7 @@
 -- What a screen shows of a transformer, with each interval as its two ends.
 use Rattle.std.specs.Prelude.{◌≡◌, ℕ, ◌*◌, ◌≤◌, List, slice_index_or, ℤ}
 use Rattle.gic_fixed.specs.Encloses.{Encloses}
-use Rattle.gic_fixed.specs.Ends.{Ends, ends_of, no_ends, IsAtMostWide}
+use Rattle.gic_fixed.specs.Ends.{Ends, ends_of, zero_ends, IsAtMostWide}
 use Rattle.gic_screen.specs.Worst.{EnclosesWorst, IsWorstOf}
 use Rattle.gic_screening.specs.declared.rows.ScreenRow.{ScreenRow}
 
@@ -16,7 +16,7 @@ screen_row_of row = record { north = ends_of row.north; east = ends_of row.east;
 
 -- each interval holds 0 alone
 abbrev pub no_screen_row : Row
-no_screen_row = record { north = no_ends; east = no_ends; worst = no_ends }
+no_screen_row = record { north = zero_ends; east = zero_ends; worst = zero_ends }
 
 -- the row at this place; past the last one in which each interval holds 0 alone
 abbrev pub screen_row_at : List Row → ℕ → Row

@@ -1,6 +1,6 @@
 -- What the mode shows of a step, with its interval as its two ends.
 use Rattle.std.specs.Prelude.{ℕ, List, slice_index_or}
-use Rattle.gic_fixed.specs.Ends.{Ends, ends_of, no_ends}
+use Rattle.gic_fixed.specs.Ends.{Ends, ends_of, zero_ends}
 use Rattle.gic_view.specs.View.{View, effective_at}
 use Rattle.gic_series.specs.declared.rows.SeriesRow.{SeriesRow}
 
@@ -15,7 +15,7 @@ series_row_of row = record { number = row.number; time = row.time; effective = e
 
 -- number and time 0, and an interval that holds 0 alone
 abbrev pub no_series_row : Row
-no_series_row = record { number = 0; time = 0; effective = no_ends }
+no_series_row = record { number = 0; time = 0; effective = zero_ends }
 
 -- the row at this place; past the last one that of number and time 0
 abbrev pub series_row_at : List Row → ℕ → Row

@@ -13,7 +13,7 @@ pub data Need : Type 0 where
   Earthed : Need
   Solved : Need
 
--- the elements that stand at the step of this place; steps are told by their numbers, from 1
+-- the elements that stand at the step of this place, from 0; the number by which the step is told is one more
 abbrev pub standing_at : List (List Placed) → (place : ℕ) → List Placed
 standing_at steps place = slice_index_or steps place []
 
@@ -23,7 +23,7 @@ Meets Nothing standing = ⊤
 Meets Earthed standing = AreEarthed standing
 Meets Solved standing = IsSolvable standing
 
--- those of the step of this number don't, for this reason
+-- the elements that stand at the step of this number don't meet the need, for this reason
 abbrev pub Fails : Need → Lists → (number : ℕ) → List Placed → NetworkRefusal → Type 0
 Fails Earthed case number standing (Unearthed step node) = (step ≡ number) × IsNameOfUnearthed case standing node
 Fails Solved case number standing (Unearthed step node) = (step ≡ number) × IsNameOfUnearthed case standing node

@@ -11,7 +11,7 @@ use Rattle.gic_stand.specs.Needs.{Need, IsMet, IsUnmet}
 use Rattle.gic_stand.specs.declared.fault.ReportFault.{ReportFault}
 use Rattle.gic_stand.specs.declared.fault.ReportFault.TheVariants.{Refused, CannotWrite}
 
--- what a sink shows at one moment: the bytes written, where it tells them, and the count of failed writes
+-- what a sink shows at one moment: the bytes written, where it tells them, and the count of failed writes. A stream of the system tells none: then `Appends` and `Keeps` are true of themselves
 pub record Shown : Type 0 where
   pub bytes : Option (List ℕ)
   pub faults : ℕ
@@ -26,7 +26,7 @@ pub record Reports (need : Need) (steps : List (List Placed)) (IsRight : List �
   pub right : IsRight text
   pub written : Appends before.bytes now.bytes text
 
--- a front part of it was, up to a failed write
+-- a front part of it was, and the count of failed writes rose, or stood at its end
 pub record ReportsPart (need : Need) (steps : List (List Placed)) (IsRight : List ℕ → Type 0) (before now : Shown) : Type 0 where
   pub met : IsMet need steps
   pub text : List ℕ

@@ -22,12 +22,12 @@ steps_of inputs = standing_of inputs.case inputs.switchings ∷ []
 abbrev pub IsNameOfUnearthed : Lists → List Placed → (name : List ℕ) → Type 0
 IsNameOfUnearthed case standing name = (k : ℕ) × (IsFirstUnearthed standing k × (name ≡ slice_index_or (node_names case) k []))
 
--- each live node is earthed, and the network is earthed within 4096, `MOST_WALK`: a solve to every width from 5 to 10000 mV or mA is promised
+-- each live node is earthed, and the network is earthed within 4096, `MOST_WALK`
 pub record IsSolvable (standing : List Placed) : Type 0 where
   pub earthed : AreEarthed standing
   pub within : IsEarthedWithin standing MOST_WALK
 
--- the first node, in node order, whose entry in the least capped vector is full, 4097: every bound vector is above 4096 there
+-- the first node, in node order, whose entry in the least capped vector is full, 4097; so every bound vector is above 4096 there
 pub record IsFirstUnresolved (standing : List Placed) (k : ℕ) : Type 0 where
   pub entries : ℕ → ℕ
   pub least : IsLeastCappedVector standing entries

@@ -1,7 +1,7 @@
 -- What every view keeps, and a view in which nothing shows.
 use Rattle.std.specs.Prelude.{ℕ, ◌^◌, ◌<◌, replicate, Option, None, Some}
 use Rattle.gic_fixed.specs.declared.interval.Interval.{Interval}
-use Rattle.gic_fixed.specs.Ends.{Ends, ends_of, no_ends}
+use Rattle.gic_fixed.specs.Ends.{Ends, ends_of, zero_ends}
 use Rattle.gic_view.specs.View.{View}
 
 abbrev pub optional_ends : Option Interval → Option Ends
@@ -15,7 +15,7 @@ blank_view nodes elements transformers = record {
   time = 0;
   nodes = replicate nodes None;
   elements = replicate elements None;
-  effective = replicate transformers no_ends;
+  effective = replicate transformers zero_ends;
 }
 
 -- what every view keeps: each of its numbers of places is one of 16 bits

@@ -1,6 +1,6 @@
 -- The view of a step, with each interval as its two ends.
 use Rattle.std.specs.Prelude.{ℕ, List, Option, None, slice_index_or}
-use Rattle.gic_fixed.specs.Ends.{Ends, no_ends}
+use Rattle.gic_fixed.specs.Ends.{Ends, zero_ends}
 
 -- a step's number, its time in seconds, an interval for each node in mV where it is live, for each element in mA where it stands,
 -- and for each transformer, signed, in mA per phase
@@ -19,4 +19,4 @@ abbrev pub element_at : View → ℕ → Option Ends
 element_at view place = slice_index_or view.elements place None
 
 abbrev pub effective_at : View → ℕ → Ends
-effective_at view place = slice_index_or view.effective place no_ends
+effective_at view place = slice_index_or view.effective place zero_ends

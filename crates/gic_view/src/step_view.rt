@@ -1,6 +1,6 @@
 //! The view of a step.
 ghost use Rattle.std.specs.Prelude.{◌≡◌, length, map, replicate, IfOk, None};
-ghost use Rattle.gic_fixed.specs.Ends.{ends_of, no_ends};
+ghost use Rattle.gic_fixed.specs.Ends.{ends_of, zero_ends};
 
 use gic_base::{ElementId, NodeId, OutOfMemory};
 use gic_fixed::Interval;
@@ -49,7 +49,7 @@ fn absent(alloc: Global, count: u16) -> Result<Vec<Option<Interval>>, OutOfMemor
 /// Intervals that hold 0 alone.
 fn points(alloc: Global, count: u16) -> Result<Vec<Interval>, OutOfMemory>
     ensures count { IfOk result (λ list. length list.items ≡ count) }
-    ensures noughts { IfOk result (λ list. map ends_of list.items ≡ replicate count no_ends) }
+    ensures noughts { IfOk result (λ list. map ends_of list.items ≡ replicate count zero_ends) }
 {
     let list = vec![in alloc; Interval::point(0); count as usize]?;
     Ok(list)

@@ -1,4 +1,4 @@
--- The element list of a case. Nodes are numbered in the order of `node_names`: the substations, then the buses, then the neutral nodes.
+-- The element list of a case. Nodes are numbered in the order of `node_names`: the substations, then the buses, then the neutral nodes. Resistances are in micro-ohm.
 use Rattle.std.specs.Prelude.{ℕ, ◌+◌, List, [], ◌∷◌, ◌++◌, length, map, flat_map, slice_index_or, Option, Some, None, if◌then◌else◌}
 use Rattle.std.specs.List.{enumerate_from}
 use Rattle.gic_base.specs.declared.id.NodeId.{NodeId}

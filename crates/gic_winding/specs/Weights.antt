@@ -21,7 +21,7 @@ low_volts_of (kinds.WyeWye high low low_volts high_resistance low_resistance) = 
 low_volts_of (kinds.Auto high low low_volts series_resistance common_resistance) = low_volts
 low_volts_of kinds.DeltaDelta = 0
 
--- the weight of a winding by its role: the voltage of the high side for a high winding, of the low side for a low or a common one, and their difference for a series one, in V; 0 for what is no winding
+-- the weight of a winding by its role: the voltage of the high side for a high winding, of the low side for a low or a common one, and their difference for a series one, in V; 0 for what is no winding. No accepted case has a low voltage above the high one
 abbrev pub weight_of : Transformer → Role → ℕ
 weight_of t role.High = t.high_volts
 weight_of t role.Low = low_volts_of t.kind

@@ -5,7 +5,7 @@ use Rattle.std.proofs.lemmas.List.{get_or_past}
 use Rattle.gic_model.proofs.Ends.{live_within, standing_within}
 use Rattle.gic_net.specs.Net.{standing, stands}
 use Rattle.gic_enclose.specs.Ends.{potential_ends}
-use Rattle.gic_fixed.specs.Ends.{no_ends}
+use Rattle.gic_fixed.specs.Ends.{zero_ends}
 use Rattle.gic_enclose.specs.Certain.{IsNarrow}
 use Rattle.gic_enclose.proofs.enclosing.enclose.Goals as goal
 
@@ -19,8 +19,8 @@ returns-clause-narrow c settled k =
     ⊎_elim
     (λ inside. i.narrow (omega (arith, close)) k (omega (arith, inside, end, c.loop-node-test.false, c.loop-node.auto.node-end)))
     (λ past.
-    let none : potential_ends out k ≡ no_ends = get_or_past out k no_ends (omega (arith, past, i.same_length, c.requires.together.interval_count)) in
-    let narrow : IsNarrow no_ends = omega (arith, ints) in
+    let none : potential_ends out k ≡ zero_ends = get_or_past out k zero_ends (omega (arith, past, i.same_length, c.requires.together.interval_count)) in
+    let narrow : IsNarrow zero_ends = omega (arith, ints) in
     subst IsNarrow (sym none) narrow)
     (cases_lt k net.network.nodes)
 

@@ -2,7 +2,7 @@ use Rattle.std.proofs.Common.{◌≡◌, ◌∙◌, ℕ, ◌<◌, List, length, 
 use Rattle.std.proofs.lemmas.List.{get_or_default}
 use Rattle.std.proofs.lemmas.Option.{get_or_from_slice_get}
 use Rattle.gic_case.specs.declared.item.Transformer.{Transformer}
-use Rattle.gic_fixed.specs.Ends.{ends_of, no_ends}
+use Rattle.gic_fixed.specs.Ends.{ends_of, zero_ends}
 use Rattle.gic_report.specs.declared.counts.Counts.{Counts}
 use Rattle.gic_report.specs.Counts.{counted, total_of}
 use Rattle.gic_report.proofs.CountedVerdicts.{total_at, counts_next}
@@ -38,7 +38,7 @@ loop-place-preserved c =
     c.transformer-item.is ∙ get_or_default c.transformers-transformer-items.result.now l.place c.transformer-item.result no_transformer c.loop-place-test.true
     ∙ ap (λ (ts : List Transformer). get_or ts l.place no_transformer) c.transformers-transformer-items.ensures.value in
     let shown : worst_at worsts l.place ≡ ends_of row.worst =
-    get_or_from_slice_get worsts l.place (ends_of row.worst) no_ends (row_shown rows row l.place (omega (arith, first, c.requires)) c.index-rows-place.is) in
+    get_or_from_slice_get worsts l.place (ends_of row.worst) zero_ends (row_shown rows row l.place (omega (arith, first, c.requires)) c.index-rows-place.is) in
     let row_is : ends_of (get_or rows l.place row).worst ≡ ends_of row.worst = ap (λ (r : ScreenRow). ends_of r.worst) (sym c.index-rows-place.is) in
     let this : c.verdict_in-said.result ≡ said l.place =
     c.verdict_in-said.ensures ∙ ap (verdict_in threshold c.transformer-item.result) (row_is ∙ sym shown)

@@ -1,7 +1,7 @@
 use Rattle.std.proofs.Common.{rules, ◌≡◌, ℕ, ◌+◌, ◌<◌, ◌≤ℤ◌, length, slice_set, arith, ap, sym, subst, ◌∙◌, inl, inr}
 use Rattle.std.proofs.lemmas.Bool.{cases_lt}
 use Rattle.std.proofs.lemmas.List.{length-set}
-use Rattle.gic_fixed.specs.Ends.{Ends, ends_of, no_ends}
+use Rattle.gic_fixed.specs.Ends.{Ends, ends_of, zero_ends}
 use Rattle.gic_view.specs.View.{View, effective_at}
 use Rattle.gic_peaks.specs.Peaks.{greater_ends}
 use Rattle.gic_view.specs.Absolute.{absolute_ends}
@@ -24,7 +24,7 @@ loop-transformer-preserved c =
     ∙ ap (λ (e : Ends). greater_ends (effective_at c.args.peaks.now at) (absolute_ends e)) c.effective-in-loop-transformer.ensures in
     let f = λ (t : ℕ). greater_ends (effective_at c.args.peaks.now t) (absolute_ends (effective_at c.args.view.now t)) in
     record {
-      written = subst (λ ys. IsWritten f c.args.peaks.now.effective ys no_ends (at + 1)) (sym lists) (written f c.args.peaks.now.effective xs no_ends x at inside is i.written);
+      written = subst (λ ys. IsWritten f c.args.peaks.now.effective ys zero_ends (at + 1)) (sym lists) (written f c.args.peaks.now.effective xs zero_ends x at inside is i.written);
       ordered = λ t below. elim (cases_lt t at) [
         | inl less ↦ i.ordered t less
         | inr more ↦ subst (λ n. (effective_at c.args.view.now n).low ≤ℤ (effective_at c.args.view.now n).high) (let e : at ≡ t = omega (arith, more, below) in e)

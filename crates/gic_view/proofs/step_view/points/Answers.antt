@@ -1,5 +1,5 @@
 use Rattle.std.proofs.Common.{rules, ◌≡◌, pos, map, replicate, ap, ◌∙◌}
-use Rattle.gic_fixed.specs.Ends.{ends_of, no_ends}
+use Rattle.gic_fixed.specs.Ends.{ends_of, zero_ends}
 use Rattle.gic_base.proofs.Each.{map-replicate}
 use Rattle.gic_view.proofs.step_view.points.Goals as goal
 
@@ -7,7 +7,7 @@ pub returns-clause-noughts : goal.returns-clause-noughts
 returns-clause-noughts c =
     let low : c.point.result.lo ≡ pos 0 = search (rules, c.point.ensures.low) in
     let high : c.point.result.hi ≡ pos 0 = search (rules, c.point.ensures.high) in
-    let zero : ends_of c.point.result ≡ no_ends = cc in
+    let zero : ends_of c.point.result ≡ zero_ends = cc in
     ap (map ends_of) (c.in_ok-list.ensures.items_if_clones_equal (λ y e. e))
     ∙ map-replicate ends_of c.args.count c.point.result
     ∙ ap (replicate c.args.count) zero

@@ -1,5 +1,5 @@
 use Rattle.std.proofs.Common.{rules, ◌≡◌, pos, map, replicate, ap, ◌∙◌}
-use Rattle.gic_fixed.specs.Ends.{Ends, ends_of, no_ends}
+use Rattle.gic_fixed.specs.Ends.{Ends, ends_of, zero_ends}
 use Rattle.gic_base.proofs.Each.{map-replicate}
 use Rattle.gic_screening.specs.Rows.{Row, screen_row_of}
 use Rattle.gic_screening.proofs.rows.ScreenRows.new.Goals as goal
@@ -8,7 +8,7 @@ pub returns : goal.returns
 returns c =
     let low : c.point-nought.result.lo ≡ pos 0 = search (rules, c.point-nought.ensures.low) in
     let high : c.point-nought.result.hi ≡ pos 0 = search (rules, c.point-nought.ensures.high) in
-    let zero : ends_of c.point-nought.result ≡ no_ends = cc in
+    let zero : ends_of c.point-nought.result ≡ zero_ends = cc in
     let three : Ends → Row = λ e. record { north = e; east = e; worst = e } in
     ap (map screen_row_of) (c.in_ok-list.ensures.items_if_clones_equal (λ y e. e))
     ∙ map-replicate screen_row_of c.args.count _
