@@ -1,10 +1,11 @@
 -- The verdicts of a right view are true of every solution.
-use Rattle.std.proofs.Common.{ℕ, ◌<◌, List, length, ℤ}
+use Rattle.std.proofs.Common.{◌≡◌, ℕ, ◌*◌, ◌<◌, Bool, List, length, ℤ, arith}
+use Rattle.std.proofs.lemmas.Grind.{common_steps}
+use Rattle.gic_fixed.proofs.Divisions.{positive_product}
 use Rattle.gic_fixed.proofs.Enclosures.{Encloses-abs}
 use Rattle.gic_fixed.specs.Encloses.{EnclosesAbsolute}
 use Rattle.gic_fixed.specs.Rounding.{least_abs, greatest_abs}
 use Rattle.gic_case.specs.Lists.{Lists}
-use Rattle.gic_case.specs.Sound.{IsSound}
 use Rattle.gic_model.specs.Solution.{Solution, IsSolution}
 use Rattle.gic_model.specs.Sums.{Placed}
 use Rattle.gic_view.specs.View.{View, effective_at}
@@ -12,11 +13,12 @@ use Rattle.gic_winding.specs.Weights.{transformer_at}
 use Rattle.gic_effective.specs.Narrow.{IsNarrowView}
 use Rattle.gic_effective.specs.RightView.{IsRightView}
 use Rattle.gic_effective.specs.Weighted.{effective_numerator, effective_denominator}
+use Rattle.gic_screen.specs.Verdict.{verdict_of}
+use Rattle.gic_screen.specs.declared.criterion.Verdict.TheVariants.{Below}
 use Rattle.gic_screen.specs.VerdictLaws.{BelowIsUnder, ReachesIsAtLeast, UndecidedIsAcross}
 use Rattle.gic_report.specs.VerdictText.{earthed_high}
 use Rattle.gic_report.proofs.Absolutes.{absolute_narrow}
-use Rattle.gic_uniform.proofs.Denominators.{some_denominator}
-use Rattle.gic_field.specs.RightField.{AreTrueVerdicts, AreRightAbsolutes}
+use Rattle.gic_field.specs.Follows.{AreTrueVerdicts, AreRightAbsolutes}
 
 -- the absolute interval of a right view holds the transformer's absolute effective current
 absolute_holds : (case : Lists) (standing : List Placed) (volts : ℕ → ℤ) (view : View) (t : ℕ) (s : Solution)
@@ -27,19 +29,29 @@ absolute_holds case standing volts view t s right within solves =
     Encloses-abs (effective_at view t).low (effective_at view t).high (effective_numerator case s t) (effective_denominator case t s)
     ((right.effective t within).holds s solves)
 
+-- a transformer that a verdict calls below is assessed, so its high voltage and its denominators are above 0
+rated : (lo hi : ℤ) (threshold high_volts : ℕ) (earthed : Bool) → verdict_of lo hi threshold high_volts earthed ≡ Below → 0 < high_volts
+rated lo hi threshold high_volts earthed said = grind (arith, common_steps)
+
+some_denominator : (high_volts denominator : ℕ) → 0 < high_volts → 0 < denominator → 0 < 3000000 * high_volts * denominator
+some_denominator high_volts denominator some = positive_product (3000000 * high_volts) denominator (omega (arith, some))
+
 pub true_verdicts : (case : Lists) (standing : List Placed) (volts : ℕ → ℤ) (threshold : ℕ) (view : View)
     → BelowIsUnder → ReachesIsAtLeast → UndecidedIsAcross
-    → IsSound case → IsRightView case standing volts view
+    → IsRightView case standing volts view
     → AreTrueVerdicts case standing volts threshold view
-true_verdicts case standing volts threshold view below reaches undecided sound right =
+true_verdicts case standing volts threshold view below reaches undecided right =
     let lo : ℕ → ℤ = λ t. least_abs (effective_at view t).low (effective_at view t).high in
     let hi : ℕ → ℤ = λ t. greatest_abs (effective_at view t).low (effective_at view t).high in
     let held : (t : ℕ) → t < length case.transformers → (s : Solution) → IsSolution standing volts s → EnclosesAbsolute (lo t) (hi t) (effective_numerator case s t) (effective_denominator case t s) =
     λ t within s solves. absolute_holds case standing volts view t s right within solves in
     record {
       below = λ t within verdict s solves.
-          below (lo t) (hi t) (effective_numerator case s t) (effective_denominator case t s) threshold (transformer_at case t).high_volts (earthed_high (transformer_at case t).kind)
-          (some_denominator case t s sound within solves.denominator_above_0) verdict (held t within s solves).below_hi;
+          let high_volts = (transformer_at case t).high_volts in
+          let earthed = earthed_high (transformer_at case t).kind in
+          below (lo t) (hi t) (effective_numerator case s t) (effective_denominator case t s) threshold high_volts earthed
+          (some_denominator high_volts s.denominator (rated (lo t) (hi t) threshold high_volts earthed verdict) solves.denominator_above_0)
+          verdict (held t within s solves).below_hi;
       reaches = λ t within verdict s solves.
           reaches (lo t) (hi t) (effective_numerator case s t) (effective_denominator case t s) threshold (transformer_at case t).high_volts (earthed_high (transformer_at case t).kind)
           verdict (held t within s solves).above_lo;

@@ -1,4 +1,5 @@
 pub mod FieldText
 pub mod RightField
+pub mod Follows
 pub mod Determines
 pub mod Made

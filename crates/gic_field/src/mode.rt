@@ -17,7 +17,6 @@ use gic_base::{Sink, WriteFailed};
 use gic_case::Case;
 use gic_inputs::Inputs;
 use gic_question::Question;
-use gic_screen::laws::verdict_law;
 use gic_stand::{ReportFault, ended};
 use gic_text::LineBuilder;
 use gic_uniform::{expect_solvable, solve_view};
@@ -55,10 +54,8 @@ pub fn field<S: Sink>(inputs: &Inputs, room: &mut Room, out: &mut S) -> Result<(
     ensures { Serves Solved inputs.now.case (steps_of inputs.now) (IsRightField inputs.now)
         (shown S.written S.faults out.old) (shown S.written S.faults out.new) result }
 {
-    verdict_law();
     let case = &inputs.case;
     let question = &inputs.question;
-    case.keeps_rules();
     expect_solvable(case, &room.net, &mut room.solving)?;
     solve_view(
         case,

@@ -1,2 +1,2 @@
-pub mod RightScreens
+pub mod TrueVerdicts
 pub mod ScreenDetermined

@@ -1,5 +1,5 @@
 -- What a report of the mode has to say.
-use Rattle.std.specs.Prelude.{◌≡◌, ℕ, ◌<◌, List, length, ℤ, pos}
+use Rattle.std.specs.Prelude.{◌≡◌, ℕ, List, ℤ, pos}
 use Rattle.gic_case.specs.Lists.{Lists}
 use Rattle.gic_model.specs.Sums.{Placed}
 use Rattle.gic_screen.specs.Event.{threshold_of, field_of}
@@ -8,24 +8,18 @@ use Rattle.gic_question.specs.declared.asked.Question.{Question}
 use Rattle.gic_inputs.specs.declared.inputs.Inputs.{Inputs}
 use Rattle.gic_stand.specs.Standing.{standing_of}
 use Rattle.gic_uniform.specs.Uniform.{uniform_volts}
-use Rattle.gic_screening.specs.Rows.{Row, screen_row_at}
-use Rattle.gic_screening.specs.RightRows.{IsRightRow, IsTrueVerdict}
+use Rattle.gic_screening.specs.Rows.{Row}
+use Rattle.gic_screening.specs.Screening.{AreScreened}
 use Rattle.gic_screen_mode.specs.ScreenText.{screen_report}
 
 -- the text of a report of these rows
 abbrev pub screen_text : Lists → Question → List Row → List ℕ
 screen_text case q rows = lines_text (screen_report case.transformers q.width (threshold_of q.event) (field_of q.event) rows)
 
--- one right row a transformer, each with a true verdict
-pub record AreRightRows (case : Lists) (standing : List Placed) (north east : ℕ → ℤ) (q : Question) (rows : List Row) : Type 0 where
-  pub count : length rows ≡ length case.transformers
-  pub right : (t : ℕ) → t < length case.transformers → IsRightRow case standing north east q.width t (screen_row_at rows t)
-  pub verdicts : (t : ℕ) → t < length case.transformers → IsTrueVerdict case standing north east (threshold_of q.event) t (screen_row_at rows t).worst
-
--- the text is that of such rows
+-- the text is that of one right row a transformer
 pub record ShowsRightRows (case : Lists) (standing : List Placed) (north east : ℕ → ℤ) (q : Question) (text : List ℕ) : Type 0 where
   pub rows : List Row
-  pub answer : AreRightRows case standing north east q rows
+  pub right : AreScreened case standing north east q.width rows
   pub text_is : text ≡ screen_text case q rows
 
 -- with all switchings in force, in the field of the event that is asked for, to the north and to the east

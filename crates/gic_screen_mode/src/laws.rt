@@ -1,7 +1,18 @@
-//! What the text of the mode tells.
+//! What the text of the mode tells, and what follows of a right report.
 ghost use Rattle.gic_screen_mode.specs.Determines.{TextDeterminesScreen};
+ghost use Rattle.gic_screen_mode.specs.Follows.{VerdictsAreTrue};
+
+use gic_screen::laws::{verdict_law, worst_verdict_law};
 
 /// Texts on one case that are equal show the same width, threshold and field and the same intervals.
 pub fn text_determines_screen_law()
     ensures { TextDeterminesScreen }
 {}
+
+/// In a right report, what the verdict on each transformer says is true of its worst current in every two solutions.
+pub fn screen_verdicts_law()
+    ensures { VerdictsAreTrue }
+{
+    verdict_law();
+    worst_verdict_law();
+}

@@ -16,7 +16,6 @@ use gic_base::{Sink, WriteFailed};
 use gic_case::Case;
 use gic_inputs::Inputs;
 use gic_question::Question;
-use gic_screen::laws::{verdict_law, worst_verdict_law};
 use gic_screening::{ScreenRows, screen_net, setting_of};
 use gic_stand::{ReportFault, ended};
 use gic_text::LineBuilder;
@@ -47,11 +46,8 @@ pub fn screen<S: Sink>(inputs: &Inputs, room: &mut Room, out: &mut S) -> Result<
     ensures { Serves Solved inputs.now.case (steps_of inputs.now) (IsRightScreen inputs.now)
         (shown S.written S.faults out.old) (shown S.written S.faults out.new) result }
 {
-    verdict_law();
-    worst_verdict_law();
     let case = &inputs.case;
     let question = &inputs.question;
-    case.keeps_rules();
     screen_net(
         case,
         &room.net,

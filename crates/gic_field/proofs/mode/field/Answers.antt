@@ -2,19 +2,17 @@ use Rattle.std.proofs.Common.{ℕ, ℤ, List, [], ◌∷◌, refl, subst, arith}
 use Rattle.gic_model.specs.Sums.{Placed}
 use Rattle.gic_model.specs.Voltages.{number_at}
 use Rattle.gic_net.specs.Net.{standing}
-use Rattle.gic_screen.specs.Event.{threshold_of}
 use Rattle.gic_stand.specs.Needs.{Solved, Fails}
 use Rattle.gic_stand.specs.Serves.{Serves, shown}
 use Rattle.gic_stand.specs.Standing.{standing_of}
 use Rattle.gic_stand.proofs.Served.{served, met_once, unserved_network}
 use Rattle.gic_uniform.proofs.InField.{in_field}
-use Rattle.gic_field.specs.RightField.{IsRightAnswer, ShowsRightView, IsRightField}
+use Rattle.gic_field.specs.RightField.{ShowsRightView, IsRightField}
 use Rattle.gic_field.proofs.Fits.{have_absolutes}
-use Rattle.gic_field.proofs.TrueVerdicts.{right_absolutes, true_verdicts}
 use Rattle.gic_field.proofs.mode.field.Goals as goal
 
 pub solve_view-requires-clause-width : goal.solve_view-requires-clause-width
-solve_view-requires-clause-width g c = record { least = omega (arith, c.requires.ranges.width_least); most = c.requires.ranges.width_most }
+solve_view-requires-clause-width g c = record { least = omega (arith, c.requires.ranges.width_least); most = omega (arith, c.requires.ranges.width_most) }
 
 pub write_view-writing-requires : goal.write_view-writing-requires
 write_view-writing-requires g c = have_absolutes c.args.inputs.now.case c.solve_view.new.view c.solve_view.ensures.solved.right.lengths.transformers c.solve_view.ensures.solved.small
@@ -29,23 +27,12 @@ returns g c =
     let volts : ℕ → ℤ = number_at room.volts in
     let before = shown g.S.Sink.written g.S.Sink.faults c.args.out.now in
     let now = shown g.S.Sink.written g.S.Sink.faults c.write_view-writing.new.out in
-    let view = c.solve_view.new.view in
-    let right = c.solve_view.ensures.solved.right in
-    let narrow = c.solve_view.ensures.solved.narrow in
-    let answer : IsRightAnswer case stands volts question view = record {
-      right = right;
-      narrow = narrow;
-      absolutes = right_absolutes case stands volts question.width view right narrow;
-      verdicts = true_verdicts case stands volts (threshold_of question.event) view
-          c.verdict_law.ensures.below c.verdict_law.ensures.reaches c.verdict_law.ensures.undecided
-          c.keeps_rules.ensures right;
-    } in
     in_field case inputs.switchings question.north question.east stands room.volts
     (λ (s : List Placed) (v : ℕ → ℤ). Serves Solved case (s ∷ []) (ShowsRightView case s v question) before now c.ended.result)
     c.requires.room.stands c.requires.room.volts
     (served Solved case _ (ShowsRightView case stands volts question) _ _ _ c.write_view-writing.result c.ended.result
     (met_once Solved stands c.in_ok-expect_solvable.ensures.ready.solvable)
-    (record { shown = view; answer = answer; text_is = refl })
+    (record { shown = c.solve_view.new.view; right = c.solve_view.ensures.solved.right; narrow = c.solve_view.ensures.solved.narrow; text_is = refl })
     c.write_view-writing.ensures.all c.write_view-writing.ensures.part c.write_view-writing.ensures.cause c.ended.ensures)
 
 pub returns-in_err-expect_solvable : goal.returns-in_err-expect_solvable

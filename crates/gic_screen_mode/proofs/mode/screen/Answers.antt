@@ -1,16 +1,15 @@
-use Rattle.std.proofs.Common.{◌≡◌, ℕ, ℤ, List, [], ◌∷◌, pos, refl, sym, subst}
+use Rattle.std.proofs.Common.{ℕ, ℤ, List, [], ◌∷◌, pos, refl, subst}
 use Rattle.gic_model.specs.Sums.{Placed}
 use Rattle.gic_model.specs.Voltages.{number_at}
 use Rattle.gic_net.specs.Net.{standing}
 use Rattle.gic_screen.specs.Event.{field_of}
 use Rattle.gic_stand.specs.Needs.{Solved, Fails}
 use Rattle.gic_stand.specs.Serves.{Serves, shown}
-use Rattle.gic_stand.specs.Standing.{standing_of, steps_of}
+use Rattle.gic_stand.specs.Standing.{standing_of}
 use Rattle.gic_stand.proofs.Served.{served, met_once, unserved_network}
 use Rattle.gic_uniform.specs.Uniform.{uniform_volts}
 use Rattle.gic_uniform.proofs.InField.{in_field, in_volts}
 use Rattle.gic_screen_mode.specs.RightScreen.{ShowsRightRows, IsRightScreen}
-use Rattle.gic_screen_mode.proofs.RightScreens.{rows_right}
 use Rattle.gic_screen_mode.proofs.mode.screen.Goals as goal
 
 pub returns : goal.returns
@@ -22,11 +21,8 @@ returns g c =
     let stands = standing room.net in
     let north : ℕ → ℤ = number_at room.volts.north in
     let east : ℕ → ℤ = number_at room.volts.east in
-    let rows = c.screen_net.new.room.rows in
     let before = shown g.S.Sink.written g.S.Sink.faults c.args.out.now in
     let now = shown g.S.Sink.written g.S.Sink.faults c.write_rows-writing.new.out in
-    let answer = rows_right c.verdict_law.ensures.undecided c.worst_verdict_law.ensures.below c.worst_verdict_law.ensures.reaches
-    case stands north east question rows c.keeps_rules.ensures c.in_ok-screen_net.ensures.right in
     let to_east : ℕ → ℤ = uniform_volts case (pos 0) (field_of question.event) in
     in_field case inputs.switchings (field_of question.event) (pos 0) stands room.volts.north
     (λ (s : List Placed) (v : ℕ → ℤ). Serves Solved case (s ∷ []) (ShowsRightRows case s v to_east question) before now c.ended.result)
@@ -36,7 +32,7 @@ returns g c =
     c.requires.room.volts.in_east
     (served Solved case _ (ShowsRightRows case stands north east question) _ _ _ c.write_rows-writing.result c.ended.result
     (met_once Solved stands c.in_ok-screen_net.ensures.solvable)
-    (record { rows = rows; answer = answer; text_is = refl })
+    (record { rows = c.screen_net.new.room.rows; right = c.in_ok-screen_net.ensures.right; text_is = refl })
     c.write_rows-writing.ensures.all c.write_rows-writing.ensures.part c.write_rows-writing.ensures.cause c.ended.ensures))
 
 pub returns-in_err-screen_net : goal.returns-in_err-screen_net

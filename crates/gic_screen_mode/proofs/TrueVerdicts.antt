@@ -1,0 +1,37 @@
+-- The verdict on a right worst interval is true.
+use Rattle.std.proofs.Common.{◌≡◌, ℕ, ◌*◌, ◌<◌, Bool, List, ℤ, arith}
+use Rattle.std.proofs.lemmas.Grind.{common_steps}
+use Rattle.gic_case.specs.Lists.{Lists}
+use Rattle.gic_fixed.proofs.Divisions.{positive_product}
+use Rattle.gic_fixed.specs.Ends.{Ends}
+use Rattle.gic_model.specs.Sums.{Placed}
+use Rattle.gic_winding.specs.Weights.{transformer_at}
+use Rattle.gic_screen.specs.Verdict.{verdict_of}
+use Rattle.gic_screen.specs.VerdictLaws.{UndecidedIsAcross, WorstBelowIsUnder, WorstReachesIsAtLeast}
+use Rattle.gic_screen.specs.declared.criterion.Verdict.TheVariants.{Below}
+use Rattle.gic_report.specs.VerdictText.{earthed_high}
+use Rattle.gic_screening.specs.RightRows.{IsRightWorst, IsTrueVerdict}
+
+-- a transformer that a verdict calls below is assessed, so its high voltage and its denominators are above 0
+rated : (lo hi : ℤ) (threshold high_volts : ℕ) (earthed : Bool) → verdict_of lo hi threshold high_volts earthed ≡ Below → 0 < high_volts
+rated lo hi threshold high_volts earthed said = grind (arith, common_steps)
+
+some_denominator : (high_volts denominator : ℕ) → 0 < high_volts → 0 < denominator → 0 < 3000000 * high_volts * denominator
+some_denominator high_volts denominator some = positive_product (3000000 * high_volts) denominator (omega (arith, some))
+
+pub verdict_true : UndecidedIsAcross → WorstBelowIsUnder → WorstReachesIsAtLeast → (case : Lists) (standing : List Placed) (north east : ℕ → ℤ) (threshold width t : ℕ) (worst : Ends)
+    → IsRightWorst case standing north east width t worst → IsTrueVerdict case standing north east threshold t worst
+verdict_true across under at_least case standing north east threshold width t worst right =
+    let high_volts = (transformer_at case t).high_volts in
+    let earthed = earthed_high (transformer_at case t).kind in
+    record {
+      below = λ said one other solves.
+          let some = rated worst.low worst.high threshold high_volts earthed said in
+          under worst.low worst.high _ _ _ _ threshold high_volts earthed
+          (some_denominator high_volts one.denominator some solves.in_north.denominator_above_0) (some_denominator high_volts other.denominator some solves.in_east.denominator_above_0)
+          right.in_order said (right.holds one other solves);
+      reaches = λ said one other solves.
+          at_least worst.low worst.high _ _ _ _ threshold high_volts earthed
+          said (right.holds one other solves);
+      undecided = λ said. across worst.low worst.high threshold high_volts earthed said;
+    }
