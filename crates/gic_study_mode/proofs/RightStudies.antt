@@ -1,19 +1,14 @@
 -- The reports of a study are right.
-use Rattle.std.proofs.Common.{◌≡◌, ℕ, ◌-◌, ◌<◌, ◌≤◌, List, [], length, Option, Some, None, Result, Ok, Err, ℤ, refl, sym, ap, subst, ◌∙◌, arith, append-nil}
+use Rattle.std.proofs.Common.{◌≡◌, ℕ, ◌-◌, ◌<◌, List, [], length, Option, Some, None, Result, Ok, Err, ℤ, refl, sym, ap, subst, ◌∙◌, append-nil}
 use Rattle.std.specs.Prelude.{IfSome, IsErrAnd, OnOk, option_map}
 use Rattle.std.specs.Io.KnownBytes.{Appends}
 use Rattle.gic_base.specs.Causes.{HasCause}
 use Rattle.gic_base.specs.Pieces.{AppendsPart}
 use Rattle.gic_base.specs.declared.sink.WriteFailed.{WriteFailed}
 use Rattle.gic_base.proofs.Parts.{keeps-refl}
-use Rattle.gic_case.specs.Lists.{Lists}
-use Rattle.gic_case.specs.Sound.{IsSound}
-use Rattle.gic_model.specs.Sums.{Placed}
 use Rattle.gic_storm.specs.Steps.{steps_in, step_at}
 use Rattle.gic_view.specs.View.{View}
-use Rattle.gic_peaks.specs.PeakLaws.{PeakEnclosesGreatest, TransformerPeakIsPeak, PeakIsNoWider}
 use Rattle.gic_screen.specs.Event.{threshold_of}
-use Rattle.gic_screen.specs.VerdictLaws.{BelowIsUnder, ReachesIsAtLeast, UndecidedIsAcross}
 use Rattle.gic_stand.specs.Needs.{Solved, IsMet, IsUnmet}
 use Rattle.gic_stand.specs.Serves.{Shown}
 use Rattle.gic_inputs.specs.Inputs.{IsStormOf}
@@ -35,9 +30,6 @@ use Rattle.gic_study_mode.specs.declared.fault.StudyFault.{StudyFault}
 use Rattle.gic_study_mode.specs.declared.fault.StudyFault.TheVariants.{Report, Memory}
 use Rattle.gic_study_mode.specs.Seen.{HasSeen, with_view}
 use Rattle.gic_study_mode.specs.RightStudy.{detail_at, IsRightStudy}
-use Rattle.gic_study_mode.proofs.EnclosedPeaks.{enclosing}
-use Rattle.gic_study_mode.proofs.TrueVerdicts.{true_verdicts}
-use Rattle.gic_study_mode.proofs.PeakCells.{narrow_peaks}
 
 -- the step in detail
 detail_is : (inputs : StormInputs) (asked : Option ℕ) (fields : Option (List (ℤ × ℤ))) (view : View) (views : List View) → fields ≡ option_map (storm_fields inputs) asked
@@ -51,21 +43,17 @@ detail_is inputs (Some number) fields view views is own =
 asked_within : (inputs : StormInputs) (asked : Option ℕ) (number : ℕ) → IfSome asked (IsStepOf inputs) → asked ≡ Some number → IsStepOf inputs number
 asked_within inputs asked number step is = subst (λ (a : Option ℕ). IfSome a (IsStepOf inputs)) is step
 
-pub right_study : PeakEnclosesGreatest → TransformerPeakIsPeak → PeakIsNoWider → BelowIsUnder → ReachesIsAtLeast → UndecidedIsAcross
-    → (inputs : StormInputs) (detail : Option ℕ) (asked : Option ℕ) (before now : List View → List (List ℕ)) (seen : Views) (fields : Option (List (ℤ × ℤ))) (texts : List (List ℕ))
-    → IsSound inputs.inputs.case → 1 ≤ length (steps_in inputs.storm.rows)
+pub right_study : (inputs : StormInputs) (detail : Option ℕ) (asked : Option ℕ) (before now : List View → List (List ℕ)) (seen : Views) (fields : Option (List (ℤ × ℤ))) (texts : List (List ℕ))
     → HasSeen inputs asked (length (steps_in inputs.storm.rows)) before now seen
     → asked ≡ asked_step inputs detail → IfSome asked (IsStepOf inputs)
     → fields ≡ option_map (storm_fields inputs) (asked_step inputs detail) → texts ≡ now []
     → IsRightStudy inputs detail (λ roster views. before views)
     (study_text inputs.inputs.case inputs.inputs.question.width (threshold_of inputs.inputs.question.event) (length (steps_in inputs.storm.rows)) (option_map (with_view seen.asked) fields) seen.peaks texts)
-right_study encloses is_peak no_wider below reaches undecided inputs detail asked before now seen fields texts sound some has asked_is step fields_are texts_are =
+right_study inputs detail asked before now seen fields texts has asked_is step fields_are texts_are =
     let case = inputs.inputs.case in
     let q = inputs.inputs.question in
     let steps = length (steps_in inputs.storm.rows) in
     let right = all_right inputs has.views has.one_each has.right in
-    let lengths = has.room.peaks in
-    let enclosed = enclosing encloses is_peak inputs has.views seen.peaks right has.peaks_are lengths some in
     let own : (number : ℕ) → asked_step inputs detail ≡ Some number → seen.asked ≡ view_at has.views (number - 1) = λ number is.
     let within = asked_within inputs asked number step (asked_is ∙ is) in
     has.asked_is number (asked_is ∙ is) within.least within.most in
@@ -78,9 +66,6 @@ right_study encloses is_peak no_wider below reaches undecided inputs detail aske
       small = has.small;
       peaks = seen.peaks;
       peaks_are = has.peaks_are;
-      narrow_peaks = narrow_peaks no_wider is_peak case q.width has.views seen.peaks has.narrow has.peaks_are lengths (omega (arith, some, has.one_each));
-      enclosed = enclosed;
-      verdicts = true_verdicts below reaches undecided inputs (threshold_of q.event) seen.peaks sound enclosed;
       text_is = ap (λ (d : Option DetailView). study_text case q.width (threshold_of q.event) steps d seen.peaks texts) shown
           ∙ ap (study_text case q.width (threshold_of q.event) steps (option_map (detail_at inputs has.views) (asked_step inputs detail)) seen.peaks) planned;
     }
@@ -96,9 +81,6 @@ by_plans inputs detail outlooks plans same text right = record {
   small = right.small;
   peaks = right.peaks;
   peaks_are = right.peaks_are;
-  narrow_peaks = right.narrow_peaks;
-  enclosed = right.enclosed;
-  verdicts = right.verdicts;
   text_is = right.text_is ∙ ap (study_text inputs.inputs.case inputs.inputs.question.width (threshold_of inputs.inputs.question.event) (length (steps_in inputs.storm.rows)) (option_map (detail_at inputs right.views) (asked_step inputs detail)) right.peaks) (same right.views);
 }
 

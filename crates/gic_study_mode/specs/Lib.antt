@@ -3,7 +3,8 @@ pub mod Seats
 pub mod Asked
 pub mod Seen
 pub mod Made
-pub mod PeakEnclosure
-pub mod PeakVerdicts
 pub mod RightStudy
 pub mod ServesStudy
+pub mod PeakEnclosure
+pub mod PeakVerdicts
+pub mod Follows

@@ -2,10 +2,8 @@
 use Rattle.std.specs.Prelude.{◌≡◌, ℕ, ◌-◌, List, length, Option, option_map}
 use Rattle.gic_storm.specs.Steps.{steps_in}
 use Rattle.gic_view.specs.View.{View}
-use Rattle.gic_effective.specs.Narrow.{IsNarrowView}
 use Rattle.gic_screen.specs.Event.{threshold_of}
 use Rattle.gic_peaks.specs.Peaks.{IsPeaksOf}
-use Rattle.gic_model.specs.Solution.{Solution}
 use Rattle.gic_monitor.specs.RosterView.{RosterView}
 use Rattle.gic_inputs.specs.declared.inputs.StormInputs.{StormInputs}
 use Rattle.gic_course.specs.Steps.{storm_fields}
@@ -13,8 +11,6 @@ use Rattle.gic_course.specs.Views.{AreRightViews, AreNarrowViews, AreSmallViews,
 use Rattle.gic_study_text.specs.StudyText.{DetailView, study_text}
 use Rattle.gic_study_mode.specs.Asked.{asked_step}
 use Rattle.gic_study_mode.specs.Roster.{roster_of}
-use Rattle.gic_study_mode.specs.PeakEnclosure.{AreStepSolutions, AreEnclosing}
-use Rattle.gic_study_mode.specs.PeakVerdicts.{AreTruePeakVerdicts}
 
 -- a step in detail: its fields, and its view among those of all steps
 abbrev pub detail_at : StormInputs → List View → (number : ℕ) → DetailView
@@ -30,7 +26,7 @@ report_text inputs detail plans views peaks =
     study_text inputs.inputs.case inputs.inputs.question.width (threshold_of inputs.inputs.question.event) (length (steps_in inputs.storm.rows))
     (detail_of inputs detail views) peaks (plans (roster_of inputs.inputs.case inputs.inputs.question.event) views)
 
--- one list of views is behind the whole text, right for the steps in order; no interval is wider than asked, no effective current is beyond 2^52 mA per phase, and peaks and verdicts are true of every solution of each step
+-- one list of views is behind the whole text, right for the steps in order; no interval of them is wider than asked, no effective current is beyond 2^52 mA per phase, and the peaks of the text are those of these views
 pub record IsRightStudy (inputs : StormInputs) (detail : Option ℕ) (plans : RosterView → List View → List (List ℕ)) (text : List ℕ) : Type 0 where
   pub views : List View
   pub right : AreRightViews inputs views
@@ -38,7 +34,4 @@ pub record IsRightStudy (inputs : StormInputs) (detail : Option ℕ) (plans : Ro
   pub small : AreSmallViews inputs.inputs.case views
   pub peaks : View
   pub peaks_are : IsPeaksOf views peaks
-  pub narrow_peaks : IsNarrowView inputs.inputs.case inputs.inputs.question.width peaks
-  pub enclosed : (solutions : ℕ → Solution) → AreStepSolutions inputs solutions → AreEnclosing inputs peaks solutions
-  pub verdicts : AreTruePeakVerdicts inputs (threshold_of inputs.inputs.question.event) peaks
   pub text_is : text ≡ report_text inputs detail plans views peaks

@@ -3,6 +3,7 @@
 
 mod asked;
 mod fault;
+pub mod laws;
 mod mode;
 mod room;
 mod roster;

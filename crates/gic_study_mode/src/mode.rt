@@ -16,8 +16,6 @@ use crate::writing::write_seen;
 use gic_base::{Sink, WriteFailed};
 use gic_inputs::StormInputs;
 use gic_monitor::{Board, Monitor};
-use gic_peaks::laws::{peak_is_narrow_law, peaks_enclose_law};
-use gic_screen::laws::verdict_law;
 use gic_stand::ReportFault;
 use std::alloc::Global;
 
@@ -47,10 +45,6 @@ fn study_steps<S: Sink>(
         (IsRightStudy inputs.now detail (λ roster views. map (λ m. (⟦<dyn Monitor as Monitor>⟧ m.vtable).outlook m.value views) (monitors_of board.old)))
         (shown S.written S.faults out.old) (shown S.written S.faults out.new) result }
 {
-    peaks_enclose_law();
-    peak_is_narrow_law();
-    verdict_law();
-    inputs.inputs.case.keeps_rules();
     let asked = asked_step(inputs, detail);
     room.course.expect_solvable(inputs)?;
     see_steps(inputs, asked, &mut room.course, &mut room.views, board);

@@ -1,5 +1,5 @@
 //! The steps of a storm, seen one after another.
-ghost use Rattle.std.specs.Prelude.{◌≡◌, ◌≤◌, [], map, length};
+ghost use Rattle.std.specs.Prelude.{◌≡◌, [], map, length};
 ghost use Rattle.gic_effective.specs.ViewLengths.{HasViewLengths};
 ghost use Rattle.gic_peaks.specs.Peaks.{IsPeaksOf};
 ghost use Rattle.gic_question.specs.Ranges.{IsWithinRanges};
@@ -102,7 +102,6 @@ pub(crate) fn see_steps(
     requires shows { CanShow inputs.now course.old }
     requires room { IsRoomForViews inputs.now.inputs.case views.old }
     requires of_none { IsPeaksOf [] views.old.peaks }
-    ensures some { 1 ≤ length (steps_in inputs.now.storm.rows) }
     ensures seen { HasSeen inputs.now asked (length (steps_in inputs.now.storm.rows)) (λ rest. map (λ m. (⟦<dyn Monitor as Monitor>⟧ m.vtable).outlook m.value rest) (monitors_of board.old)) (λ rest. map (λ m. (⟦<dyn Monitor as Monitor>⟧ m.vtable).outlook m.value rest) (monitors_of board.new)) views.new }
 {
     for place in 0..inputs.storm.steps() {

@@ -18,10 +18,8 @@ returns g c =
     let before : List View → List (List ℕ) = λ views. map (λ m. (goal.Monitor-dyn g (m.vtable, m.value)).outlook m.value views) (monitors_of c.args.board.now) in
     writing_served inputs _ (IsRightStudy inputs c.args.detail (λ roster views. before views)) _ _ _
     c.write_seen-writing.result c.written_so.result c.in_ok-expect_solvable.ensures.met.solvable
-    (right_study c.peaks_enclose_law.ensures.encloses c.peaks_enclose_law.ensures.transformers c.peak_is_narrow_law.ensures.peak
-    c.verdict_law.ensures.below c.verdict_law.ensures.reaches c.verdict_law.ensures.undecided
-    inputs c.args.detail c.asked_step-asked.result before _ c.see_steps.new.views c.args.room.now.fields (map (λ text. text.items) c.as_slice.result.now)
-    c.keeps_rules.ensures c.see_steps.ensures.some c.see_steps.ensures.seen c.asked_step-asked.ensures.value c.asked_step-asked.ensures.step c.requires.room.fields (ap (map (λ text. text.items)) c.as_slice.ensures.value ∙ c.in_ok-texts.ensures.texts))
+    (right_study inputs c.args.detail c.asked_step-asked.result before _ c.see_steps.new.views c.args.room.now.fields (map (λ text. text.items) c.as_slice.result.now)
+    c.see_steps.ensures.seen c.asked_step-asked.ensures.value c.asked_step-asked.ensures.step c.requires.room.fields (ap (map (λ text. text.items)) c.as_slice.ensures.value ∙ c.in_ok-texts.ensures.texts))
     c.write_seen-writing.ensures.all c.write_seen-writing.ensures.part c.write_seen-writing.ensures.cause c.written_so.ensures
 
 pub returns-in_err-expect_solvable : goal.returns-in_err-expect_solvable

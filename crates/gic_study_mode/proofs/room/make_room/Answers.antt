@@ -1,5 +1,4 @@
-use Rattle.std.proofs.Common.{◌≡◌, List, length, map, ap, ◌∙◌}
-use Rattle.gic_view.specs.View.{View}
+use Rattle.std.proofs.Common.{length, map, ap, ◌∙◌}
 use Rattle.gic_monitor.specs.RosterView.{RosterView}
 use Rattle.gic_study_mode.proofs.room.make_room.Goals as goal
 

@@ -1,0 +1,13 @@
+use Rattle.gic_study_mode.proofs.PeaksOfStudies.{peaks_narrow, peaks_enclose, verdicts_true}
+use Rattle.gic_study_mode.proofs.laws.peaks_of_studies_law.Goals as goal
+
+pub returns-clause-narrow : goal.returns-clause-narrow
+returns-clause-narrow c = peaks_narrow c.peak_is_narrow_law.ensures.peak c.peaks_enclose_law.ensures.transformers
+
+pub returns-clause-enclosed : goal.returns-clause-enclosed
+returns-clause-enclosed c = peaks_enclose c.peaks_enclose_law.ensures.encloses c.peaks_enclose_law.ensures.transformers
+
+pub returns-clause-verdicts : goal.returns-clause-verdicts
+returns-clause-verdicts c =
+    verdicts_true c.peaks_enclose_law.ensures.encloses c.peaks_enclose_law.ensures.transformers
+    c.verdict_law.ensures.below c.verdict_law.ensures.reaches c.verdict_law.ensures.undecided

@@ -1,0 +1,24 @@
+//! Laws of studies, each the contract of a function that does nothing but bring the laws that it joins.
+ghost use Rattle.gic_study_mode.specs.Follows.{AcceptedStormsHaveSteps, PeaksAreNarrow, PeaksEnclose, PeakVerdictsAreTrue};
+
+use gic_peaks::laws::{peak_is_narrow_law, peaks_enclose_law};
+use gic_screen::laws::verdict_law;
+
+/// Every storm that is accepted has a step.
+pub fn accepted_storms_have_steps_law()
+    ensures { AcceptedStormsHaveSteps }
+{}
+
+/// The peaks of a right study of a storm that has a step are no wider than asked, and whatever solves the network of each
+/// step, each of them encloses the greatest absolute value over the steps. In a sound case their verdicts are true: a
+/// transformer is told to be below the threshold only where it is at every step, and to reach it only where it does at
+/// one.
+pub fn peaks_of_studies_law()
+    ensures narrow { PeaksAreNarrow }
+    ensures enclosed { PeaksEnclose }
+    ensures verdicts { PeakVerdictsAreTrue }
+{
+    peaks_enclose_law();
+    peak_is_narrow_law();
+    verdict_law();
+}
