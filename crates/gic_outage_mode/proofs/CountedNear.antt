@@ -23,7 +23,8 @@ use Rattle.gic_screening.specs.RightRows.{AreSolutionsOf, IsRightWorst, squared_
 use Rattle.gic_uniform.proofs.Denominators.{some_denominator}
 use Rattle.gic_winding.specs.Weights.{transformer_at}
 use Rattle.gic_outage_mode.specs.Outages.{worst_at}
-use Rattle.gic_outage_mode.specs.RightOutage.{is_worst_near, worst_verdicts}
+use Rattle.gic_outage_mode.specs.RightOutage.{worst_verdicts}
+use Rattle.gic_outage_mode.specs.Follows.{is_worst_near}
 
 undecided_judged : (lo hi : ℤ) (threshold high_volts : ℕ) (earthed : Bool) → verdict_of lo hi threshold high_volts earthed ≡ Undecided → is_assessed high_volts earthed ≡ true
 undecided_judged lo hi threshold high_volts earthed said = grind (arith, common_steps, said)

@@ -18,7 +18,6 @@ use crate::run::take_items;
 use crate::text::write_outage;
 use gic_base::{Sink, WriteFailed};
 use gic_inputs::Inputs;
-use gic_screen::laws::verdict_law;
 use gic_screening::setting_of;
 use gic_stand::{ReportFault, ended};
 use gic_text::LineBuilder;
@@ -59,7 +58,6 @@ pub fn outage<S: Sink>(inputs: &Inputs, room: &mut Room, out: &mut S) -> Result<
     ensures { Serves Solved inputs.now.case (steps_of inputs.now) (IsRightOutage inputs.now)
         (shown S.written S.faults out.old) (shown S.written S.faults out.new) result }
 {
-    verdict_law();
     let solving = &mut room.screening.solving;
     expect_solvable(&inputs.case, &room.net, solving)?;
     room.intact.copy_from(solving.vector());

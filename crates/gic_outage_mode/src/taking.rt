@@ -19,7 +19,6 @@ use gic_model::Item;
 use gic_net::Net;
 use gic_outage::laws::outage_law;
 use gic_outage::{idle, restore, take_out};
-use gic_screen::laws::{verdict_law, worst_verdict_law};
 use gic_screening::{FieldVolts, ScreenRoom, screen_net};
 use gic_stand::NetworkRefusal;
 
@@ -51,11 +50,8 @@ fn screen_without(
         HasEnded inputs.now item result greatest.old greatest.new }
     ensures room { IsScreenRoomFor inputs.now.case room.new }
 {
-    verdict_law();
-    worst_verdict_law();
     let case = &inputs.case;
     let question = &inputs.question;
-    case.keeps_rules();
     if let Err(refusal) = screen_net(case, net, volts, question.width, room) {
         return outcome_of(&refusal);
     }

@@ -17,7 +17,7 @@ returns g c =
     let count : length outcomes ≡ planned = c.take_items.auto.outcomes ∙ ap length c.as_mut_slice-outcomes.ensures.value ∙ c.requires.room.outcomes in
     served Solved inputs.case (steps_of inputs) (IsRightOutage inputs) _ _ _ c.write_report-writing.result c.ended.result
     (met_once Solved (standing_of inputs.case inputs.switchings) (subst (λ (s : List Placed). IsSolvable s) c.requires.room.given.stands c.in_ok-expect_solvable.ensures.ready.solvable))
-    (right_outages c.verdict_law.ensures.undecided inputs outcomes c.take_items.new.greatest count c.take_items.ensures.taken)
+    (right_outages inputs outcomes c.take_items.new.greatest count c.take_items.ensures.taken)
     c.write_report-writing.ensures.all c.write_report-writing.ensures.part c.write_report-writing.ensures.cause c.ended.ensures
 
 pub returns-in_err-expect_solvable : goal.returns-in_err-expect_solvable

@@ -27,6 +27,5 @@ returns-clause-ended c = λ item taken_out without.
     ∙ ap (λ (rows : List Row). counts_of (worst_verdicts case (threshold_asked inputs) (worsts_in rows))) shown in
     let raised : AreRaisedBy (worsts_in rows) c.args.greatest.now c.raise_all.new.greatest =
     subst (λ (rows : List Row). AreRaisedBy (worsts_in rows) c.args.greatest.now c.raise_all.new.greatest) shown c.raise_all.ensures in
-    solved_ended c.verdict_law.ensures.undecided c.worst_verdict_law.ensures.below c.worst_verdict_law.ensures.reaches
-    inputs item (standing c.args.net.now) (number_at c.args.volts.now.north) (number_at c.args.volts.now.east) rows c.count_verdicts.result c.args.greatest.now c.raise_all.new.greatest c.keeps_rules.ensures
+    solved_ended inputs item (standing c.args.net.now) (number_at c.args.volts.now.north) (number_at c.args.volts.now.east) rows c.count_verdicts.result c.args.greatest.now c.raise_all.new.greatest
     taken_out without north east c.in_default.ensures.solvable c.in_default.ensures.right counts raised
