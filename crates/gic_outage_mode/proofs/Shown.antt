@@ -7,7 +7,7 @@ use Rattle.std.proofs.lemmas.List.{get_or_default, get_or_past}
 use Rattle.std.proofs.lemmas.List.Elements.{Contains-get_or}
 use Rattle.std.proofs.lemmas.Option.{slice_get-get_or, get_or_from_slice_get}
 use Rattle.gic_case.specs.Lists.{Lists}
-use Rattle.gic_fixed.specs.Ends.{Ends, no_ends}
+use Rattle.gic_fixed.specs.Ends.{Ends, zero_ends}
 use Rattle.gic_model.specs.declared.parts.Item.{Item}
 use Rattle.gic_model.specs.declared.parts.Item.TheVariants.{Line}
 use Rattle.gic_model.specs.Bound.{IsCappedVector}
@@ -111,7 +111,7 @@ module _ (inputs : Inputs) (outages : List Outage) (are_right : AreRightOutages 
       record {
         item = item;
         solved = record { planned = Contains-get_or (plan_of inputs.case) place (Line 0) here; taken_out = ended.taken_out; solvable = ended.right.solvable };
-        right = subst (IsRightOne inputs item t) (get_or_from_slice_get worsts t w no_ends shown) (as_worst inputs item t (worst_at worsts t) (ended.right.right t within));
+        right = subst (IsRightOne inputs item t) (get_or_from_slice_get worsts t w zero_ends shown) (as_worst inputs item t (worst_at worsts t) (ended.right.right t within));
       }
 
   -- each solved outage shows it
@@ -127,6 +127,6 @@ module _ (inputs : Inputs) (outages : List Outage) (are_right : AreRightOutages 
       record {
         place = place;
         w = worst_at worsts t;
-        shown = cell_of outages t place ∙ slice_get-get_or worsts t no_ends there;
+        shown = cell_of outages t place ∙ slice_get-get_or worsts t zero_ends there;
         right = as_worst inputs item t (worst_at worsts t) (right.right t within);
       }
