@@ -33,9 +33,9 @@ pub record AreTrueVerdicts (case : Lists) (standing : List Placed) (volts : ℕ 
 -- the absolute intervals of a right report are right
 abbrev pub AbsolutesAreRight : Type 0
 AbsolutesAreRight = (case : Lists) (standing : List Placed) (volts : ℕ → ℤ) (q : Question) (text : List ℕ) (report : ShowsRightView case standing volts q text) →
-    AreRightAbsolutes case standing volts q.width report.shown
+    AreRightAbsolutes case standing volts q.width report.view
 
 -- its verdicts are true
 abbrev pub VerdictsAreTrue : Type 0
 VerdictsAreTrue = (case : Lists) (standing : List Placed) (volts : ℕ → ℤ) (q : Question) (text : List ℕ) (report : ShowsRightView case standing volts q text) →
-    AreTrueVerdicts case standing volts (threshold_of q.event) report.shown
+    AreTrueVerdicts case standing volts (threshold_of q.event) report.view

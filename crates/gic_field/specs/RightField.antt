@@ -19,14 +19,14 @@ asked_volts inputs = uniform_volts inputs.case inputs.question.north inputs.ques
 
 -- the text of a report of this view
 abbrev pub field_text : Lists → Question → View → List ℕ
-field_text case q shown = lines_text (field_report case q.north q.east q.width (threshold_of q.event) shown)
+field_text case q view = lines_text (field_report case q.north q.east q.width (threshold_of q.event) view)
 
 -- the text is that of a view that is right and in which no interval is wider than asked
 pub record ShowsRightView (case : Lists) (standing : List Placed) (volts : ℕ → ℤ) (q : Question) (text : List ℕ) : Type 0 where
-  pub shown : View
-  pub right : IsRightView case standing volts shown
-  pub narrow : IsNarrowView case q.width shown
-  pub text_is : text ≡ field_text case q shown
+  pub view : View
+  pub right : IsRightView case standing volts view
+  pub narrow : IsNarrowView case q.width view
+  pub text_is : text ≡ field_text case q view
 
 -- with all switchings in force, in the field, the width and the event that are asked for
 abbrev pub IsRightField : Inputs → List ℕ → Type 0

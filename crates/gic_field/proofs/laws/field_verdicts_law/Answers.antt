@@ -4,9 +4,9 @@ use Rattle.gic_field.proofs.laws.field_verdicts_law.Goals as goal
 
 pub returns-clause-absolutes : goal.returns-clause-absolutes
 returns-clause-absolutes c = λ case standing volts q text report.
-    right_absolutes case standing volts q.width report.shown report.right report.narrow
+    right_absolutes case standing volts q.width report.view report.right report.narrow
 
 pub returns-clause-verdicts : goal.returns-clause-verdicts
 returns-clause-verdicts c = λ case standing volts q text report.
-    true_verdicts case standing volts (threshold_of q.event) report.shown
+    true_verdicts case standing volts (threshold_of q.event) report.view
     c.verdict_law.ensures.below c.verdict_law.ensures.reaches c.verdict_law.ensures.undecided report.right

@@ -32,7 +32,7 @@ returns g c =
     c.requires.room.stands c.requires.room.volts
     (served Solved case _ (ShowsRightView case stands volts question) _ _ _ c.write_view-writing.result c.ended.result
     (met_once Solved stands c.in_ok-expect_solvable.ensures.ready.solvable)
-    (record { shown = c.solve_view.new.view; right = c.solve_view.ensures.solved.right; narrow = c.solve_view.ensures.solved.narrow; text_is = refl })
+    (record { view = c.solve_view.new.view; right = c.solve_view.ensures.solved.right; narrow = c.solve_view.ensures.solved.narrow; text_is = refl })
     c.write_view-writing.ensures.all c.write_view-writing.ensures.part c.write_view-writing.ensures.cause c.ended.ensures)
 
 pub returns-in_err-expect_solvable : goal.returns-in_err-expect_solvable
