@@ -35,7 +35,7 @@ abbrev pub AbsolutesAreRight : Type 0
 AbsolutesAreRight = (case : Lists) (standing : List Placed) (volts : ℕ → ℤ) (q : Question) (text : List ℕ) (report : ShowsRightView case standing volts q text) →
     AreRightAbsolutes case standing volts q.width report.view
 
--- its verdicts are true
+-- the verdicts of a right report are true
 abbrev pub VerdictsAreTrue : Type 0
 VerdictsAreTrue = (case : Lists) (standing : List Placed) (volts : ℕ → ℤ) (q : Question) (text : List ℕ) (report : ShowsRightView case standing volts q text) →
     AreTrueVerdicts case standing volts (threshold_of q.event) report.view
