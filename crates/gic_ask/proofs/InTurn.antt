@@ -1,11 +1,12 @@
 -- Files that are fetched and read one after another.
 use Rattle.std.proofs.Common.{◌≡◌, ℕ, List, [], ◌∷◌, ◌++◌, ◌⊎◌, inl, inr, Bool, true, false, cond, Option, Some, None, Result, Ok, Err, refl, sym, ap, subst, ◌∙◌, append_assoc, append-nil, arith}
-use Rattle.std.specs.Prelude.{IfErr, IfSome, IsSomeAnd, IsErrAnd, OnOk, option_to_list}
+use Rattle.std.proofs.lemmas.List.{map-append}
+use Rattle.std.specs.Prelude.{IfErr, IfSome, IsSomeAnd, IsErrAnd, OnOk, map}
 use Rattle.gic_inputs.proofs.Answered.{answered}
 use Rattle.gic_files.specs.Files.{Files, Fetches, HasFailed}
 use Rattle.gic_words.specs.declared.options.Options.{Options}
-use Rattle.gic_ask.specs.Asks.{IsAnswer, FetchesInOrder}
-use Rattle.gic_ask.specs.Contents.{Given, Nothing, Whole, Contents, MayGive, MayHandOut, name_of_file}
+use Rattle.gic_ask.specs.Asks.{IsAnswer, EndsAt, FetchesInOrder, file_of}
+use Rattle.gic_ask.specs.Contents.{Given, Nothing, Whole, Contents, NamedFile, MayGive, MayHandOut, file_named, name_of_file}
 use Rattle.gic_ask.specs.Outcome.{Outcome, Accepts, ◌>>=◌, reading, if_given, handing, reading_file}
 use Rattle.gic_ask.specs.Steps.{Gives, Reads}
 use Rattle.gic_ask.specs.declared.fault.File.{File}
@@ -40,6 +41,11 @@ never_unread refusal (Ok a) (Err (CannotRead file)) h = λ unread e. grind (arit
 never_unread refusal (Err e) (Err (CannotRead file)) h = λ unread e. grind (arith, h)
 never_unread refusal r (Err Memory) h = λ unread e. grind (arith, e)
 
+-- nor does what arises at no file
+pub nowhere_unread : {A : Type 0} (answer : Result A InputFault) → IfErr answer (λ fault. file_of fault ≡ None) → IfErr answer (λ fault. (unread : File) → ¬ (fault ≡ CannotRead unread))
+nowhere_unread (Ok a) h = tt
+nowhere_unread (Err fault) h = λ unread e. let none : Some unread ≡ None = sym (ap file_of e) ∙ h in grind (arith, none)
+
 -- a fault that is none of these tells no failed fetch
 untold : {A : Type 0} (P : File → Type 0) (answer : Result A InputFault) → IfErr answer (λ fault. (unread : File) → ¬ (fault ≡ CannotRead unread))
     → IfErr answer (λ fault. (unread : File) → fault ≡ CannotRead unread → P unread)
@@ -48,42 +54,90 @@ untold P (Err fault) h = λ unread e. absurd (h unread e)
 
 -- ---- names
 
--- no name yet
-pub none_fetched : {A : Type 0} (names before : List (List ℕ)) (answer : Result A InputFault) → OnOk answer (names ≡ []) → FetchesInOrder names before before answer
-none_fetched names before answer h = record { front = []; rest = names; names_are = refl; later = sym (append-nil before); all = h }
+-- the names of these files
+abbrev names_of : List NamedFile → List (List ℕ)
+names_of named = map (λ (f : NamedFile). f.name) named
 
-all_fetched : {A : Type 0} (names before now : List (List ℕ)) (answer : Result A InputFault) → now ≡ before ++ names → FetchesInOrder names before now answer
-all_fetched names before now answer h = record { front = names; rest = []; names_are = sym (append-nil names); later = h; all = on_ok answer refl }
+-- a fault arises at the last of these files, if at any
+abbrev pub StopsAt : {A : Type 0} → List NamedFile → Result A InputFault → Type 0
+StopsAt named answer = IfErr answer (λ fault. IfSome (file_of fault) (EndsAt named))
+
+-- a file alone
+pub ends_alone : (file : File) (name : List ℕ) → EndsAt (file_named file (Some name)) file
+ends_alone file name = record { earlier = []; name = name; are = refl }
+
+-- the last of the later ones is the last of all
+ends_later : (named more : List NamedFile) (at : Option File) → IfSome at (EndsAt more) → IfSome at (EndsAt (named ++ more))
+ends_later named more None h = tt
+ends_later named more (Some file) h = record {
+  earlier = named ++ h.earlier;
+  name = h.name;
+  are = ap (λ l. named ++ l) h.are ∙ sym (append_assoc named h.earlier (record { file = file; name = h.name } ∷ []));
+}
+
+stops_later : {A : Type 0} (named more : List NamedFile) (answer : Result A InputFault) → StopsAt more answer → StopsAt (named ++ more) answer
+stops_later named more (Ok a) h = tt
+stops_later named more (Err fault) h = ends_later named more (file_of fault) h
+
+-- a fault that arises at no file
+pub stops_nowhere : {A : Type 0} (named : List NamedFile) (answer : Result A InputFault) → IfErr answer (λ fault. file_of fault ≡ None) → StopsAt named answer
+stops_nowhere named (Ok a) h = tt
+stops_nowhere named (Err fault) h = subst (λ (at : Option File). IfSome at (EndsAt named)) (sym h) tt
+
+-- no name yet
+pub none_fetched : {A : Type 0} (named : List NamedFile) (before : List (List ℕ)) (answer : Result A InputFault) → OnOk answer (named ≡ []) → StopsAt [] answer
+    → FetchesInOrder named before before answer
+none_fetched named before answer h none = record { front = []; rest = named; named_are = refl; later = sym (append-nil before); all = h; none_after = none }
+
+all_fetched : {A : Type 0} (named : List NamedFile) (before now : List (List ℕ)) (answer : Result A InputFault) → now ≡ before ++ names_of named → StopsAt named answer
+    → FetchesInOrder named before now answer
+all_fetched named before now answer h none = record { front = named; rest = []; named_are = sym (append-nil named); later = h; all = on_ok answer refl; none_after = none }
 
 -- all names, where there is no fault
-all_of : {A : Type 0} (names before now : List (List ℕ)) (a : A) → FetchesInOrder {A = A} names before now (Ok a) → now ≡ before ++ names
-all_of names before now a f = f.later ∙ ap (λ l. before ++ l) (sym (f.names_are ∙ ap (λ l. f.front ++ l) f.all ∙ append-nil f.front))
+all_of : {A : Type 0} (named : List NamedFile) (before now : List (List ℕ)) (a : A) → FetchesInOrder {A = A} named before now (Ok a) → now ≡ before ++ names_of named
+all_of named before now a f = f.later ∙ ap (λ l. before ++ names_of l) (sym (f.named_are ∙ ap (λ l. f.front ++ l) f.all ∙ append-nil f.front))
 
 -- and further ones after them
-in_order : {A B : Type 0} (names more before mid now : List (List ℕ)) (a : A) (answer : Result B InputFault) → FetchesInOrder {A = A} names before mid (Ok a)
-    → FetchesInOrder more mid now answer → FetchesInOrder (names ++ more) before now answer
-in_order names more before mid now a answer f g = record {
-  front = names ++ g.front;
+in_order : {A B : Type 0} (named more : List NamedFile) (before mid now : List (List ℕ)) (a : A) (answer : Result B InputFault) → FetchesInOrder {A = A} named before mid (Ok a)
+    → FetchesInOrder more mid now answer → FetchesInOrder (named ++ more) before now answer
+in_order named more before mid now a answer f g = record {
+  front = named ++ g.front;
   rest = g.rest;
-  names_are = ap (λ l. names ++ l) g.names_are ∙ sym (append_assoc names g.front g.rest);
-  later = g.later ∙ ap (λ l. l ++ g.front) (all_of names before mid a f) ∙ append_assoc before names g.front;
+  named_are = ap (λ l. named ++ l) g.named_are ∙ sym (append_assoc named g.front g.rest);
+  later = g.later ∙ ap (λ l. l ++ names_of g.front) (all_of named before mid a f) ∙ append_assoc before (names_of named) (names_of g.front)
+      ∙ ap (λ l. before ++ l) (sym (map-append (λ (f : NamedFile). f.name) named g.front));
   all = g.all;
+  none_after = stops_later named g.front answer g.none_after;
 }
 
 -- up to a fault, whatever would have come after it
-stopped : {A B : Type 0} (names more before now : List (List ℕ)) (fault : InputFault) → FetchesInOrder {A = A} names before now (Err fault)
-    → FetchesInOrder {A = B} (names ++ more) before now (Err fault)
-stopped names more before now fault f = record {
+stopped : {A B : Type 0} (named more : List NamedFile) (before now : List (List ℕ)) (fault : InputFault) → FetchesInOrder {A = A} named before now (Err fault)
+    → FetchesInOrder {A = B} (named ++ more) before now (Err fault)
+stopped named more before now fault f = record {
   front = f.front;
   rest = f.rest ++ more;
-  names_are = ap (λ l. l ++ more) f.names_are ∙ append_assoc f.front f.rest more;
+  named_are = ap (λ l. l ++ more) f.named_are ∙ append_assoc f.front f.rest more;
   later = f.later;
   all = tt;
+  none_after = f.none_after;
+}
+
+-- a fault at the last of those that are read, whatever would have come after it
+refused_after : {A B : Type 0} (named more : List NamedFile) (before now : List (List ℕ)) (a : A) (fault : InputFault) → FetchesInOrder {A = A} named before now (Ok a)
+    → IfSome (file_of fault) (EndsAt named) → FetchesInOrder {A = B} (named ++ more) before now (Err fault)
+refused_after named more before now a fault f none = record {
+  front = named;
+  rest = more;
+  named_are = refl;
+  later = all_of named before now a f;
+  all = tt;
+  none_after = none;
 }
 
 -- a fault of another kind of answer
-pub still : {A B : Type 0} (names before now : List (List ℕ)) (fault : InputFault) → FetchesInOrder {A = A} names before now (Err fault) → FetchesInOrder {A = B} names before now (Err fault)
-still names before now fault f = record { front = f.front; rest = f.rest; names_are = f.names_are; later = f.later; all = tt }
+pub still : {A B : Type 0} (named : List NamedFile) (before now : List (List ℕ)) (fault : InputFault) → FetchesInOrder {A = A} named before now (Err fault)
+    → FetchesInOrder {A = B} named before now (Err fault)
+still named before now fault f = record { front = f.front; rest = f.rest; named_are = f.named_are; later = f.later; all = tt; none_after = f.none_after }
 
 -- ---- one file that is fetched
 
@@ -94,21 +148,21 @@ given_whole files name bytes handed file before now same may fetched failures = 
   given = Whole bytes;
   may = may;
   is = ap Accepts (sym same);
-  fetched = all_fetched (name ∷ []) before.fetched now.fetched (Ok handed) fetched;
+  fetched = all_fetched (file_named file (Some name)) before.fetched now.fetched (Ok handed) fetched tt;
   failed = tt;
   kept = failures;
 }
 
 -- a file that is there, or not, or is too long
 pub not_given : (files : Option Files) (name : List ℕ) (file : File) (before now : Fetches) (given : Given) (fault : InputFault) → MayGive files name given
-    → IsAnswer {A = List ℕ} (handing file given) (Err fault) → now.fetched ≡ before.fetched ++ name ∷ []
+    → IsAnswer {A = List ℕ} (handing file given) (Err fault) → IfSome (file_of fault) (EndsAt (file_named file (Some name))) → now.fetched ≡ before.fetched ++ name ∷ []
     → ((unread : File) → fault ≡ CannotRead unread → (unread ≡ file) × HasFailed before.failures now.failures name)
     → Gives {A = List ℕ} files name file (handing file) before now (Err fault)
-not_given files name file before now given fault may is fetched failed = record {
+not_given files name file before now given fault may is at fetched failed = record {
   given = given;
   may = may;
   is = is;
-  fetched = all_fetched (name ∷ []) before.fetched now.fetched (Err fault) fetched;
+  fetched = all_fetched (file_named file (Some name)) before.fetched now.fetched (Err fault) fetched at;
   failed = failed;
   kept = tt;
 }
@@ -125,11 +179,12 @@ memory_wants files name file before now (inl none) = record {
   given = Nothing;
   may = tt;
   is = tt;
-  fetched = subst (λ (later : List (List ℕ)). FetchesInOrder {A = List ℕ} (name ∷ []) before.fetched later (Err Memory)) (sym none) (none_fetched (name ∷ []) before.fetched (Err Memory) tt);
+  fetched = subst (λ (later : List (List ℕ)). FetchesInOrder {A = List ℕ} (file_named file (Some name)) before.fetched later (Err Memory)) (sym none)
+      (none_fetched (file_named file (Some name)) before.fetched (Err Memory) tt tt);
   failed = λ unread e. grind (arith, e);
   kept = tt;
 }
-memory_wants files name file before now (inr fetched) = not_given files name file before now Nothing Memory tt tt fetched (λ unread e. grind (arith, e))
+memory_wants files name file before now (inr fetched) = not_given files name file before now Nothing Memory tt tt tt fetched (λ unread e. grind (arith, e))
 
 -- ---- and read
 
@@ -140,12 +195,12 @@ gives_by {A} files name file step before now answer fault is g = subst (λ (a : 
 
 module _ {A E : Type 0} (files : Option Files) (name : List ℕ) (file : File) (refusal : E → InputRefusal) (read : List ℕ → Result A E) (before now : Fetches) where
   given_read : (bytes : List ℕ) (answer : Result A InputFault) → Gives {A = List ℕ} files name file (handing file) before now (Ok bytes)
-      → IsAnswer (reading refusal (read bytes)) answer → Gives files name file (reading_file file refusal read) before now answer
-  given_read bytes answer g h = record {
+      → IsAnswer (reading refusal (read bytes)) answer → StopsAt (file_named file (Some name)) answer → Gives files name file (reading_file file refusal read) before now answer
+  given_read bytes answer g h at = record {
     given = g.given;
     may = g.may;
     is = goes_on (handing file g.given) bytes (λ b. reading refusal (read b)) answer g.is h;
-    fetched = all_fetched (name ∷ []) before.fetched now.fetched answer (all_of (name ∷ []) before.fetched now.fetched bytes g.fetched);
+    fetched = all_fetched (file_named file (Some name)) before.fetched now.fetched answer (all_of (file_named file (Some name)) before.fetched now.fetched bytes g.fetched) at;
     failed = untold (λ unread. (unread ≡ file) × HasFailed before.failures now.failures name) answer (never_unread refusal (read bytes) answer h);
     kept = on_ok answer g.kept;
   }
@@ -156,20 +211,22 @@ module _ {A E : Type 0} (files : Option Files) (name : List ℕ) (file : File) (
     given = g.given;
     may = g.may;
     is = stops (handing file g.given) (λ b. reading refusal (read b)) fault g.is;
-    fetched = still (name ∷ []) before.fetched now.fetched fault g.fetched;
+    fetched = still (file_named file (Some name)) before.fetched now.fetched fault g.fetched;
     failed = g.failed;
     kept = tt;
   }
 
   module _ (bytes held : List ℕ) (same : held ≡ bytes) (g : Gives {A = List ℕ} files name file (handing file) before now (Ok bytes)) where
     pub gives_read : (a : A) → read held ≡ Ok a → Gives files name file (reading_file file refusal read) before now (Ok a)
-    gives_read a is = given_read bytes (Ok a) g (ap (reading refusal) (ap read (sym same) ∙ is))
+    gives_read a is = given_read bytes (Ok a) g (ap (reading refusal) (ap read (sym same) ∙ is)) tt
 
-    pub gives_refused : (e : E) → read held ≡ Err e → Gives {A = A} files name file (reading_file file refusal read) before now (Err (Refused (refusal e)))
-    gives_refused e is = given_read bytes (Err (Refused (refusal e))) g (ap (reading refusal) (ap read (sym same) ∙ is))
+    pub gives_refused : (e : E) → file_of (Refused (refusal e)) ≡ Some file → read held ≡ Err e → Gives {A = A} files name file (reading_file file refusal read) before now (Err (Refused (refusal e)))
+    gives_refused e at is =
+        given_read bytes (Err (Refused (refusal e))) g (ap (reading refusal) (ap read (sym same) ∙ is))
+        (subst (λ (f : Option File). IfSome f (EndsAt (file_named file (Some name)))) (sym at) (ends_alone file name))
 
     pub gives_memory : Gives {A = A} files name file (reading_file file refusal read) before now (Err Memory)
-    gives_memory = given_read bytes (Err Memory) g tt
+    gives_memory = given_read bytes (Err Memory) g tt tt
 
 -- ---- among what a library may hand out
 
@@ -223,7 +280,7 @@ failed_among o name file before now (Err fault) named h = λ unread e.
     (subst (λ (n : Option (List ℕ)). IsSomeAnd n (HasFailed before.failures now.failures)) (sym named) (h unread e).1)
 
 pub among : {A : Type 0} (files : Option Files) (o : Options) (name : List ℕ) (file : File) (step : Given → Outcome A) (before now : Fetches) (answer : Result A InputFault)
-    → name_of_file file o ≡ Some name → Gives files name file step before now answer → Reads files o (name ∷ []) (λ contents. step (contents file)) before now answer
+    → name_of_file file o ≡ Some name → Gives files name file step before now answer → Reads files o (file_named file (Some name)) (λ contents. step (contents file)) before now answer
 among files o name file step before now answer named g = record {
   contents = only file g.given;
   handed = only_handed files o file g.given (subst (λ (n : Option (List ℕ)). IfSome n (λ t. MayGive files t g.given)) (sym named) g.may);
@@ -240,16 +297,16 @@ abbrev pub some_answer : {A : Type 0} → Result A InputFault → Result (Option
 some_answer (Ok a) = Ok (Some a)
 some_answer (Err fault) = Err fault
 
-module _ {A : Type 0} (files : Option Files) (o : Options) (names : Option (List ℕ) → List (List ℕ)) (given : Option (List ℕ)) (step : Contents → Outcome A) (before now : Fetches) where
+module _ {A : Type 0} (files : Option Files) (o : Options) (named_by : Option (List ℕ) → List NamedFile) (given : Option (List ℕ)) (step : Contents → Outcome A) (before now : Fetches) where
   abbrev pub WhereNamed : Option (List ℕ) → Result (Option A) InputFault → Type 0
-  WhereNamed n answer = Reads files o (names n) (λ contents. if_given n (λ name. step contents)) before now answer
+  WhereNamed n answer = Reads files o (named_by n) (λ contents. if_given n (λ name. step contents)) before now answer
 
-  of_name : (name : List ℕ) (answer : Result A InputFault) → Reads files o (names (Some name)) step before now answer → WhereNamed (Some name) (some_answer answer)
+  of_name : (name : List ℕ) (answer : Result A InputFault) → Reads files o (named_by (Some name)) step before now answer → WhereNamed (Some name) (some_answer answer)
   of_name name (Ok a) r = record {
     contents = r.contents;
     handed = r.handed;
     is = ap (λ (x : Outcome A). x >>= (λ y. Accepts (Some y))) r.is;
-    fetched = all_fetched (names (Some name)) before.fetched now.fetched (Ok (Some a)) (all_of (names (Some name)) before.fetched now.fetched a r.fetched);
+    fetched = all_fetched (named_by (Some name)) before.fetched now.fetched (Ok (Some a)) (all_of (named_by (Some name)) before.fetched now.fetched a r.fetched) tt;
     failed = tt;
     kept = r.kept;
   }
@@ -257,36 +314,36 @@ module _ {A : Type 0} (files : Option Files) (o : Options) (names : Option (List
     contents = r.contents;
     handed = r.handed;
     is = stops (step r.contents) (λ y. Accepts (Some y)) fault r.is;
-    fetched = still (names (Some name)) before.fetched now.fetched fault r.fetched;
+    fetched = still (named_by (Some name)) before.fetched now.fetched fault r.fetched;
     failed = r.failed;
     kept = tt;
   }
 
-  pub where_named : (name : List ℕ) (answer : Result A InputFault) → given ≡ Some name → Reads files o (names (Some name)) step before now answer → WhereNamed given (some_answer answer)
+  pub where_named : (name : List ℕ) (answer : Result A InputFault) → given ≡ Some name → Reads files o (named_by (Some name)) step before now answer → WhereNamed given (some_answer answer)
   where_named name answer named r = subst (λ (n : Option (List ℕ)). WhereNamed n (some_answer answer)) (sym named) (of_name name answer r)
 
 -- a file that may be named
 pub where_file : {A : Type 0} (files : Option Files) (o : Options) (name : List ℕ) (file : File) (step : Given → Outcome A) (before now : Fetches) (answer : Result A InputFault)
     → name_of_file file o ≡ Some name → Gives files name file step before now answer
-    → Reads files o (option_to_list (name_of_file file o)) (λ contents. if_given (name_of_file file o) (λ n. step (contents file))) before now (some_answer answer)
+    → Reads files o (file_named file (name_of_file file o)) (λ contents. if_given (name_of_file file o) (λ n. step (contents file))) before now (some_answer answer)
 where_file files o name file step before now answer named g =
-    where_named files o option_to_list (name_of_file file o) (λ contents. step (contents file)) before now name answer named (among files o name file step before now answer named g)
+    where_named files o (file_named file) (name_of_file file o) (λ contents. step (contents file)) before now name answer named (among files o name file step before now answer named g)
 
 -- the fault is handed on
-pub reads_by : {A : Type 0} (files : Option Files) (o : Options) (names : List (List ℕ)) (step : Contents → Outcome A) (before now : Fetches) (answer : Result A InputFault) (fault : InputFault)
-    → IsErrAnd answer (λ e. e ≡ fault) → Reads {A = A} files o names step before now (Err fault) → Reads files o names step before now answer
-reads_by {A} files o names step before now answer fault is r = subst (λ (a : Result A InputFault). Reads files o names step before now a) (sym (answered answer fault is)) r
+pub reads_by : {A : Type 0} (files : Option Files) (o : Options) (named : List NamedFile) (step : Contents → Outcome A) (before now : Fetches) (answer : Result A InputFault) (fault : InputFault)
+    → IsErrAnd answer (λ e. e ≡ fault) → Reads {A = A} files o named step before now (Err fault) → Reads files o named step before now answer
+reads_by {A} files o named step before now answer fault is r = subst (λ (a : Result A InputFault). Reads files o named step before now a) (sym (answered answer fault is)) r
 
 -- nothing is named
-pub unnamed : {A : Type 0} (files : Option Files) (o : Options) (names : Option (List ℕ) → List (List ℕ)) (given : Option (List ℕ)) (step : Contents → Outcome A) (before : Fetches)
-    → names None ≡ [] → given ≡ None → Reads {A = Option A} files o (names given) (λ contents. if_given given (λ name. step contents)) before before (Ok None)
-unnamed {A} files o names given step before empty not =
-    subst (λ (n : Option (List ℕ)). Reads {A = Option A} files o (names n) (λ contents. if_given n (λ name. step contents)) before before (Ok None)) (sym not)
+pub unnamed : {A : Type 0} (files : Option Files) (o : Options) (named_by : Option (List ℕ) → List NamedFile) (given : Option (List ℕ)) (step : Contents → Outcome A) (before : Fetches)
+    → named_by None ≡ [] → given ≡ None → Reads {A = Option A} files o (named_by given) (λ contents. if_given given (λ name. step contents)) before before (Ok None)
+unnamed {A} files o named_by given step before empty not =
+    subst (λ (n : Option (List ℕ)). Reads {A = Option A} files o (named_by n) (λ contents. if_given n (λ name. step contents)) before before (Ok None)) (sym not)
     (record {
       contents = λ file. Nothing;
       handed = none_handed files o;
       is = refl;
-      fetched = none_fetched (names None) before.fetched (Ok None) empty;
+      fetched = none_fetched (named_by None) before.fetched (Ok None) empty tt;
       failed = tt;
       kept = refl;
     })
@@ -302,12 +359,12 @@ either_handed : (files : Option Files) (name : Option (List ℕ)) (first : Bool)
 either_handed files name true one two h k = h
 either_handed files name false one two h k = k
 
-module _ {A B : Type 0} (files : Option Files) (o : Options) (names more : List (List ℕ)) (first : Contents → Outcome A) (rest : A → Contents → Outcome B) (before mid now : Fetches) where
+module _ {A B : Type 0} (files : Option Files) (o : Options) (named more : List NamedFile) (first : Contents → Outcome A) (rest : A → Contents → Outcome B) (before mid now : Fetches) where
   -- the second reads none of the files of the first
   pub then_reads : (later : Option Files) (early : File → Bool) (a : A) (answer : Result B InputFault)
       → ((one two : Contents) → first (merged early one two) ≡ first one) → ((one two : Contents) → rest a (merged early one two) ≡ rest a two)
-      → Reads {A = A} files o names first before mid (Ok a) → later ≡ files → Reads later o more (rest a) mid now answer
-      → Reads files o (names ++ more) (λ contents. first contents >>= (λ x. rest x contents)) before now answer
+      → Reads {A = A} files o named first before mid (Ok a) → later ≡ files → Reads later o more (rest a) mid now answer
+      → Reads files o (named ++ more) (λ contents. first contents >>= (λ x. rest x contents)) before now answer
   then_reads later early a answer of_one of_two r content at =
       let s : Reads files o more (rest a) mid now answer = subst (λ (f : Option Files). Reads f o more (rest a) mid now answer) content at in
       let both : Contents = merged early r.contents s.contents in
@@ -316,43 +373,55 @@ module _ {A B : Type 0} (files : Option Files) (o : Options) (names more : List 
         handed = λ file. either_handed files (name_of_file file o) (early file) (r.contents file) (s.contents file) (r.handed file) (s.handed file);
         is = goes_on (first both) a (λ x. rest x both) answer (of_one r.contents s.contents ∙ r.is)
             (subst (λ (x : Outcome B). IsAnswer x answer) (sym (of_two r.contents s.contents)) s.is);
-        fetched = in_order names more before.fetched mid.fetched now.fetched a answer r.fetched s.fetched;
+        fetched = in_order named more before.fetched mid.fetched now.fetched a answer r.fetched s.fetched;
         failed = subst (λ (b : List (List ℕ)). IfErr answer (λ fault. (unread : File) → fault ≡ CannotRead unread → IsSomeAnd (name_of_file unread o) (HasFailed b now.failures))) r.kept s.failed;
         kept = subst (λ (b : List (List ℕ)). OnOk answer (now.failures ≡ b)) r.kept s.kept;
       }
 
   -- the first has a fault
-  pub first_fails : (fault : InputFault) → Reads {A = A} files o names first before now (Err fault)
-      → Reads {A = B} files o (names ++ more) (λ contents. first contents >>= (λ x. rest x contents)) before now (Err fault)
+  pub first_fails : (fault : InputFault) → Reads {A = A} files o named first before now (Err fault)
+      → Reads {A = B} files o (named ++ more) (λ contents. first contents >>= (λ x. rest x contents)) before now (Err fault)
   first_fails fault r = record {
     contents = r.contents;
     handed = r.handed;
     is = stops (first r.contents) (λ x. rest x r.contents) fault r.is;
-    fetched = stopped names more before.fetched now.fetched fault r.fetched;
+    fetched = stopped named more before.fetched now.fetched fault r.fetched;
     failed = r.failed;
     kept = tt;
   }
 
--- what is made of all that is read, which lacks no file
-pub read_on : {A B : Type 0} (files : Option Files) (o : Options) (names : List (List ℕ)) (step : Contents → Outcome A) (next : A → Outcome B) (before now : Fetches) (a : A) (answer : Result B InputFault)
-    → Reads {A = A} files o names step before now (Ok a) → IsAnswer (next a) answer → IfErr answer (λ fault. (unread : File) → ¬ (fault ≡ CannotRead unread))
-    → Reads files o names (λ contents. step contents >>= next) before now answer
-read_on files o names step next before now a answer r h read = record {
+  -- what comes after the first has a fault at the last of its files, whatever is handed out
+  pub first_refused : (a : A) (refusal : InputRefusal) → Reads {A = A} files o named first before now (Ok a) → ((contents : Contents) → IsAnswer {A = B} (rest a contents) (Err (Refused refusal)))
+      → IfSome (file_of (Refused refusal)) (EndsAt named) → Reads {A = B} files o (named ++ more) (λ contents. first contents >>= (λ x. rest x contents)) before now (Err (Refused refusal))
+  first_refused a refusal r h at = record {
+    contents = r.contents;
+    handed = r.handed;
+    is = goes_on (first r.contents) a (λ x. rest x r.contents) (Err (Refused refusal)) r.is (h r.contents);
+    fetched = refused_after named more before.fetched now.fetched a (Refused refusal) r.fetched at;
+    failed = λ unread e. grind (arith, e);
+    kept = tt;
+  }
+
+-- what is made of all that is read, where no fault arises at a file
+pub read_on : {A B : Type 0} (files : Option Files) (o : Options) (named : List NamedFile) (step : Contents → Outcome A) (next : A → Outcome B) (before now : Fetches) (a : A) (answer : Result B InputFault)
+    → Reads {A = A} files o named step before now (Ok a) → IsAnswer (next a) answer → IfErr answer (λ fault. file_of fault ≡ None)
+    → Reads files o named (λ contents. step contents >>= next) before now answer
+read_on files o named step next before now a answer r h none = record {
   contents = r.contents;
   handed = r.handed;
   is = goes_on (step r.contents) a next answer r.is h;
-  fetched = all_fetched names before.fetched now.fetched answer (all_of names before.fetched now.fetched a r.fetched);
-  failed = untold (λ unread. IsSomeAnd (name_of_file unread o) (HasFailed before.failures now.failures)) answer read;
+  fetched = all_fetched named before.fetched now.fetched answer (all_of named before.fetched now.fetched a r.fetched) (stops_nowhere named answer none);
+  failed = untold (λ unread. IsSomeAnd (name_of_file unread o) (HasFailed before.failures now.failures)) answer (nowhere_unread answer none);
   kept = on_ok answer r.kept;
 }
 
 -- the last step, of which something is made
-pub last_step : {A B : Type 0} (files : Option Files) (o : Options) (names : List (List ℕ)) (step : Contents → Outcome A) (make : A → B) (before now : Fetches) (a : A)
-    → Reads {A = A} files o names step before now (Ok a) → Reads {A = B} files o names (λ contents. step contents >>= (λ x. Accepts (make x))) before now (Ok (make a))
-last_step files o names step make before now a r = read_on files o names step (λ x. Accepts (make x)) before now a (Ok (make a)) r refl tt
+pub last_step : {A B : Type 0} (files : Option Files) (o : Options) (named : List NamedFile) (step : Contents → Outcome A) (make : A → B) (before now : Fetches) (a : A)
+    → Reads {A = A} files o named step before now (Ok a) → Reads {A = B} files o named (λ contents. step contents >>= (λ x. Accepts (make x))) before now (Ok (make a))
+last_step files o named step make before now a r = read_on files o named step (λ x. Accepts (make x)) before now a (Ok (make a)) r refl tt
 
-pub last_fails : {A B : Type 0} (files : Option Files) (o : Options) (names : List (List ℕ)) (step : Contents → Outcome A) (make : A → B) (before now : Fetches) (fault : InputFault)
-    → Reads {A = A} files o names step before now (Err fault) → Reads {A = B} files o names (λ contents. step contents >>= (λ x. Accepts (make x))) before now (Err fault)
-last_fails {A} {B} files o names step make before now fault r =
-    subst (λ (all : List (List ℕ)). Reads {A = B} files o all (λ contents. step contents >>= (λ x. Accepts (make x))) before now (Err fault)) (append-nil names)
-    (first_fails files o names [] step (λ x contents. Accepts (make x)) before before now fault r)
+pub last_fails : {A B : Type 0} (files : Option Files) (o : Options) (named : List NamedFile) (step : Contents → Outcome A) (make : A → B) (before now : Fetches) (fault : InputFault)
+    → Reads {A = A} files o named step before now (Err fault) → Reads {A = B} files o named (λ contents. step contents >>= (λ x. Accepts (make x))) before now (Err fault)
+last_fails {A} {B} files o named step make before now fault r =
+    subst (λ (all : List NamedFile). Reads {A = B} files o all (λ contents. step contents >>= (λ x. Accepts (make x))) before now (Err fault)) (append-nil named)
+    (first_fails files o named [] step (λ x contents. Accepts (make x)) before before now fault r)

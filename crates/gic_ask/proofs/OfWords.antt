@@ -1,6 +1,6 @@
 -- A refusal of the words is one of the words alone.
 use Rattle.std.proofs.Common.{◌≡◌, ℕ, List, Option, Some, None, Result, Ok, Err, refl, ap, subst, arith}
-use Rattle.std.specs.Prelude.{IfOk, IfSome, IsSome, IsSomeAnd, ⊤}
+use Rattle.std.specs.Prelude.{IfOk, IfSome, IsSome, ⊤}
 use Rattle.gic_case.specs.Lists.{Lists}
 use Rattle.gic_case_reader.specs.Rules.{case_of}
 use Rattle.gic_storm.specs.Rules.{storm_of}

@@ -1,5 +1,5 @@
 -- What a library hands out of the files that are named.
-use Rattle.std.specs.Prelude.{◌≡◌, ℕ, ◌≤◌, ◌<◌, List, [], ◌∷◌, ◌++◌, length, None, Some, IfSome, IsSomeAnd, option_to_list, ⊤}
+use Rattle.std.specs.Prelude.{◌≡◌, ℕ, ◌≤◌, ◌<◌, List, [], ◌∷◌, ◌++◌, length, None, Some, IfSome, IsSomeAnd, ⊤}
 use Rattle.std.specs.declared.option.Option.{Option}
 use Rattle.std.specs.FinMap.{get}
 use Rattle.gic_files.specs.Files.{Files}
@@ -15,14 +15,24 @@ name_of_file Storm o = o.storm
 name_of_file Switch o = o.switch
 name_of_file Certificate o = o.cert
 
--- where there is a case, its name and those of what stands over it
-abbrev pub names_over : (case : Option (List ℕ)) → (over : List (List ℕ)) → List (List ℕ)
-names_over None over = []
-names_over (Some case) over = case ∷ over
+-- a file, and the name that is given for it
+pub record NamedFile : Type 0 where
+  pub file : File
+  pub name : List ℕ
 
--- the names that the options give, in the order in which their files are fetched: the case, the storm and the switchings over it, and the certificate
-abbrev pub file_names_of : Options → List (List ℕ)
-file_names_of o = names_over o.case (option_to_list o.storm ++ option_to_list o.switch) ++ option_to_list o.cert
+-- a file, where a name is given for it
+abbrev pub file_named : File → (name : Option (List ℕ)) → List NamedFile
+file_named file None = []
+file_named file (Some name) = record { file = file; name = name } ∷ []
+
+-- where there is a case, it and the files over it
+abbrev pub case_named : (case : Option (List ℕ)) → (over : List NamedFile) → List NamedFile
+case_named None over = []
+case_named (Some case) over = record { file = Case; name = case } ∷ over
+
+-- the files that the options name, in the order in which they are fetched: the case, the storm and the switchings over it, and the certificate
+abbrev pub files_named : Options → List NamedFile
+files_named o = case_named o.case (file_named Storm o.storm ++ file_named Switch o.switch) ++ file_named Certificate o.cert
 
 -- of a file: nothing, that it is longer than 16777216 bytes, `LIMIT`, or its bytes
 pub data Given : Type 0 where

@@ -1,12 +1,11 @@
 //! What a mode asks for, of what is gathered.
-ghost use Rattle.std.specs.Prelude.{◌≡◌, ◌≢◌, Some, None, IfOk, IfErr, IfSome};
+ghost use Rattle.std.specs.Prelude.{◌≡◌, Some, None, IfOk, IfErr, IfSome};
 ghost use Rattle.gic_question.specs.Ranges.{IsWithinRanges};
 ghost use Rattle.gic_words.specs.Required.{IsSize};
-ghost use Rattle.gic_ask.specs.declared.fault.File.{File};
 ghost use Rattle.gic_ask.specs.declared.fault.InputFault.TheVariants as fault;
 ghost use Rattle.gic_ask.specs.declared.fault.InputRefusal.TheVariants as refusal;
 ghost use Rattle.gic_words.specs.declared.fault.Usage.TheVariants as usage;
-ghost use Rattle.gic_ask.specs.Asks.{IsAnswer};
+ghost use Rattle.gic_ask.specs.Asks.{IsAnswer, file_of};
 ghost use Rattle.gic_ask.specs.Outcome.{asking};
 ghost use Rattle.gic_ask.specs.Within.{IsOver, IsAskedWithinRanges};
 
@@ -30,7 +29,7 @@ fn needed<T: Drop>(option: Opt, named: Option<T>) -> Result<T, InputFault>
 /// What the options ask for, of all that they name.
 pub(crate) fn assemble(options: &Options, gathered: Gathered) -> Result<Asked, InputFault>
     ensures asked { IsAnswer (asking options.now.mode options.now gathered) result }
-    ensures read { IfErr result (λ e. (unread : File) → e ≢ fault.CannotRead unread) }
+    ensures no_file { IfErr result (λ e. file_of e ≡ None) }
     ensures ranges { IfSome gathered.over (IsOver options.now.question) → IsWithinRanges options.now.question →
         IfSome options.now.size IsSize → IfOk result IsAskedWithinRanges }
 {

@@ -1,7 +1,8 @@
 //! All that the options name, one after another.
-ghost use Rattle.std.specs.Prelude.{◌≡◌, ◌++◌, option_to_list, IfOk, IfSome};
+ghost use Rattle.std.specs.Prelude.{◌≡◌, ◌++◌, IfOk, IfSome};
 ghost use Rattle.gic_files.specs.Files.{fetches};
-ghost use Rattle.gic_ask.specs.Contents.{names_over, file_names_of};
+ghost use Rattle.gic_ask.specs.declared.fault.File.TheVariants as file;
+ghost use Rattle.gic_ask.specs.Contents.{case_named, file_named, files_named};
 ghost use Rattle.gic_ask.specs.Outcome.{reading_over_case, gathering};
 ghost use Rattle.gic_ask.specs.Steps.{Reads};
 ghost use Rattle.gic_ask.specs.Within.{IsOver};
@@ -24,7 +25,7 @@ fn over_case<L: Library>(
 ) -> Result<Option<OverCase>, InputFault>
     ensures content { L.content library.new ≡ L.content library.old }
     ensures reads { Reads (L.content library.old) options.now
-        (names_over options.now.case (option_to_list options.now.storm ++ option_to_list options.now.switch)) (reading_over_case options.now)
+        (case_named options.now.case (file_named file.Storm options.now.storm ++ file_named file.Switch options.now.switch)) (reading_over_case options.now)
         (fetches L.fetched L.failures library.old) (fetches L.fetched L.failures library.new) result }
     ensures over { IfOk result (λ over. IfSome over (IsOver options.now.question)) }
 {
@@ -56,7 +57,7 @@ pub(crate) fn gather<L: Library>(
     library: &mut L,
     options: &Options,
 ) -> Result<Gathered, InputFault>
-    ensures reads { Reads (L.content library.old) options.now (file_names_of options.now) (gathering options.now)
+    ensures reads { Reads (L.content library.old) options.now (files_named options.now) (gathering options.now)
         (fetches L.fetched L.failures library.old) (fetches L.fetched L.failures library.new) result }
     ensures over { IfOk result (λ gathered. IfSome gathered.over (IsOver options.now.question)) }
 {

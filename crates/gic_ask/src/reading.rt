@@ -1,7 +1,8 @@
 //! The files that are named, each fetched and then read.
-ghost use Rattle.std.specs.Prelude.{◌≡◌, [], ◌∷◌, length, option_to_list, IfOk, IfSome};
+ghost use Rattle.std.specs.Prelude.{◌≡◌, [], ◌∷◌, length, IfOk, IfSome};
 ghost use Rattle.gic_files.specs.Files.{fetches};
 ghost use Rattle.gic_ask.specs.declared.fault.File.TheVariants as file;
+ghost use Rattle.gic_ask.specs.Contents.{file_named};
 ghost use Rattle.gic_ask.specs.Outcome.{handing, reading_case, reading_storm, reading_switchings, reading_certificate};
 ghost use Rattle.gic_ask.specs.Steps.{Gives, Reads};
 
@@ -61,7 +62,7 @@ pub(crate) fn storm<L: Library>(
     case: &Case,
 ) -> Result<Option<Storm>, InputFault>
     ensures content { L.content library.new ≡ L.content library.old }
-    ensures reads { Reads (L.content library.old) options.now (option_to_list options.now.storm) (reading_storm options.now case.now)
+    ensures reads { Reads (L.content library.old) options.now (file_named file.Storm options.now.storm) (reading_storm options.now case.now)
         (fetches L.fetched L.failures library.old) (fetches L.fetched L.failures library.new) result }
     ensures zones { IfOk result (λ storm. IfSome storm (λ s. s.zones ≡ length case.now.zones)) }
 {
@@ -84,7 +85,7 @@ pub(crate) fn switchings<L: Library>(
     case: &Case,
 ) -> Result<Option<Switchings>, InputFault>
     ensures content { L.content library.new ≡ L.content library.old }
-    ensures reads { Reads (L.content library.old) options.now (option_to_list options.now.switch) (reading_switchings options.now case.now)
+    ensures reads { Reads (L.content library.old) options.now (file_named file.Switch options.now.switch) (reading_switchings options.now case.now)
         (fetches L.fetched L.failures library.old) (fetches L.fetched L.failures library.new) result }
 {
     let Some(name) = &options.switch else {
@@ -105,7 +106,7 @@ pub(crate) fn certificate<L: Library>(
     options: &Options,
 ) -> Result<Option<FileBytes>, InputFault>
     ensures content { L.content library.new ≡ L.content library.old }
-    ensures reads { Reads (L.content library.old) options.now (option_to_list options.now.cert) (reading_certificate options.now)
+    ensures reads { Reads (L.content library.old) options.now (file_named file.Certificate options.now.cert) (reading_certificate options.now)
         (fetches L.fetched L.failures library.old) (fetches L.fetched L.failures library.new) result }
 {
     let Some(name) = &options.cert else {

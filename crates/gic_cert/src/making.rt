@@ -73,9 +73,9 @@ impl Cert {
     ghost use Rattle.gic_cert.specs.Step.{checked_step as checked_step_of};
     ghost use Rattle.gic_cert.specs.Passing.{IsPassing};
 
-    /// The certificate of settled guesses, whose radii are what the checked step asks for, made in this room. It passes for this net and
-    /// these voltages, and no radius is above [`MOST_MADE_RADIUS`]. North and east, in mV/km, are those of the field that
-    /// makes the voltages. Takes no memory.
+    /// The certificate of settled guesses, whose radii are what the checked step asks for, made in this room. It passes for
+    /// this net and these voltages, and no radius is above [`MOST_MADE_RADIUS`]. North and east, in mV/km, are those of the
+    /// field that makes the voltages. Takes no memory.
     ///
     /// [`MOST_MADE_RADIUS`]: crate::limits::MOST_MADE_RADIUS
     pub fn from_solver(

@@ -1,13 +1,12 @@
 //! A library that is kept in memory.
-ghost use Rattle.std.specs.Prelude.{◌≡◌, ℕ, ◌<◌, ◌≤◌, ◌⊎◌, List, [], length, map, Some, None, IsSomeAnd, OnOk, IsErrOf, string_bytes, true};
+ghost use Rattle.std.specs.Prelude.{◌≡◌, ℕ, ◌<◌, ◌≤◌, List, [], length, map, Some, None, IsSomeAnd, OnOk, IsErrOf, string_bytes};
 ghost use Rattle.std.specs.Option.{option_map};
 ghost use Rattle.std.specs.Cmp.Lexicographic.{slice_cmp};
 ghost use Rattle.std.specs.Ordering.{nat_cmp};
 ghost use Rattle.std.specs.FinMap.{find, get};
 ghost use Rattle.std.specs.Io.{StartsWith};
-ghost use Rattle.gic_files.specs.Fetches.{HasFetched, failures_after, FailsOrLacksMemory};
-ghost use Rattle.gic_base.specs.Memory.{is_failing, next};
-ghost use Rattle.gic_files.specs.Shelf.{files_of};
+ghost use Rattle.gic_files.specs.Fetches.{HasFetched, failures_after};
+ghost use Rattle.gic_files.specs.Shelf.{files_of, IsNextCall};
 
 use crate::kept_names::{failed_fetch, keep_name};
 use crate::library::{FetchRefusal, Library};
@@ -103,11 +102,7 @@ impl Library for MemoryLibrary {
         ensures front { IsErrOf result FetchRefusal.TooLong → IsSomeAnd (get (files_of self.old.files) name.now)
             (λ bytes. StartsWith bytes into.new.items) }
         // It fails at the calls named and at missing names, want of memory aside, and at no others.
-        ensures fails { is_failing self.old.failing self.old.calls ≡ true → FailsOrLacksMemory result }
-        ensures only { IsErrOf result FetchRefusal.Failed → (is_failing self.old.failing self.old.calls ≡ true)
-            ⊎ (get (files_of self.old.files) name.now ≡ None) }
-        ensures calls { self.new.calls ≡ next self.old.calls }
-        ensures failing { self.new.failing ≡ self.old.failing }
+        ensures call { IsNextCall self.old self.new name.now result }
     {
         let call = self.calls;
         self.calls = call.saturating_add(1);

@@ -1,21 +1,11 @@
 //! What the program tells and writes, through the call that it makes.
 use crate::memory::run_in_memory;
+use gic_worked::CASE_P;
 use std::alloc::{AllocError, Global};
 use std::test::Fail;
 
-/// A loop of two substations: 3.2 ohm in all, with 100 volts for each 1000 mV/km to the north.
-const CASE: &str = "format = 1
-zone = [{ name = \"Z\", latitude = 6000, beta = 100 }]
-substation = [{ name = \"A\", ground = 1000000 }, { name = \"B\", ground = 1000000 }]
-bus = [{ name = \"a\", substation = \"A\" }, { name = \"b\", substation = \"B\" }]
-line = [{ name = \"L\", from = \"a\", to = \"b\", zone = \"Z\", resistance = 3000000, north = 100000, east = 0 }]
-transformer = [
-  { name = \"TA\", kind = \"delta-wye\", high_volts = 345000, high = \"a\", high_resistance = 300000 },
-  { name = \"TB\", kind = \"delta-wye\", high_volts = 345000, high = \"b\", high_resistance = 300000 },
-]
-";
-
-/// Its three steps give at most 31250 mA in a transformer, and never the threshold.
+/// The loop of the case P has 3.2 ohm in all, and 100 volts for each 1000 mV/km to the north: these three steps give at most
+/// 31250 mA in a transformer, and never the threshold.
 const STORM: &str = "time,north,east\n0,-3000,0\n60,1000,0\n120,2000,0\n";
 
 /// The words of a line, with a space between each two.
@@ -30,7 +20,7 @@ fn words_of(alloc: Global, line: &str) -> Result<Vec<String>, AllocError> {
 /// The case `p` and the storm `s`.
 fn files(alloc: Global) -> Result<Vec<(String, Vec<u8>)>, AllocError> {
     let mut files = Vec::new(alloc);
-    for (name, text) in [("p", CASE), ("s", STORM)] {
+    for (name, text) in [("p", CASE_P), ("s", STORM)] {
         let name = String::from_str(alloc, name)?;
         files.push((name, Vec::from_slice(alloc, text.as_bytes())?))?;
     }

@@ -1,4 +1,4 @@
-use Rattle.std.proofs.Common.{rules, sym, subst}
+use Rattle.std.proofs.Common.{rules}
 use Rattle.gic_ask.proofs.AllNamed.{words_refused, memory_wanting, gathering_fails, gathered_asks}
 use Rattle.gic_ask.proofs.asking.ask.Goals as goal
 
@@ -14,4 +14,4 @@ returns-in_err-gathered-clause-asks g c =
 
 pub returns-clause-asks : goal.returns-clause-asks
 returns-clause-asks g c =
-    gathered_asks _ _ c.in-Ok.options _ _ c.in_ok-gathered.gathered c.assemble.result c.in-Ok.ensures.right c.in_ok-gathered.ensures.reads c.assemble.ensures.asked c.assemble.ensures.read
+    gathered_asks _ _ c.in-Ok.options _ _ c.in_ok-gathered.gathered c.assemble.result c.in-Ok.ensures.right c.in_ok-gathered.ensures.reads c.assemble.ensures.asked c.assemble.ensures.no_file

@@ -1,6 +1,5 @@
 use Rattle.std.proofs.Common.{rules}
 use Rattle.std.specs.Prelude.{Ok, Err}
-use Rattle.gic_ask.specs.declared.fault.InputFault.TheVariants.{Refused}
 use Rattle.gic_ask.proofs.InTurn.{reads_by, last_step, last_fails}
 use Rattle.gic_ask.proofs.AllNamed.{no_case, case_fails, after_case, unfound, found, storm_fails, storm_read, over_with}
 use Rattle.gic_ask.proofs.gathering.over_case.Goals as goal
@@ -12,8 +11,7 @@ returns-in_err-case-clause-reads g c =
 
 pub returns-in-Err-clause-reads : goal.returns-in-Err-clause-reads
 returns-in-Err-clause-reads g c =
-    after_case _ _ _ _ _ _ c.as_str.result.now c.in_ok-case.case (Err (Refused c.in-Err.refusal)) (search (rules, c.in-Some.is, c.as_str.ensures))
-    c.in_ok-case.ensures.gives c.in_ok-case.ensures.content (unfound _ _ _ c.in_ok-case.case c.in-Err.refusal c.in-Err.ensures.place)
+    unfound _ _ _ _ c.as_str.result.now c.in_ok-case.case c.in-Err.refusal (search (rules, c.in-Some.is, c.as_str.ensures)) c.in_ok-case.ensures.gives c.in-Err.ensures.place
 
 pub returns-in_err-storm-clause-reads : goal.returns-in_err-storm-clause-reads
 returns-in_err-storm-clause-reads g c =

@@ -1,4 +1,4 @@
-use Rattle.std.proofs.Common.{rules}
+use Rattle.std.proofs.Common.{rules, refl}
 use Rattle.gic_case_reader.specs.Rules.{case_of}
 use Rattle.gic_ask.specs.declared.fault.File.TheVariants as file
 use Rattle.gic_ask.specs.declared.fault.InputRefusal.TheVariants.{Case}
@@ -20,4 +20,4 @@ returns-in-Err-Memory-clause-gives g c =
 
 pub returns-clause-gives : goal.returns-clause-gives
 returns-clause-gives g c =
-    gives_refused _ _ file.Case Case case_of _ _ c.in_ok-bytes.bytes c.as_slice.result.now c.as_slice.ensures c.in_ok-bytes.ensures.gives c.in-Err-Refused.refusal (c.in-Err-Refused.ensures c.in-Err-Refused.refusal (search rules))
+    gives_refused _ _ file.Case Case case_of _ _ c.in_ok-bytes.bytes c.as_slice.result.now c.as_slice.ensures c.in_ok-bytes.ensures.gives c.in-Err-Refused.refusal refl (c.in-Err-Refused.ensures c.in-Err-Refused.refusal (search rules))

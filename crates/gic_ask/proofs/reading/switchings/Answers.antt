@@ -3,7 +3,8 @@ use Rattle.gic_switch.specs.Rules.{switchings_of}
 use Rattle.gic_ask.specs.declared.fault.File.TheVariants as file
 use Rattle.gic_ask.specs.declared.fault.InputFault.TheVariants.{Refused, Memory}
 use Rattle.gic_ask.specs.declared.fault.InputRefusal.TheVariants.{Switch}
-use Rattle.std.specs.Prelude.{Ok, Err, option_to_list}
+use Rattle.std.specs.Prelude.{Ok, Err}
+use Rattle.gic_ask.specs.Contents.{file_named}
 use Rattle.gic_ask.proofs.InTurn.{unnamed, where_file, reads_by, gives_fault, gives_read, gives_refused, gives_memory}
 use Rattle.gic_ask.proofs.reading.switchings.Goals as goal
 
@@ -26,7 +27,7 @@ returns-in-Err-Memory-clause-reads g c =
 pub returns-clause-reads : goal.returns-clause-reads
 returns-clause-reads g c =
     where_file _ _ c.as_str.result.now file.Switch _ _ _ (Err (Refused (Switch c.in-Err-Refused.refusal))) (search (rules, c.in-Some.is, c.as_str.ensures))
-    (gives_refused _ _ file.Switch Switch (switchings_of c.args.case.now) _ _ c.in_ok-bytes.bytes c.as_slice.result.now c.as_slice.ensures c.in_ok-bytes.ensures.gives c.in-Err-Refused.refusal (c.in-Err-Refused.ensures.value c.in-Err-Refused.refusal (search rules)))
+    (gives_refused _ _ file.Switch Switch (switchings_of c.args.case.now) _ _ c.in_ok-bytes.bytes c.as_slice.result.now c.as_slice.ensures c.in_ok-bytes.ensures.gives c.in-Err-Refused.refusal refl (c.in-Err-Refused.ensures.value c.in-Err-Refused.refusal (search rules)))
 
 pub returns-in_default-clause-reads : goal.returns-in_default-clause-reads
-returns-in_default-clause-reads g c = unnamed _ _ option_to_list c.args.options.now.switch _ _ refl (search rules)
+returns-in_default-clause-reads g c = unnamed _ _ (file_named file.Switch) c.args.options.now.switch _ _ refl (search rules)

@@ -1,4 +1,5 @@
-use Rattle.std.proofs.Common.{◌≡◌, ℕ, List, Some, None, Bool, true, false, ◌==◌, inl, inr, sym, ap, ◌∙◌, IsSomeAnd, subst, map, string_bytes}
+use Rattle.std.proofs.Common.{rules, arith, ◌≡◌, ℕ, List, Some, None, Err, Bool, true, false, ◌==◌, inl, inr, sym, ap, ◌∙◌, IsSomeAnd, subst, map, string_bytes}
+use Rattle.std.proofs.lemmas.Grind.{common_steps}
 use Rattle.std.proofs.lemmas.Result.{on_ok_weaker}
 use Rattle.std.specs.Cmp.Lexicographic.{slice_cmp, nat_list_cmp_total}
 use Rattle.std.specs.Ordering.{nat_cmp}
@@ -6,7 +7,10 @@ use Rattle.std.specs.FinMap.{find, get, get-from_entries}
 use Rattle.std.specs.Io.{StartsWith}
 use Rattle.std.specs.List.{list_any}
 use Rattle.gic_base.specs.Memory.{is_failing}
+use Rattle.gic_files.specs.Fetches.{FailsWith, FailsOrLacksMemory}
 use Rattle.gic_files.specs.Shelf.{files_of}
+use Rattle.gic_files.specs.declared.library.FetchRefusal.{FetchRefusal}
+use Rattle.gic_files.specs.declared.library.FetchRefusal.TheVariants.{Failed, TooLong, Memory}
 use Rattle.gic_files.proofs.memory_library.MemoryLibraryLibrary.fetch.Goals as goal
 use Rattle.gic_files.proofs.memory_library.MemoryLibraryLibrary.fetch.Goals.{In-Some, In-None, After-contains}
 
@@ -45,11 +49,32 @@ missing c =
 true_is_not_false : {b : Bool} → b ≡ true → b ≡ false → ⊥
 true_is_not_false e f = let g : true ≡ false = sym e ∙ f in cc
 
-pub returns-then-contains-clause-only : goal.returns-then-contains-clause-only
-returns-then-contains-clause-only c = λ _. inl (tested (goal.at.returns-then-contains-clause-only c).After-contains ∙ c.if-contains.true)
+-- a failed fetch fails, or wants memory
+failed_so : (before now : List (List ℕ)) (name : List ℕ) (refusal : FetchRefusal) → FailsWith before now name refusal → FailsOrLacksMemory (Err refusal)
+failed_so before now name Failed h = tt
+failed_so before now name TooLong h = absurd h
+failed_so before now name Memory h = tt
 
-pub returns-in-None-clause-only : goal.returns-in-None-clause-only
-returns-in-None-clause-only c = λ _. inr (missing (goal.at.returns-in-None-clause-only c).In-None)
+pub returns-then-contains-clause-call : goal.returns-then-contains-clause-call
+returns-then-contains-clause-call c = record {
+  fails = λ _. failed_so _ _ _ c.failed_fetch.result c.failed_fetch.ensures;
+  only = λ _. inl (tested (goal.at.returns-then-contains-clause-call c).After-contains ∙ c.if-contains.true);
+  counted = first_of (search rules, grind (arith, common_steps));
+  numbers = first_of (search rules, grind (arith, common_steps));
+}
 
-pub returns-in-Some-clause-fails : goal.returns-in-Some-clause-fails
-returns-in-Some-clause-fails c = λ yes. absurd (true_is_not_false yes (tested (goal.at.returns-in-Some-clause-fails c).After-contains ∙ c.if-contains.false))
+pub returns-in-None-clause-call : goal.returns-in-None-clause-call
+returns-in-None-clause-call c = record {
+  fails = λ _. failed_so _ _ _ c.failed_fetch-in-None.result c.failed_fetch-in-None.ensures;
+  only = λ _. inr (missing (goal.at.returns-in-None-clause-call c).In-None);
+  counted = first_of (search rules, grind (arith, common_steps));
+  numbers = first_of (search rules, grind (arith, common_steps));
+}
+
+pub returns-in-Some-clause-call : goal.returns-in-Some-clause-call
+returns-in-Some-clause-call c = record {
+  fails = λ yes. absurd (true_is_not_false yes (tested (goal.at.returns-in-Some-clause-call c).After-contains ∙ c.if-contains.false));
+  only = λ failed. absurd (c.hand_out.ensures.failed failed);
+  counted = first_of (search rules, grind (arith, common_steps));
+  numbers = first_of (search rules, grind (arith, common_steps));
+}
