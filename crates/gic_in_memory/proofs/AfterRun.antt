@@ -3,8 +3,7 @@ use Rattle.std.proofs.Common.{◌≡◌, ℕ, List, [], Option, Some, Ok, inl, i
 use Rattle.std.specs.Io.KnownBytes.{Appends}
 use Rattle.gic_files.specs.Files.{Files}
 use Rattle.gic_ask.specs.Held.{AnswersOfFiles}
-use Rattle.gic_stand.specs.Serves.{Shown}
-use Rattle.gic_study.specs.Answers.{Moment, Served}
+use Rattle.gic_study.specs.Answers.{Call, Moment, Served}
 use Rattle.gic_study.specs.Laws.{StatusesSay}
 use Rattle.gic_study.specs.Modes.{IsRightText}
 use Rattle.gic_program.specs.ProgramEnds.{ProgramEnds}
@@ -19,16 +18,20 @@ all_added before now added text start end h =
     let whole : Appends (Some []) (Some text) added = subst (λ (x : Option (List ℕ)). Appends (Some []) x added) end empty in
     sym whole
 
+-- a call of the program over these files
+abbrev call : (words : List (List ℕ)) (files : Files) (before now : Moment) → Call
+call words files before now = record { words = words; files = Some files; plans = program_plans; before = before; now = now }
+
 served : AnswersOfFiles → (words : List (List ℕ)) (files : Files) (before now : Moment) (text : List ℕ) → before.out.bytes ≡ Some [] → now.out.bytes ≡ Some text
-    → Served words (Some files) program_plans before now (Ok tt) → IsReport words files text
+    → Served (call words files before now) (Ok tt) → IsReport words files text
 served law words files before now text start end s = record {
   asked = s.asked;
   accepted = files_ask law words files before.fetches now.fetches s.asked s.asks;
-  right = subst (λ (t : List ℕ). IsRightText program_plans s.asked t) (all_added before.out.bytes now.out.bytes s.serves.text text start end s.serves.written) s.serves.right;
+  right = subst (λ (t : List ℕ). IsRightText program_plans s.asked t) (all_added before.out.bytes now.out.bytes s.concludes.text text start end s.concludes.written) s.concludes.right;
 }
 
-pub report : AnswersOfFiles → StatusesSay → (words : List (List ℕ)) (files : Files) (before now : Moment) (told told' : Shown) (status : ℕ) (text : List ℕ)
-    → before.out.bytes ≡ Some [] → now.out.bytes ≡ Some text → ProgramEnds words (Some files) before now told told' status → status ≡ 0 → IsReport words files text
-report law say words files before now told told' status text start end (inl ends) done =
-    served law words files before now text start end ((say words (Some files) program_plans before now told told' status ends).done done)
-report law say words files before now told told' status text start end (inr at_once) done = absurd (omega (arith, done, at_once.status_is))
+pub report : AnswersOfFiles → StatusesSay → (words : List (List ℕ)) (files : Files) (before now : Moment) (status : ℕ) (text : List ℕ)
+    → before.out.bytes ≡ Some [] → now.out.bytes ≡ Some text → ProgramEnds words (Some files) before now status → status ≡ 0 → IsReport words files text
+report law say words files before now status text start end (inl ends) done =
+    served law words files before now text start end ((say (call words files before now) status ends).done done)
+report law say words files before now status text start end (inr at_once) done = absurd (omega (arith, done, at_once.status_is))

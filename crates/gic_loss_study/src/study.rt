@@ -1,7 +1,6 @@
 //! The call that this program makes.
 ghost use Rattle.std.specs.Prelude.{◌≡◌, ◌≤◌, map, string_bytes, IfOk, IfErr};
 ghost use Rattle.std.specs.IoError.{error_kind};
-ghost use Rattle.gic_stand.specs.Serves.{shown};
 ghost use Rattle.gic_study.specs.Answers.{moment};
 ghost use Rattle.gic_program.specs.ProgramEnds.{EndsAtOnce, status_without_words};
 ghost use Rattle.gic_loss_study.specs.CountedEnds.{FirstEnds, CountedEnds};
@@ -36,9 +35,8 @@ fn study<L: Library, S: Sink, E: Sink>(
     err: &mut E,
 ) -> u8
     ensures { FirstEnds count (map string_bytes words.now) (L.content library.old)
-        (moment L.fetched L.failures S.written S.faults library.old out.old)
-        (moment L.fetched L.failures S.written S.faults library.new out.new)
-        (shown E.written E.faults err.old) (shown E.written E.faults err.new) result }
+        (moment L.fetched L.failures S.written S.faults E.written E.faults library.old out.old err.old)
+        (moment L.fetched L.failures S.written S.faults E.written E.faults library.new out.new err.new) result }
 {
     let Ok(table) = table(alloc) else {
         return NO_MEMORY;
@@ -73,9 +71,8 @@ fn counted<L: Library, S: Sink, E: Sink>(
     err: &mut E,
 ) -> u8
     ensures { CountedEnds (map string_bytes words.now) (L.content library.old)
-        (moment L.fetched L.failures S.written S.faults library.old out.old)
-        (moment L.fetched L.failures S.written S.faults library.new out.new)
-        (shown E.written E.faults err.old) (shown E.written E.faults err.new) result }
+        (moment L.fetched L.failures S.written S.faults E.written E.faults library.old out.old err.old)
+        (moment L.fetched L.failures S.written S.faults E.written E.faults library.new out.new err.new) result }
 {
     let Some((first, words)) = words.split_first() else {
         return NO_COUNT;
@@ -99,13 +96,11 @@ pub(crate) fn run<L: Library, S: Sink, E: Sink>(
     err: &mut E,
 ) -> u8
     ensures ends { IfOk words (λ words. CountedEnds (map string_bytes words.items) (L.content library.old)
-        (moment L.fetched L.failures S.written S.faults library.old out.old)
-        (moment L.fetched L.failures S.written S.faults library.new out.new)
-        (shown E.written E.faults err.old) (shown E.written E.faults err.new) result) }
+        (moment L.fetched L.failures S.written S.faults E.written E.faults library.old out.old err.old)
+        (moment L.fetched L.failures S.written S.faults E.written E.faults library.new out.new err.new) result) }
     ensures no_words { IfErr words (λ error. EndsAtOnce (status_without_words (error_kind error))
-        (moment L.fetched L.failures S.written S.faults library.old out.old)
-        (moment L.fetched L.failures S.written S.faults library.new out.new)
-        (shown E.written E.faults err.old) (shown E.written E.faults err.new) result) }
+        (moment L.fetched L.failures S.written S.faults E.written E.faults library.old out.old err.old)
+        (moment L.fetched L.failures S.written S.faults E.written E.faults library.new out.new err.new) result) }
 {
     match words {
         Ok(words) => counted(alloc, &words, library, out, err),

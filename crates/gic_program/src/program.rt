@@ -1,7 +1,6 @@
 //! The call that the program makes.
 ghost use Rattle.std.specs.Prelude.{◌≡◌, map, string_bytes, IfOk, IfErr};
 ghost use Rattle.std.specs.IoError.{error_kind};
-ghost use Rattle.gic_stand.specs.Serves.{shown};
 ghost use Rattle.gic_study.specs.Answers.{moment};
 ghost use Rattle.gic_program.specs.ProgramEnds.{EndsAtOnce, ProgramEnds, status_without_words};
 
@@ -39,9 +38,8 @@ fn study<L: Library, S: Sink, E: Sink>(
     err: &mut E,
 ) -> u8
     ensures { ProgramEnds (map string_bytes words.now) (L.content library.old)
-        (moment L.fetched L.failures S.written S.faults library.old out.old)
-        (moment L.fetched L.failures S.written S.faults library.new out.new)
-        (shown E.written E.faults err.old) (shown E.written E.faults err.new) result }
+        (moment L.fetched L.failures S.written S.faults E.written E.faults library.old out.old err.old)
+        (moment L.fetched L.failures S.written S.faults E.written E.faults library.new out.new err.new) result }
 {
     let (Ok(dwells), Ok(earthings), Ok(losses)) = (
         Box::new(alloc, DwellMonitor::new(alloc)),
@@ -75,13 +73,11 @@ pub fn run<L: Library, S: Sink, E: Sink>(
 ) -> u8
     // With words: the status, the output and the line on `err` are those of the top call.
     ensures ends { IfOk words (λ words. ProgramEnds (map string_bytes words.items) (L.content library.old)
-        (moment L.fetched L.failures S.written S.faults library.old out.old)
-        (moment L.fetched L.failures S.written S.faults library.new out.new)
-        (shown E.written E.faults err.old) (shown E.written E.faults err.new) result) }
+        (moment L.fetched L.failures S.written S.faults E.written E.faults library.old out.old err.old)
+        (moment L.fetched L.failures S.written S.faults E.written E.faults library.new out.new err.new) result) }
     ensures no_words { IfErr words (λ error. EndsAtOnce (status_without_words (error_kind error))
-        (moment L.fetched L.failures S.written S.faults library.old out.old)
-        (moment L.fetched L.failures S.written S.faults library.new out.new)
-        (shown E.written E.faults err.old) (shown E.written E.faults err.new) result) }
+        (moment L.fetched L.failures S.written S.faults E.written E.faults library.old out.old err.old)
+        (moment L.fetched L.failures S.written S.faults E.written E.faults library.new out.new err.new) result) }
 {
     match words {
         Ok(words) => study(alloc, &words, library, out, err),

@@ -14,8 +14,9 @@ use Rattle.gic_stand.specs.Needs.{Nothing, IsUnmet}
 use Rattle.gic_stand.specs.Standing.{standing_of, steps_of}
 use Rattle.gic_stand.proofs.Served.{met_nothing}
 use Rattle.gic_stand.specs.declared.fault.NetworkRefusal.{NetworkRefusal}
-use Rattle.gic_study.specs.Modes.{Plans, mode_asked, need_of, case_asked, steps_asked, IsRightOverNetwork, IsRightText, AcceptsCertificate, RefusesCertificate}
-use Rattle.gic_study.specs.Laws.{TextsTellModes}
+use Rattle.gic_study.specs.ModeCalls.{IsRightOverNetwork}
+use Rattle.gic_study.specs.Modes.{Plans, IsRightText, RefusesCertificate}
+use Rattle.gic_study.specs.Laws.{mode_asked, need_of, case_asked, steps_asked, AcceptsCertificate, TextsTellModes}
 use Rattle.gic_study.proofs.MetNeeds.{unmet_or_met}
 
 -- ---- the first three bytes of a right text tell its mode

@@ -6,3 +6,4 @@ pub mod Ended
 pub mod Statuses
 pub mod EachMode
 pub mod Certified
+pub mod AskedSound

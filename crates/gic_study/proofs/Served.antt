@@ -31,11 +31,11 @@ use Rattle.gic_study_mode.specs.declared.fault.StudyFault.{StudyFault}
 use Rattle.gic_study_mode.specs.declared.fault.StudyFault.TheVariants as study
 use Rattle.gic_study_mode.proofs.RightStudies.{by_plans}
 use Rattle.gic_series.specs.RightSeries.{IsRightSeries}
-use Rattle.gic_study.specs.Answers.{Answer}
-use Rattle.gic_study.specs.Concluding.{Concludes, ConcludesOverNetwork, reported, studied, rechecked, without_room}
+use Rattle.gic_study.specs.Concluding.{Answer, ServesMeaning, Concludes}
+use Rattle.gic_study.specs.ModeCalls.{reported, studied, rechecked, without_room, need_over_network, IsRightOverNetwork, ConcludesOverNetwork}
 use Rattle.gic_study.specs.declared.fault.Fault.TheVariants.{Memory}
 use Rattle.gic_study.specs.declared.fault.Wanting.TheVariants.{Room}
-use Rattle.gic_study.specs.Modes.{Plans, need_over_network, need_of, case_asked, steps_asked, IsRightOverNetwork, IsRightText}
+use Rattle.gic_study.specs.Modes.{Plans, meaning_of}
 
 -- what is asked for ended so
 pub of_asked : (plans : Plans) (asked is_asked : Asked) (before now : Shown) (answer : Answer) → asked ≡ is_asked → Concludes plans is_asked before now answer → Concludes plans asked before now answer
@@ -47,7 +47,7 @@ by_mode mode m inputs before now answer is ended = subst (λ k. ConcludesOverNet
 
 -- how a call ends that was reported
 concludes_reported : (plans : Plans) (asked : Asked) (before now : Shown) (answer : Result (Unit {0}) ReportFault)
-    → Serves (need_of asked) (case_asked asked) (steps_asked asked) (IsRightText plans asked) before now answer → Concludes plans asked before now (reported answer)
+    → ServesMeaning (meaning_of asked) plans before now answer → Concludes plans asked before now (reported answer)
 concludes_reported plans asked before now (Ok done) served = served
 concludes_reported plans asked before now (Err fault) served = served
 

@@ -1,18 +1,16 @@
 -- What each status says.
-use Rattle.std.proofs.Common.{ℕ, inl, inr, List, Option, Ok, Err, refl, sym, subst, arith}
-use Rattle.gic_files.specs.Files.{Files}
+use Rattle.std.proofs.Common.{inl, inr, Ok, Err, refl, sym, subst, arith}
 use Rattle.gic_ask.specs.declared.fault.InputFault.TheVariants as input
 use Rattle.gic_ask.specs.declared.fault.InputRefusal.TheVariants as input_refusal
 use Rattle.gic_stand.specs.declared.fault.ReportFault.TheVariants as report
 use Rattle.gic_stand.specs.declared.fault.NetworkRefusal.TheVariants as network
-use Rattle.gic_study.specs.Answers.{Moment, Answer, Explains, status_of}
+use Rattle.gic_study.specs.Answers.{Call, Explains, status_of}
+use Rattle.gic_study.specs.Concluding.{Answer}
 use Rattle.gic_study.specs.Laws.{StatusSays, StatusesSay}
-use Rattle.gic_study.specs.Modes.{Plans}
 use Rattle.gic_study.specs.declared.fault.Fault.TheVariants.{Input, Report, Certificate, Memory}
 
-says : (words : List (List ℕ)) (files : Option Files) (plans : Plans) (before now : Moment) (answer : Answer) → Explains words files plans before now answer
-    → StatusSays words files plans before now (status_of answer)
-says words files plans before now (Ok done) explained = record {
+says : (call : Call) (answer : Answer) → Explains call answer → StatusSays call (status_of answer)
+says call (Ok done) explained = record {
   done = λ e. explained;
   usage = λ e. absurd (omega (arith, e));
   unread = λ e. absurd (omega (arith, e));
@@ -28,7 +26,7 @@ says words files plans before now (Ok done) explained = record {
   memory = λ e. absurd (omega (arith, e));
   nothing = λ not_done not_unwritten. absurd (not_done refl);
 }
-says words files plans before now (Err (Input (input.Refused (input_refusal.Usage u)))) explained = record {
+says call (Err (Input (input.Refused (input_refusal.Usage u)))) explained = record {
   done = λ e. absurd (omega (arith, e));
   usage = λ e. (u, explained);
   unread = λ e. absurd (omega (arith, e));
@@ -44,7 +42,7 @@ says words files plans before now (Err (Input (input.Refused (input_refusal.Usag
   memory = λ e. absurd (omega (arith, e));
   nothing = λ not_done not_unwritten. explained.kept;
 }
-says words files plans before now (Err (Input (input.CannotRead file))) explained = record {
+says call (Err (Input (input.CannotRead file))) explained = record {
   done = λ e. absurd (omega (arith, e));
   usage = λ e. absurd (omega (arith, e));
   unread = λ e. (file, explained);
@@ -60,11 +58,11 @@ says words files plans before now (Err (Input (input.CannotRead file))) explaine
   memory = λ e. absurd (omega (arith, e));
   nothing = λ not_done not_unwritten. explained.kept;
 }
-says words files plans before now (Err (Report report.CannotWrite)) explained = record {
+says call (Err (Report report.CannotWrite)) explained = record {
   done = λ e. absurd (omega (arith, e));
   usage = λ e. absurd (omega (arith, e));
   unread = λ e. absurd (omega (arith, e));
-  unwritten = λ e. (explained, explained.serves.cause);
+  unwritten = λ e. (explained, explained.concludes.cause);
   case_refused = λ e. absurd (omega (arith, e));
   storm_refused = λ e. absurd (omega (arith, e));
   switch_refused = λ e. absurd (omega (arith, e));
@@ -76,7 +74,7 @@ says words files plans before now (Err (Report report.CannotWrite)) explained = 
   memory = λ e. absurd (omega (arith, e));
   nothing = λ not_done not_unwritten. absurd (not_unwritten refl);
 }
-says words files plans before now (Err (Input (input.Refused (input_refusal.Case r)))) explained = record {
+says call (Err (Input (input.Refused (input_refusal.Case r)))) explained = record {
   done = λ e. absurd (omega (arith, e));
   usage = λ e. absurd (omega (arith, e));
   unread = λ e. absurd (omega (arith, e));
@@ -92,7 +90,7 @@ says words files plans before now (Err (Input (input.Refused (input_refusal.Case
   memory = λ e. absurd (omega (arith, e));
   nothing = λ not_done not_unwritten. explained.kept;
 }
-says words files plans before now (Err (Input (input.Refused (input_refusal.Storm r)))) explained = record {
+says call (Err (Input (input.Refused (input_refusal.Storm r)))) explained = record {
   done = λ e. absurd (omega (arith, e));
   usage = λ e. absurd (omega (arith, e));
   unread = λ e. absurd (omega (arith, e));
@@ -108,7 +106,7 @@ says words files plans before now (Err (Input (input.Refused (input_refusal.Stor
   memory = λ e. absurd (omega (arith, e));
   nothing = λ not_done not_unwritten. explained.kept;
 }
-says words files plans before now (Err (Input (input.Refused (input_refusal.Switch r)))) explained = record {
+says call (Err (Input (input.Refused (input_refusal.Switch r)))) explained = record {
   done = λ e. absurd (omega (arith, e));
   usage = λ e. absurd (omega (arith, e));
   unread = λ e. absurd (omega (arith, e));
@@ -124,7 +122,7 @@ says words files plans before now (Err (Input (input.Refused (input_refusal.Swit
   memory = λ e. absurd (omega (arith, e));
   nothing = λ not_done not_unwritten. explained.kept;
 }
-says words files plans before now (Err (Report (report.Refused (network.Unearthed step node)))) explained = record {
+says call (Err (Report (report.Refused (network.Unearthed step node)))) explained = record {
   done = λ e. absurd (omega (arith, e));
   usage = λ e. absurd (omega (arith, e));
   unread = λ e. absurd (omega (arith, e));
@@ -138,9 +136,9 @@ says words files plans before now (Err (Report (report.Refused (network.Unearthe
   transformer_unknown = λ e. absurd (omega (arith, e));
   certificate_refused = λ e. absurd (omega (arith, e));
   memory = λ e. absurd (omega (arith, e));
-  nothing = λ not_done not_unwritten. explained.serves.1;
+  nothing = λ not_done not_unwritten. explained.concludes.1;
 }
-says words files plans before now (Err (Report (report.Refused (network.Unresolved step node)))) explained = record {
+says call (Err (Report (report.Refused (network.Unresolved step node)))) explained = record {
   done = λ e. absurd (omega (arith, e));
   usage = λ e. absurd (omega (arith, e));
   unread = λ e. absurd (omega (arith, e));
@@ -154,9 +152,9 @@ says words files plans before now (Err (Report (report.Refused (network.Unresolv
   transformer_unknown = λ e. absurd (omega (arith, e));
   certificate_refused = λ e. absurd (omega (arith, e));
   memory = λ e. absurd (omega (arith, e));
-  nothing = λ not_done not_unwritten. explained.serves.1;
+  nothing = λ not_done not_unwritten. explained.concludes.1;
 }
-says words files plans before now (Err (Input (input.Refused (input_refusal.TooLong file)))) explained = record {
+says call (Err (Input (input.Refused (input_refusal.TooLong file)))) explained = record {
   done = λ e. absurd (omega (arith, e));
   usage = λ e. absurd (omega (arith, e));
   unread = λ e. absurd (omega (arith, e));
@@ -172,7 +170,7 @@ says words files plans before now (Err (Input (input.Refused (input_refusal.TooL
   memory = λ e. absurd (omega (arith, e));
   nothing = λ not_done not_unwritten. explained.kept;
 }
-says words files plans before now (Err (Input input.Memory)) explained = record {
+says call (Err (Input input.Memory)) explained = record {
   done = λ e. absurd (omega (arith, e));
   usage = λ e. absurd (omega (arith, e));
   unread = λ e. absurd (omega (arith, e));
@@ -188,7 +186,7 @@ says words files plans before now (Err (Input input.Memory)) explained = record 
   memory = λ e. inl explained;
   nothing = λ not_done not_unwritten. explained.kept;
 }
-says words files plans before now (Err (Memory wanting)) explained = record {
+says call (Err (Memory wanting)) explained = record {
   done = λ e. absurd (omega (arith, e));
   usage = λ e. absurd (omega (arith, e));
   unread = λ e. absurd (omega (arith, e));
@@ -202,9 +200,9 @@ says words files plans before now (Err (Memory wanting)) explained = record {
   transformer_unknown = λ e. absurd (omega (arith, e));
   certificate_refused = λ e. absurd (omega (arith, e));
   memory = λ e. inr (wanting, explained);
-  nothing = λ not_done not_unwritten. explained.kept;
+  nothing = λ not_done not_unwritten. explained.concludes.1;
 }
-says words files plans before now (Err (Input (input.Refused input_refusal.UnknownTransformer))) explained = record {
+says call (Err (Input (input.Refused input_refusal.UnknownTransformer))) explained = record {
   done = λ e. absurd (omega (arith, e));
   usage = λ e. absurd (omega (arith, e));
   unread = λ e. absurd (omega (arith, e));
@@ -220,7 +218,7 @@ says words files plans before now (Err (Input (input.Refused input_refusal.Unkno
   memory = λ e. absurd (omega (arith, e));
   nothing = λ not_done not_unwritten. explained.kept;
 }
-says words files plans before now (Err (Certificate refusal)) explained = record {
+says call (Err (Certificate refusal)) explained = record {
   done = λ e. absurd (omega (arith, e));
   usage = λ e. absurd (omega (arith, e));
   unread = λ e. absurd (omega (arith, e));
@@ -234,9 +232,8 @@ says words files plans before now (Err (Certificate refusal)) explained = record
   transformer_unknown = λ e. absurd (omega (arith, e));
   certificate_refused = λ e. (refusal, explained);
   memory = λ e. absurd (omega (arith, e));
-  nothing = λ not_done not_unwritten. explained.kept;
+  nothing = λ not_done not_unwritten. explained.concludes.1;
 }
 
 pub statuses_say : StatusesSay
-statuses_say words files plans before now told told' status ends =
-    subst (StatusSays words files plans before now) (sym ends.status_is) (says words files plans before now ends.answer ends.explained)
+statuses_say call status ends = subst (StatusSays call) (sym ends.status_is) (says call ends.answer ends.explained)

@@ -1,11 +1,9 @@
 -- What each mode is: what it needs of the network, and what it prints.
-use Rattle.std.specs.Prelude.{ℕ, List, [], ◌∷◌, None, ⊤}
+use Rattle.std.specs.Prelude.{ℕ, List, [], ◌∷◌, None}
 use Rattle.gic_case.specs.Lists.{Lists}
 use Rattle.gic_model.specs.Sums.{Placed}
 use Rattle.gic_words.specs.declared.mode.NetworkMode.{NetworkMode}
 use Rattle.gic_words.specs.declared.mode.NetworkMode.TheVariants as network
-use Rattle.gic_words.specs.declared.mode.Mode.{Mode}
-use Rattle.gic_words.specs.declared.mode.Mode.TheVariants as mode
 use Rattle.gic_inputs.specs.declared.inputs.Inputs.{Inputs}
 use Rattle.gic_stand.specs.Needs.{Need, Nothing, Earthed, Solved}
 use Rattle.gic_stand.specs.Standing.{standing_of, steps_of}
@@ -20,8 +18,7 @@ use Rattle.gic_screen_mode.specs.RightScreen.{IsRightScreen}
 use Rattle.gic_certify.specs.RightCertify.{IsRightCertify}
 use Rattle.gic_outage_mode.specs.RightOutage.{IsRightOutage}
 use Rattle.gic_review.specs.RightReview.{IsRightReview}
-use Rattle.gic_cert.specs.Written.{Certificate}
-use Rattle.gic_recheck.specs.Accepted.{IsAccepted, IsRefused}
+use Rattle.gic_recheck.specs.Accepted.{IsRefused}
 use Rattle.gic_recheck.specs.RightRecheck.{IsRightRecheck}
 use Rattle.gic_recheck.specs.declared.fault.CertificateRefusal.{CertificateRefusal}
 use Rattle.gic_make_mode.specs.RightMake.{IsRightMake}
@@ -51,64 +48,27 @@ over_network network.Certify = record { need = Solved; IsRight = IsRightCertify 
 over_network network.Outage = record { need = Solved; IsRight = IsRightOutage }
 over_network network.Review = record { need = Nothing; IsRight = IsRightReview }
 
--- what is asked for: its mode, what is needed at each step of a network, and when a text is right, where monitors with these plans see the steps of a study
+-- what is asked for: what it needs of the steps of a case, and when a text is right, where monitors with these plans see the steps of a study
 pub record Meaning : Type 1 where
-  pub mode : Mode
   pub need : Need
   pub case : Lists
   -- the elements that stand at each step
   pub steps : List (List Placed)
   pub IsRight : Plans → (text : List ℕ) → Type 0
-  -- the certificate that is asked to be checked is accepted, or refused for this reason
-  pub Passes : Type 0
-  pub Breaks : CertificateRefusal → Type 0
-
--- of a mode that is given no certificate
-abbrev plain : Mode → Need → Lists → (steps : List (List Placed)) → (IsRight : Plans → List ℕ → Type 0) → Meaning
-plain m need case steps IsRight =
-    record { mode = m; need = need; case = case; steps = steps; IsRight = IsRight; Passes = ⊤; Breaks = λ refusal. ⊥ }
 
 -- one row a mode
 abbrev pub meaning_of : Asked → Meaning
-meaning_of (Network m inputs) = plain (mode.Network m) (over_network m).need inputs.case (steps_of inputs) (λ plans. (over_network m).IsRight inputs)
-meaning_of (Study inputs detail) = plain mode.Study Solved inputs.inputs.case (storm_steps inputs) (IsRightStudy inputs detail)
-meaning_of (Make seed size) = plain mode.Make Nothing (made_case seed size) (standing_of (made_case seed size) None ∷ []) (λ plans. IsRightMake seed size)
-meaning_of (Recheck inputs certificate) = record {
-  mode = mode.Recheck;
-  need = Nothing;
-  case = inputs.case;
-  steps = steps_of inputs;
-  IsRight = λ plans. IsRightRecheck inputs certificate;
-  Passes = (c : Certificate) × IsAccepted inputs.case (standing_of inputs.case inputs.switchings) certificate c;
-  Breaks = IsRefused inputs.case (standing_of inputs.case inputs.switchings) certificate;
-}
-meaning_of (Series inputs transformer) = plain mode.Series Solved inputs.inputs.case (storm_steps inputs) (λ plans. IsRightSeries inputs transformer)
+meaning_of (Network m inputs) = record { need = (over_network m).need; case = inputs.case; steps = steps_of inputs; IsRight = λ plans. (over_network m).IsRight inputs }
+meaning_of (Study inputs detail) = record { need = Solved; case = inputs.inputs.case; steps = storm_steps inputs; IsRight = IsRightStudy inputs detail }
+meaning_of (Make seed size) = record { need = Nothing; case = made_case seed size; steps = standing_of (made_case seed size) None ∷ []; IsRight = λ plans. IsRightMake seed size }
+meaning_of (Recheck inputs certificate) = record { need = Nothing; case = inputs.case; steps = steps_of inputs; IsRight = λ plans. IsRightRecheck inputs certificate }
+meaning_of (Series inputs transformer) = record { need = Solved; case = inputs.inputs.case; steps = storm_steps inputs; IsRight = λ plans. IsRightSeries inputs transformer }
 
--- ---- its fields
-
-abbrev pub need_over_network : NetworkMode → Need
-need_over_network m = (over_network m).need
-
-abbrev pub IsRightOverNetwork : NetworkMode → Inputs → (text : List ℕ) → Type 0
-IsRightOverNetwork m = (over_network m).IsRight
-
-abbrev pub mode_asked : Asked → Mode
-mode_asked asked = (meaning_of asked).mode
-
-abbrev pub need_of : Asked → Need
-need_of asked = (meaning_of asked).need
-
-abbrev pub case_asked : Asked → Lists
-case_asked asked = (meaning_of asked).case
-
-abbrev pub steps_asked : Asked → List (List Placed)
-steps_asked asked = (meaning_of asked).steps
-
+-- a text is a right report of what is asked for
 abbrev pub IsRightText : Plans → Asked → (text : List ℕ) → Type 0
 IsRightText plans asked = (meaning_of asked).IsRight plans
 
-abbrev pub AcceptsCertificate : Asked → Type 0
-AcceptsCertificate asked = (meaning_of asked).Passes
-
+-- the certificate that is asked to be checked is refused for this reason
 abbrev pub RefusesCertificate : Asked → CertificateRefusal → Type 0
-RefusesCertificate asked = (meaning_of asked).Breaks
+RefusesCertificate (Recheck inputs certificate) refusal = IsRefused inputs.case (standing_of inputs.case inputs.switchings) certificate refusal
+RefusesCertificate _ refusal = ⊥

@@ -1,8 +1,18 @@
 //! What follows from how a call ended.
-ghost use Rattle.gic_study.specs.Laws.{RefusalsAreAnswered, LackedFilesAreWantOfMemory, UnmetNeedsAreAnswered, RefusedCertificatesAreAnswered, AcceptedIsReported, StatusesSay, TextsTellModes, CertifiedIsAccepted};
+ghost use Rattle.gic_study.specs.Laws.{AskedCasesAreSound, RefusalsAreAnswered, LackedFilesAreWantOfMemory, UnmetNeedsAreAnswered, RefusedCertificatesAreAnswered, AcceptedIsReported, StatusesSay, TextsTellModes, CertifiedIsAccepted};
 
 use gic_ask::laws::answers_of_files_law;
+use gic_case_reader::laws::accepted_law;
+use gic_make::laws::made_cases_law;
 use gic_recheck::laws::{accepted_is_not_refused_law, passing_text_is_accepted_law};
+
+/// Whatever is asked for, its case is sound.
+pub fn asked_cases_are_sound_law()
+    ensures { AskedCasesAreSound }
+{
+    accepted_law();
+    made_cases_law();
+}
 
 /// Where no fetch of a named file failed, a refusal by the words and the files is answered, want of memory aside.
 pub fn refusals_are_answered_law()

@@ -6,7 +6,8 @@ ghost use Rattle.gic_stand.specs.Serves.{shown};
 ghost use Rattle.gic_words.specs.declared.mode.NetworkMode.TheVariants as network;
 ghost use Rattle.gic_ask.specs.Within.{IsAskedWithinRanges};
 ghost use Rattle.gic_ask.specs.declared.request.Asked.TheVariants.{Make, Recheck, Series, Study};
-ghost use Rattle.gic_study.specs.Concluding.{Concludes, ConcludesOverNetwork};
+ghost use Rattle.gic_study.specs.Concluding.{Concludes};
+ghost use Rattle.gic_study.specs.ModeCalls.{ConcludesOverNetwork};
 ghost use Rattle.gic_study.specs.Modes.{Plans};
 
 use crate::fault::{Fault, rechecked, reported, studied};

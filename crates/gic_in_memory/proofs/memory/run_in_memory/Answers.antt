@@ -9,5 +9,5 @@ returns-clause-right c done =
     let empty : c.new-out.result.stream.items ≡ [] = search (rules, c.new-out.ensures.stream, c.new-2.ensures.items) in
     let whole : c.run-status.new.out.stream.items ≡ c.into_stream.result.items = search (rules, c.into_stream.ensures) in
     subst (λ (shelf : Shelf). IsReport (map string_bytes c.args.words.items) (files_of shelf.files) c.into_stream.result.items) c.new-library.ensures
-    (report c.answers_of_files_law.ensures c.statuses_say_law.ensures _ (files_of c.new-library.result.files) _ _ _ _ c.run-status.result c.into_stream.result.items
+    (report c.answers_of_files_law.ensures c.statuses_say_law.ensures _ (files_of c.new-library.result.files) _ _ c.run-status.result c.into_stream.result.items
     (ap (λ (xs : List ℕ). Some xs) empty) (ap (λ (xs : List ℕ). Some xs) whole) c.run-status.ensures.ends done)

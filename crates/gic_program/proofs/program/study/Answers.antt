@@ -28,4 +28,4 @@ returns g c =
     c.new-monitors.result.items c.push.new.self.items c.push-2.new.self.items c.push-3.new.self.items
     c.into_dyn_box.result c.into_dyn_box-2.result c.into_dyn_box-3.result
     c.new-monitors.ensures.items c.in-Ok-Ok-Ok-2.ensures.items c.in-Ok-Ok-Ok-2.ensures'.items c.in-Ok-Ok-Ok-2.ensures''.items
-    (dwells g c) (earthings g c) (losses g c) _ _ _ _ _ _ _ c.gicstudy.ensures
+    (dwells g c) (earthings g c) (losses g c) _ _ _ _ _ c.gicstudy.ensures
