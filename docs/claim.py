@@ -43,7 +43,7 @@ PARTS = (
     ("`volts`, `list` and `check`", ("gic_volts/RightVolts.IsRightVolts", "gic_list/RightList.IsRightList", "gic_check/RightCheck.IsRightCheck")),
     ("What words and files ask for", ("gic_ask/Asks.Asks",)),
     ("The lines of faults", ("gic_study/Faults.line_of_fault", "gic_study/Faults.status_of_fault")),
-    (HEADLINE, ("gic_study/Answers.Ends",)),
+    (HEADLINE, ("gic_study/Answers.CallEnds",)),
 )
 # the chapters of the first part, and the crates or files of each, in order
 CHAPTERS = (

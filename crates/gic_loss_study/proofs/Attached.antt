@@ -7,7 +7,7 @@ use Rattle.gic_monitor.specs.DwellText.{dwell_text}
 use Rattle.gic_monitor.specs.EarthText.{earth_text}
 use Rattle.gic_loss.specs.LossText.{volt_text, table_text}
 use Rattle.gic_loss.specs.declared.table_loss.NamedFactor.{NamedFactor}
-use Rattle.gic_study.specs.Answers.{Ends, Moment}
+use Rattle.gic_study.specs.Answers.{CallEnds, Moment}
 use Rattle.gic_study.specs.Modes.{Plans}
 use Rattle.gic_view.specs.View.{View}
 use Rattle.gic_loss_study.specs.CountedEnds.{four_plans, FirstEnds}
@@ -32,7 +32,7 @@ pub attached : {X : Type 0} (read : X → Plan) (none one two three four front :
     → none ≡ [] → one ≡ none ++ a ∷ [] → two ≡ one ++ b ∷ [] → three ≡ two ++ c ∷ [] → four ≡ three ++ d ∷ [] → front ≡ take count four
     → read a ≡ dwell_text → read b ≡ earth_text → read c ≡ volt_text 1 → read d ≡ table_text table
     → (words : List (List ℕ)) (files : Option Files) (before now : Moment) (status : ℕ)
-    → Ends (record { words = words; files = files; plans = λ roster views. map (λ m. read m roster views) front; before = before; now = now }) status
+    → CallEnds (record { words = words; files = files; plans = λ roster views. map (λ m. read m roster views) front; before = before; now = now }) status
     → FirstEnds count words files before now status
 attached {X = X} read none one two three four front a b c d table count start push1 push2 push3 push4 cut first second third fourth words files before now status ends =
     let all : four ≡ a ∷ b ∷ c ∷ d ∷ [] =
@@ -40,4 +40,4 @@ attached {X = X} read none one two three four front a b c d table count start pu
     let items : front ≡ take count (a ∷ b ∷ c ∷ d ∷ []) = cut ∙ ap (λ (xs : List X). take count xs) all in
     let plans : ◌≡◌ {A = Plans} (λ roster views. map (λ m. read m roster views) front) (λ roster views. take count (four_plans table roster views)) =
     ap (λ (xs : List X). λ roster views. map (λ m. read m roster views) xs) items ∙ first_plans read a b c d table count first second third fourth in
-    inl (table, subst (λ (p : Plans). Ends (record { words = words; files = files; plans = p; before = before; now = now }) status) plans ends)
+    inl (table, subst (λ (p : Plans). CallEnds (record { words = words; files = files; plans = p; before = before; now = now }) status) plans ends)

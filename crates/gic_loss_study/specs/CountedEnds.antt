@@ -7,7 +7,7 @@ use Rattle.gic_monitor.specs.DwellText.{dwell_text}
 use Rattle.gic_monitor.specs.EarthText.{earth_text}
 use Rattle.gic_loss.specs.LossText.{volt_text, table_text}
 use Rattle.gic_loss.specs.declared.table_loss.NamedFactor.{NamedFactor}
-use Rattle.gic_study.specs.Answers.{Ends, Moment}
+use Rattle.gic_study.specs.Answers.{CallEnds, Moment}
 use Rattle.gic_study.specs.Modes.{Plans}
 use Rattle.gic_program.specs.ProgramEnds.{EndsAtOnce}
 
@@ -18,7 +18,7 @@ four_plans table roster views = dwell_text roster views ∷ earth_text roster vi
 -- as the top call does with the first of these monitors, with some table; or at once with 11 where memory is wanting for them
 abbrev pub FirstEnds : (count : ℕ) (words : List (List ℕ)) (files : Option Files) (before now : Moment) (status : ℕ) → Type 0
 FirstEnds count words files before now status =
-    ((table : List NamedFactor) × Ends (record { words = words; files = files; plans = λ roster views. take count (four_plans table roster views); before = before; now = now }) status)
+    ((table : List NamedFactor) × CallEnds (record { words = words; files = files; plans = λ roster views. take count (four_plans table roster views); before = before; now = now }) status)
     ⊎ EndsAtOnce 11 before now status
 
 -- by the number that the first word writes: 2 where it is none of 0 to 4

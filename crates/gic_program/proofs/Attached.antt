@@ -5,7 +5,7 @@ use Rattle.gic_monitor.specs.RosterView.{RosterView}
 use Rattle.gic_monitor.specs.DwellText.{dwell_text}
 use Rattle.gic_monitor.specs.EarthText.{earth_text}
 use Rattle.gic_loss.specs.LossText.{volt_text}
-use Rattle.gic_study.specs.Answers.{Ends, Moment}
+use Rattle.gic_study.specs.Answers.{CallEnds, Moment}
 use Rattle.gic_study.specs.Modes.{Plans}
 use Rattle.gic_view.specs.View.{View}
 use Rattle.gic_program.specs.ProgramPlans.{program_plans}
@@ -30,9 +30,9 @@ plans_attached {X = X} read items a b c e first second third =
 pub attached : {X : Type 0} (read : X → Plan) (none one two three : List X) (a b c : X) → none ≡ [] → one ≡ none ++ a ∷ [] → two ≡ one ++ b ∷ [] → three ≡ two ++ c ∷ []
     → read a ≡ dwell_text → read b ≡ earth_text → read c ≡ volt_text 1
     → (words : List (List ℕ)) (files : Option Files) (before now : Moment) (status : ℕ)
-    → Ends (record { words = words; files = files; plans = λ roster views. map (λ m. read m roster views) three; before = before; now = now }) status
+    → CallEnds (record { words = words; files = files; plans = λ roster views. map (λ m. read m roster views) three; before = before; now = now }) status
     → ProgramEnds words files before now status
 attached {X = X} read none one two three a b c start push1 push2 push3 first second third words files before now status ends =
     let items : three ≡ a ∷ b ∷ c ∷ [] =
     push3 ∙ ap (λ (xs : List X). xs ++ c ∷ []) (push2 ∙ ap (λ (xs : List X). xs ++ b ∷ []) (push1 ∙ ap (λ (xs : List X). xs ++ a ∷ []) start)) in
-    inl (subst (λ (plans : Plans). Ends (record { words = words; files = files; plans = plans; before = before; now = now }) status) (plans_attached read three a b c items first second third) ends)
+    inl (subst (λ (plans : Plans). CallEnds (record { words = words; files = files; plans = plans; before = before; now = now }) status) (plans_attached read three a b c items first second third) ends)

@@ -67,7 +67,7 @@ Tells before now (Ok done) = Keeps before.bytes now.bytes
 Tells before now (Err fault) = TellsLine before now (line_of_fault fault)
 
 -- how a call ended: its status, what was added to the output and the line on the error sink are those of an answer that has its reason
-pub record Ends (call : Call) (status : ℕ) : Type 0 where
+pub record CallEnds (call : Call) (status : ℕ) : Type 0 where
   pub answer : Answer
   pub status_is : status ≡ status_of answer
   pub explained : Explains call answer

@@ -32,7 +32,7 @@ use Rattle.gic_inputs.specs.declared.inputs.Inputs.{Inputs}
 use Rattle.gic_stand.specs.declared.fault.NetworkRefusal.{NetworkRefusal}
 use Rattle.gic_stand.specs.declared.fault.NetworkRefusal.TheVariants.{Unearthed, Unresolved}
 use Rattle.gic_stand.specs.declared.fault.ReportFault.TheVariants as report
-use Rattle.gic_study.specs.Answers.{Call, AsksFor, Unasked, Served, Ends}
+use Rattle.gic_study.specs.Answers.{Call, AsksFor, Unasked, Served, CallEnds}
 use Rattle.gic_study.specs.Faults.{status_of_fault}
 use Rattle.gic_study.specs.Modes.{Plans, meaning_of, IsRightText, RefusesCertificate}
 use Rattle.gic_study.specs.declared.fault.Fault.TheVariants.{Input, Report, Certificate as CertificateFault, Memory}
@@ -77,27 +77,27 @@ pub record Finds (call : Call) (found : Outcome Asked) : Type 0 where
 
 -- a refusal by the words and the files is answered, want of memory aside
 abbrev pub RefusalsAreAnswered : Type 0
-RefusalsAreAnswered = (call : Call) (status : ℕ) → Ends call status → (refusal : InputRefusal) → Finds call (Refuses refusal) →
+RefusalsAreAnswered = (call : Call) (status : ℕ) → CallEnds call status → (refusal : InputRefusal) → Finds call (Refuses refusal) →
     (status ≡ status_of_fault (Input (Refused refusal))) ⊎ (status ≡ 11)
 
 -- a file that is named and isn't there, though no fetch of it failed, is told as want of memory
 abbrev pub LackedFilesAreWantOfMemory : Type 0
-LackedFilesAreWantOfMemory = (call : Call) (status : ℕ) → Ends call status → (file : File) → Finds call (Lacks file) → status ≡ 11
+LackedFilesAreWantOfMemory = (call : Call) (status : ℕ) → CallEnds call status → (file : File) → Finds call (Lacks file) → status ≡ 11
 
 -- a refusal of the network of what is accepted is answered, want of memory aside
 abbrev pub UnmetNeedsAreAnswered : Type 0
-UnmetNeedsAreAnswered = (call : Call) (status : ℕ) → Ends call status → (asked : Asked) → Finds call (Accepts asked) →
+UnmetNeedsAreAnswered = (call : Call) (status : ℕ) → CallEnds call status → (asked : Asked) → Finds call (Accepts asked) →
     (refusal : NetworkRefusal) → IsUnmet (need_of asked) (case_asked asked) (steps_asked asked) refusal →
     (status ≡ status_of_fault (Report (report.Refused refusal))) ⊎ (status ≡ 11)
 
 -- a refusal of the certificate that is asked to be checked is answered, want of memory aside
 abbrev pub RefusedCertificatesAreAnswered : Type 0
-RefusedCertificatesAreAnswered = (call : Call) (status : ℕ) → Ends call status → (asked : Asked) → Finds call (Accepts asked) →
+RefusedCertificatesAreAnswered = (call : Call) (status : ℕ) → CallEnds call status → (asked : Asked) → Finds call (Accepts asked) →
     (refusal : CertificateRefusal) → RefusesCertificate asked refusal → (status ≡ 13) ⊎ (status ≡ 11)
 
 -- what is accepted is reported where its need is met, a certificate that it is given is accepted too, and no write failed, want of memory aside
 abbrev pub AcceptedIsReported : Type 0
-AcceptedIsReported = (call : Call) (status : ℕ) → Ends call status → (asked : Asked) → Finds call (Accepts asked) →
+AcceptedIsReported = (call : Call) (status : ℕ) → CallEnds call status → (asked : Asked) → Finds call (Accepts asked) →
     IsMet (need_of asked) (steps_asked asked) → AcceptsCertificate asked → ¬ Rose call.before.out.faults call.now.out.faults →
     (status ≡ 0) ⊎ (status ≡ 11)
 
@@ -121,7 +121,7 @@ pub record StatusSays (call : Call) (status : ℕ) : Type 0 where
   pub nothing : status ≢ 0 → status ≢ 4 → Keeps call.before.out.bytes call.now.out.bytes
 
 abbrev pub StatusesSay : Type 0
-StatusesSay = (call : Call) (status : ℕ) → Ends call status → StatusSays call status
+StatusesSay = (call : Call) (status : ℕ) → CallEnds call status → StatusSays call status
 
 -- ---- of right texts
 
