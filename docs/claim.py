@@ -43,7 +43,7 @@ PARTS = (
     ("`volts`, `list` and `check`", ("gic_volts/RightVolts.IsRightVolts", "gic_list/RightList.IsRightList", "gic_check/RightCheck.IsRightCheck")),
     ("What words and files ask for", ("gic_ask/Asks.Asks",)),
     ("The lines of faults", ("gic_study/Faults.line_of_fault", "gic_study/Faults.status_of_fault")),
-    (HEADLINE, ("gic_study/Answers.CallEnds",)),
+    (HEADLINE, ("gic_study/Answers.moment", "gic_study/Answers.CallEnds")),
 )
 # the chapters of the first part, and the crates or files of each, in order
 CHAPTERS = (
@@ -62,50 +62,64 @@ THE CLAIM
 
 All definitions that the headline of gicstudy says, in the order in which a reader needs them; made by
 `python3 docs/claim.py --write`. docs/DEFINITIONS.md has the words, the units, and a table of the parts with lines and
-minutes; docs/PROMISES.md says in sentences what is claimed, and which laws stand beside it. Imports are left out. Under each
-definition stands which others cite it; none cites one that comes later. The types and the constants of the code stand in
-front of the first definition that speaks of them, with the file that declares them; `steps` of a storm, certificates and
-monitors come in parts 3, 5 and 3.
+minutes; docs/PROMISES.md says in sentences what is claimed, which laws stand beside it, and what is trusted. Imports are left
+out. Under each definition stands which others cite it; none cites one that comes later. The types and the constants of the
+code stand in front of the first definition that speaks of them, with the file that declares them. Steps of a storm and
+monitors come in part 3, certificates in part 5.
 
-Notation. A record holds where all its fields do; `A -> Type 0` is a predicate; `abbrev` and `unfoldable` stand in front of
-definitions, of which the second are unfolded only where a proof asks for it. `pos n` is the natural number n as a whole
-number; the signs with a Z are on whole numbers, those without on natural ones, where `a - b` is 0 where b is above a.
-`p.0` and `p.1` are the parts of a pair, and `.0` is the number in a place such as `NodeId`. `x or y` as a type is
-written with a plus in a ring, `and` as a product; `Unit {0}` and the T sign are true, the turned one false. A value of the
-code stands for what it holds: a number of 16 bits for that number, a `Name` for its bytes, a `Case` for its `Lists`,
-`Switchings` for the list of its rows.
+Notation. A record holds where all its fields do; `A → Type 0` is a predicate; `abbrev` and `unfoldable` stand in front of
+definitions, of which the second are unfolded only where a proof asks for it. Of statements `P × Q` is "and", `P ⊎ Q` "or",
+`¬ P` "not", `(k : ℕ) × P k` "there is a k with", `(k : ℕ) → P k` "for each k"; `⊤` and `Unit {0}` are true, `⊥` is false; `≡`
+is equal, `≢` is not. Of values `A × B` are pairs, with `p.0` and `p.1`; `.0` is also the number in a place such as `NodeId`.
+`pos n` is the natural number n as a whole number; signs with a ℤ are on whole numbers, those without on natural ones, where
+`a - b` is 0 where b is above a. A name with a dot in front of a variant (`kinds.Auto`, `item.Line`, `role.High`) is a short
+name of its type. A value of the code stands for what it holds: a number of 16 bits for that number, a `Name` for its bytes,
+a `Case` for its `Lists`, `Switchings` for the list of its rows.
 
 From the standard library. `codes "w"` are the bytes of a word, `decimal n` and `signed_decimal z` the digits of a number
-without zeros in front, with `-` below 0. `enumerate_from n xs` pairs each entry with its place, counted from n;
-`slice_index_or xs k d` is the entry at place k, and d past the end; `option_map_or f o d` is f of what is there, else d.
-`int_div_euclid z d` is the quotient rounded down for d above 0. `All P xs` says P of each entry, `IfSome o P` of what is
-there. `Appends old new bytes` says of bytes that are told (`Some`) that the new ones are the old ones and then `bytes`;
-`Keeps old new` that they are the same; of bytes that aren't told (`None`) both say nothing.
+without zeros in front, with `-` below 0; `string_bytes` the bytes of a text. `enumerate_from n xs` pairs each entry with its
+place, counted from n; `slice_index_or xs k d` is the entry at place k, and d past the end; `find` is the first entry that
+passes a test, `filter` those that do, `list_any` whether one does; `option_map_or f o d` is f of what is there, else d, and
+`unwrap_or` what is there, else the other. `int_div_euclid z d` is the quotient rounded down for d above 0. `IsTrue b` says that
+a test came out true, `All P xs` P of each entry, `IfSome o P` of what is there. `Appends old new bytes` says of bytes that are
+told (`Some`) that the new ones are the old ones and then `bytes`; `Keeps old new` that they are the same; of bytes that
+aren't told (`None`) both say nothing.
 """
 # what a reader of a part should know that its definitions don't say
 NOTES = {
     FIRST: (
         "Every claim is of all solutions. That there is one where each live node is earthed, and that any two agree at live nodes",
-        "and in currents, are laws (`solutions_exist_law` of gic_claims, `agreement_law` of gic_model). An accepted case keeps the",
-        "rules of part 11: no line with one bus for two, resistances from 1000 to 10^9 micro-ohm, both buses of a transformer in one",
-        "substation, no low voltage above the high one, and high voltages of at least 1000 V; where a definition says something odd",
-        "of other cases (a denominator 0, a difference cut at 0), no accepted case gets there. What follows of a right report, as",
-        "that its verdicts are true, is said by laws beside it.",
+        "and in currents, are laws (`solutions_exist_law` of gic_claims, `agreement_law` of gic_model). What follows of a right",
+        "report is said by laws beside it: of `field` that the absolute intervals hold and are narrow, and that its verdicts are",
+        "true (`field_verdicts_law`). Bound vectors and the walk are there for status 9 alone: it refuses a network that is",
+        "earthed, and so has a solution, but not within 4096.",
+        "An accepted case keeps the rules of part 11: no two things of one name, no line or transformer whose two buses are one,",
+        "both buses of a transformer in one substation, no low voltage above the high one, high voltages of at least 1000 V,",
+        "resistances from 1000 to 10^9 micro-ohm. Where a definition says something odd of other cases (a denominator 0, a",
+        "difference cut at 0, an element from a node to itself), no accepted case gets there.",
+        "The current of an element is that of all its paths together; effective currents are per phase. mV/km times m is microvolt,",
+        "and tenths (alpha) times hundredths (beta) are thousandths: so their product is in nanovolt. Alpha is that of the first row",
+        "whose latitude is not under the given one, without interpolation.",
     ),
     HEADLINE: (
         "A call has an answer: done (status 0), or one fault. Faults of input (2, 3, 5, 6, 7, 10, 12) are told by parts 11 and 12,",
-        "8 and 9 are that the network doesn't meet the need of the mode, 4 that the output can't be written, 13 that a certificate",
-        "is refused, and 11 that memory is wanting, which is an answer to any call: that an answer other than 11 comes is no part",
-        "of the headline, but said by laws of gic_study (PROMISES), and in the contract of each mode's call, which has no such",
-        "answer once its room is made. The streams and the files of the system tell no bytes: of a run over them the headline",
-        "says that some right text was written, or which fault there was; the same code over a sink that tells its bytes is proved",
-        "to write that text (gic_in_memory).",
+        "8 and 9 are that the network doesn't meet the need of the mode, 4 that the output can't be written (a part of the text was",
+        "written, perhaps none or all of it), 13 that a certificate is refused, 11 that memory is wanting. Status 11 is an answer",
+        "to any call: a program that always gave it would satisfy the headline. That others come is said by laws of gic_study",
+        "(`accepted_is_reported_law` and others in PROMISES), and by the contract of each mode's call, which has no such answer once",
+        "the mode's room is made, that is, once all its memory is taken.",
+        "The files and the streams of the system tell no bytes. Of a run over them the headline says only that there are bytes which",
+        "the files may have held and for which a right text exists, or which fault there was; that the same code writes this text is",
+        "what it says over a sink that tells its bytes (gic_in_memory has one). `gicstudy` here is the call that the program",
+        "makes: `run` of gic_program hands it the program's monitors (`ProgramEnds`), or ends at once with 2 or 11 (`EndsAtOnce`).",
     ),
 }
 USE = re.compile(r"^(?:pub )?use Rattle\.(\w+)\.specs\.([\w.]+?)(?:\.\{(.*)\}| as (\w+))?$")
 DEFINED = re.compile(r"^(?:unfoldable |abbrev )*(?:pub )?(?:(record|data) )?(\S+)")
 TOKEN = re.compile(r"[A-Za-z_][\w'-]*(?:\.[A-Za-z_][\w'-]*)*|>>=|←")
 MEMBER = re.compile(r"^  (?:pub )?([\w'-]+) :")
+# the name of a field, where a record declares it or is made
+FIELD = re.compile(r"(?m)^  (?:pub )?[\w'-]+(?= :)|(?<=[{;] )[\w'-]+(?= = )|(?m:^ +)[\w'-]+(?= = )")
 
 
 @dataclass
@@ -228,6 +242,7 @@ def resolve(files: dict[str, File]) -> dict[str, Definition]:
         own = {bare(name): definition for definition in file.definitions for name in definition.names}
         for definition in file.definitions:
             code = "\n".join(line for line in definition.lines if not line.startswith("--"))
+            code = FIELD.sub(" ", code)
             for token in TOKEN.findall(code):
                 word = ">>=" if token == "←" else token.partition(".")[0]
                 if word in file.declared:
@@ -363,7 +378,7 @@ def declared_in(top: Path) -> dict[str, str]:
     found: dict[str, list[str]] = {}
     for path in sorted(top.glob("crates/gic_*/src/**/*.rt")):
         crate, _, rest = str(path.relative_to(top / "crates")).partition("/src/")
-        for name in re.findall(r"(?m)^pub (?:struct|enum) (\w+)", path.read_text(encoding="utf-8")):
+        for name in re.findall(r"(?m)^pub (?:struct|enum|const) (\w+)", path.read_text(encoding="utf-8")):
             found.setdefault(name, []).append(f"{crate}/{rest.removesuffix('.rt')}.{name}")
     return {name: keys[0] for name, keys in found.items() if len(keys) == 1}
 
@@ -393,7 +408,8 @@ def declarations(top: Path, key: str, known: dict[str, str], told: set[str]) -> 
     told.add(key)
     lines = declaration(top, key)
     code = "\n".join(line for line in lines[2:] if not line.strip().startswith("///"))
-    below = [known[word] for word in re.findall(r"[:(<,] *(?:pub )?([A-Z]\w+)", code) if word in known]
+    names = re.findall(r"[:(<,] *(?:pub )?([A-Z]\w+)", code) + re.findall(r"\b[A-Z][A-Z_]+\b", code.partition(" = ")[2])
+    below = [known[word] for word in names if word in known]
     return [line for other in dict.fromkeys(below) for line in declarations(top, other, known, told)] + lines
 
 
