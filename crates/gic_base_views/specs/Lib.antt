@@ -1,0 +1,2 @@
+pub mod BaseRows
+pub mod Superposed

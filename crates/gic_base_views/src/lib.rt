@@ -1,0 +1,4 @@
+//! Views whose intervals are superposed from those in base fields.
+#![tactic(auto)]
+
+pub mod laws;
