@@ -1,1 +1,2 @@
 pub mod RightViews
+pub mod Bases

@@ -1,10 +1,9 @@
 -- A view of certified rows is right and narrow.
-use Rattle.std.proofs.Common.{◌≡◌, ℕ, zero, suc, ◌*◌, ◌<◌, ◌≤◌, Bool, true, false, Option, None, Some, List, All, length, IsTrue, IsFalse, ℤ, pos, ◌+ℤ◌, ◌*ℤ◌, arith, refl, ap, ap₂, sym, subst, ◌∙◌}
-use Rattle.std.proofs.lemmas.Int.{ints}
+use Rattle.std.proofs.Common.{◌≡◌, ℕ, zero, suc, ◌*◌, ◌<◌, ◌≤◌, Bool, true, false, Some, List, length, ℤ, pos, ◌+ℤ◌, ◌*ℤ◌, arith, refl, ap, ap₂, sym, subst, ◌∙◌}
 use Rattle.std.proofs.lemmas.List.Elements.{All-get_or}
 use lib.IntN.{*ℤ_comm, *ℤ-zero}
 use Rattle.std.specs.Int.{int_min, int_max}
-use Rattle.gic_case.specs.Lists.{Lists, node_names}
+use Rattle.gic_case.specs.Lists.{Lists}
 use Rattle.gic_fixed.specs.Encloses.{Encloses}
 use Rattle.gic_fixed.specs.Ends.{Ends, no_ends, IsAtMostWide}
 use Rattle.gic_fixed.specs.Rounding.{floor_div, ceil_div}
@@ -15,18 +14,18 @@ use Rattle.gic_model.specs.declared.parts.Item.{Item}
 use Rattle.gic_model.specs.Earthing.{AreEarthed}
 use Rattle.gic_model.specs.Limits.{IsWithinLimits}
 use Rattle.gic_model.specs.Solution.{Solution, IsSolution}
-use Rattle.gic_model.specs.Standing.{IsLive, is_live, is_standing, standing_elements}
+use Rattle.gic_model.specs.Standing.{is_live, is_standing, standing_elements}
 use Rattle.gic_model.specs.Sums.{Placed}
 use Rattle.gic_model.specs.Voltages.{number_at}
-use Rattle.gic_view.specs.View.{View, node_at, element_at, effective_at}
+use Rattle.gic_view.specs.View.{View}
 use Rattle.gic_winding.specs.ElementList.{elements_of}
 use Rattle.gic_winding.specs.Weights.{transformer_at, weighted_windings}
 use Rattle.gic_effective.specs.Narrow.{IsNarrowView, IsNoWider}
-use Rattle.gic_effective.specs.RightView.{IsRightView, IsRightNode, IsRightElement, IsRightEffective, HasNoStandingWinding}
+use Rattle.gic_effective.specs.RightView.{IsRightView, IsRightNode, IsRightElement, IsRightEffective}
 use Rattle.gic_effective.specs.Weighted.{effective_numerator, effective_denominator}
 use Rattle.gic_bases.proofs.BaseVolts.{volts_combine}
 use Rattle.gic_bases.specs.Bases.{north_volts, east_volts, sum_below}
-use Rattle.gic_superpose.specs.Superposed.{ZoneEnds, no_zone_ends, zone_at, low_part, high_part, zone_low, zone_high, sum_low, sum_high, superposed}
+use Rattle.gic_superpose.specs.Superposed.{ZoneEnds, no_zone_ends, zone_at, zone_low, zone_high, superposed}
 use Rattle.gic_superpose.specs.Quantities.{IsLinear, AreMadeOf}
 use Rattle.gic_superpose.proofs.Linear.{potential_linear, current_linear, weighted_linear}
 use Rattle.gic_superpose.proofs.Enclosing.{superposed_held}

@@ -16,7 +16,7 @@ use Rattle.gic_winding.specs.ElementList.{elements_of}
 use Rattle.gic_effective.specs.Narrow.{IsNarrowView}
 use Rattle.gic_effective.specs.RightView.{IsRightView}
 use Rattle.gic_effective.specs.ViewLengths.{HasViewLengths}
-use Rattle.gic_superpose.specs.Superposed.{ZoneEnds, superposed}
+use Rattle.gic_superpose.specs.Superposed.{superposed}
 use Rattle.gic_base_views.specs.BaseRows.{BaseRows, AreCertifiedRows}
 
 -- an interval where something shows, and none elsewhere
