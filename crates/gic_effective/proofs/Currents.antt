@@ -54,8 +54,13 @@ potential_holds lo hi p d e =
     let high = ceil_div hi (pos (1000000 * 2 ^ 36)) in
     Encloses-cancel low high p (1000000 * d) (2 ^ 36) (omega arith) (subst (λ (m : ℕ). Encloses low high (pos (2 ^ 36) *ℤ p) m) same out)
 
+-- and outward in nanovolts
+pub potential_nano_holds : (lo hi p : ℤ) (d : ℕ) → Encloses lo hi (pos (2 ^ 36) *ℤ p) d → Encloses (floor_div lo (pos (2 ^ 36))) (ceil_div hi (pos (2 ^ 36))) p d
+potential_nano_holds lo hi p d e =
+    Encloses-cancel (floor_div lo (pos (2 ^ 36))) (ceil_div hi (pos (2 ^ 36))) p d (2 ^ 36) (omega arith) (Encloses-div_out lo hi (pos (2 ^ 36) *ℤ p) d (2 ^ 36) (omega arith) e)
+
 -- what is at most m times d has a quotient that is at most m
-floor_small : (z : ℤ) (d m : ℕ) → 0 < d → unsigned_abs z ≤ d * m → unsigned_abs (floor_div z (pos d)) ≤ m
+pub floor_small : (z : ℤ) (d m : ℕ) → 0 < d → unsigned_abs z ≤ d * m → unsigned_abs (floor_div z (pos d)) ≤ m
 floor_small z d m h k =
     let turned = *ℤ-neg_ℤ (pos d) (pos m) in
     let product : pos d *ℤ pos m ≡ pos (d * m) = refl in
@@ -64,7 +69,7 @@ floor_small z d m h k =
     omega (arith, ints, least, most)
 
 -- so has what is rounded up
-ceil_small : (z : ℤ) (d m : ℕ) → 0 < d → unsigned_abs z ≤ d * m → unsigned_abs (ceil_div z (pos d)) ≤ m
+pub ceil_small : (z : ℤ) (d m : ℕ) → 0 < d → unsigned_abs z ≤ d * m → unsigned_abs (ceil_div z (pos d)) ≤ m
 ceil_small z d m h k =
     let q = floor_div (neg_ℤ z) (pos d) in
     let turned = abs-neg_ℤ z in

@@ -6,8 +6,12 @@ use Rattle.gic_fixed.specs.Rounding.{floor_div, ceil_div}
 use Rattle.gic_fixed.proofs.Integers.{linear, *ℤ-≤ℤ, *ℤ--ℤ, *ℤ_assoc}
 use Rattle.gic_fixed.proofs.Widths.{times_width, wider}
 use Rattle.gic_fixed.proofs.Divisions.{outward_width, floor_below, ceil_above, floor-floor, ceil-ceil, floor-cancel, ceil-cancel}
+use Rattle.gic_model.specs.declared.parts.End.{End}
+use Rattle.gic_model.specs.declared.parts.End.TheVariants.{Node, Earth}
+use Rattle.gic_model.specs.Standing.{value_at}
+use Rattle.gic_model.specs.Sums.{Placed}
 use Rattle.gic_base.specs.declared.id.ElementId.{ElementId}
-use Rattle.gic_effective.specs.Ohm.{current_low, current_high}
+use Rattle.gic_effective.specs.Ohm.{current_low, current_high, least_nano, most_nano}
 use Rattle.gic_fixed.specs.Ends.{IsAtMostWide}
 use Rattle.gic_effective.specs.WeightedPair.{weighted, weight_in}
 
@@ -78,6 +82,48 @@ effective_width first second volts lo hi lo' hi' width some least sum one other 
     let b : IsAtMostWide (1000000 * (k + 1)) lo' hi' = subst (λ (n : ℕ). IsAtMostWide (1000000 * n) lo' hi') (sym same) (inner_width lo' hi' 1000000 width (omega arith) other) in
     subst (λ (n : ℕ). IsAtMostWide n (floor_div (weighted first lo +ℤ weighted second lo') (pos (3000000 * volts))) (ceil_div (weighted first hi +ℤ weighted second hi') (pos (3000000 * volts)))) same
     (effective_by first second volts lo hi lo' hi' k some (omega arith) sum a b)
+
+-- from potentials at most 2^32 grains wide a current in nanoamperes is at most 400 wide
+drive_tight : (push flo fhi tlo thi : ℤ) → IsAtMostWide (2 ^ 32) flo fhi → IsAtMostWide (2 ^ 32) tlo thi → IsAtMostWide (2 ^ 33) (flo -ℤ thi +ℤ push) (fhi -ℤ tlo +ℤ push)
+drive_tight push flo fhi tlo thi h k = omega (arith, ints)
+
+nano_tight : (times r : ℕ) (push flo fhi tlo thi : ℤ) → times ≤ 3 → 1000 ≤ r → IsAtMostWide (2 ^ 32) flo fhi → IsAtMostWide (2 ^ 32) tlo thi
+    → IsAtMostWide 400 (current_low times r (flo -ℤ thi +ℤ push)) (current_high times r (fhi -ℤ tlo +ℤ push))
+nano_tight times r push flo fhi tlo thi three thousand from to =
+    let low = flo -ℤ thi +ℤ push in
+    let high = fhi -ℤ tlo +ℤ push in
+    let c = times * 1000000 in
+    let product : IsAtMostWide (c * 2 ^ 33) (pos c *ℤ low) (pos c *ℤ high) = times_width low high c (2 ^ 33) (drive_tight push flo fhi tlo thi from to) in
+    let more : c * 2 ^ 33 ≤ r * 2 ^ 36 * 375 = omega (arith, three, thousand) in
+    let quotient : IsAtMostWide 376 (current_low times r low) (current_high times r high) =
+    outward_width (pos c *ℤ low) (pos c *ℤ high) (r * 2 ^ 36) 375 (omega (arith, thousand)) (wider (pos c *ℤ low) (pos c *ℤ high) (c * 2 ^ 33) (r * 2 ^ 36 * 375) more product) in
+    wider (current_low times r low) (current_high times r high) 376 400 (omega arith) quotient
+
+end_tight : (low high : ℕ → ℤ) → ((k : ℕ) → IsAtMostWide (2 ^ 32) (low k) (high k)) → (e : End) → IsAtMostWide (2 ^ 32) (value_at low e) (value_at high e)
+end_tight low high h (Node m) = h m.0
+end_tight low high h Earth = omega (arith, ints)
+
+pub element_tight : (volts low high : ℕ → ℤ) (p : Placed) → p.1.times ≤ 3 → 1000 ≤ p.1.micro_ohm → ((k : ℕ) → IsAtMostWide (2 ^ 32) (low k) (high k))
+    → IsAtMostWide 400 (least_nano volts low high p) (most_nano volts low high p)
+element_tight volts low high p three thousand h =
+    nano_tight p.1.times p.1.micro_ohm (pos (2 ^ 36) *ℤ volts p.0) (low p.1.from.0) (high p.1.from.0) (value_at low p.1.to) (value_at high p.1.to) three thousand (h p.1.from.0) (end_tight low high h p.1.to)
+
+pub potential_tight : (lo hi : ℤ) → IsAtMostWide (2 ^ 32) lo hi → IsAtMostWide 400 (floor_div lo (pos (2 ^ 36))) (ceil_div hi (pos (2 ^ 36)))
+potential_tight lo hi h =
+    wider (floor_div lo (pos (2 ^ 36))) (ceil_div hi (pos (2 ^ 36))) 2 400 (omega arith) (outward_width lo hi (2 ^ 36) 1 (omega arith) (wider lo hi (2 ^ 32) (2 ^ 36 * 1) (omega arith) h))
+
+-- an effective current in nanoamperes is at most as wide as the currents of its windings
+pub effective_tight : (first second : Option (ElementId × ℕ)) (volts : ℕ) (lo hi lo' hi' : ℤ) → 1 ≤ volts → weight_in first + weight_in second ≤ 2 * volts →
+    IsAtMostWide 400 lo hi → IsAtMostWide 400 lo' hi' →
+    IsAtMostWide 400 (floor_div (weighted first lo +ℤ weighted second lo') (pos (3 * volts))) (ceil_div (weighted first hi +ℤ weighted second hi') (pos (3 * volts)))
+effective_tight first second volts lo hi lo' hi' some sum one other =
+    let low = weighted first lo +ℤ weighted second lo' in
+    let high = weighted first hi +ℤ weighted second hi' in
+    let most = weight_in first * 400 + weight_in second * 400 in
+    let both : IsAtMostWide most low high =
+    sum_width (weighted first lo) (weighted first hi) (weighted second lo') (weighted second hi') (weight_in first * 400) (weight_in second * 400) (part_width first lo hi 400 one) (part_width second lo' hi' 400 other) in
+    wider (floor_div low (pos (3 * volts))) (ceil_div high (pos (3 * volts))) 268 400 (omega arith)
+    (outward_width low high (3 * volts) 267 (omega (arith, some)) (wider low high most (3 * volts * 267) (omega (arith, sum)) both))
 
 -- an interval with equal ends
 pub same_width : (lo hi lo' hi' : ℤ) (w : ℕ) → lo ≡ lo' → hi ≡ hi' → IsAtMostWide w lo' hi' → IsAtMostWide w lo hi

@@ -67,6 +67,26 @@ pub fn current_na(net: &Net, volts: &Volts, potentials: &Potentials, element: El
     )
 }
 
+/// The same, with how wide it is where no potential's interval is wider than 2^32 grains: at most 400 nanoamperes.
+pub fn tight_current_na(
+    net: &Net,
+    volts: &Volts,
+    potentials: &Potentials,
+    element: ElementId,
+) -> Interval
+    requires together { AreOfNetwork net.now.network volts.now potentials.now }
+    requires element { element.0 < length net.now.network.list }
+    requires stands { IsTrue (is_standing (standing net.now) element.0) }
+    ensures holds { (s : Solution) → IsSolution (standing net.now) (number_at volts.now) s → HoldsSolution (standing net.now) potentials.now s →
+        Encloses result.lo result.hi (s.current element.0) s.denominator }
+    ensures small { IsWithin (2 ^ 80) result.lo result.hi }
+    ensures tight { ((k : ℕ) → IsAtMostWide (2 ^ 32) (low_at potentials.now k) (high_at potentials.now k)) → IsAtMostWide 400 result.lo result.hi }
+{
+    // Brings that the element is within its limits.
+    let _row = net.element(element);
+    current_na(net, volts, potentials, element)
+}
+
 /// Nanoamperes to milliamperes, rounded outward.
 pub fn milli(interval: Interval) -> Interval
     ensures low { result.lo ≡ floor_div interval.lo (pos 1000000) }

@@ -50,3 +50,28 @@ pub fn signed_effective(weights: &Weights, first: Interval, second: Interval) ->
         .add(part(weights.second, second))
         .div_out(3_000_000 * weights.high_volts as i128)
 }
+
+/// The same in nanoamperes per phase.
+pub fn effective_na(weights: &Weights, first: Interval, second: Interval) -> Interval
+    requires volts { 1 ≤ weights.now.high_volts }
+    requires first { IsWithin (2 ^ 80) first.lo first.hi }
+    requires second { IsWithin (2 ^ 80) second.lo second.hi }
+    ensures low { result.lo ≡ floor_div (weighted_sum weights.now first.lo second.lo) (pos (3 * weights.now.high_volts)) }
+    ensures high { result.hi ≡ ceil_div (weighted_sum weights.now first.hi second.hi) (pos (3 * weights.now.high_volts)) }
+    ensures holds { (one other : ℤ) (denominator : ℕ) →
+        Encloses first.lo first.hi one denominator →
+        Encloses second.lo second.hi other denominator →
+        Encloses result.lo result.hi (weighted_sum weights.now one other) (3 * weights.now.high_volts * denominator) }
+
+    // Where the weights add up to no more than twice the voltage of the high side, no end is beyond those of the currents'
+    // bound, and from currents at most 400 nanoamperes wide it is at most as wide.
+    ensures small { weight_in weights.now.first + weight_in weights.now.second ≤ 2 * weights.now.high_volts → IsWithin (2 ^ 80) result.lo result.hi }
+    ensures tight { weight_in weights.now.first + weight_in weights.now.second ≤ 2 * weights.now.high_volts →
+        IsAtMostWide 400 first.lo first.hi →
+        IsAtMostWide 400 second.lo second.hi →
+        IsAtMostWide 400 result.lo result.hi }
+{
+    let one = part(weights.first, first);
+    let other = part(weights.second, second);
+    one.add(other).div_out(3 * weights.high_volts as i128)
+}

@@ -9,7 +9,7 @@ mod potential;
 mod view;
 mod winding;
 
-pub use current::{current_na, milli};
-pub use effective::signed_effective;
-pub use potential::potential_mv;
+pub use current::{current_na, milli, tight_current_na};
+pub use effective::{effective_na, signed_effective};
+pub use potential::{potential_mv, potential_nv};
 pub use view::{fill_view, view_of_case};

@@ -1,7 +1,8 @@
 //! The potential of a node.
-ghost use Rattle.std.specs.Prelude.{◌≡◌, ◌*◌, ◌<◌, length, pos};
+ghost use Rattle.std.specs.Prelude.{◌≡◌, ◌*◌, ◌^◌, ◌<◌, length, pos};
 ghost use Rattle.gic_fixed.specs.Rounding.{floor_div, ceil_div};
-ghost use Rattle.gic_fixed.specs.Encloses.{Encloses};
+ghost use Rattle.gic_fixed.specs.Encloses.{Encloses, IsWithin};
+ghost use Rattle.gic_fixed.specs.Ends.{IsAtMostWide};
 ghost use Rattle.gic_model.specs.Sharp.{millivolt};
 ghost use Rattle.gic_model.specs.Solution.{Solution};
 ghost use Rattle.gic_enclose.specs.Ends.{low_at, high_at};
@@ -21,4 +22,19 @@ pub fn potential_mv(potentials: &Potentials, node: NodeId) -> Interval
     ensures holds { (s : Solution) → HoldsAt potentials.now s node.0 → Encloses result.lo result.hi (s.potential node.0) (1000000 * s.denominator) }
 {
     potentials.get(node).div_out(1_000_000 * GRAINS)
+}
+
+/// The potential of a node in nanovolts, rounded outward from the grains of its interval. It holds the node's potential
+/// in every solution in which the interval does.
+pub fn potential_nv(potentials: &Potentials, node: NodeId) -> Interval
+    requires { node.0 < length potentials.now }
+    ensures low { result.lo ≡ floor_div (low_at potentials.now node.0) (pos (2 ^ 36)) }
+    ensures high { result.hi ≡ ceil_div (high_at potentials.now node.0) (pos (2 ^ 36)) }
+    ensures holds { (s : Solution) → HoldsAt potentials.now s node.0 → Encloses result.lo result.hi (s.potential node.0) s.denominator }
+    ensures small { IsWithin (2 ^ 80) result.lo result.hi }
+
+    // Where the interval is at most 2^32 grains wide, the potential in nanovolts is at most 400 wide.
+    ensures tight { IsAtMostWide (2 ^ 32) (low_at potentials.now node.0) (high_at potentials.now node.0) → IsAtMostWide 400 result.lo result.hi }
+{
+    potentials.get(node).div_out(GRAINS)
 }

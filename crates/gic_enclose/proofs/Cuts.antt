@@ -52,6 +52,15 @@ cut_narrow x lo hi v t r small step e le he =
     plain : (x lo hi : ℤ) (r : ℕ) → r ≤ 2 ^ 42 → lo ≡ cut (x -ℤ pos r) → hi ≡ cut (x +ℤ pos r) → (hi -ℤ lo) ≤ℤ pos (2 ^ 43)
     plain x lo hi r b le he = omega (arith, ints, clamps)
 
+pub cut_tight : (x lo hi : ℤ) (v t r : ℕ) → v ≤ 4096 → t ≤ 2 ^ 19 → r ≡ v * t → lo ≡ cut (x -ℤ pos r) → hi ≡ cut (x +ℤ pos r) → (hi -ℤ lo) ≤ℤ pos (2 ^ 32)
+cut_tight x lo hi v t r small step e le he =
+    let a : v * t ≤ 4096 * t = mul-le-mul_right t small in
+    let b : r ≤ 2 ^ 31 = omega (arith, e, a, step) in
+    plain x lo hi r b le he
+  where
+    plain : (x lo hi : ℤ) (r : ℕ) → r ≤ 2 ^ 31 → lo ≡ cut (x -ℤ pos r) → hi ≡ cut (x +ℤ pos r) → (hi -ℤ lo) ≤ℤ pos (2 ^ 32)
+    plain x lo hi r b le he = omega (arith, ints, clamps)
+
 pub cut_middle : (x lo hi : ℤ) (v t r : ℕ) → v ≤ 4096 → t ≤ 2 ^ 30 → r ≡ v * t → unsigned_abs x ≤ 2 ^ 95 → lo ≡ cut (x -ℤ pos r) → hi ≡ cut (x +ℤ pos r) → lo +ℤ hi ≡ pos 2 *ℤ x
 cut_middle x lo hi v t r small step e near le he =
     let a : v * t ≤ 4096 * t = mul-le-mul_right t small in

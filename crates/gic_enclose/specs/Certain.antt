@@ -19,3 +19,7 @@ AreCertain standing volts potentials = (k : ℕ) → IsCertainAt standing volts 
 -- at most 2^43 grains wide
 abbrev pub IsNarrow : Ends → Type 0
 IsNarrow ends = IsAtMostWide (2 ^ 43) ends.low ends.high
+
+-- at most 2^32 grains wide, a sixteenth of a nanovolt
+abbrev pub IsTight : Ends → Type 0
+IsTight ends = IsAtMostWide (2 ^ 32) ends.low ends.high

@@ -4,13 +4,13 @@ ghost use Rattle.gic_base.specs.declared.limits.TheConstants.{MOST_WALK};
 ghost use Rattle.gic_fixed.specs.Encloses.{IsWithin};
 ghost use Rattle.gic_model.specs.Standing.{IsLive};
 ghost use Rattle.gic_model.specs.Voltages.{number_at};
-ghost use Rattle.gic_model.specs.Guess.{most_guess, IsSettledWithin, cut};
+ghost use Rattle.gic_model.specs.Guess.{most_guess, IsSettled, IsSettledWithin, cut};
 ghost use Rattle.gic_net.specs.Net.{standing};
 ghost use Rattle.gic_bound.specs.Entries.{IsBoundWithin};
 ghost use Rattle.gic_enclose.specs.Ends.{potential_ends, low_at, high_at};
 ghost use Rattle.gic_fixed.specs.Ends.{ends_of};
 ghost use Rattle.gic_enclose.specs.Together.{BelongTogether};
-ghost use Rattle.gic_enclose.specs.Certain.{AreCertain, IsCertainAt, IsNarrow};
+ghost use Rattle.gic_enclose.specs.Certain.{AreCertain, IsCertainAt, IsNarrow, IsTight};
 
 use crate::laws::potential_bound_law;
 use crate::potentials::Potentials;
@@ -80,6 +80,7 @@ fn interval_at(
     ensures certain { IsCertainAt (standing net.now) (number_at volts.now) node.0 (ends_of result) }
     ensures small { IsWithin most_guess result.lo result.hi }
     ensures narrow { reach ≤ 2 ^ 30 → IsNarrow (ends_of result) }
+    ensures tight { reach ≤ 2 ^ 19 → IsTight (ends_of result) }
     ensures middle { reach ≤ 2 ^ 30 → IsLive (standing net.now) node.0 → unsigned_abs (number_at solver.now node.0) ≤ 2 ^ 95 →
         result.lo +ℤ result.hi ≡ pos 2 *ℤ number_at solver.now node.0 }
 {
@@ -106,6 +107,9 @@ pub fn enclose(net: &Net, volts: &Volts, solver: &Solver, bound: &BoundVector, o
     // Where the guesses are settled within 2^29 grains, no interval is wider than 2^43 grains, which are 128 nanovolts.
     ensures narrow { IsSettledWithin (standing net.now) (number_at volts.now) (number_at solver.now) (2 ^ 29) → (k : ℕ) →
         IsNarrow (potential_ends out.new k) }
+
+    // Where they are settled, none is wider than 2^32 grains, a sixteenth of a nanovolt.
+    ensures tight { IsSettled (standing net.now) (number_at volts.now) (number_at solver.now) → (k : ℕ) → IsTight (potential_ends out.new k) }
 
     // And where a guess is within 2^95 then, it is the middle of its interval.
     ensures middle { IsSettledWithin (standing net.now) (number_at volts.now) (number_at solver.now) (2 ^ 29) → (k : ℕ) →

@@ -4,7 +4,7 @@ use Rattle.gic_fixed.specs.Encloses.{Encloses}
 use Rattle.gic_model.specs.Voltages.{number_at}
 use Rattle.gic_net.specs.Net.{standing, stands}
 use Rattle.gic_model.specs.Guess.{cut}
-use Rattle.gic_enclose.proofs.Cuts.{cut_encloses, cut_small, cut_narrow, cut_middle}
+use Rattle.gic_enclose.proofs.Cuts.{cut_encloses, cut_small, cut_narrow, cut_tight, cut_middle}
 use Rattle.gic_enclose.proofs.enclosing.interval_at.Goals as goal
 
 pub returns-then-live : goal.returns-then-live
@@ -30,5 +30,6 @@ returns-then-live c =
       };
       small = record { low = cut_small (x k -ℤ pos (v k * t)) c.around.result.lo low; high = cut_small (x k +ℤ pos (v k * t)) c.around.result.hi high };
       narrow = λ h. cut_narrow (x k) c.around.result.lo c.around.result.hi (v k) t (v k * t) (c.requires.bound.none_above k) h refl low high;
+      tight = λ h. cut_tight (x k) c.around.result.lo c.around.result.hi (v k) t (v k * t) (c.requires.bound.none_above k) h refl low high;
       middle = λ h _ near. cut_middle (x k) c.around.result.lo c.around.result.hi (v k) t (v k * t) (c.requires.bound.none_above k) h refl near low high;
     }

@@ -1,0 +1,2 @@
+pub mod RightViews
+pub mod Bases

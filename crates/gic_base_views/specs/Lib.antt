@@ -1,0 +1,3 @@
+pub mod BaseRows
+pub mod Superposed
+pub mod Tight

@@ -1,0 +1,9 @@
+//! Laws over the definitions, each the contract of a function that does nothing: a function whose proof rests on a
+//! law calls it.
+ghost use Rattle.gic_base_views.specs.Superposed.{SuperposedViewsAreRight};
+
+/// What certifies the view of a step: where the rows of all base fields are certified for the network that stands, and
+/// each live node is earthed, the superposed intervals make a right view, and a narrow one.
+pub fn superposed_views_law()
+    ensures { SuperposedViewsAreRight }
+{}

@@ -1,0 +1,4 @@
+pub mod Superposed
+pub mod Quantities
+pub mod Pairs
+pub mod Compact

@@ -1,0 +1,23 @@
+-- The intervals of a quantity in the base fields of a zone, in numbers of 128 bits.
+use Rattle.std.specs.Prelude.{ℕ, ◌^◌, List, map}
+use Rattle.gic_fixed.specs.Ends.{ends_of}
+use Rattle.gic_fixed.specs.Encloses.{IsWithin}
+use Rattle.gic_superpose.specs.declared.pairs.ZonePair.{ZonePair}
+use Rattle.gic_superpose.specs.Superposed.{ZoneEnds}
+
+-- their ends
+abbrev pub zone_of : ZonePair → ZoneEnds
+zone_of pair = record { north = ends_of pair.north; east = ends_of pair.east }
+
+-- those of a row with one for each zone
+abbrev pub row_of : List ZonePair → List ZoneEnds
+row_of row = map zone_of row
+
+-- the most that an end may be, either way: no current in a base field is beyond 2^80 nanoamperes
+abbrev pub most_base : ℕ
+most_base = 2 ^ 81
+
+-- all four ends are within this
+pub record IsSmallPair (pair : ZonePair) : Type 0 where
+  pub north : IsWithin most_base pair.north.lo pair.north.hi
+  pub east : IsWithin most_base pair.east.lo pair.east.hi

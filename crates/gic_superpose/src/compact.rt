@@ -1,0 +1,156 @@
+//! A superposed interval, computed in 64 bits where these serve.
+ghost use Rattle.std.specs.Prelude.{◌≡◌, ℕ, ◌-◌, ◌*◌, ◌<◌, ◌≤◌, ◌^◌, ◌+ℤ◌, ◌*ℤ◌, ◌≤ℤ◌, length, unsigned_abs, pos, All, FitsSigned, IfSome, None, ◌⊎◌};
+ghost use Rattle.std.specs.Int.{w64};
+ghost use Rattle.gic_base.specs.declared.limits.TheConstants.{MOST_FIELD, MOST_ZONES};
+ghost use Rattle.gic_fixed.specs.Encloses.{IsWithin};
+ghost use Rattle.gic_fixed.specs.Ends.{ends_of};
+ghost use Rattle.gic_fixed.specs.Rounding.{floor_div, ceil_div};
+ghost use Rattle.gic_induce.specs.Fields.{field_at};
+ghost use Rattle.gic_superpose.specs.Superposed.{zone_at, low_part, high_part, zone_low, zone_high, sum_low, sum_high, sums_in_milli, superposed};
+ghost use Rattle.gic_superpose.specs.Pairs.{zone_of};
+ghost use Rattle.gic_superpose.specs.Compact.{compact_ends_of, compact_zone_of, compact_row_of, most_compact, IsCompact};
+
+use crate::pairs::{CompactEnds, CompactPair, ZonePair};
+use gic_base::limits::MOST_FIELD;
+use gic_fixed::Interval;
+use gic_induce::Fields;
+
+/// The most that an end may be, either way, for so many zones, that 64 bits serve.
+pub fn most_compact(zones: u16) -> i64
+    requires { 0 < zones }
+    ensures { result ≡ pos (most_compact zones) }
+{
+    i64::MAX / (2 * MOST_FIELD as i64 * zones as i64)
+}
+
+/// The ends of an interval in 64 bits, where both are within this.
+fn compacted_ends(interval: Interval, most: i64) -> Option<CompactEnds>
+    requires { pos 0 ≤ℤ most }
+    ensures same { IfSome result (λ ends. compact_ends_of ends ≡ ends_of interval) }
+    ensures within { IfSome result (λ ends. IsWithin (unsigned_abs most) ends.low ends.high) }
+    ensures none { result ≡ None → (unsigned_abs most < unsigned_abs interval.lo) ⊎ (unsigned_abs most < unsigned_abs interval.hi) }
+{
+    if interval.lo >= -(most as i128) && interval.hi <= most as i128 {
+        Some(CompactEnds {
+            low: interval.lo as i64,
+            high: interval.hi as i64,
+        })
+    } else {
+        None
+    }
+}
+
+/// The two intervals of a zone in 64 bits, where these serve for so many zones.
+pub fn compacted(pair: ZonePair, zones: u16) -> Option<CompactPair>
+    requires { 0 < zones }
+    ensures same { IfSome result (λ compact. compact_zone_of compact ≡ zone_of pair) }
+    ensures within { IfSome result (IsCompact zones) }
+{
+    let most = most_compact(zones);
+    match (
+        compacted_ends(pair.north, most),
+        compacted_ends(pair.east, most),
+    ) {
+        (Some(north), Some(east)) => Some(CompactPair { north, east }),
+        _ => None,
+    }
+}
+
+/// An end times a part of a field.
+fn product(end: i64, part: i32) -> i64
+    requires end { unsigned_abs end ≤ most_compact 1 }
+    requires part { unsigned_abs part ≤ MOST_FIELD }
+    ensures { result ≡ end *ℤ part }
+{
+    end * part as i64
+}
+
+/// An interval times a part of a field: below 0 it swaps the ends.
+fn times(ends: CompactEnds, part: i32) -> CompactEnds
+    requires small { IsWithin (most_compact 1) ends.low ends.high }
+    requires part { unsigned_abs part ≤ MOST_FIELD }
+    ensures low { result.low ≡ low_part (compact_ends_of ends) part }
+    ensures high { result.high ≡ high_part (compact_ends_of ends) part }
+{
+    let one = product(ends.low, part);
+    let other = product(ends.high, part);
+    CompactEnds {
+        low: one.min(other),
+        high: one.max(other),
+    }
+}
+
+/// The sums of the ends.
+fn added(one: CompactEnds, other: CompactEnds) -> CompactEnds
+    requires low { FitsSigned w64 (one.low +ℤ other.low) }
+    requires high { FitsSigned w64 (one.high +ℤ other.high) }
+    ensures low { result.low ≡ one.low +ℤ other.low }
+    ensures high { result.high ≡ one.high +ℤ other.high }
+{
+    CompactEnds {
+        low: one.low + other.low,
+        high: one.high + other.high,
+    }
+}
+
+/// The intervals of a zone.
+fn pair_at(row: &[CompactPair], zone: u16) -> CompactPair
+    requires { zone < length row.now }
+    ensures value { compact_zone_of result ≡ zone_at (compact_row_of row.now) zone }
+    ensures compact { (zones : ℕ) → All (IsCompact zones) row.now → IsCompact zones result }
+{
+    row[zone as usize]
+}
+
+/// What the field of a zone makes of its two intervals.
+fn zone_part(fields: &Fields, row: &[CompactPair], zone: u16) -> CompactEnds
+    requires fields { zone < length fields.now }
+    requires row { zone < length row.now }
+    requires compact { All (IsCompact (length fields.now)) row.now }
+    ensures low { result.low ≡ zone_low (field_at fields.now zone) (zone_at (compact_row_of row.now) zone) }
+    ensures high { result.high ≡ zone_high (field_at fields.now zone) (zone_at (compact_row_of row.now) zone) }
+    ensures small { IsWithin (2 * MOST_FIELD * most_compact (length fields.now)) result.low result.high }
+{
+    let (north, east) = fields.get(zone);
+    let pair = pair_at(row, zone);
+    added(times(pair.north, north), times(pair.east, east))
+}
+
+/// What the fields of all zones make of a row of intervals.
+fn whole(fields: &Fields, row: &[CompactPair]) -> CompactEnds
+    requires row { length row.now ≡ length fields.now }
+    requires compact { All (IsCompact (length fields.now)) row.now }
+    ensures low { result.low ≡ sum_low fields.now (compact_row_of row.now) }
+    ensures high { result.high ≡ sum_high fields.now (compact_row_of row.now) }
+    ensures small { IsWithin (2 ^ 63 - 1) result.low result.high }
+{
+    let mut sum = CompactEnds { low: 0, high: 0 };
+    for zone in 0..fields.zones() {
+        sum = added(sum, zone_part(fields, row, zone));
+    }
+    sum
+}
+
+/// Sums in millivolts or milliamperes, rounded outward.
+fn milli(sums: CompactEnds) -> Interval
+    requires ordered { sums.low ≤ℤ sums.high }
+    requires small { IsWithin (2 ^ 63 - 1) sums.low sums.high }
+    ensures low { result.lo ≡ floor_div sums.low (pos sums_in_milli) }
+    ensures high { result.hi ≡ ceil_div sums.high (pos sums_in_milli) }
+{
+    let low = sums.low.div_euclid(MOST_FIELD as i64 * 1_000_000);
+    let turned = (-sums.high).div_euclid(MOST_FIELD as i64 * 1_000_000);
+    Interval {
+        lo: low as i128,
+        hi: -(turned as i128),
+    }
+}
+
+/// The interval that `superpose` gives, from intervals that 64 bits serve for.
+pub fn superpose_compact(fields: &Fields, row: &[CompactPair]) -> Interval
+    requires row { length row.now ≡ length fields.now }
+    requires compact { All (IsCompact (length fields.now)) row.now }
+    ensures { ends_of result ≡ superposed fields.now (compact_row_of row.now) }
+{
+    milli(whole(fields, row))
+}
