@@ -7,8 +7,8 @@ The headline is the one clause of `gicstudy` (crates/gic_study/src/study.rt). Fr
 definition by definition, through `crates/NAME/specs/FILE.antt`, and puts what it comes to in the order in which a reader
 needs it: first all that a report of `field` rests on, then what each other mode adds, then what words and files ask for,
 the lines of faults, and the headline itself. No definition cites one that comes later. Imports are left out; under each
-definition stands which others cite it, and in front of it the types and the constants of the code that it is the first
-to speak of.
+definition stands which others of the claim cite it, the first four by name, and in front of it the types and the constants
+of the code that it is the first to speak of.
 
 Without --write it compares docs/CLAIM.txt, and the table of its parts in docs/DEFINITIONS.md, with what it makes. The
 last line is `N definitions of the claim, M faults`, and the status is 0 only where M is 0.
@@ -21,12 +21,13 @@ import sys
 from dataclasses import dataclass, field
 from pathlib import Path
 
-TOP = Path(__file__).resolve().parent.parent
+from definitions import TOP, WORDS, crate_names
+
 CLAIM = "docs/CLAIM.txt"
-WORDS = "docs/DEFINITIONS.md"
 CALL = "crates/gic_study/src/study.rt"
-# lines of definitions that a reader who looks up nothing takes in a minute, as the first path was read with a clock
+# lines of definitions and remarks that are counted for a minute of reading: an estimate
 LINES_A_MINUTE = 13
+TABLE = "| part | files | lines | minutes |"
 FIRST = "`field`"
 HEADLINE = "The headline"
 # the parts of the path: what each is of, and the definitions that it is read for
@@ -63,7 +64,7 @@ THE CLAIM
 All definitions that the headline of gicstudy says, in the order in which a reader needs them; made by
 `python3 docs/claim.py --write`. docs/DEFINITIONS.md has the words, the units, and a table of the parts with lines and
 minutes; docs/PROMISES.md says in sentences what is claimed, which laws stand beside it, and what is trusted. Imports are left
-out. Under each definition stands which others cite it; none cites one that comes later. The types and the constants of the
+out. Under each definition stands which others of the claim cite it, the first four by name; none cites one that comes later. The types and the constants of the
 code stand in front of the first definition that speaks of them, with the file that declares them. Steps of a storm and
 monitors come in part 3, certificates in part 5.
 
@@ -74,14 +75,21 @@ is equal, `≢` is not. Of values `A × B` are pairs, with `p.0` and `p.1`; `.0`
 `pos n` is the natural number n as a whole number; signs with a ℤ are on whole numbers, those without on natural ones, where
 `a - b` is 0 where b is above a. A name with a dot in front of a variant (`kinds.Auto`, `item.Line`, `role.High`) is a short
 name of its type. A value of the code stands for what it holds: a number of 16 bits for that number, a `Name` for its bytes,
-a `Case` for its `Lists`, `Switchings` for the list of its rows.
+a `Case` for its `Lists`, `Switchings` for the list of its rows. Where two things have one name, one has another here:
+`NoMemory` is `Memory` of InputFault, `UsageFault` and `RefusedUsage` are `Usage`, `CaseRefused`, `StormRefused` and
+`SwitchRefused` are `Case`, `Storm` and `Switch` of InputRefusal, `CertificateFile` is `Certificate` of File, and `NamedEvent`
+is the type `Event`.
 
 From the standard library. `codes "w"` are the bytes of a word, `decimal n` and `signed_decimal z` the digits of a number
 without zeros in front, with `-` below 0; `string_bytes` the bytes of a text. `enumerate_from n xs` pairs each entry with its
 place, counted from n; `slice_index_or xs k d` is the entry at place k, and d past the end; `find` is the first entry that
 passes a test, `filter` those that do, `list_any` whether one does; `option_map_or f o d` is f of what is there, else d, and
-`unwrap_or` what is there, else the other. `int_div_euclid z d` is the quotient rounded down for d above 0. `IsTrue b` says that
-a test came out true, `All P xs` P of each entry, `IfSome o P` of what is there. `Appends old new bytes` says of bytes that are
+`unwrap_or` what is there, else the other. `int_div_euclid z d` is the quotient rounded down for d above 0. `IsTrue b` says that a
+test came out true (`IsFalse` false), `All P xs` P of each entry, `Contains xs x` that x is one. `IfSome`, `IfOk`, `IfErr` and
+`OnOk` say something of what is there, and nothing in the other case; `IsSomeAnd` and `IsOkAnd` that it is there, and this of
+it. `range_with_len a n` are the n numbers from a on; `flat_map` joins the lists that a function makes of entries;
+`slice_get` is the entry at a place, where there is one; `option_and_then` goes on with what is there; `unsigned_abs` is the
+absolute value. `Appends old new bytes` says of bytes that are
 told (`Some`) that the new ones are the old ones and then `bytes`; `Keeps old new` that they are the same; of bytes that
 aren't told (`None`) both say nothing.
 """
@@ -89,10 +97,10 @@ aren't told (`None`) both say nothing.
 NOTES = {
     FIRST: (
         "Every claim is of all solutions. That there is one where each live node is earthed, and that any two agree at live nodes",
-        "and in currents, are laws (`solutions_exist_law` of gic_claims, `agreement_law` of gic_model). What follows of a right",
+        "and in currents, are laws (`solutions_exist_law` of gic_claims, `agreement_law` of gic_exists). What follows of a right",
         "report is said by laws beside it: of `field` that the absolute intervals hold and are narrow, and that its verdicts are",
-        "true (`field_verdicts_law`). Bound vectors and the walk are there for status 9 alone: it refuses a network that is",
-        "earthed, and so has a solution, but not within 4096.",
+        "true (`field_verdicts_law`). In `field` bound vectors are there for status 9 alone: it refuses a network that is earthed,",
+        "and so has a solution, but not within 4096.",
         "An accepted case keeps the rules of part 11: no two things of one name, no line or transformer whose two buses are one,",
         "both buses of a transformer in one substation, no low voltage above the high one, high voltages of at least 1000 V,",
         "resistances from 1000 to 10^9 micro-ohm. Where a definition says something odd of other cases (a denominator 0, a",
@@ -106,8 +114,8 @@ NOTES = {
         "8 and 9 are that the network doesn't meet the need of the mode, 4 that the output can't be written (a part of the text was",
         "written, perhaps none or all of it), 13 that a certificate is refused, 11 that memory is wanting. Status 11 is an answer",
         "to any call: a program that always gave it would satisfy the headline. That others come is said by laws of gic_study",
-        "(`accepted_is_reported_law` and others in PROMISES), and by the contract of each mode's call, which has no such answer once",
-        "the mode's room is made, that is, once all its memory is taken.",
+        "(`accepted_is_reported_law` and others in PROMISES), and by the contract of each mode's call, which, once the mode's room is",
+        "made, has no such answer but in `study` for the texts of monitors.",
         "The files and the streams of the system tell no bytes. Of a run over them the headline says only that there are bytes which",
         "the files may have held and for which a right text exists, or which fault there was; that the same code writes this text is",
         "what it says over a sink that tells its bytes (gic_in_memory has one). `gicstudy` here is the call that the program",
@@ -120,6 +128,10 @@ TOKEN = re.compile(r"[A-Za-z_][\w'-]*(?:\.[A-Za-z_][\w'-]*)*|>>=|←")
 MEMBER = re.compile(r"^  (?:pub )?([\w'-]+) :")
 # the name of a field, where a record declares it or is made
 FIELD = re.compile(r"(?m)^  (?:pub )?[\w'-]+(?= :)|(?<=[{;] )[\w'-]+(?= = )|(?m:^ +)[\w'-]+(?= = )")
+
+
+class ClaimError(ValueError):
+    """What is wrong with the definitions, in one line."""
 
 
 @dataclass
@@ -201,9 +213,10 @@ def read_file(name: str, text: str) -> File:
             block = [line for line in block if line not in file.says]
         if not code:
             continue
-        first = next(line for line in code if not line.startswith("infix"))
+        first = next((line for line in code if not line.startswith("infix")), "")
         match = DEFINED.match(first)
-        assert match, f"{name}: no definition in {first!r}"
+        if not match:
+            raise ClaimError(f"{name}: there is no definition in the lines that begin {code[0]!r}")
         names = [match[2]]
         if match[1] == "data":
             names += [m[1] for line in code[1:] if (m := MEMBER.match(line))]
@@ -229,14 +242,12 @@ def resolve(files: dict[str, File]) -> dict[str, Definition]:
             known.update({f"{file.name}.{name}": definition for name in definition.names})
 
     def meaning(key: str) -> Definition | None:
-        for _ in range(8):
-            if key in known:
-                return known[key]
+        while key not in known:
             name, _, word = key.rpartition(".")
             if name not in files or bare(word) not in files[name].meant:
                 return None
             key = files[name].meant[bare(word)]
-        return None
+        return known[key]
 
     for file in files.values():
         own = {bare(name): definition for definition in file.definitions for name in definition.names}
@@ -295,7 +306,8 @@ def in_order(found: list[Definition], crates: list[str]) -> list[Definition]:
     }
     while len(done) < len(by_file):
         ready = [name for name in by_file if name not in done and needs[name] <= done]
-        assert ready, "files of definitions that cite one another"
+        if not ready:
+            raise ClaimError("files of definitions cite one another: " + ", ".join(sorted(set(by_file) - done)))
         name = min(ready, key=lambda n: (place_of(n), place.get(n.partition("/")[0], 0), n))
         done.add(name)
         order.extend(by_file[name])
@@ -326,6 +338,18 @@ def parts_of(files: dict[str, File], known: dict[str, Definition], crates: list[
     return parts
 
 
+def without_chapter(part: Part) -> list[str]:
+    """The files of the first part that are in none of its chapters."""
+    files = dict.fromkeys(definition.file for definition in part.definitions)
+    return [f"{file} is in no chapter of the first part" for file in files if chapter_of(file) == len(CHAPTERS)]
+
+
+def undeclared(top: Path, parts: list[Part]) -> list[str]:
+    """The types and constants of the code that are spoken of and not found."""
+    keys = dict.fromkeys(key for part in parts for definition in part.definitions for key in definition.types)
+    return [f"{key} is declared nowhere" for key in keys if not declaration(top, key)]
+
+
 def late_cites(parts: list[Part]) -> list[str]:
     """The definitions that cite one that comes later."""
     late = []
@@ -344,7 +368,7 @@ def minutes(lines: int) -> int:
 
 def table_of(parts: list[Part]) -> list[str]:
     """The table of the parts: the chapters of the first one, and then each other, with lines and minutes."""
-    rows = ["| part | files | lines | minutes |", "|---|---|---|---|"]
+    rows = [TABLE, "|---|---|---|---|"]
 
     def row(title: str, definitions: list[Definition]) -> None:
         names: dict[str, list[str]] = {}
@@ -356,11 +380,11 @@ def table_of(parts: list[Part]) -> list[str]:
         lines = sum(len(definition.lines) for definition in definitions)
         rows.append(f"| {title} | {told} | {lines} | {minutes(lines)} |")
 
-    for place, (title, _) in enumerate(CHAPTERS):
-        row(f"{place + 1}. {title}", [d for d in parts[0].definitions if chapter_of(d.file) == place])
-    rows.append(f"| **{parts[0].title}, all of it** | | {parts[0].lines} | {minutes(parts[0].lines)} |")
-    for part in parts[1:]:
-        row(part.title, part.definitions)
+    for place, (title, _) in enumerate(CHAPTERS, 1):
+        row(f"1.{place} {title}", [d for d in parts[0].definitions if chapter_of(d.file) == place - 1])
+    rows.append(f"| **1. {parts[0].title}, all of it** | | {parts[0].lines} | {minutes(parts[0].lines)} |")
+    for number, part in enumerate(parts[1:], 2):
+        row(f"{number}. {part.title}", part.definitions)
     lines = sum(part.lines for part in parts)
     rows.append(f"| **all modes** | | {lines} | {minutes(lines)} |")
     return rows
@@ -378,17 +402,17 @@ def declared_in(top: Path) -> dict[str, str]:
     found: dict[str, list[str]] = {}
     for path in sorted(top.glob("crates/gic_*/src/**/*.rt")):
         crate, _, rest = str(path.relative_to(top / "crates")).partition("/src/")
-        for name in re.findall(r"(?m)^pub (?:struct|enum|const) (\w+)", path.read_text(encoding="utf-8")):
+        for name in re.findall(r"(?m)^pub(?:\(crate\))? (?:struct|enum|const) (\w+)", path.read_text(encoding="utf-8")):
             found.setdefault(name, []).append(f"{crate}/{rest.removesuffix('.rt')}.{name}")
     return {name: keys[0] for name, keys in found.items() if len(keys) == 1}
 
 
 def declaration(top: Path, key: str) -> list[str]:
-    """The type or the constant of the code, with its doc comments, as it is declared; nothing for a type's alias."""
+    """The type or the constant of the code, with its doc comments, as it is declared; nothing where it isn't."""
     file, _, name = key.rpartition(".")
     crate, _, module = file.partition("/")
     lines = (top / "crates" / crate / "src" / f"{module}.rt").read_text(encoding="utf-8").splitlines()
-    begins = re.compile(rf"^pub (struct|enum|const) {re.escape(name)}\b")
+    begins = re.compile(rf"^pub(?:\(crate\))? (struct|enum|const) {re.escape(name)}\b")
     for place, line in enumerate(lines):
         if begins.match(line):
             first = last = place
@@ -415,9 +439,10 @@ def declarations(top: Path, key: str, known: dict[str, str], told: set[str]) -> 
 
 def clause(top: Path) -> list[str]:
     """The head of the call whose clause the headline is, with that clause."""
-    text = (top / CALL).read_text(encoding="utf-8")
-    head = text[text.index("pub fn gicstudy") :]
-    return head[: head.index("\n{")].splitlines()
+    head = re.search(r"(?ms)^pub fn gicstudy.*?(?=^\{)", (top / CALL).read_text(encoding="utf-8"))
+    if not head:
+        raise ClaimError(f"{CALL} has no call `gicstudy`")
+    return head[0].splitlines()
 
 
 def text_of(top: Path, files: dict[str, File], parts: list[Part]) -> str:
@@ -450,18 +475,13 @@ def with_table(words: str, table: list[str]) -> str:
     kept: list[str] = []
     skipping = False
     for line in words.splitlines():
-        if line.startswith("| part | files |"):
+        if line == TABLE:
             kept += table
             skipping = True
         elif not (skipping and line.startswith("|")):
             skipping = False
             kept.append(line)
     return "\n".join(kept) + "\n"
-
-
-def crate_names(text: str) -> list[str]:
-    """The crates of crates.txt, in its order."""
-    return [line.partition(":")[0] for line in text.splitlines() if line.strip() and not line.startswith("#")]
 
 
 def main(words: list[str]) -> int:
@@ -473,28 +493,31 @@ def main(words: list[str]) -> int:
         known = resolve(files)
         missing = [root for _, roots in PARTS for root in roots if root not in known]
         if missing:
-            print(f"claim.py: there is no definition {missing[0]}", file=sys.stderr)
-            return 1
+            raise ClaimError(f"there is no definition {missing[0]}")
         parts = parts_of(files, known, crate_names((TOP / "crates.txt").read_text(encoding="utf-8")))
         mine = {definition.key: definition for part in parts for definition in part.definitions}
         for definition in mine.values():
             for cited in definition.cites:
                 mine[cited].cited_in.append(definition.names[0])
-        text, table = text_of(TOP, files, parts), table_of(parts)
         document = (TOP / WORDS).read_text(encoding="utf-8")
+        unfiled = without_chapter(parts[0])
+        if unfiled:
+            raise ClaimError(unfiled[0])
+        text, table = text_of(TOP, files, parts), table_of(parts)
         if words:
             (TOP / CLAIM).write_text(text, encoding="utf-8")
             document = with_table(document, table)
             (TOP / WORDS).write_text(document, encoding="utf-8")
         shown = (TOP / CLAIM).read_text(encoding="utf-8") if (TOP / CLAIM).exists() else ""
-    except (OSError, UnicodeDecodeError) as error:
+    except (OSError, ValueError) as error:
         print(f"claim.py: {error}", file=sys.stderr)
         return 1
-    faults = late_cites(parts)
+    faults = late_cites(parts) + undeclared(TOP, parts)
     if text != shown:
         faults.append(f"{CLAIM} isn't what is made today; run `python3 docs/claim.py --write`")
     if "\n".join(table) not in document:
-        faults.append(f"{WORDS} hasn't the table of the claim's parts that is made today; run `python3 docs/claim.py --write`")
+        told = "hasn't the table of the claim's parts that is made today; run `python3 docs/claim.py --write`"
+        faults.append(f"{WORDS} {told if TABLE in document else 'has no table of the parts of the claim'}")
     for fault in faults:
         print(fault)
     print(f"{len(mine)} definitions of the claim, {len(faults)} faults")

@@ -6,9 +6,12 @@
 
 from __future__ import annotations
 
+import contextlib
+import io
 import tempfile
 import unittest
 from pathlib import Path
+from unittest import mock
 
 import claim
 import definitions
@@ -174,6 +177,78 @@ twice n = n * 2
     def test_the_table_of_a_document_is_replaced(self) -> None:
         words = "a\n\n| part | files | lines | minutes |\n|---|---|---|---|\n| old | | 1 | 1 |\n\nb\n"
         self.assertEqual(claim.with_table(words, ["| part |", "|---|"]), "a\n\n| part |\n|---|\n\nb\n")
+
+
+class ClaimOfATree(unittest.TestCase):
+    """A tree with two parts, a name that is passed on, a field named as a definition is, and a type within a type."""
+
+    TEXTS = {
+        "crates.txt": "gic_low:\ngic_far:\ngic_study: gic_low gic_far\n",
+        "crates/gic_low/specs/Sums.antt": "-- Sums.\n\n-- a sum\nabbrev pub total : ℕ\ntotal = 1\n\nabbrev pub spare : ℕ\nspare = 2\n",
+        "crates/gic_low/specs/Passed.antt": "-- What is passed on.\npub use Rattle.gic_low.specs.Sums.{total}\n",
+        "crates/gic_far/specs/First.antt": "-- The first part.\nuse Rattle.gic_low.specs.Passed.{total as whole}\n"
+        "use Rattle.gic_low.specs.declared.item.Line.{Line}\n\n-- first\nabbrev pub first : Line → ℕ\nfirst l = whole\n",
+        "crates/gic_study/specs/Top.antt": "-- The top.\nuse Rattle.gic_far.specs.First.{first}\nuse Rattle.gic_low.specs.Sums.{total, spare}\n\n"
+        "-- top\npub record Top : Type 0 where\n  pub total : ℕ\n  pub is : spare ≡ 2\n\n"
+        "abbrev pub made : Top\nmade = record { total = first 3; is = refl }\n",
+        "crates/gic_low/src/item.rt": "/// A name.\npub(crate) struct Name(pub u8);\n\n/// A line.\npub struct Line {\n    pub name: Name,\n}\n",
+        "crates/gic_study/src/study.rt": "/// The call.\npub fn gicstudy() -> u8\n    ensures { Top }\n{\n    0\n}\n",
+        "docs/DEFINITIONS.md": "| part | files | lines | minutes |\n|---|---|---|---|\n",
+    }
+
+    def setUp(self) -> None:
+        folder = tempfile.TemporaryDirectory()
+        self.addCleanup(folder.cleanup)
+        self.top = Path(folder.name)
+        written(self.top, self.TEXTS)
+        parts = (("one", ("gic_far/First.first",)), ("two", ("gic_study/Top.made",)))
+        chapters = (("low", ("gic_low",)), ("far", ("gic_far/First",)))
+        for name, value in (("TOP", self.top), ("PARTS", parts), ("CHAPTERS", chapters)):
+            patch = mock.patch.object(claim, name, value)
+            patch.start()
+            self.addCleanup(patch.stop)
+
+    def run_main(self, *words: str) -> tuple[int, str]:
+        out = io.StringIO()
+        with contextlib.redirect_stdout(out), contextlib.redirect_stderr(out):
+            status = claim.main(list(words))
+        return status, out.getvalue()
+
+    def test_a_part_has_what_the_ones_before_have_not(self) -> None:
+        files = claim.read_all(self.top)
+        parts = claim.parts_of(files, claim.resolve(files), ["gic_low", "gic_far", "gic_study"])
+        names = [[definition.names[0] for definition in part.definitions] for part in parts]
+        self.assertEqual(names, [["total", "first"], ["spare", "Top", "made"]])
+        top = next(definition for definition in parts[1].definitions if definition.names == ["Top"])
+        self.assertEqual(top.cites, ["gic_low/Sums.spare"])
+
+    def test_the_text_is_made_and_checked(self) -> None:
+        self.assertEqual(self.run_main()[0], 1)
+        self.assertEqual(self.run_main("--write"), (0, "5 definitions of the claim, 0 faults\n"))
+        text = (self.top / "docs/CLAIM.txt").read_text()
+        heads = ["---- 1.1 low", "crates/gic_low/specs/Sums.antt", "---- 1.2 far", "struct Name", "struct Line", "-- first", "2. two", "-- top", "pub fn gicstudy"]
+        places = [text.index(head) for head in heads]
+        self.assertEqual(places, sorted(places))
+        self.assertEqual(text.count("pub struct Line"), 1)
+        self.assertIn("-- a sum\nabbrev pub total : ℕ\ntotal = 1\n    -- cited by first\n", text)
+        table = (self.top / "docs/DEFINITIONS.md").read_text()
+        self.assertIn("| **1. one, all of it** | | 6 | 1 |\n| 2. two | gic_low: Sums; gic_study: Top | 8 | 1 |\n| **all modes** | | 14 | 1 |", table)
+        self.assertEqual(self.run_main(), (0, "5 definitions of the claim, 0 faults\n"))
+        written(self.top, {"docs/DEFINITIONS.md": "no table\n"})
+        self.assertIn("has no table of the parts", self.run_main("--write")[1])
+
+    def test_what_is_wrong_is_told_in_a_line(self) -> None:
+        for name, text, told in (
+            ("crates/gic_low/src/item.rt", "", "gic_low/item.Line is declared nowhere"),
+            ("crates/gic_study/src/study.rt", "", "has no call `gicstudy`"),
+            ("crates/gic_low/specs/Sums.antt", "-- Sums.\n\ninfixl 3 ◌+◌\n", "there is no definition in the lines that begin"),
+            ("crates/gic_far/specs/First.antt", "-- None.\n", "there is no definition gic_far/First.first"),
+        ):
+            with self.subTest(name):
+                written(self.top, {**self.TEXTS, name: text})
+                status, out = self.run_main("--write")
+                self.assertEqual(status, 1)
+                self.assertIn(told, out)
 
 
 class Links(unittest.TestCase):
