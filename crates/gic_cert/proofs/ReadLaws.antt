@@ -1,16 +1,18 @@
 -- The nodes by their names, the refusals of lists that are joined, and that an accepted text has numbers at exactly the live nodes.
-use Rattle.std.proofs.Common.{◌≡◌, ℕ, suc, List, [], ◌∷◌, ◌++◌, length, map, refl, ap, sym, ◌∙◌, ◌+◌, Bool, true, false, not, if◌then◌else◌, None, Some}
-use Rattle.std.specs.Prelude.{Ok, Err, codes}
+use Rattle.std.proofs.Common.{◌≡◌, ℕ, suc, List, [], ◌∷◌, ◌++◌, length, map, refl, ap, sym, subst, ◌∙◌, ◌+◌, Bool, true, false, not, if◌then◌else◌, None, Some}
+use Rattle.std.specs.Prelude.{Result, Ok, Err, IsErrAnd, codes}
 use Rattle.std.specs.Option.{is_some}
 use Rattle.std.proofs.lemmas.Bool.{and_parts}
 use Rattle.gic_base.proofs.RefusalLaws.{none_of_both}
 use Rattle.gic_cert.specs.declared.refusal.CertRefusal.TheVariants as refusals
 use Rattle.gic_cert.specs.Written.{Written}
 use Rattle.gic_report.specs.SharedLines.{Words}
-use Rattle.gic_base.specs.Refusals.{settle, unless}
+use Rattle.gic_base.specs.Refusals.{AnswersRead, settle, unless}
+use Rattle.gic_base.specs.declared.read_fault.ReadFault.{ReadFault}
+use Rattle.gic_base.specs.declared.read_fault.ReadFault.TheVariants.{Refused, Memory}
 use Rattle.gic_cert.specs.declared.refusal.CertRefusal.{CertRefusal}
 use Rattle.gic_cert.specs.declared.rows.NodeName.{NodeName}
-use Rattle.gic_cert.specs.Reading.{NamedNode, IsFirstOf, breaks_node, breaks_field, breaks_behind, broken, node_in, nodes_in, cert_in, is_node_line, are_node_numbers, is_line_of, is_dead_line, is_only, has_word}
+use Rattle.gic_cert.specs.Reading.{NamedNode, IsFirstOf, TellsFirst, breaks_node, breaks_field, breaks_behind, broken, node_in, nodes_in, cert_in, is_node_line, are_node_numbers, is_line_of, is_dead_line, is_only, has_word}
 use Rattle.gic_cert.specs.Rows.{named_nodes}
 
 pub count_named : (nodes : List NodeName) → length (named_nodes nodes) ≡ length nodes
@@ -24,6 +26,14 @@ first_of_front (x ∷ xs) ys e h = h
 pub first_of_back : (xs ys : List CertRefusal) (e : CertRefusal) → xs ≡ [] → IsFirstOf ys e → IsFirstOf (xs ++ ys) e
 first_of_back xs ys e none h = rw none h
 
+abbrev refusal_or : ReadFault CertRefusal → CertRefusal → CertRefusal
+refusal_or (Refused refusal) other = refusal
+refusal_or Memory other = other
+
+-- the first refusal of these is told
+pub tells : (all : List CertRefusal) (refusal : CertRefusal) → IsFirstOf all refusal → TellsFirst all (Refused refusal)
+tells all refusal h other is = subst (IsFirstOf all) (ap (λ (f : ReadFault CertRefusal). refusal_or f refusal) is) h
+
 -- for the functions that read
 pub ruleset reading = (count_named, first_of_front, first_of_back)
 
@@ -35,6 +45,12 @@ settle_first [] x e h = absurd h
 settle_first (y ∷ ys) x e h = ap Err (sym h)
 
 pub ruleset settling = (settle_none, settle_first)
+
+-- a reading that gives the first refusal of these, or wants memory, is answered so
+pub read_refused : {A : Type 0} (all : List CertRefusal) (x : A) (fault : ReadFault CertRefusal) (answer : Result A (ReadFault CertRefusal)) → TellsFirst all fault
+    → IsErrAnd answer (λ e. e ≡ fault) → AnswersRead (λ (y : A). y) answer (settle all x)
+read_refused all x fault (Ok y) first is = absurd is
+read_refused all x fault (Err other) first is = λ e same. settle_first all x e (first e (sym is ∙ same))
 
 unless_kept : (fact : Bool) (e : CertRefusal) → unless fact e ≡ [] → fact ≡ true
 unless_kept true e h = refl

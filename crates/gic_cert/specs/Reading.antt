@@ -1,5 +1,5 @@
 -- The rules of a certificate's text, line by line: the refusals of a line in the order of its three rules, and those of all lines one after another. A text is accepted where no rule gives one, and the first of all answers otherwise.
-use Rattle.std.specs.Prelude.{ℕ, ◌≡◌, ◌≢◌, ◌+◌, nat_le, ◌==◌, ◌&&◌, ◌||◌, Bool, not, List, [], ◌∷◌, ◌++◌, length, map, codes, Option, Some, None, is_some, unwrap_or, ℤ, pos, neg_ℤ, unsigned_abs, slice_index_or, if◌then◌else◌, Result}
+use Rattle.std.specs.Prelude.{ℕ, ◌≡◌, ◌+◌, nat_le, ◌==◌, ◌&&◌, ◌||◌, Bool, not, List, [], ◌∷◌, ◌++◌, length, map, codes, Option, Some, None, is_some, unwrap_or, ℤ, pos, neg_ℤ, unsigned_abs, slice_index_or, if◌then◌else◌, Result}
 use Rattle.std.specs.List.{list_all, enumerate_from}
 use Rattle.std.specs.Str.{bytes_eq}
 use Rattle.gic_base.specs.declared.limits.TheConstants.{MOST_FIELD, MOST_WALK}
@@ -10,6 +10,8 @@ use Rattle.gic_model.specs.Standing.{is_live}
 use Rattle.gic_model.specs.Sums.{Placed}
 use Rattle.gic_report.specs.SharedLines.{Words}
 use Rattle.gic_cert.specs.declared.limits.TheConstants.{MOST_WRITTEN_GUESS, MOST_WRITTEN_NODES, MOST_WRITTEN_RADIUS}
+use Rattle.gic_base.specs.declared.read_fault.ReadFault.{ReadFault}
+use Rattle.gic_base.specs.declared.read_fault.ReadFault.TheVariants.{Refused}
 use Rattle.gic_cert.specs.declared.refusal.CertRefusal.{CertRefusal}
 use Rattle.gic_cert.specs.declared.refusal.CertRefusal.TheVariants as refusals
 use Rattle.gic_cert.specs.Written.{Written, Certificate}
@@ -153,6 +155,6 @@ abbrev pub IsFirstOf : List CertRefusal → CertRefusal → Type 0
 IsFirstOf [] refusal = ⊥
 IsFirstOf (first ∷ others) refusal = refusal ≡ first
 
--- a refusal that is not want of memory is the first of these
-abbrev pub TellsFirst : List CertRefusal → CertRefusal → Type 0
-TellsFirst all refusal = refusal ≢ refusals.Memory → IsFirstOf all refusal
+-- a refusal, where there is one and no want of memory, is the first of these
+abbrev pub TellsFirst : List CertRefusal → ReadFault CertRefusal → Type 0
+TellsFirst all fault = (refusal : CertRefusal) → fault ≡ Refused refusal → IsFirstOf all refusal

@@ -3,8 +3,7 @@ ghost use Rattle.std.specs.Prelude.{◌≡◌, ◌+◌, ◌<◌, [], ◌∷◌, 
 ghost use Rattle.gic_cert.specs.Cuts.{words_from, words_of, lines_cut};
 
 use crate::limits::MOST_WORDS;
-use gic_base::OutOfMemory;
-use std::alloc::Global;
+use std::alloc::{AllocError, Global};
 
 /// Where the first line of a text ends. None where no line of it ends.
 fn line_end(text: &[u8]) -> Option<usize>
@@ -35,7 +34,7 @@ fn word_end(line: &[u8]) -> Option<usize>
 }
 
 /// The words of a line, as far as they are looked at.
-fn words_in(alloc: Global, line: &[u8]) -> Result<Vec<&[u8]>, OutOfMemory>
+fn words_in(alloc: Global, line: &[u8]) -> Result<Vec<&[u8]>, AllocError>
     ensures { IfOk result (λ words. map (λ w. w.now) words.items ≡ words_of line.now) }
 {
     let mut words = Vec::new(alloc);
@@ -63,7 +62,7 @@ pub(crate) struct Line<'a> {
 }
 
 /// The first line of a text; one without its end has no words.
-pub(crate) fn next_line(alloc: Global, text: &[u8]) -> Result<Line<'_>, OutOfMemory>
+pub(crate) fn next_line(alloc: Global, text: &[u8]) -> Result<Line<'_>, AllocError>
     requires { 0 < length text.now }
     ensures { IfOk result (λ line. lines_cut text.now ≡ map (λ w. w.now) line.words.items ∷ lines_cut line.left.now) }
 {

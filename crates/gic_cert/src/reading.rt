@@ -10,6 +10,7 @@ use crate::cutting::next_line;
 use crate::lines::{is_only, read_field, read_node};
 use crate::refusal::CertRefusal;
 use crate::rows::{Field, NodeName, NodeRow};
+use gic_base::ReadFault;
 use std::alloc::Global;
 
 /// What the line of a node says, and the text behind it.
@@ -25,7 +26,7 @@ fn read_line<'a>(
     text: &'a [u8],
     row: u32,
     node: &NodeName,
-) -> Result<NodeLine<'a>, CertRefusal>
+) -> Result<NodeLine<'a>, ReadFault<CertRefusal>>
     ensures kept { IfOk result (λ line. (others : List NamedNode) →
         breaks_behind row ((node.now.name, node.now.live) ∷ others) (lines_cut text.now) ≡ breaks_behind (row + 1) others (lines_cut line.left.now)) }
     ensures value { IfOk result (λ line. (others : List NamedNode) →
@@ -35,7 +36,7 @@ fn read_line<'a>(
         TellsFirst (breaks_behind row ((node.now.name, node.now.live) ∷ others) (lines_cut text.now)) refusal) }
 {
     if text.is_empty() {
-        return Err(CertRefusal::Shape { row });
+        return Err(ReadFault::Refused(CertRefusal::Shape { row }));
     }
     let line = next_line(alloc, text)?;
     let read = read_node(line.words.as_slice(), row, &node.name, node.live)?;
@@ -46,28 +47,32 @@ fn read_line<'a>(
 }
 
 /// Reads the end of a certificate, behind which nothing stands.
-fn read_end(alloc: Global, text: &[u8], row: u32) -> Result<(), CertRefusal>
+fn read_end(alloc: Global, text: &[u8], row: u32) -> Result<(), ReadFault<CertRefusal>>
     requires { row ≤ MOST_WRITTEN_NODES + 3 }
     ensures kept { OnOk result (breaks_behind row [] (lines_cut text.now) ≡ []) }
     ensures value { OnOk result (nodes_in [] (lines_cut text.now) ≡ []) }
     ensures first { IfErr result (TellsFirst (breaks_behind row [] (lines_cut text.now))) }
 {
     if text.is_empty() {
-        return Err(CertRefusal::Shape { row });
+        return Err(ReadFault::Refused(CertRefusal::Shape { row }));
     }
     let line = next_line(alloc, text)?;
     if !is_only(line.words.as_slice(), b"end") {
-        return Err(CertRefusal::Shape { row });
+        return Err(ReadFault::Refused(CertRefusal::Shape { row }));
     }
     if line.left.is_empty() {
         Ok(())
     } else {
-        Err(CertRefusal::Shape { row: row + 1 })
+        Err(ReadFault::Refused(CertRefusal::Shape { row: row + 1 }))
     }
 }
 
 /// Reads the lines behind the first two: one for each node, and the end.
-fn read_behind(alloc: Global, text: &[u8], nodes: &[NodeName]) -> Result<Vec<NodeRow>, CertRefusal>
+fn read_behind(
+    alloc: Global,
+    text: &[u8],
+    nodes: &[NodeName],
+) -> Result<Vec<NodeRow>, ReadFault<CertRefusal>>
     requires few { length nodes.now ≤ MOST_WRITTEN_NODES }
     ensures kept { IfOk result (λ rows. breaks_behind 3 (named_nodes nodes.now) (lines_cut text.now) ≡ []) }
     ensures value { IfOk result (λ rows. map row_written rows.items ≡ nodes_in (named_nodes nodes.now) (lines_cut text.now)) }
@@ -95,7 +100,11 @@ pub(crate) struct ReadCert {
 
 /// Reads the lines behind the first, over these nodes.
 #[tactic(auto, using(crate::proofs::ReadLaws::reading))]
-fn read_second(alloc: Global, text: &[u8], nodes: &[NodeName]) -> Result<ReadCert, CertRefusal>
+fn read_second(
+    alloc: Global,
+    text: &[u8],
+    nodes: &[NodeName],
+) -> Result<ReadCert, ReadFault<CertRefusal>>
     requires few { length nodes.now ≤ MOST_WRITTEN_NODES }
     ensures kept { IfOk result (λ read. breaks_second (named_nodes nodes.now) (lines_cut text.now) ≡ []) }
     ensures value { IfOk result (λ read. record { north = read.field.north; east = read.field.east; nodes = map row_written read.rows.items }
@@ -106,7 +115,7 @@ fn read_second(alloc: Global, text: &[u8], nodes: &[NodeName]) -> Result<ReadCer
     ensures first { IfErr result (TellsFirst (breaks_second (named_nodes nodes.now) (lines_cut text.now))) }
 {
     if text.is_empty() {
-        return Err(CertRefusal::Shape { row: 2 });
+        return Err(ReadFault::Refused(CertRefusal::Shape { row: 2 }));
     }
     let line = next_line(alloc, text)?;
     let field = read_field(line.words.as_slice(), nodes.len() as u16)?;
@@ -119,7 +128,7 @@ pub(crate) fn read_rows(
     alloc: Global,
     bytes: &[u8],
     nodes: &[NodeName],
-) -> Result<ReadCert, CertRefusal>
+) -> Result<ReadCert, ReadFault<CertRefusal>>
     requires few { length nodes.now ≤ MOST_WRITTEN_NODES }
     ensures kept { IfOk result (λ read. broken (named_nodes nodes.now) (lines_cut bytes.now) ≡ []) }
     ensures value { IfOk result (λ read. record { north = read.field.north; east = read.field.east; nodes = map row_written read.rows.items }
@@ -130,11 +139,11 @@ pub(crate) fn read_rows(
     ensures first { IfErr result (TellsFirst (broken (named_nodes nodes.now) (lines_cut bytes.now))) }
 {
     if bytes.is_empty() {
-        return Err(CertRefusal::Shape { row: 1 });
+        return Err(ReadFault::Refused(CertRefusal::Shape { row: 1 }));
     }
     let line = next_line(alloc, bytes)?;
     if !is_only(line.words.as_slice(), b"certificate") {
-        return Err(CertRefusal::Shape { row: 1 });
+        return Err(ReadFault::Refused(CertRefusal::Shape { row: 1 }));
     }
     read_second(alloc, line.left, nodes)
 }

@@ -1,9 +1,8 @@
 //! Why a certificate is refused.
 ghost use Rattle.std.specs.Prelude.{◌≡◌};
-ghost use Rattle.gic_cert.specs.declared.refusal.CertRefusal.TheVariants.{Memory};
+ghost use Rattle.gic_base.specs.declared.read_fault.ReadFault.TheVariants.{Refused};
 
-use gic_base::{NodeId, OutOfMemory};
-use std::alloc::{AllocError, AllocFailed};
+use gic_base::{NodeId, ReadFault};
 
 /// Why a text is no certificate over a network's nodes, or why a certificate does not pass. Lines count from 1.
 #[derive(Clone, Copy, Debug, PartialEq, Eq)]
@@ -20,30 +19,12 @@ pub enum CertRefusal {
     Residual { node: NodeId },
     /// The node's radius is less than its entry and the checked step ask for.
     Radius { node: NodeId },
-    /// Want of memory.
-    Memory,
 }
 
-impl From<OutOfMemory> for CertRefusal {
-    ghost from_gives = { λ _ e. e ≡ Memory };
+impl From<CertRefusal> for ReadFault<CertRefusal> {
+    ghost from_gives = { λ refusal e. e ≡ Refused refusal };
 
-    fn from(_e: OutOfMemory) -> CertRefusal {
-        CertRefusal::Memory
-    }
-}
-
-impl From<AllocError> for CertRefusal {
-    ghost from_gives = { λ _ e. e ≡ Memory };
-
-    fn from(_e: AllocError) -> CertRefusal {
-        CertRefusal::Memory
-    }
-}
-
-impl<T: Drop> From<AllocFailed<T>> for CertRefusal {
-    ghost from_gives = { λ _ e. e ≡ Memory };
-
-    fn from(_e: AllocFailed<T>) -> CertRefusal {
-        CertRefusal::Memory
+    fn from(refusal: CertRefusal) -> ReadFault<CertRefusal> {
+        ReadFault::Refused(refusal)
     }
 }

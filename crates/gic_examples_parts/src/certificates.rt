@@ -2,7 +2,7 @@
 ghost use Rattle.std.specs.Prelude.{◌≡◌, length, IfOk, IfSome};
 ghost use Rattle.gic_winding.specs.ElementList.{elements_of};
 
-use gic_base::{MemorySink, NodeId};
+use gic_base::{MemorySink, NodeId, ReadFault};
 use gic_bound::{BoundVector, rows_positive};
 use gic_case::Case;
 use gic_case_reader::read_case;
@@ -35,9 +35,10 @@ fn read_grounded(alloc: Global) -> Result<Grounded, Fail> {
 }
 
 /// How a certificate is answered that is read over A and then checked.
-fn answer(alloc: Global, grounded: &Grounded, text: &str) -> Result<(), CertRefusal> {
+fn answer(alloc: Global, grounded: &Grounded, text: &str) -> Result<(), ReadFault<CertRefusal>> {
     let cert = read_cert(alloc, text.as_bytes(), &grounded.case, &grounded.net)?;
-    check(&grounded.net, &grounded.volts, &cert)
+    check(&grounded.net, &grounded.volts, &cert)?;
+    Ok(())
 }
 
 /// A guess of 1 nanovolt misses Kirchhoff's law at A by what 1 nanovolt drives through the earthing, so it takes a radius
@@ -51,7 +52,7 @@ fn takes_the_radius_that_the_residual_asks_for(rt: HostRuntime) -> Result<(), Fa
     let node = NodeId(0);
     assert_eq!(rt;
         answer(rt.alloc(), &grounded, less),
-        Err(CertRefusal::Radius { node })
+        Err(ReadFault::Refused(CertRefusal::Radius { node }))
     );
     Ok(())
 }
@@ -101,7 +102,7 @@ fn tells_the_first_broken_rule(rt: HostRuntime) -> Result<(), Fail> {
     for (text, refusal) in texts {
         assert_eq!(rt;
             answer(rt.alloc(), &grounded, text),
-            Err(refusal),
+            Err(ReadFault::Refused(refusal)),
             "at {text}"
         );
     }

@@ -32,7 +32,6 @@ breaks_none case standing c (cert.Radius node) passes first = first.2.broken (pa
 breaks_none case standing c (cert.Shape row) passes first = first
 breaks_none case standing c (cert.Number row) passes first = first
 breaks_none case standing c (cert.Node row) passes first = first
-breaks_none case standing c cert.Memory passes first = first
 
 not_unpassed : (case : Lists) (standing : List Placed) (bytes : List ℕ) (c : Certificate) (rule : NodeId → CertRefusal) (name : List ℕ)
     → IsAccepted case standing bytes c → ¬ IsUnpassed case standing bytes rule name

@@ -16,14 +16,13 @@ use Rattle.gic_recheck.specs.declared.fault.RoomFault.TheVariants.{Refused, Memo
 use Rattle.gic_recheck.specs.Accepted.{IsRefused, BreaksOwn, name_at}
 
 -- a refusal with the name of its node
-abbrev pub told_as : Lists → CertRefusal → RoomFault
-told_as case (cert.Shape row) = Refused (Shape row)
-told_as case (cert.Number row) = Refused (Number row)
-told_as case (cert.Node row) = Refused (Node row)
-told_as case (cert.Row node) = Refused (Row (name_at case node))
-told_as case (cert.Residual node) = Refused (Residual (name_at case node))
-told_as case (cert.Radius node) = Refused (Radius (name_at case node))
-told_as case cert.Memory = Memory
+abbrev pub told_as : Lists → CertRefusal → CertificateRefusal
+told_as case (cert.Shape row) = Shape row
+told_as case (cert.Number row) = Number row
+told_as case (cert.Node row) = Node row
+told_as case (cert.Row node) = Row (name_at case node)
+told_as case (cert.Residual node) = Residual (name_at case node)
+told_as case (cert.Radius node) = Radius (name_at case node)
 
 -- the node of a refusal, where it tells one, is one of the first so many
 abbrev pub IsNodeWithin : (nodes : ℕ) → CertRefusal → Type 0
@@ -36,7 +35,7 @@ IsNodeWithin nodes _ = ⊤
 pub record IsToldBreak (case : Lists) (standing : List Placed) (c : Certificate) (named : CertificateRefusal) : Type 0 where
   pub refusal : CertRefusal
   pub first : BreaksOwn case standing c refusal
-  pub told : Refused named ≡ told_as case refusal
+  pub told : named ≡ told_as case refusal
 
 -- no room is made since these bytes are refused, or for want of memory
 abbrev pub IsFaultOf : Lists → List Placed → (bytes : List ℕ) → RoomFault → Type 0

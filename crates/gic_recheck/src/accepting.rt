@@ -11,7 +11,7 @@ ghost use Rattle.gic_uniform.specs.Uniform.{uniform_volts};
 ghost use Rattle.gic_winding.specs.ElementList.{elements_of};
 
 use crate::fault::{CertificateRefusal, RoomFault};
-use gic_base::OutOfMemory;
+use gic_base::{OutOfMemory, ReadFault};
 use gic_case::{Case, node_name};
 use gic_cert::{Cert, CertRefusal, check, read_cert};
 use gic_model::{Elements, Volts};
@@ -20,27 +20,26 @@ use gic_uniform::uniform_volts;
 use std::alloc::Global;
 
 /// A refusal with the name of its node.
-fn told(case: &Case, refusal: CertRefusal) -> RoomFault
+fn told(case: &Case, refusal: CertRefusal) -> CertificateRefusal
     requires { IsNodeWithin (length (node_names case.now)) refusal }
     ensures { result ≡ told_as case.now refusal }
 {
     match refusal {
-        CertRefusal::Shape { row } => RoomFault::Refused(CertificateRefusal::Shape { row }),
-        CertRefusal::Number { row } => RoomFault::Refused(CertificateRefusal::Number { row }),
-        CertRefusal::Node { row } => RoomFault::Refused(CertificateRefusal::Node { row }),
+        CertRefusal::Shape { row } => CertificateRefusal::Shape { row },
+        CertRefusal::Number { row } => CertificateRefusal::Number { row },
+        CertRefusal::Node { row } => CertificateRefusal::Node { row },
         CertRefusal::Row { node } => {
             let node = node_name(case, node);
-            RoomFault::Refused(CertificateRefusal::Row { node })
+            CertificateRefusal::Row { node }
         }
         CertRefusal::Residual { node } => {
             let node = node_name(case, node);
-            RoomFault::Refused(CertificateRefusal::Residual { node })
+            CertificateRefusal::Residual { node }
         }
         CertRefusal::Radius { node } => {
             let node = node_name(case, node);
-            RoomFault::Refused(CertificateRefusal::Radius { node })
+            CertificateRefusal::Radius { node }
         }
-        CertRefusal::Memory => RoomFault::Memory,
     }
 }
 
@@ -62,10 +61,7 @@ pub(crate) fn expect_passing(
     net.within_limits();
     match check(net, volts, cert) {
         Ok(()) => Ok(()),
-        Err(broken) => match told(case, broken) {
-            RoomFault::Refused(refusal) => Err(refusal),
-            RoomFault::Memory => unreachable!(),
-        },
+        Err(broken) => Err(told(case, broken)),
     }
 }
 
@@ -78,7 +74,8 @@ pub(crate) fn read(alloc: Global, case: &Case, net: &Net, bytes: &[u8]) -> Resul
 {
     match read_cert(alloc, bytes, case, net) {
         Ok(cert) => Ok(cert),
-        Err(refusal) => Err(told(case, refusal)),
+        Err(ReadFault::Refused(refusal)) => Err(RoomFault::Refused(told(case, refusal))),
+        Err(ReadFault::Memory) => Err(RoomFault::Memory),
     }
 }
 

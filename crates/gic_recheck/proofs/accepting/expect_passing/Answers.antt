@@ -1,4 +1,4 @@
-use Rattle.std.proofs.Common.{◌≡◌, ℕ, ℤ, length, refl, sym, ap, subst, ◌∙◌}
+use Rattle.std.proofs.Common.{◌≡◌, ℕ, ℤ, length, refl, ap, subst, ◌∙◌}
 use Rattle.gic_case.specs.Lists.{node_names}
 use Rattle.gic_cert.specs.Passing.{IsPassing}
 use Rattle.gic_cert.specs.Refusals.{IsFirstRefusal}
@@ -10,7 +10,7 @@ use Rattle.gic_winding.proofs.Limits.{nodes_named}
 use Rattle.gic_uniform.specs.Uniform.{uniform_volts}
 use Rattle.gic_winding.specs.ElementList.{elements_of}
 use Rattle.gic_recheck.specs.Told.{IsNodeWithin}
-use Rattle.gic_recheck.proofs.Telling.{break_within, break_not_memory}
+use Rattle.gic_recheck.proofs.Telling.{break_within}
 use Rattle.gic_recheck.proofs.accepting.expect_passing.Goals as goal
 
 pub told-requires : goal.told-requires
@@ -30,8 +30,8 @@ returns-in-Ok-clause-passes c =
     subst (λ (n : ℕ). IsPassing n (standing net) (uniform_volts case cert.north cert.east) cert) nodes
     (subst (λ (v : ℕ → ℤ). IsPassing net.network.nodes (standing net) v cert) c.requires.volts (c.in-Ok.ensures.passes.0 refl))
 
-pub returns-in-Refused-clause-refused : goal.returns-in-Refused-clause-refused
-returns-in-Refused-clause-refused c =
+pub returns-in-Err-clause-refused : goal.returns-in-Err-clause-refused
+returns-in-Err-clause-refused c =
     let case = c.args.case.now in
     let net = c.args.net.now in
     let cert = c.args.cert.now in
@@ -40,16 +40,5 @@ returns-in-Refused-clause-refused c =
       refusal = c.in-Err.broken;
       first = subst (λ (n : ℕ). IsFirstRefusal n (standing net) (uniform_volts case cert.north cert.east) cert c.in-Err.broken) nodes
           (subst (λ (v : ℕ → ℤ). IsFirstRefusal net.network.nodes (standing net) v cert c.in-Err.broken) c.requires.volts c.in-Err.ensures.first);
-      told = c.in-Refused.ensures;
+      told = c.told.ensures;
     }
-
-pub unreachable-requires : goal.unreachable-requires
-unreachable-requires c =
-    let case = c.args.case.now in
-    let net = c.args.net.now in
-    let cert = c.args.cert.now in
-    let nodes : net.network.nodes ≡ (elements_of case).nodes = ap (λ (n : Network). n.nodes) c.requires.net in
-    break_not_memory case (standing net) cert c.in-Err.broken
-    (subst (λ (n : ℕ). IsFirstRefusal n (standing net) (uniform_volts case cert.north cert.east) cert c.in-Err.broken) nodes
-    (subst (λ (v : ℕ → ℤ). IsFirstRefusal net.network.nodes (standing net) v cert c.in-Err.broken) c.requires.volts c.in-Err.ensures.first))
-    (sym c.in-Memory.ensures)
