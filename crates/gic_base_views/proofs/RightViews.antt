@@ -39,9 +39,9 @@ nought_part z =
     let none : pos 0 *ℤ z ≡ pos 0 = *ℤ_comm (pos 0) z ∙ *ℤ-zero z in
     (ap₂ int_min none none, ap₂ int_max none none)
 
-sum_below-nought : (f : ℕ → ℤ) (n : ℕ) → ((i : ℕ) → f i ≡ pos 0) → sum_below f n ≡ pos 0
+sum_below-nought : (f : ℕ → ℤ) (n : ℕ) → ((i : ℕ) → i < n → f i ≡ pos 0) → sum_below f n ≡ pos 0
 sum_below-nought f zero h = refl
-sum_below-nought f (suc n) h = ap₂ (λ x y. x +ℤ y) (sum_below-nought f n h) (h n)
+sum_below-nought f (suc n) h = ap₂ (λ x y. x +ℤ y) (sum_below-nought f n (λ i less. h i (omega arith))) (h n (omega arith))
 
 zone_nought : (field : ℤ × ℤ) (zone : ZoneEnds) → zone ≡ no_zone_ends → (zone_low field zone ≡ pos 0) × (zone_high field zone ≡ pos 0)
 zone_nought field zone is = (
@@ -50,10 +50,10 @@ zone_nought field zone is = (
 )
 
 -- rows of 0 alone give 0 alone
-superposed_nought : (fields : List (ℤ × ℤ)) (row : List ZoneEnds) → ((zone : ℕ) → zone_at row zone ≡ no_zone_ends) → superposed fields row ≡ zero_ends
+superposed_nought : (fields : List (ℤ × ℤ)) (row : List ZoneEnds) → ((zone : ℕ) → zone < length fields → zone_at row zone ≡ no_zone_ends) → superposed fields row ≡ zero_ends
 superposed_nought fields row none =
-    let low = sum_below-nought (λ zone. zone_low (field_at fields zone) (zone_at row zone)) (length fields) (λ zone. (zone_nought (field_at fields zone) (zone_at row zone) (none zone)).0) in
-    let high = sum_below-nought (λ zone. zone_high (field_at fields zone) (zone_at row zone)) (length fields) (λ zone. (zone_nought (field_at fields zone) (zone_at row zone) (none zone)).1) in
+    let low = sum_below-nought (λ zone. zone_low (field_at fields zone) (zone_at row zone)) (length fields) (λ zone less. (zone_nought (field_at fields zone) (zone_at row zone) (none zone less)).0) in
+    let high = sum_below-nought (λ zone. zone_high (field_at fields zone) (zone_at row zone)) (length fields) (λ zone less. (zone_nought (field_at fields zone) (zone_at row zone) (none zone less)).1) in
     ap₂ (λ (l h : ℤ). record { low = floor_div l (pos 20000000000); high = ceil_div h (pos 20000000000) }) low high
 
 module _ (case : Lists) (stands : Item → Bool) (fields : List (ℤ × ℤ)) (rows : BaseRows) (view : View) (width : ℕ)
@@ -107,7 +107,7 @@ module _ (case : Lists) (stands : Item → Bool) (fields : List (ℤ × ℤ)) (r
         let same : 1000000 * (3 * (transformer_at case t).high_volts) * s.denominator ≡ effective_denominator case t s = omega arith in
         subst (λ (m : ℕ). Encloses (superposed fields (rows.effective t)).low (superposed fields (rows.effective t)).high (effective_numerator case s t) m) same
         (held (λ s. effective_numerator case s t) (3 * (transformer_at case t).high_volts) (rows.effective t) (weighted_linear standing (weighted_windings case t)) (certified.effective t less) s solves);
-    nought = λ none. superposed_nought fields (rows.effective t) (certified.nought t none);
+    nought = λ none. superposed_nought fields (rows.effective t) (λ zone within. certified.nought t less none zone (within_zones zone within));
   }
 
   pub right_view : IsRightView case standing volts view

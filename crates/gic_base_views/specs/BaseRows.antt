@@ -33,4 +33,4 @@ pub record AreCertifiedRows (case : Lists) (standing : List Placed) (rows : Base
   pub elements : (place : ℕ) → IsTrue (is_standing standing place) → IsCertifiedRow case standing (λ s. s.current place) 1 (rows.elements place)
   pub effective : (t : ℕ) → t < length case.transformers →
       IsCertifiedRow case standing (λ s. effective_numerator case s t) (3 * (transformer_at case t).high_volts) (rows.effective t)
-  pub nought : (t : ℕ) → HasNoStandingWinding case standing t → (zone : ℕ) → zone_at (rows.effective t) zone ≡ no_zone_ends
+  pub nought : (t : ℕ) → t < length case.transformers → HasNoStandingWinding case standing t → (zone : ℕ) → zone < length case.zones → zone_at (rows.effective t) zone ≡ no_zone_ends

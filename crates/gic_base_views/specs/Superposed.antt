@@ -37,7 +37,7 @@ pub record AreFieldsOf (case : Lists) (fields : List (ℤ × ℤ)) : Type 0 wher
   pub few : length fields ≤ MOST_ZONES
   pub within : All IsField fields
 
--- where each live node is earthed, a view of superposed intervals is right for the voltages of the fields, and no interval of it is wider than a width from 2 on
+-- of a network within its limits in which each live node is earthed, and fields of the case's zones: a view of intervals that are superposed from certified rows is right for the voltages of the fields, and no interval of it is wider than a width from 2 on
 abbrev pub SuperposedViewsAreRight : Type 0
 SuperposedViewsAreRight = (case : Lists) (stands : Item → Bool) (fields : List (ℤ × ℤ)) (rows : BaseRows) (view : View) (width : ℕ) →
     let standing = standing_elements (elements_of case) stands in

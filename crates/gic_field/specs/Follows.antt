@@ -36,6 +36,6 @@ AbsolutesAreRight = (case : Lists) (standing : List Placed) (volts : ℕ → ℤ
     AreRightAbsolutes case standing volts q.width report.view
 
 -- the verdicts of a right report are true
-abbrev pub VerdictsAreTrue : Type 0
-VerdictsAreTrue = (case : Lists) (standing : List Placed) (volts : ℕ → ℤ) (q : Question) (text : List ℕ) (report : ShowsRightView case standing volts q text) →
+abbrev pub FieldVerdictsAreTrue : Type 0
+FieldVerdictsAreTrue = (case : Lists) (standing : List Placed) (volts : ℕ → ℤ) (q : Question) (text : List ℕ) (report : ShowsRightView case standing volts q text) →
     AreTrueVerdicts case standing volts (threshold_of q.event) report.view

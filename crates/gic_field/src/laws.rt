@@ -1,6 +1,6 @@
 //! What the text of the mode tells, and what follows of a right report.
 ghost use Rattle.gic_field.specs.Determines.{TextDeterminesField};
-ghost use Rattle.gic_field.specs.Follows.{AbsolutesAreRight, VerdictsAreTrue};
+ghost use Rattle.gic_field.specs.Follows.{AbsolutesAreRight, FieldVerdictsAreTrue};
 
 use gic_screen::laws::verdict_law;
 
@@ -13,7 +13,7 @@ pub fn text_determines_field_law()
 /// wider than asked, and what its verdicts say is true of every solution.
 pub fn field_verdicts_law()
     ensures absolutes { AbsolutesAreRight }
-    ensures verdicts { VerdictsAreTrue }
+    ensures verdicts { FieldVerdictsAreTrue }
 {
     verdict_law();
 }

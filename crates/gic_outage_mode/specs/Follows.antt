@@ -94,7 +94,7 @@ WorstVerdictIsTrue = (inputs : Inputs) (item : Item) (worsts : List Ends) (count
     IsTrueVerdict inputs.case (standing_in_outage inputs item) (northward_volts inputs) (eastward_volts inputs) (threshold_asked inputs) t (worst_at worsts t)
 
 -- of a sound case, so many transformers at least as an outage that is solved counts undecided have a worst current within one width of the threshold, in every two solutions
-abbrev pub UndecidedAreNear : Type 0
-UndecidedAreNear = (inputs : Inputs) (item : Item) (worsts : List Ends) (counts : Counts) → IsSound inputs.case → AreRightWorsts inputs item worsts counts →
+abbrev pub UndecidedAreAtMostNear : Type 0
+UndecidedAreAtMostNear = (inputs : Inputs) (item : Item) (worsts : List Ends) (counts : Counts) → IsSound inputs.case → AreRightWorsts inputs item worsts counts →
     (one other : Solution) → AreSolutionsOf (standing_in_outage inputs item) (northward_volts inputs) (eastward_volts inputs) one other →
     counts.undecided ≤ transformers_with inputs.case (is_worst_near inputs.case inputs.question.width (threshold_asked inputs) one other)

@@ -9,6 +9,6 @@ use Rattle.gic_screening.specs.Rows.{screen_row_at}
 use Rattle.gic_screen_mode.specs.RightScreen.{ShowsRightRows}
 
 -- the verdict on the worst interval of each row of a right report is true
-abbrev pub VerdictsAreTrue : Type 0
-VerdictsAreTrue = (case : Lists) (standing : List Placed) (north east : ℕ → ℤ) (q : Question) (text : List ℕ) (report : ShowsRightRows case standing north east q text) →
+abbrev pub ScreenVerdictsAreTrue : Type 0
+ScreenVerdictsAreTrue = (case : Lists) (standing : List Placed) (north east : ℕ → ℤ) (q : Question) (text : List ℕ) (report : ShowsRightRows case standing north east q text) →
     (t : ℕ) → t < length case.transformers → IsTrueVerdict case standing north east (threshold_of q.event) t (screen_row_at report.rows t).worst

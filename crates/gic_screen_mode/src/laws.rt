@@ -1,6 +1,6 @@
 //! What the text of the mode tells, and what follows of a right report.
 ghost use Rattle.gic_screen_mode.specs.Determines.{TextDeterminesScreen};
-ghost use Rattle.gic_screen_mode.specs.Follows.{VerdictsAreTrue};
+ghost use Rattle.gic_screen_mode.specs.Follows.{ScreenVerdictsAreTrue};
 
 use gic_screen::laws::{verdict_law, worst_verdict_law};
 
@@ -11,7 +11,7 @@ pub fn text_determines_screen_law()
 
 /// In a right report, what the verdict on each transformer says is true of its worst current in every two solutions.
 pub fn screen_verdicts_law()
-    ensures { VerdictsAreTrue }
+    ensures { ScreenVerdictsAreTrue }
 {
     verdict_law();
     worst_verdict_law();

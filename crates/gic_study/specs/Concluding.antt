@@ -27,7 +27,7 @@ ServesMeaning meaning plans = Serves meaning.need meaning.case meaning.steps (me
 abbrev pub HasMonitors : Plans → Type 0
 HasMonitors plans = (roster : RosterView) (views : List View) → 0 < length (plans roster views)
 
--- where memory may be wanting: always for the room, which each mode makes before its call, and nothing here says that it is not; for texts in a study alone, which has monitors, and whose network meets its need at each step
+-- where memory may be wanting: for the room of any mode, always; for texts in a study alone, which has monitors, and whose network meets its need at each step
 abbrev pub MayWant : Plans → Wanting → Asked → Type 0
 MayWant plans Room asked = ⊤
 MayWant plans Texts (Study inputs detail) = HasMonitors plans × IsMet Solved (storm_steps inputs)

@@ -1,4 +1,4 @@
--- What follows of a right study. No reader of the headline needs these.
+-- What follows of a right study.
 use Rattle.std.specs.Prelude.{◌≡◌, ℕ, ◌≤◌, List, length, Option, Ok}
 use Rattle.gic_case.specs.Sound.{IsSound}
 use Rattle.gic_storm.specs.Rules.{storm_of}

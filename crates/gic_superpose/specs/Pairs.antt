@@ -13,7 +13,7 @@ zone_of pair = record { north = ends_of pair.north; east = ends_of pair.east }
 abbrev pub row_of : List ZonePair → List ZoneEnds
 row_of row = map zone_of row
 
--- the most that an end may be, either way: no current in a base field is beyond 2^80 nanoamperes
+-- the most that an end may be, either way: twice the bound of 2^80 nanovolts, nanoamperes and nanoamperes per phase that ends of base intervals keep
 abbrev pub most_base : ℕ
 most_base = 2 ^ 81
 

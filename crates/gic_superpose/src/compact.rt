@@ -1,14 +1,14 @@
 //! A superposed interval, computed in 64 bits where these serve.
 ghost use Rattle.std.specs.Prelude.{◌≡◌, ℕ, ◌-◌, ◌*◌, ◌<◌, ◌≤◌, ◌^◌, ◌+ℤ◌, ◌*ℤ◌, ◌≤ℤ◌, length, unsigned_abs, pos, All, FitsSigned, IfSome, None, ◌⊎◌};
 ghost use Rattle.std.specs.Int.{w64};
-ghost use Rattle.gic_base.specs.declared.limits.TheConstants.{MOST_FIELD, MOST_ZONES};
+ghost use Rattle.gic_base.specs.declared.limits.TheConstants.{MOST_FIELD};
 ghost use Rattle.gic_fixed.specs.Encloses.{IsWithin};
 ghost use Rattle.gic_fixed.specs.Ends.{ends_of};
 ghost use Rattle.gic_fixed.specs.Rounding.{floor_div, ceil_div};
 ghost use Rattle.gic_induce.specs.Fields.{field_at};
 ghost use Rattle.gic_superpose.specs.Superposed.{zone_at, low_part, high_part, zone_low, zone_high, sum_low, sum_high, sums_in_milli, superposed};
 ghost use Rattle.gic_superpose.specs.Pairs.{zone_of};
-ghost use Rattle.gic_superpose.specs.Compact.{compact_ends_of, compact_zone_of, compact_row_of, most_compact, IsCompact};
+ghost use Rattle.gic_superpose.specs.Compact.{compact_ends_of, compact_zone_of, compact_row_of, most_compact, IsCompact, IsBeyond};
 
 use crate::pairs::{CompactEnds, CompactPair, ZonePair};
 use gic_base::limits::MOST_FIELD;
@@ -45,6 +45,7 @@ pub fn compacted(pair: ZonePair, zones: u16) -> Option<CompactPair>
     requires { 0 < zones }
     ensures same { IfSome result (λ compact. compact_zone_of compact ≡ zone_of pair) }
     ensures within { IfSome result (IsCompact zones) }
+    ensures none { result ≡ None → IsBeyond zones (ends_of pair.north) ⊎ IsBeyond zones (ends_of pair.east) }
 {
     let most = most_compact(zones);
     match (

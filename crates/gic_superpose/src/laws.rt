@@ -9,7 +9,7 @@ pub fn linear_views_law()
 {}
 
 /// Where each live node is earthed, intervals that hold a linear quantity in all base fields give one that holds it in
-/// any fields: it is superposed, and no solve stands in it.
+/// any fields, without a solve.
 pub fn superposed_intervals_law()
     ensures { SuperposedIntervalsHold }
 {}
