@@ -18,7 +18,7 @@ use Rattle.gic_inputs.specs.declared.inputs.Inputs.{Inputs}
 use Rattle.gic_winding.specs.Weights.{transformer_at}
 use Rattle.gic_outage_mode.specs.Outages.{Outage, standing_in_outage, worst_at, worsts_of, greatest_worst}
 use Rattle.gic_outage_mode.specs.RightOutage.{northward_volts, eastward_volts, threshold_asked, AreRightOutages}
-use Rattle.gic_outage_mode.specs.Follows.{IsSolvedOutage, IsWorstAtLeastOnce, IsTrueOverOutages, IsWorstUpTo, IsWorstFrom, EnclosesGreatestWorst, GreatestWorstIsEnclosed, GreatestVerdictIsTrue, WorstVerdictIsTrue, UndecidedAreNear}
+use Rattle.gic_outage_mode.specs.Follows.{IsSolvedOutage, IsWorstAtLeastOnce, IsTrueOverOutages, IsWorstUpTo, IsWorstFrom, EnclosesGreatestWorst, GreatestWorstIsEnclosed, GreatestVerdictIsTrue, WorstVerdictIsTrue, UndecidedAreAtMostNear}
 use Rattle.gic_outage_mode.proofs.Greatest.{AreGreatest, AreGreatestOf, all_greatest, greatest_narrow}
 use Rattle.gic_outage_mode.proofs.Squared.{up_to, no_less}
 use Rattle.gic_outage_mode.proofs.CountedNear.{few_undecided}
@@ -119,7 +119,7 @@ pub each_verdict_true : UndecidedIsAcross → WorstBelowIsUnder → WorstReaches
 each_verdict_true across under at_least inputs item worsts counts sound are_right t within =
     true_here across under at_least inputs sound item t (worst_at worsts t) within (as_worst inputs item t (worst_at worsts t) (are_right.right t within))
 
-pub undecided_near : UndecidedAreNear
+pub undecided_near : UndecidedAreAtMostNear
 undecided_near inputs item worsts counts sound are_right one other solve =
     few_undecided inputs.case (standing_in_outage inputs item) (northward_volts inputs) (eastward_volts inputs) (threshold_asked inputs) inputs.question.width worsts sound
     (λ t within. as_worst inputs item t (worst_at worsts t) (are_right.right t within)) one other solve counts are_right.counted
