@@ -1,6 +1,6 @@
 -- The case of what is asked for is sound.
 use Rattle.std.proofs.Common.{◌≡◌, ℕ, ◌≤◌, ℤ, pos, negsuc, ◌≤ℤ◌, Bool, true, false, ◌&&◌, cond, List, [], ◌∷◌, Option, Some, None, Result, Ok, Err, refl, subst, arith}
-use Rattle.std.specs.Prelude.{IfOk, IfSome, int_le, option_map, option_and_then, unsigned_abs, ⊤}
+use Rattle.std.specs.Prelude.{IfOk, IfSome, int_le, option_map, option_and_then, unsigned_abs}
 use Rattle.std.proofs.lemmas.Int.{ints}
 use Rattle.gic_text.specs.Decimal.{within, whole_of, read_decimal}
 use Rattle.gic_case.specs.Lists.{Lists}
@@ -15,19 +15,18 @@ use Rattle.gic_words.specs.Table.{ModeRow, all_options}
 use Rattle.gic_words.specs.Values.{number_in}
 use Rattle.gic_words.specs.declared.mode.Mode.{Mode}
 use Rattle.gic_words.specs.declared.mode.Mode.TheVariants as mode
-use Rattle.gic_words.specs.declared.option.Opt.{Opt}
 use Rattle.gic_words.specs.declared.option.Opt.TheVariants as opt
 use Rattle.gic_words.specs.declared.options.Options.{Options}
 use Rattle.gic_words.specs.declared.fault.Usage.{Usage}
 use Rattle.gic_ask.specs.Contents.{Given, Contents}
-use Rattle.gic_ask.specs.Outcome.{Outcome, Refuses, Lacks, Accepts, ◌>>=◌, reading, if_given, handing, reading_case, reading_storm, reading_switchings, reading_certificate, reading_over, reading_over_case, transformer_asked, gathering, needing, asking, outcome}
+use Rattle.gic_ask.specs.Outcome.{Accepts, ◌>>=◌, reading, handing, reading_case, reading_storm, reading_switchings, reading_certificate, reading_over, reading_over_case, transformer_asked, gathering, needing, asking, outcome}
 use Rattle.gic_ask.specs.declared.fault.File.TheVariants as file
-use Rattle.gic_ask.specs.declared.fault.InputRefusal.{InputRefusal}
 use Rattle.gic_ask.specs.declared.fault.InputRefusal.TheVariants as refusals
 use Rattle.gic_ask.specs.declared.gathered.OverCase.{OverCase}
 use Rattle.gic_ask.specs.declared.gathered.Gathered.{Gathered}
 use Rattle.gic_ask.specs.declared.request.Asked.{Asked}
 use Rattle.gic_study.specs.Laws.{case_asked, AskedCasesAreSound}
+use Rattle.gic_study.proofs.Accepting.{Holds, Any, then_holds, anyway, reading_holds, given_holds, needing_holds}
 
 -- ---- a number that words give lies in its range
 
@@ -86,39 +85,6 @@ made_unless_faulty (k ∷ ks) rows = tt
 words_can_be_made : (words : List (List ℕ)) → IfOk (options_of words) CanBeMade
 unfolding options_of
 words_can_be_made words = made_unless_faulty (faults_of words) (matches_of_words words)
-
--- ---- what holds of what is accepted
-
-abbrev Holds : {A : Type 0} → (A → Type 0) → Outcome A → Type 0
-Holds P (Refuses refusal) = ⊤
-Holds P (Lacks file) = ⊤
-Holds P (Accepts a) = P a
-
-abbrev Any : {A : Type 0} → A → Type 0
-Any a = ⊤
-
-module _ {A B : Type 0} (P : A → Type 0) (Q : B → Type 0) where
-  then_holds : (o : Outcome A) (next : A → Outcome B) → Holds P o → ((a : A) → P a → Holds Q (next a)) → Holds Q (o >>= next)
-  then_holds (Refuses refusal) next h more = tt
-  then_holds (Lacks file) next h more = tt
-  then_holds (Accepts a) next h more = more a h
-
-anyway : {A : Type 0} (o : Outcome A) → Holds Any o
-anyway (Refuses refusal) = tt
-anyway (Lacks file) = tt
-anyway (Accepts a) = tt
-
-reading_holds : {A E : Type 0} (P : A → Type 0) (refusal : E → InputRefusal) (r : Result A E) → IfOk r P → Holds P (reading refusal r)
-reading_holds P refusal (Ok a) h = h
-reading_holds P refusal (Err e) h = tt
-
-given_holds : {X A : Type 0} (P : A → Type 0) (named : Option X) (next : X → Outcome A) → ((x : X) → Holds P (next x)) → Holds (λ (found : Option A). IfSome found P) (if_given named next)
-given_holds P None next h = tt
-given_holds P (Some x) next h = then_holds P (λ found. IfSome found P) (next x) (λ a. Accepts (Some a)) (h x) (λ a p. p)
-
-needing_holds : {A : Type 0} (P : A → Type 0) (option : Opt) (named : Option A) → IfSome named P → Holds P (needing option named)
-needing_holds P option None h = tt
-needing_holds P option (Some a) h = h
 
 -- ---- the case
 

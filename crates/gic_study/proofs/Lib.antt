@@ -6,4 +6,6 @@ pub mod Ended
 pub mod Statuses
 pub mod EachMode
 pub mod Certified
+pub mod Accepting
 pub mod AskedSound
+pub mod AskedStorms

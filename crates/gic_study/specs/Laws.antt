@@ -1,4 +1,4 @@
--- What follows from how a call ended. No reader of the headline needs these.
+-- What holds of what is asked for, of how a call ended and of right texts. No reader of the headline needs these.
 use Rattle.std.specs.Prelude.{◌≡◌, ◌≢◌, ℕ, List, Some, Ok, Err, ◌⊎◌, ⊤}
 use Rattle.std.specs.Io.KnownBytes.{Keeps}
 use Rattle.gic_base.specs.Causes.{Rose}
@@ -26,6 +26,7 @@ use Rattle.gic_ask.specs.declared.fault.InputRefusal.{InputRefusal}
 use Rattle.gic_ask.specs.declared.fault.InputRefusal.TheVariants.{Usage, TooLong, Case, UnknownTransformer, Storm, Switch}
 use Rattle.gic_ask.specs.declared.request.Asked.{Asked}
 use Rattle.gic_ask.specs.declared.request.Asked.TheVariants.{Network, Study, Make, Recheck, Series}
+use Rattle.gic_course.specs.Steps.{IsStepOf}
 use Rattle.gic_stand.specs.Needs.{Need, IsMet, IsUnmet}
 use Rattle.gic_stand.specs.Standing.{standing_of}
 use Rattle.gic_inputs.specs.declared.inputs.Inputs.{Inputs}
@@ -65,6 +66,16 @@ AcceptsCertificate _ = ⊤
 -- its case is sound
 abbrev pub AskedCasesAreSound : Type 0
 AskedCasesAreSound = (call : Call) (asked : Asked) → AsksFor call (Ok asked) → IsSound (case_asked asked)
+
+-- the storm that is asked about has a step, where one is
+abbrev pub StormHasStep : Asked → Type 0
+StormHasStep (Study inputs detail) = IsStepOf inputs 1
+StormHasStep (Series inputs transformer) = IsStepOf inputs 1
+StormHasStep _ = ⊤
+
+-- its storm has a step
+abbrev pub AskedStormsHaveSteps : Type 0
+AskedStormsHaveSteps = (call : Call) (asked : Asked) → AsksFor call (Ok asked) → StormHasStep asked
 
 -- ---- of how a call ended over files that the library tells
 

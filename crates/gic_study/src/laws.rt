@@ -1,10 +1,11 @@
-//! What follows from how a call ended.
-ghost use Rattle.gic_study.specs.Laws.{AskedCasesAreSound, RefusalsAreAnswered, LackedFilesAreWantOfMemory, UnmetNeedsAreAnswered, RefusedCertificatesAreAnswered, AcceptedIsReported, StatusesSay, TextsTellModes, CertifiedIsAccepted};
+//! What holds of what is asked for, of how a call ended and of right texts.
+ghost use Rattle.gic_study.specs.Laws.{AskedCasesAreSound, AskedStormsHaveSteps, RefusalsAreAnswered, LackedFilesAreWantOfMemory, UnmetNeedsAreAnswered, RefusedCertificatesAreAnswered, AcceptedIsReported, StatusesSay, TextsTellModes, CertifiedIsAccepted};
 
 use gic_ask::laws::answers_of_files_law;
 use gic_case_reader::laws::accepted_law;
 use gic_make::laws::made_cases_law;
 use gic_recheck::laws::{accepted_is_not_refused_law, passing_text_is_accepted_law};
+use gic_study_mode::laws::accepted_storms_have_steps_law;
 
 /// Whatever is asked for, its case is sound.
 pub fn asked_cases_are_sound_law()
@@ -12,6 +13,13 @@ pub fn asked_cases_are_sound_law()
 {
     accepted_law();
     made_cases_law();
+}
+
+/// Whatever is asked for over a storm, that storm has a step.
+pub fn asked_storms_have_steps_law()
+    ensures { AskedStormsHaveSteps }
+{
+    accepted_storms_have_steps_law();
 }
 
 /// Where no fetch of a named file failed, a refusal by the words and the files is answered, want of memory aside.
