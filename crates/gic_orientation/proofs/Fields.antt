@@ -10,7 +10,7 @@ use Rattle.gic_winding.specs.ElementList.{elements_of}
 use Rattle.gic_induce.specs.Fields.{field_at, no_field}
 use Rattle.gic_induce.specs.Linear.{AreCombined, VoltsAreLinear}
 use Rattle.gic_uniform.specs.Uniform.{uniform_field, uniform_volts}
-use Rattle.gic_orientation.proofs.WeightedSums.{none_times}
+use Rattle.gic_superpose.proofs.Weighted.{none_times}
 
 -- in a zone of the case the field is this one, and elsewhere there is none
 inside : (n zone : ℕ) (field : ℤ × ℤ) → zone < n → field_at (replicate n field) zone ≡ field

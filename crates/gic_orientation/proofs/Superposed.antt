@@ -21,7 +21,7 @@ use Rattle.gic_orientation.specs.Orientation.{AreSolutions, times, north_current
 use Rattle.gic_orientation.proofs.Fields.{volts_combined}
 use Rattle.gic_orientation.proofs.Products.{cancelled, once_out, parts_out, scaled, square_out}
 use Rattle.gic_orientation.proofs.Squares.{square_grows, square_most, square_reached, square_same}
-use Rattle.gic_orientation.proofs.WeightedSums.{none_times, sum_agrees, sum_combined, sum_times}
+use Rattle.gic_superpose.proofs.Weighted.{none_times, sum_agrees, sum_combined, sum_times}
 
 -- the effective numerator of combined solutions
 numerator_combined : (case : Lists) (t : ℕ) (c : ℤ) (one : Solution) (d : ℤ) (other : Solution)
