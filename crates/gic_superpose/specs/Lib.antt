@@ -2,3 +2,4 @@ pub mod Superposed
 pub mod Quantities
 pub mod Pairs
 pub mod Compact
+pub mod Worked

@@ -1,6 +1,7 @@
 //! Laws over the definitions, each the contract of a function that does nothing: a function whose proof rests on a
 //! law calls it.
 ghost use Rattle.gic_superpose.specs.Quantities.{ViewsAreLinear, SuperposedIntervalsHold, SuperposedIntervalsAreNarrow};
+ghost use Rattle.gic_superpose.specs.Worked.{WorkedStep};
 
 /// What a view shows of a solution is linear: the potential of a live node, an element's current, and a sum of
 /// currents, each with its weight.
@@ -18,4 +19,9 @@ pub fn superposed_intervals_law()
 /// milliamperes wide.
 pub fn superposed_width_law()
     ensures { SuperposedIntervalsAreNarrow }
+{}
+
+/// One zone's intervals in half a field to the south and a whole one to the east, worked by hand.
+pub fn worked_step_law()
+    ensures { WorkedStep }
 {}
