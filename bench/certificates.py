@@ -1,7 +1,7 @@
 #!/usr/bin/env python3
 """Sets `recheck` of the program beside the independent checker, over certificates that pass and others that don't.
 
-    python3 bench/certificates.py PROGRAM [NETWORKS] [MUTATED] [SEED] [--oracle=OTHER] [--jobs=N]
+    python3 bench/certificates.py PROGRAM [NETWORKS] [MUTATED] [SEED] [--oracle=OTHER] [--jobs=N] [--format-3]
 
 PROGRAM is the built program. Its answers to `recheck` are compared with those of `independent/recheck.py` byte for
 byte: status, standard output and fault line. The certificates are
@@ -14,8 +14,9 @@ byte: status, standard output and fault line. The certificates are
 - the certificate of each network beside a case or switchings that were changed, MUTATED times too (`CASE_CHANGES` and
   `SWITCHING_CHANGES`): with a byte order mark, with names twice, with rows that switchings can't have.
 
-One difference is counted by itself and is none of those below, since independent/README.md names it: both refuse the
-case, and one of them says that it is no TOML.
+Two differences are counted by themselves and are none of those below, since independent/README.md names them: both refuse
+the case, and one of them says that it is no TOML; and the program refuses format 3. With --format-3 the program reads it,
+and half of the networks are of that format.
 
 With --oracle a second program is asked too, with the same words, and has to answer the same. A name that ends in `.py`
 is run by Python. N networks are looked at side by side, one a processor where no N is given.
@@ -72,6 +73,15 @@ def is_named(one: Answer, other: Answer) -> bool:
     return one.status == other.status == 5 and (one.is_no_toml() or other.is_no_toml())
 
 
+def refuses_format_3(answer: Answer, folder: str, words: list[str]) -> bool:
+    """Whether the program refuses a case of format 3, which the checker reads."""
+    if random_cases.WITH_FORMAT_3 or answer.told != b"gicstudy: case: value in case row 0 field format\n":
+        return False
+    name = next(word for word in words if word.startswith("--case=")).removeprefix("--case=")
+    with open(os.path.join(folder, name), "rb") as case:
+        return re.search(rb"^format *= *3\s*$", case.read(), re.MULTILINE) is not None
+
+
 class Setting(NamedTuple):
     """What is compared with the checker, and over how much."""
 
@@ -99,7 +109,7 @@ class Tally:
         self.kinds[checked.kind()] += 1
         for program in programs:
             answer = of_program(program, folder, ["recheck", *words])
-            if answer != checked and is_named(answer, checked):
+            if answer != checked and (is_named(answer, checked) or refuses_format_3(answer, folder, words)):
                 self.named += 1
             elif answer != checked:
                 kept = "" if self.differing else shutil.copytree(folder, tempfile.mkdtemp(), dirs_exist_ok=True)
@@ -551,7 +561,7 @@ def main() -> None:
         print(__doc__.strip())
         sys.exit(0 if len(sys.argv) > 1 else 2)
     plain = [word for word in sys.argv[1:] if not word.startswith("--")]
-    named = dict(word[2:].split("=", 1) for word in sys.argv[1:] if word.startswith("--"))
+    named = dict(word[2:].split("=", 1) for word in sys.argv[1:] if word.startswith("--") and "=" in word)
     count, mutated, seed = [int(word) for word in plain[1:]] + [100, 1000, 1][len(plain) - 1 :]
     programs = [os.path.abspath(program) for program in [plain[0], *([named["oracle"]] if "oracle" in named else [])]]
     setting = Setting(programs, mutated, seed)
@@ -566,7 +576,7 @@ def main() -> None:
                 tally.add(job.result())
     for what, tally in (("examples", examples), (f"{count} networks", networks)):
         counts = ", ".join(f"{kind} {number}" for kind, number in sorted(tally.kinds.items()))
-        print(f"{what}: {sum(tally.kinds.values())} runs: {counts}; no TOML for one alone {tally.named}")
+        print(f"{what}: {sum(tally.kinds.values())} runs: {counts}; named differences {tally.named}")
     differing = examples.differing + networks.differing
     print(*differing[:20], f"{len(differing)} answers differ", sep="\n")
     sys.exit(bool(differing))

@@ -3,16 +3,24 @@
 which has a neutral resistor, so 7680 nodes and 19968 elements. The numbers belong to no real network.
 
     python3 limit_case.py [SUBSTATIONS] [GROUND] > limit.toml
+    python3 limit_case.py --format-3 [SUBSTATIONS] [GROUND] [PARTS] > limit.toml
 
 A smaller number of substations, 128, 256 or 512, makes all else smaller in proportion, but for the zones. GROUND is
 the resistance of all grounds in micro-ohm; where it is not given, they differ, from 0.1 to 0.8 ohm. The greater it is,
 the further are the nodes from earth. The same text comes at every call: the numbers follow from the places, and no
 clock and no chance is used.
+
+With --format-3 it is at every limit of that format: 256 zones, 4096 substations, 12288 buses, 24576 lines, each in 16
+parts (or in so many as PARTS says), and 8192 transformers, each with three windings and a neutral resistor, so 24576
+nodes and 61440 elements; at the first bus 256 elements end.
 """
 
 import sys
+from collections.abc import Callable
 
-ZONES, LEVELS = 256, 3
+from case_text import Row, case_text
+
+ZONES, LEVELS, MOST_ENDS = 256, 3, 256
 
 
 def rows(substations=1024, ground=None):
@@ -50,6 +58,90 @@ def rows(substations=1024, ground=None):
         )
 
 
+def lists_3(substations: int = 4096, ground: int | None = None, parts: int = 16) -> dict[str, list[Row]]:
+    """The lists of the case of format 3."""
+
+    def bus(substation: int, level: int) -> str:
+        return f"b{substation % substations}-{level % LEVELS}"
+
+    lists: dict[str, list[Row]] = {
+        "zone": [{"name": f"z{zone}", "scale": 200 + 5 * zone} for zone in range(ZONES)],
+        "substation": [
+            {"name": f"s{place}", "ground": ground or 100000 + 700 * place % 716800} for place in range(substations)
+        ],
+        "bus": [
+            {"name": bus(place // LEVELS, place), "substation": f"s{place // LEVELS}"}
+            for place in range(LEVELS * substations)
+        ],
+        "transformer": [unit_3(place, substations, bus) for place in range(2 * substations)],
+    }
+    # Rings and chords as in format 2. Some of the last ones begin at the first bus, up to the limit of what ends there.
+    lines = [line_3(place, substations, bus, parts) for place in range(6 * substations)]
+    hub = bus(0, 0)
+    room = MOST_ENDS - sum(hub in (row["from"], row["to"]) for row in lines) - ends_of_units(hub, lists["transformer"])
+    for row in [row for row in reversed(lines) if hub not in (row["from"], row["to"])][:room]:
+        row["from"] = hub
+    return lists | {"line": lines}
+
+
+def line_3(place: int, substations: int, bus: Callable[[int, int], str], parts: int) -> Row:
+    station, lap = place % substations, place // substations
+    spans = [
+        {
+            "zone": f"z{(station + part) % ZONES}",
+            "north": (place + part) * 11 % 1000,
+            "east": (place + part) * 17 % 199 - 99,
+        }
+        for part in range(parts)
+    ]
+    return {
+        "name": f"l{place}",
+        "from": bus(station, lap),
+        "to": bus(station + 1 + lap * lap * 7, lap),
+        "resistance": 100000 + 37 * place,
+        "part": spans,
+    }
+
+
+def unit_3(place: int, substations: int, bus: Callable[[int, int], str]) -> Row:
+    station, level = place % substations, place // substations
+    kind, first, second = ("auto-wye", "series", "common") if place % 2 else ("wye-wye-wye", "high", "low")
+    return {
+        "name": f"u{place}",
+        "kind": kind,
+        "high_volts": 500000,
+        "low_volts": 345000,
+        "third_volts": 34500,
+        "high": bus(station, level),
+        "low": bus(station, level + 1),
+        "third": bus(station, level + 2),
+        f"{first}_resistance": 50000 + place,
+        f"{second}_resistance": 70000 + place,
+        "third_resistance": 90000 + place,
+        "neutral": 500000 + place,
+    }
+
+
+def ends_of_units(bus: str, units: list[Row]) -> int:
+    """How many windings end at a bus; at the low bus of an autotransformer two do."""
+    return sum(
+        (unit["high"] == bus) + (unit["low"] == bus) * (1 + ("series_resistance" in unit)) + (unit["third"] == bus)
+        for unit in units
+    )
+
+
+def main(words: list[str]) -> None:
+    numbers = [word for word in words if word != "--format-3"]
+    if len(numbers) > 2 + ("--format-3" in words) or not all(word.isdecimal() and int(word) for word in numbers):
+        sys.exit("usage: limit_case.py [SUBSTATIONS] [GROUND], or --format-3 [SUBSTATIONS] [GROUND] [PARTS]")
+    if "--format-3" not in words:
+        print(*rows(*map(int, numbers)), sep="\n")
+        return
+    lists = lists_3(*map(int, numbers))
+    if any(row["from"] == row["to"] for row in lists["line"]):
+        sys.exit("limit_case.py: with so many substations a chord ends where it begins")
+    print(case_text(3, lists), end="")
+
+
 if __name__ == "__main__":
-    for row in rows(*[int(word) for word in sys.argv[1:]]):
-        print(row)
+    main(sys.argv[1:])

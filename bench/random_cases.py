@@ -1,7 +1,7 @@
 #!/usr/bin/env python3
 """Writes folders of random networks, one network a folder, to be checked by a solver of another make.
 
-    python3 bench/random_cases.py DIR [COUNT] [SEED] [NODES] [--mode=MODE] [--limits]
+    python3 bench/random_cases.py DIR [COUNT] [SEED] [NODES] [--mode=MODE] [--limits] [--format-3]
 
 Each folder of DIR has the case `p`, often a list of switchings `s`, and the file `words` with the words of one run of
 MODE (`field` where it is not given, or `screen`, or `outage`, or `review`, or `study` or `series` with a storm `t`
@@ -10,7 +10,8 @@ COUNT networks are written (100), the same ones for the same SEED (1), each of a
 Transformers are of all four kinds, with and without neutral resistors and blocking devices; some lines are blocked, some
 substations have no ground, and some networks are not earthed, or not well enough to be solved: then the answer is a
 refusal. Three networks in four are made so that each bus has a way to earth before anything is switched. With --limits
-all resistances are near one of the two ends of their range.
+all resistances are near one of the two ends of their range. With --format-3 half of the networks are of format 3: zones by
+their scale, lines in parts, third windings and reactors.
 """
 
 import os
@@ -19,9 +20,12 @@ import re
 import sys
 
 AT_LIMITS = "--limits" in sys.argv
+WITH_FORMAT_3 = "--format-3" in sys.argv
 MODES = ["field", "screen", "outage", "study", "series", "review"]
 OVER_STORMS = ["study", "series"]
 KINDS = ["delta-wye", "wye-wye", "auto", "delta-delta"]
+THREE_SIDED = ["wye-wye-wye", "auto-wye"]
+MOST_SPAN = 300000
 
 
 def resistance(draw, least=1000, most=1000000000):
@@ -45,21 +49,32 @@ def neutral(draw):
     return ['neutral = "blocked"']
 
 
-def transformer(draw, place, buses):
-    """A unit between two buses of one substation, or at one, and how many nodes it adds."""
+def kinds_at(buses, is_third):
+    """The kinds of a unit over these buses of one substation, in format 3 or before it."""
+    kinds = KINDS if len(buses) > 1 else ["delta-wye", "delta-wye", "delta-delta"]
+    if not is_third:
+        return kinds
+    return [*kinds, "reactor", *(2 * THREE_SIDED if len(buses) > 2 else [])]
+
+
+def transformer(draw, place, buses, is_third=False):
+    """A unit between two or three buses of one substation, or at one, and how many nodes it adds."""
     name, high_volts = f"T{place}", draw.choice([115000, 138000, 200000, 200001, 230000, 345000, 500000, 765000])
-    kind = draw.choice(KINDS if len(buses) > 1 else ["delta-wye", "delta-wye", "delta-delta"])
+    kind = draw.choice(kinds_at(buses, is_third))
     rows = [f'name = "{name}"', f'kind = "{kind}"', f"high_volts = {high_volts}"]
     if kind == "delta-delta":
         return rows, 0
-    high, low = draw.sample(buses, 2) if len(buses) > 1 else (buses[0], None)
+    high, low, *third = draw.sample(buses, 3 if kind in THREE_SIDED else 2) if len(buses) > 1 else (buses[0], None)
     rows.append(f'high = "{high}"')
-    if kind == "delta-wye":
+    if kind in ("delta-wye", "reactor"):
         rows.append(f"high_resistance = {usual(draw, 50000, 1000000)}")
     else:
         rows += [f'low = "{low}"', f"low_volts = {draw.randint(1000, high_volts)}"]
-        first, second = ("series", "common") if kind == "auto" else ("high", "low")
+        first, second = ("series", "common") if kind.startswith("auto") else ("high", "low")
         rows += [f"{first}_resistance = {usual(draw, 20000, 500000)}", f"{second}_resistance = {usual(draw, 20000, 500000)}"]
+    if third:
+        rows += [f'third = "{third[0]}"', f"third_volts = {draw.randint(1000, high_volts)}"]
+        rows.append(f"third_resistance = {usual(draw, 20000, 500000)}")
     device = neutral(draw)
     return rows + device, len(device)
 
@@ -75,13 +90,39 @@ def plain_unit(draw, place, bus):
     ]
 
 
+def zone_rows(draw, is_third):
+    """The rows of a zone but its name."""
+    if is_third and draw.random() < 0.5:
+        return [f"scale = {draw.choice([1, 1500, draw.randint(1, 1500), draw.randint(1, 1500)])}"]
+    return [f"latitude = {draw.randint(0, 9000)}", f"beta = {draw.randint(1, 150)}"]
+
+
+def line_rows(draw, zones, is_third):
+    """The rows of a line but its name and its ends: it lies in one zone, or in parts."""
+    count = draw.choice([1, 1, 2, 2, 3, 16]) if is_third else 1
+    if count == 1:
+        return [
+            f'zone = "{draw.choice(zones)}"',
+            f"resistance = {usual(draw, 500000, 20000000)}",
+            f"north = {draw.randint(-MOST_SPAN, MOST_SPAN)}",
+            f"east = {draw.randint(-MOST_SPAN, MOST_SPAN)}",
+        ]
+    most = MOST_SPAN // count
+    parts = ", ".join(
+        f'{{ zone = "{draw.choice(zones)}", north = {draw.randint(-most, most)}, east = {draw.randint(-most, most)} }}'
+        for _ in range(count)
+    )
+    return [f"resistance = {usual(draw, 500000, 20000000)}", f"part = [{parts}]"]
+
+
 def network(draw, nodes):
     """The text of a case, and the names that switchings can have: of items, and of transformers with a resistor."""
     earthed = draw.random() < 0.75
     zones = [f"Z{place}" for place in range(draw.randint(1, 5))]
-    tables, items, resistors = ["format = 2"], [], []
+    is_third = WITH_FORMAT_3 and draw.random() < 0.5
+    tables, items, resistors = [f"format = {3 if is_third else 2}"], [], []
     for zone in zones:
-        tables.append(f'[[zone]]\nname = "{zone}"\nlatitude = {draw.randint(0, 9000)}\nbeta = {draw.randint(1, 150)}')
+        tables.append("\n".join(["[[zone]]", f'name = "{zone}"', *zone_rows(draw, is_third)]))
     stations, all_buses, units, count = [], [], [], 0
     while not stations or (count + 8 <= nodes and draw.random() < 0.98):
         station, buses = f"S{len(stations)}", [f"B{len(stations)}-{level}" for level in range(draw.randint(1, 3))]
@@ -96,7 +137,7 @@ def network(draw, nodes):
             units.append(plain_unit(draw, len(units), bus))
             items.append(f"T{len(units) - 1}")
         for _ in range(draw.randint(0, 2)):
-            rows, added = transformer(draw, len(units), buses)
+            rows, added = transformer(draw, len(units), buses, is_third)
             units.append(rows)
             items.append(f"T{len(units) - 1}")
             count += added
@@ -106,12 +147,10 @@ def network(draw, nodes):
     for place in range(draw.randint(0, 2 * len(all_buses)) if len(all_buses) > 1 else 0):
         start = draw.randrange(len(all_buses) - 1)
         end = draw.randint(start + 1, min(len(all_buses) - 1, start + draw.choice([1, 2, 4, 200])))
-        blocked = "\nblocked = true" if draw.random() < 0.06 else ""
-        tables.append(
-            f'[[line]]\nname = "L{place}"\nfrom = "{all_buses[start][0]}"\nto = "{all_buses[end][0]}"\n'
-            f'zone = "{draw.choice(zones)}"\nresistance = {usual(draw, 500000, 20000000)}\n'
-            f"north = {draw.randint(-300000, 300000)}\neast = {draw.randint(-300000, 300000)}{blocked}"
-        )
+        blocked = ["blocked = true"] if draw.random() < 0.06 else []
+        ends = [f'from = "{all_buses[start][0]}"', f'to = "{all_buses[end][0]}"']
+        rows = ["[[line]]", f'name = "L{place}"', *ends, *line_rows(draw, zones, is_third), *blocked]
+        tables.append("\n".join(rows))
         items.append(f"L{place}")
     tables += ["[[transformer]]\n" + "\n".join(rows) for rows in units]
     return "\n".join(tables) + "\n", items, resistors

@@ -44,23 +44,35 @@ def need(is_so: object, status: int, reason: str) -> None:
 # The case: its rules --------------------------------------------------------------------------------------------------
 OHMS, VOLTS, METRES = range(1000, 10**9 + 1), range(1000, 2 * 10**6 + 1), range(-(10**6), 10**6 + 1)
 MOST_ROWS = {"zone": 256, "substation": 1024, "bus": 3072, "line": 8192, "transformer": 3584}
+MOST_ROWS_3 = {"zone": 256, "substation": 4096, "bus": 12288, "line": 24576, "transformer": 8192}  # in format 3
 KINDS = ["delta-wye", "wye-wye", "auto", "delta-delta"]
+KINDS_3 = ["wye-wye-wye", "auto-wye", "reactor"]  # in format 3 alone
+NO_CURRENT = ["delta-delta", "reactor"]  # the effective current of these is nothing
 UNIT = {"name": str, "kind": str, "high_volts": VOLTS}
 TWO_SIDES = {**UNIT, "high": "bus", "low": "bus", "low_volts": VOLTS, "neutral": OHMS}
+THREE_SIDES = {**TWO_SIDES, "third": "bus", "third_volts": VOLTS, "third_resistance": OHMS}
 # What a row of a list, or a transformer of a kind, has under each key: a whole number of a range, a value of a type, or
-# the name of a row of a list. OPTIONAL keys may be wanting. `neutral` may also be the word `blocked`.
+# the name of a row of a list. OPTIONAL keys may be wanting. `neutral` may also be the word `blocked`; a list is the parts
+# of a line.
 KEYS: dict[str, Row] = {
-    "zone": {"name": str, "latitude": range(9001), "beta": range(1, 151)},
+    "zone": {"name": str, "latitude": range(9001), "beta": range(1, 151), "scale": range(1, 1501)},
     "substation": {"name": str, "ground": OHMS},
     "bus": {"name": str, "substation": "substation"},
     "line": {"name": str, "from": "bus", "to": "bus", "zone": "zone", "resistance": OHMS, "north": METRES,
-             "east": METRES, "blocked": bool},
+             "east": METRES, "blocked": bool, "part": list},
     "delta-wye": {**UNIT, "high": "bus", "high_resistance": OHMS, "neutral": OHMS},
     "wye-wye": {**TWO_SIDES, "high_resistance": OHMS, "low_resistance": OHMS},
     "auto": {**TWO_SIDES, "series_resistance": OHMS, "common_resistance": OHMS},
     "delta-delta": UNIT,
+    "wye-wye-wye": {**THREE_SIDES, "high_resistance": OHMS, "low_resistance": OHMS},
+    "auto-wye": {**THREE_SIDES, "series_resistance": OHMS, "common_resistance": OHMS},
+    "reactor": {**UNIT, "high": "bus", "high_resistance": OHMS, "neutral": OHMS},
+    "part": {"zone": "zone", "north": METRES, "east": METRES},
 }
-OPTIONAL = ["ground", "blocked", "neutral"]
+# Of these groups a row has one whole, and nothing of the other; the second ones are of format 3.
+CHOICES = {"zone": [{"latitude", "beta"}, {"scale"}], "line": [{"zone", "north", "east"}, {"part"}]}
+OPTIONAL = {"ground", "blocked", "neutral"}.union(*CHOICES["zone"], *CHOICES["line"])
+SINCE = {"neutral": 2, "scale": 3, "part": 3}  # the first format that has a key
 
 
 def read_case(text: bytes) -> Case:
@@ -70,11 +82,12 @@ def read_case(text: bytes) -> Case:
     except (ValueError, RecursionError):
         raise Refused(5, "case: no TOML 1.0 in UTF-8") from None
     version = document.pop("format", None)
-    need(type(version) is int and version in (1, 2), 5, "case: format is not 1 or 2")
+    need(type(version) is int and version in (1, 2, 3), 5, "case: format is not 1, 2 or 3")
     need(document.keys() <= MOST_ROWS.keys(), 5, "case: a key that it may not have")
     case = {kind: document.get(kind, []) for kind in MOST_ROWS}
+    most = MOST_ROWS_3 if version == 3 else MOST_ROWS
     for kind, rows in case.items():
-        need(type(rows) is list and len(rows) <= MOST_ROWS[kind], 5, f"case: {kind}: no list, or too many rows")
+        need(type(rows) is list and len(rows) <= most[kind], 5, f"case: {kind}: no list, or too many rows")
         for place, row in enumerate(rows, 1):
             check_row(row, kind, version, f"case: {kind} row {place}")
     check_names(case)
@@ -88,14 +101,36 @@ def check_row(row: Any, kind: Any, version: int, where: str) -> None:
     need(type(row) is dict, 5, f"{where}: no table")
     if kind == "transformer":
         kind = row.get("kind")
-        need(kind in KINDS, 5, f"{where}: no kind")
-    need(row.keys() <= KEYS[kind].keys() and (version > 1 or "neutral" not in row), 5, f"{where}: a key too many")
+        need(kind in (KINDS + KINDS_3 if version == 3 else KINDS), 5, f"{where}: no kind")
+    is_known = row.keys() <= KEYS[kind].keys() and all(SINCE.get(key, 1) <= version for key in row)
+    need(is_known, 5, f"{where}: a key too many")
+    if kind in CHOICES:
+        chosen = row.keys() & set().union(*CHOICES[kind])
+        need(chosen in CHOICES[kind], 5, f"{where}: not all keys of one choice, or some of two")
+    check_values(row, kind, where)
+    need(re.fullmatch(NAME, row["name"]), 5, f"{where}: no name")
+
+
+def check_values(row: Row, kind: str, where: str) -> None:
+    """Each key has what may stand under it."""
     for key, allowed in KEYS[kind].items():
         need(key in row or key in OPTIONAL, 5, f"{where}: no {key}")
-        value, of = row.get(key), int if isinstance(allowed, range) else bool if allowed is bool else str
+        value, of = row.get(key), int if isinstance(allowed, range) else allowed if allowed in (bool, list) else str
         is_right = type(value) is of and (of is not int or value in allowed) or (key, value) == ("neutral", "blocked")
         need(is_right or key not in row, 5, f"{where}: {key} is not what it may be")
-    need(re.fullmatch(NAME, row["name"]), 5, f"{where}: no name")
+    if "part" in row:
+        check_parts(row["part"], where)
+
+
+def check_parts(parts: list[Any], where: str) -> None:
+    """There are 2 to 16, each a span in a zone, and together they aren't longer than a line may be."""
+    need(2 <= len(parts) <= 16, 5, f"{where}: too few parts, or too many")
+    for part in parts:
+        need(type(part) is dict and part.keys() == KEYS["part"].keys(), 5, f"{where}: another part than it may have")
+        check_values(part, "part", f"{where}: part")
+        need(type(part["zone"]) is str and re.fullmatch(NAME, part["zone"]), 5, f"{where}: part: no name of a zone")
+    for key in ("north", "east"):
+        need(sum(abs(part[key]) for part in parts) <= METRES[-1], 5, f"{where}: its parts are too long together")
 
 
 def check_names(case: Case) -> None:
@@ -108,12 +143,20 @@ def check_names(case: Case) -> None:
             where = f"case: {kind} {row['name']}"
             need(times[row["name"]] == 1, 5, f"{where}: another row has its name")
             for key, of in KEYS[row.get("kind", kind)].items():
-                need(not isinstance(of, str) or row[key] in names[of], 5, f"{where}: {key} is no {of}")
-            buses = [row[key] for key in ("from", "to", "high", "low") if key in row]
-            need(len(set(buses)) == len(buses), 5, f"{where}: both ends at one bus")
+                is_none = not isinstance(of, str) or key not in row
+                need(is_none or row[key] in names[of], 5, f"{where}: {key} is no {of}")
+            need(all(part["zone"] in names["zone"] for part in parts_of(row)), 5, f"{where}: a part in no zone")
+            buses = [row[key] for key in ("from", "to", "high", "low", "third") if key in row]
+            need(len(set(buses)) == len(buses), 5, f"{where}: two ends at one bus")
             if "low" in row:
-                need(station_of[row["high"]] == station_of[row["low"]], 5, f"{where}: its buses are in two substations")
-                need(row["low_volts"] <= row["high_volts"], 5, f"{where}: its low voltage is the higher one")
+                need(len({station_of[bus] for bus in buses}) == 1, 5, f"{where}: its buses are in two substations")
+                volts = [row.get(f"{side}_volts", 0) for side in ("high", "low", "third")]
+                need(max(volts) == volts[0], 5, f"{where}: its high voltage is not the highest one")
+
+
+def parts_of(row: Row) -> list[Row]:
+    """The parts of a line, which is its own only part where it has none; of another row there are none."""
+    return row.get("part", [row] if "north" in row else [])
 
 
 # The network ----------------------------------------------------------------------------------------------------------
@@ -136,12 +179,11 @@ def elements_of(case: Case) -> list[Element]:
     """All elements, in the order of their lines in a report of `field`; of lines and windings there is one a phase."""
     grounds = [(row["name"], row["ground"]) for row in case["substation"] if "ground" in row]
     found = [Element(f"ground {name}", name, name, EARTH, Fraction(10**6, ground)) for name, ground in grounds]
-    alphas = {row["name"]: next(tenths for most, tenths in ALPHA if row["latitude"] <= most) for row in case["zone"]}
-    factor = {row["name"]: row["beta"] * alphas[row["name"]] for row in case["zone"]}
+    factor = {row["name"]: factor_of(row) for row in case["zone"]}
     for row in case["line"]:
-        induced = row["north"] * factor[row["zone"]], row["east"] * factor[row["zone"]]
+        north, east = (sum(part[key] * factor[part["zone"]] for part in parts_of(row)) for key in ("north", "east"))
         conductance = ZERO if row.get("blocked", False) else Fraction(3 * 10**6, row["resistance"])
-        found.append(Element(f"line {row['name']}", row["name"], row["from"], row["to"], conductance, induced))
+        found.append(Element(f"line {row['name']}", row["name"], row["from"], row["to"], conductance, (north, east)))
     station_of = {bus["name"]: bus["substation"] for bus in case["bus"]}
     for unit in case["transformer"]:
         name, high, low = unit["name"], unit.get("high"), unit.get("low")
@@ -149,7 +191,8 @@ def elements_of(case: Case) -> list[Element]:
         high_volts, low_volts = unit["high_volts"], unit.get("low_volts", 0)
         high_side = [("high", high, neutral, high_volts), ("series", high, low, high_volts - low_volts)]
         low_side = [("low", low, neutral, low_volts), ("common", low, neutral, low_volts)]
-        for role, start, end, volts in high_side + low_side:
+        third_side = [("third", unit.get("third"), neutral, unit.get("third_volts", 0))]
+        for role, start, end, volts in high_side + low_side + third_side:
             if resistance := unit.get(f"{role}_resistance"):
                 conductance = Fraction(3 * 10**6, resistance)
                 found.append(Element(f"winding {name} {role}", name, start, end, conductance, volts=volts))
@@ -159,6 +202,13 @@ def elements_of(case: Case) -> list[Element]:
             conductance = ZERO if device == "blocked" else Fraction(10**6, device)
             found.append(Element(label, label, unit["name"], station, conductance))
     return found
+
+
+def factor_of(zone: Row) -> int:
+    """Alpha times beta of a zone, in thousandths."""
+    if "scale" in zone:
+        return zone["scale"]
+    return zone["beta"] * next(tenths for most, tenths in ALPHA if zone["latitude"] <= most)
 
 
 def open_items(case: Case, elements: list[Element], text: bytes) -> set[str]:
@@ -208,6 +258,10 @@ class Network:
                     island += more
                 if not any(other is EARTH for one in island for _, other in self.leaving[one]):
                     self.unearthed = self.unearthed or node
+
+    def windings(self, unit: Row) -> list[Element]:
+        """The standing windings that count in the effective current of a transformer."""
+        return [] if unit["kind"] in NO_CURRENT else self.of_item.get(unit["name"], [])
 
 
 # Certificates, and what they show -------------------------------------------------------------------------------------
@@ -287,7 +341,7 @@ class Certificate:
     def effective(self, unit: Row) -> Interval:
         """The effective current of a transformer, per phase."""
         weights: dict[Node, Fraction] = defaultdict(Fraction)
-        for winding in self.network.of_item.get(unit["name"], []):
+        for winding in self.network.windings(unit):
             share = winding.conductance * Fraction(winding.volts, 3 * unit["high_volts"])
             weights[winding.start] += share
             weights[winding.end] -= share
@@ -304,7 +358,7 @@ def root(pair: list[Interval], parts: int) -> Interval:
 
 def worst(network: Network, pair: list[Certificate], unit: Row) -> Interval:
     """The worst current of a transformer, by the certificates in two fields, if there are any."""
-    if not network.of_item.get(unit["name"]):
+    if not network.windings(unit):
         return NOTHING
     return root([certificate.effective(unit) for certificate in pair], 10**12) if pair else ANYTHING
 
@@ -321,7 +375,7 @@ class Judge:
     """Reads the lines of a report one by one, and settles their statements."""
     def __init__(self, network: Network, text: bytes) -> None:
         self.network, self.units = network, network.case["transformer"]
-        self.outside = [unit["kind"] == "delta-delta" or unit["high_volts"] <= 200000 for unit in self.units]
+        self.outside = [unit["kind"] in NO_CURRENT or unit["high_volts"] <= 200000 for unit in self.units]
         self.lines, self.row, self.text = text.decode("latin-1").split("\n"), 0, ""
         self.shown, self.refuted, self.open, self.told = Counter(), 0, 0, []
 

@@ -85,13 +85,15 @@ def elements(case: Table) -> list[Element]:
 
 def unit_elements(unit: Table, station: Node) -> list[Element]:
     """The windings of a transformer in this substation, and its neutral resistor if it has one."""
-    name, high, low, device = unit["name"], unit["high"], unit.get("low"), unit.get("neutral")
+    name, high, low, third = unit["name"], unit["high"], unit.get("low"), unit.get("third")
+    device = unit.get("neutral")
     neutral = station if device is None else name
     ends_of = {
         "high_resistance": (high, neutral),
         "low_resistance": (low, neutral),
         "series_resistance": (high, low),
         "common_resistance": (low, neutral),
+        "third_resistance": (third, neutral),
     }
     found = [Element(Item(name), *ends, siemens(3, unit[key])) for key, ends in ends_of.items() if key in unit]
     if device is not None and device != "blocked":
@@ -115,9 +117,16 @@ def open_items(records: Iterable[list[str]]) -> set[Item]:
 
 def line_voltages(case: Table, north: int, east: int) -> dict[str, int]:
     """The voltage of each line in a field in mV/km, in nanovolts; it drives current from `from` to `to`."""
-    scaling = {zone["name"]: alpha(zone["latitude"]) * zone["beta"] for zone in case.get("zone", [])}
-    lines = case.get("line", [])
-    return {line["name"]: (north * line["north"] + east * line["east"]) * scaling[line["zone"]] for line in lines}
+    scaling = {
+        zone["name"]: zone["scale"] if "scale" in zone else alpha(zone["latitude"]) * zone["beta"]
+        for zone in case.get("zone", [])
+    }
+    return {
+        line["name"]: sum(
+            (north * part["north"] + east * part["east"]) * scaling[part["zone"]] for part in line.get("part", [line])
+        )
+        for line in case.get("line", [])
+    }
 
 
 def alpha(latitude: int) -> int:

@@ -265,7 +265,7 @@ class Judging(unittest.TestCase):
 
     def test_faulty_cases_and_switchings_are_refused(self) -> None:
         for old, new in [
-            ("format = 1", "format = 3"), ("latitude = 6000", "latitude = 9001"), ("beta = 100", "beta = 1.0"),
+            ("format = 1", "format = 4"), ("latitude = 6000", "latitude = 9001"), ("beta = 100", "beta = 1.0"),
             ('"TB"', '"TA"'), ('"TB"', '"T B"'), ('to = "b"', 'to = "c"'), ('to = "b"', 'to = "a"'),
             ('"delta-wye"', '"line"'), ("300000 },\n]", "300000, neutral = 5000 },\n]"), ("zone = [{", "zone = {"),
         ]:

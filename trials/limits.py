@@ -2,18 +2,22 @@
 """Runs each mode at the limits of its inputs and at half of them, and prints a table of time and memory.
 
     python3 trials/limits.py PROGRAM [--minutes M] [--seed S] [--jobs N] [--only WORD] [--run-seconds N]
-        [--limit-steps N]
+        [--limit-steps N] [--format-3]
 
 The rows: the network at every limit (7680 nodes, 19968 elements, 256 zones) in every mode, with names as they come and
 of 32 bytes in every place (`outage` over a quarter of it, since it screens a network once for each of its items);
 storms of 20000 steps and 4096 switchings with an epoch each, and over the network at every limit storms of so many
-steps as --limit-steps says (1000), and so many epochs that change nothing; networks just within 4096 and just past it; files of 16777216 bytes of each kind
-and of one byte more; and files of that size that are hostile.
+steps as --limit-steps says (1000), and so many epochs that change nothing; there too a storm of 4096 steps with an epoch
+each, that change nothing or each an earthing, beside the same storm without switchings; networks just within 4096 and
+just past it; files of 16777216 bytes of each kind and of one byte more; and files of that size that are hostile. With
+--format-3 also the network at every limit of format 3 in every mode, and cases at each of these limits and one beyond it.
 
 Times are of the processor, in seconds; memory is the peak, in MiB. Beside each is the same at half the size, and what
-the one is of the other: where the work grows with the size it is 2, and more only where the row says so. A run has
-N seconds of the processor (300); one that takes longer has `over`. Rows for which no minutes are left are `not run`.
-One run is made at a time, whatever N is. With --only the rows whose name has WORD are run alone.
+the one is of the other: where the work grows with the size it is 2, and more only where the row says so. In rows that are
+set beside the same storm without switchings this has the place of half the size, and a ratio above the one that the row
+names is a fault. A run has N seconds of the processor (300), and a storm that another is set beside three times as many;
+one that takes longer has `over`. Rows for which no minutes are left are `not run`. One run is made at a time, whatever N
+is. With --only the rows whose name has WORD are run alone.
 """
 
 import os
@@ -26,6 +30,7 @@ import shared  # which finds the modules below
 
 import limit_case
 import made_case
+from case_text import case_text
 
 MOST_BYTES = 16777216
 STATIONS = 1024
@@ -33,9 +38,26 @@ MADE_SITES = 1000
 ALL_STEPS, ALL_SWITCHINGS = 20000, 4096
 # Over the network at every limit each step takes so long that all steps would take a quarter of an hour.
 SOME_STEPS = 1000
+# How many times as long as without switchings a storm may take with a row at each step: of rows that change nothing, and of
+# rows each of which opens or closes an earthing, so that each step has a network of its own.
+MOST_IDLE, MOST_CHANGING = 2, 12
+# How many times as long as another run a storm that one is set beside may take.
+LONGER = 3
 NAME = re.compile(r'"((?:zone|station|bus|line|unit)-[0-9-]+)"')
 NAME_BYTES = 32
 LINE, UNIT, STATION = "line-1", "unit-1", "station-1"
+STATIONS_3, LINE_3, UNIT_3 = 4096, "l1", "u1"
+# The limits of format 3, each by what there may be so many of.
+EDGES = {
+    "zones": 256,
+    "substations": 4096,
+    "buses": 12288,
+    "lines": 24576,
+    "transformers": 8192,
+    "parts of a line": 16,
+    "elements at a bus": 256,
+}
+SOME_BUSES = 300
 ADDRESS_SPACE = 6 << 30
 # How long is waited for a run, in its seconds of the processor, and what ends it where these are over.
 WAITS = 10
@@ -52,7 +74,8 @@ class Measure(NamedTuple):
 
 class Row(NamedTuple):
     """A row of the table: `fill` writes the files for a size, and `wanted` are the statuses that are right. With no
-    half size nothing is set beside it."""
+    half size nothing is set beside it; with the words `plain` the run with these at the same size is, and the row's own may
+    take `most` times as long."""
 
     name: str
     words: list
@@ -60,6 +83,8 @@ class Row(NamedTuple):
     full: int
     half: Optional[int]
     wanted: tuple = (0,)
+    plain: Optional[list] = None
+    most: float = 0
 
 
 def build(folder):
@@ -139,6 +164,57 @@ def fill_idle_epochs(folder, switchings):
     shared.write(folder, "t", storm_text(switchings))
     rows = (f"{row},{STATION},open\n" for row in range(switchings))
     shared.write(folder, "s", "time,item,action\n" + "".join(rows))
+
+
+def fill_changing_epochs(folder, switchings):
+    """The network at every limit, with an epoch for each row: one earthing after the other is opened and closed again."""
+    shared.write(folder, "p", limit_text(STATIONS))
+    shared.write(folder, "t", storm_text(switchings))
+    rows = (
+        f"{row},station-{row // 2 % STATIONS},{'close' if row % 2 else 'open'}\n" for row in range(switchings)
+    )
+    shared.write(folder, "s", "time,item,action\n" + "".join(rows))
+
+
+def fill_limit_3(command):
+    """Files of the network at every limit of format 3, with a certificate."""
+
+    def fill(folder, stations):
+        shared.write(folder, "p", case_text(3, limit_case.lists_3(stations)))
+        shared.write(folder, "t", storm_text(2))
+        shared.write(folder, "s", f"time,item,action\n0,{LINE_3},open\n")
+        shared.certify(command, folder)
+
+    return fill
+
+
+def edge_lists(what, count):
+    """The lists of a small case of format 3, but for the one thing of which there are so many."""
+
+    def number(name, usual):
+        return count if what == name else usual
+
+    part = [{"zone": "z0", "north": 1, "east": 1}] * number("parts of a line", 2)
+    lines = []
+    for place in range(number("lines", number("elements at a bus", 1))):
+        start, end = place % SOME_BUSES, (place + 1 + place // SOME_BUSES) % SOME_BUSES
+        if what == "elements at a bus":
+            start, end = 0, place + 1
+        lines.append({"name": f"l{place}", "from": f"b{start}", "to": f"b{end}", "resistance": 1000000, "part": part})
+    return {
+        "zone": [{"name": f"z{place}", "scale": 1} for place in range(number("zones", 1))],
+        "substation": [{"name": f"s{place}"} for place in range(number("substations", 1))],
+        "bus": [{"name": f"b{place}", "substation": "s0"} for place in range(number("buses", SOME_BUSES))],
+        "line": lines,
+        "transformer": [
+            {"name": f"u{place}", "kind": "delta-delta", "high_volts": 1000}
+            for place in range(number("transformers", 0))
+        ],
+    }
+
+
+def fill_edge(what):
+    return lambda folder, count: shared.write(folder, "p", case_text(3, edge_lists(what, count)))
 
 
 def greatest_ground(command, stations, folder):
@@ -248,6 +324,10 @@ def rows(command, limit_steps):
     yield Row("study, 2000 nodes, 4096 epochs", switched, fill_epochs, ALL_SWITCHINGS, ALL_SWITCHINGS // 2)
     idle = f"study, limit, {limit_steps} epochs that change nothing"
     yield Row(idle, switched, fill_idle_epochs, limit_steps, limit_steps // 2)
+    attacks = [("change nothing", fill_idle_epochs, MOST_IDLE), ("each change something", fill_changing_epochs, MOST_CHANGING)]
+    for told, fill, most in attacks:
+        name = f"study, limit, 4096 epochs that {told}, beside none ({most} times at most)"
+        yield Row(name, switched, fill, ALL_SWITCHINGS, None, (0,), study, most)
     known = {}
     for mode in ("field", "screen", "certify"):
         words, sizes = shared.words_of(mode, False), (STATIONS // 2, STATIONS // 4)
@@ -262,6 +342,21 @@ def rows(command, limit_steps):
         words = shared.words_of(mode, False) + (["--switch=s"] if name == "s" else [])
         fill = fill_file(name, make)
         yield Row(f"{mode}, {name}: {told}", words, fill, MOST_BYTES, MOST_BYTES // 2, refused[name])
+
+
+def rows_3(command):
+    """The rows of format 3."""
+    for mode in shared.MODES:
+        words = shared.words_of(mode, transformer=UNIT_3)
+        if mode == "outage":
+            sizes = STATIONS_3 // 16, STATIONS_3 // 32
+            yield Row("outage, a 16th of the limit of format 3 (its ratio is 4)", words, fill_limit_3(command), *sizes)
+        elif mode != "make":
+            yield Row(f"{mode}, limit of format 3", words, fill_limit_3(command), STATIONS_3, STATIONS_3 // 2)
+    for what, most in EDGES.items():
+        words, fill = shared.words_of("list", False), fill_edge(what)
+        yield Row(f"list, format 3, {most} {what}", words, fill, most, None)
+        yield Row(f"list, format 3, {most + 1} {what}", words, fill, most + 1, None, (5,))
 
 
 def ratio(full, half):
@@ -282,17 +377,29 @@ def cells(row, full, half):
     return [*head, time_of(half), times, *memory, ratio(full.mebibytes, half.mebibytes)]
 
 
-def measure_row(measurer, command, row, size, seconds):
+def measure_row(measurer, command, row, words, size, seconds):
     """The run of a row at a size, in a folder of its own; None where there is no such size."""
     if size is None:
         return None
     with shared.scratch() as folder:
         row.fill(folder, size)
-        words = [word.replace("{size}", str(size)) for word in row.words]
+        words = [word.replace("{size}", str(size)) for word in words]
         return measure(measurer, command + words, folder, seconds)
 
 
+def measure_both(measurer, command, row, seconds):
+    """The run of a row, and what is set beside it."""
+    if row.plain is None:
+        return [measure_row(measurer, command, row, row.words, size, seconds) for size in (row.full, row.half)]
+    plain = measure_row(measurer, command, row, row.plain, row.full, LONGER * seconds)
+    if plain.status != 0:
+        return plain, plain
+    return measure_row(measurer, command, row, row.words, row.full, max(1, row.most * plain.seconds)), plain
+
+
 def print_row(row, full, half, faults):
+    if row.plain is not None and full.status is None and half.status == 0:
+        faults.add(row.name, "takes longer than that")
     for measured in (full, half):
         if measured is not None and measured.status not in (None, *row.wanted):
             faults.add(row.name, "ends with", shared.ending(measured.status))
@@ -304,7 +411,8 @@ def main():
     command, faults, clock = shared.command_of(given.program), shared.Faults(), shared.Clock(given.minutes)
     heads = ("run", "status", "size", "time", "at half", "ratio", "memory", "at half", "ratio")
     print("| " + " | ".join(heads) + " |\n|" + "---|" * len(heads), flush=True)
-    chosen = [row for row in rows(command, given.limit_steps) if given.only in row.name]
+    every = [*rows(command, given.limit_steps), *(rows_3(command) if given.format_3 else [])]
+    chosen = [row for row in every if given.only in row.name]
     run = 0
     with shared.scratch() as top:
         measurer = build(top)
@@ -312,7 +420,7 @@ def main():
             if clock.is_over():
                 break
             seconds = min(given.run_seconds, max(10, clock.left()))
-            full, half = (measure_row(measurer, command, row, size, seconds) for size in (row.full, row.half))
+            full, half = measure_both(measurer, command, row, seconds)
             print_row(row, full, half, faults)
             run += 1
     shared.finish(faults, f"{run} rows", f"{len(chosen) - run} not run")

@@ -37,6 +37,13 @@ PIECES = {
         "dead", "end", "end\n", "cert X dead\n", "-", "+", "--", ",", " \n", "\n ", "nodes 1 north 0 east 0\n",
     ],
 }
+# What a case of format 3 has besides.
+PIECES_3 = [
+    "scale", "scale = 1000\n", "scale = 1501\n", "part", "part = []\n", "[[line.part]]\n", "[line.part]\n", "third",
+    "third_volts = 2000\n", "third_resistance = 5000\n", '"wye-wye-wye"', '"auto-wye"', '"reactor"',
+    'part = [{ zone = "Z0", north = 1, east = 1 }, { zone = "Z0", north = -1, east = 1000000 }]\n',
+    ', { zone = "Z0", north = 1000000, east = 0 }', 'zone = "Z0"\nnorth = 1\neast = 1\n',
+]
 WORD = re.compile(rb"[A-Za-z0-9_.+-]+")
 NUMBER = re.compile(rb"[+-]?[0-9]+")
 MOST_CHANGES = 4

@@ -31,8 +31,8 @@ import recheck  # noqa: E402
 
 NUMBER = re.compile(r"-?[0-9]+\Z")
 WORDS_OF_ITEMS = (
-    "live", "dead", "open", "blocked", "high", "low", "series", "common", "line", "neutral", "*", "zone", "substation",
-    "transformer", "resistance", "perkm", "high_volts", "low_volts",
+    "live", "dead", "open", "blocked", "high", "low", "series", "common", "third", "line", "neutral", "*", "zone",
+    "substation", "transformer", "resistance", "perkm", "high_volts", "low_volts", "third_volts",
 )
 # Lines whose numbers are intervals or counts that may be wider.
 WIDE = {"node", "ground", "line", "winding", "neutral", "effective", "transformer", "dwell", "earth", "loss", "step"}

@@ -2,6 +2,7 @@
 and *The made case*)."""
 
 import functools
+import os
 import re
 from typing import NamedTuple, Optional
 
@@ -15,8 +16,14 @@ VOLT = ("integer", 1000, 2000000)
 SPAN = ("integer", -1000000, 1000000)
 # How many cases are remembered by their bytes: the runs of a trial come back to the same ones.
 MOST_REMEMBERED = 4
-# The lists, in their order, with how many rows each may have.
-LISTS = [("zone", 256), ("substation", 1024), ("bus", 3072), ("line", 8192), ("transformer", 3584)]
+# This variable of the environment says that the program reads cases of format 3. One that doesn't refuses that number.
+WITH_FORMAT_3 = "REFEREE_FORMAT_3"
+# The lists, in their order, with how many rows each may have in formats 1 and 2, and in format 3.
+LIMITS = {"zone": 256, "substation": 1024, "bus": 3072, "line": 8192, "transformer": 3584}
+LIMITS_3 = {"zone": 256, "substation": 4096, "bus": 12288, "line": 24576, "transformer": 8192}
+# The parts of a line in parts: how many at least and at most, and what each has.
+PARTS = (2, 16)
+PART = {b"zone": "name", b"north": SPAN, b"east": SPAN}
 # The fields of each list in their order: the key, what its value is, and whether it is required.
 FIELDS = {
     "zone": [("name", "name", True), ("latitude", ("integer", 0, 9000), True), ("beta", ("integer", 1, 150), True)],
@@ -33,6 +40,20 @@ FIELDS = {
         ("blocked", "boolean", False),
     ],
 }
+FIELDS_3 = FIELDS | {
+    "zone": [
+        ("name", "name", True),
+        ("latitude", ("integer", 0, 9000), False),
+        ("beta", ("integer", 1, 150), False),
+        ("scale", ("integer", 1, 1500), False),
+    ],
+    "line": [
+        (key, kind, is_required and key not in ("zone", "north", "east")) for key, kind, is_required in FIELDS["line"]
+    ]
+    + [("part", "parts", False)],
+}
+# In format 3 a row has all keys of one of these two groups, and none of the other.
+CHOICES = {"zone": ({b"latitude", b"beta"}, {b"scale"}), "line": ({b"zone", b"north", b"east"}, {b"part"})}
 # The fields of each kind of transformer behind `kind`, `name` and `high_volts`; all are required.
 KINDS = {
     b"delta-wye": [("high", "name"), ("high_resistance", OHM)],
@@ -52,14 +73,57 @@ KINDS = {
     ],
     b"delta-delta": [],
 }
+THIRD = [("third", "name"), ("third_volts", VOLT), ("third_resistance", OHM)]
+KINDS_3 = KINDS | {
+    b"wye-wye-wye": KINDS[b"wye-wye"] + THIRD,
+    b"auto-wye": KINDS[b"auto"] + THIRD,
+    b"reactor": KINDS[b"delta-wye"],
+}
+# The windings of each kind in their order, and the side from which each runs to another side, or to the neutral.
+ROLES = {
+    "delta-wye": ("high",),
+    "wye-wye": ("high", "low"),
+    "auto": ("series", "common"),
+    "delta-delta": (),
+    "wye-wye-wye": ("high", "low", "third"),
+    "auto-wye": ("series", "common", "third"),
+    "reactor": ("high",),
+}
+ENDS = {
+    "high": ("high", None),
+    "low": ("low", None),
+    "series": ("high", "low"),
+    "common": ("low", None),
+    "third": ("third", None),
+}
+SIDES = ("high", "low", "third")
+# The kinds without an effective current: it is 0 0 wherever it is told.
+NO_CURRENT = ("delta-delta", "reactor")
 # What each reference of a list refers to.
 REFERENCES = {
     "bus": [("substation", "substation")],
     "line": [("from", "bus"), ("to", "bus"), ("zone", "zone")],
-    "transformer": [("high", "bus"), ("low", "bus")],
+    "transformer": [(side, "bus") for side in SIDES],
 }
 # Alpha in tenths up to each latitude in degrees.
 ALPHA = ((40, 1), (45, 2), (50, 3), (54, 5), (56, 6), (57, 7), (58, 8), (59, 9), (60, 10))
+
+
+class Format(NamedTuple):
+    """What a case of a format may say."""
+
+    limits: dict
+    fields: dict
+    choices: dict
+    kinds: dict
+    has_neutral: bool
+
+
+FORMATS = {
+    1: Format(LIMITS, FIELDS, {}, KINDS, False),
+    2: Format(LIMITS, FIELDS, {}, KINDS, True),
+    3: Format(LIMITS_3, FIELDS_3, CHOICES, KINDS_3, True),
+}
 
 
 class Element(NamedTuple):
@@ -80,11 +144,11 @@ class Case:
 
     The rows are tables with places in place of references. `line_element` and `neutral_element` tell the element of a
     line and of a neutral resistor, `neutral_node` the neutral node of a transformer, and `windings` for each
-    transformer its elements with their weights in its effective current.
+    transformer that has an effective current its elements with their weights in it.
     """
 
     def __init__(self, rows):
-        self.zones, self.substations, self.buses, self.lines, self.transformers = (rows[name] for name, _ in LISTS)
+        self.zones, self.substations, self.buses, self.lines, self.transformers = (rows[name] for name in LIMITS)
         self.nodes = [row["name"] for row in self.substations + self.buses]
         self.neutral_node = {}
         for place, row in enumerate(self.transformers):
@@ -121,22 +185,15 @@ class Case:
                 self.line_element[place] = self.add(*ends, 3, row["resistance"], "line", place, "line", row["name"])
 
     def add_windings(self, place, row):
-        """Adds the windings of a transformer; it tells the element and the weight of each."""
-        if row["kind"] == "delta-delta":
-            return []
-        high_volts, low_volts = row["high_volts"], row.get("low_volts")
-        neutral = self.neutral_node.get(place, self.ground_grid(row))
-        high = self.bus_node(row["high"])
-        low = self.bus_node(row["low"]) if "low" in row else None
-        windings = {
-            "delta-wye": [("high", high, neutral, high_volts)],
-            "wye-wye": [("high", high, neutral, high_volts), ("low", low, neutral, low_volts)],
-            "auto": [("series", high, low, high_volts - (low_volts or 0)), ("common", low, neutral, low_volts)],
-        }
-        return [
-            (self.add(start, end, 3, row[role + "_resistance"], "transformer", place, role, row["name"]), weight)
-            for role, start, end, weight in windings[row["kind"]]
-        ]
+        """Adds the windings of a transformer; it tells the element and the weight of each in its effective current."""
+        added = []
+        for role in ROLES[row["kind"]]:
+            side, other = ENDS[role]
+            end = self.neutral_node.get(place, self.ground_grid(row)) if other is None else self.bus_node(row[other])
+            ends = self.bus_node(row[side]), end
+            number = self.add(*ends, 3, row[role + "_resistance"], "transformer", place, role, row["name"])
+            added.append((number, row[side + "_volts"] - (0 if other is None else row[other + "_volts"])))
+        return [] if row["kind"] in NO_CURRENT else added
 
     def add_resistors(self):
         for place, row in enumerate(self.transformers):
@@ -148,21 +205,36 @@ class Case:
     def is_outside(self, transformer):
         """Whether a transformer is not assessed."""
         row = self.transformers[transformer]
-        return row["high_volts"] <= 200000 or row["kind"] == "delta-delta"
+        return row["high_volts"] <= 200000 or row["kind"] in NO_CURRENT
 
-    def line_volts(self, line, north, east):
-        """The voltage of a line in nanovolts, in a field in mV/km."""
-        row = self.lines[line]
-        zone = self.zones[row["zone"]]
-        return (north * row["north"] + east * row["east"]) * alpha_tenths(zone["latitude"]) * zone["beta"]
+    def line_volts(self, line, north, east, zone=None):
+        """The voltage of a line in nanovolts, in a field in mV/km in one zone, or in all zones for None."""
+        return sum(
+            (north * part["north"] + east * part["east"]) * factor_of(self.zones[part["zone"]])
+            for part in parts_of(self.lines[line])
+            if zone is None or part["zone"] == zone
+        )
 
     def element_volts(self, zone, north, east):
         """The voltage of each element in a field in one zone, or in all zones for None."""
         volts = [0] * len(self.elements)
         for line, element in self.line_element.items():
-            if zone is None or self.lines[line]["zone"] == zone:
-                volts[element] = self.line_volts(line, north, east)
+            volts[element] = self.line_volts(line, north, east, zone)
         return volts
+
+    def zones_of_lines(self):
+        """The zones in which a part of a line that has an element lies, in their order."""
+        return sorted({part["zone"] for line in self.line_element for part in parts_of(self.lines[line])})
+
+
+def parts_of(line):
+    """The parts of a line; one that isn't in parts is its own only part."""
+    return line.get("part", [line])
+
+
+def factor_of(zone):
+    """Alpha times beta of a zone, in thousandths."""
+    return zone["scale"] if "scale" in zone else alpha_tenths(zone["latitude"]) * zone["beta"]
 
 
 def alpha_tenths(latitude):
@@ -184,60 +256,95 @@ def is_value(value, kind):
         return type(value) is bool
     if kind == "neutral":
         return value == b"blocked" if type(value) is bytes else is_value(value, OHM)
+    if kind == "parts":
+        return type(value) is list and are_parts(value)
     return type(value) is int and kind[1] <= value <= kind[2]
 
 
-def transformer_fields(row, format_number, where):
+def are_parts(values):
+    """Whether these are the parts of a line, but for the names of zones that aren't there."""
+    least, most = PARTS
+    is_each = all(
+        type(part) is dict and part.keys() == PART.keys() and all(is_value(part[key], PART[key]) for key in PART)
+        for part in values
+    )
+    return least <= len(values) <= most and is_each and all(
+        sum(abs(part[key]) for part in values) <= SPAN[2] for key in (b"north", b"east")
+    )
+
+
+def transformer_fields(row, rules, where):
     """The fields of a transformer's row, which are those of its kind."""
     if b"kind" not in row:
         raise refusal(f"key in {where}")
     kind = row[b"kind"]
-    if type(kind) is not bytes or kind not in KINDS:
+    if type(kind) is not bytes or kind not in rules.kinds:
         raise refusal(f"value in {where} field kind")
     fields = [("kind", "any", True), ("name", "name", True), ("high_volts", VOLT, True)]
-    fields += [(key, value, True) for key, value in KINDS[kind]]
-    has_neutral = format_number == 2 and kind != b"delta-delta"
+    fields += [(key, value, True) for key, value in rules.kinds[kind]]
+    has_neutral = rules.has_neutral and kind != b"delta-delta"
     return fields + ([("neutral", "neutral", False)] if has_neutral else [])
 
 
-def read_row(name, number, row, format_number):
+def has_one_choice(row, choices):
+    """Whether the row has all keys of one of the groups, and none of the others."""
+    return row.keys() & set().union(*choices) in choices
+
+
+def plain(value):
+    """A value of the document with texts in place of bytes."""
+    if type(value) is dict:
+        return {key.decode(): plain(item) for key, item in value.items()}
+    if type(value) is list:
+        return [plain(item) for item in value]
+    return value.decode() if type(value) is bytes else value
+
+
+def read_row(name, number, row, rules):
     """The table of one row."""
     where = f"{name} row {number}"
     if type(row) is not dict:
         raise refusal(f"key in {where}")
-    fields = transformer_fields(row, format_number, where) if name == "transformer" else FIELDS[name]
+    fields = transformer_fields(row, rules, where) if name == "transformer" else rules.fields[name]
     keys = {key.encode() for key, _, _ in fields}
     lacks = any(is_required and key.encode() not in row for key, _, is_required in fields)
     if lacks or any(key not in keys for key in row):
         raise refusal(f"key in {where}")
+    if name in rules.choices and not has_one_choice(row, rules.choices[name]):
+        raise refusal(f"key in {where}")
     for key, kind, _ in fields:
         if key.encode() in row and not is_value(row[key.encode()], kind):
             raise refusal(f"value in {where} field {key}")
-    return {key.decode(): value.decode() if type(value) is bytes else value for key, value in row.items()}
+    return plain(row)
+
+
+def known_formats():
+    """The formats that the program reads."""
+    return (1, 2, 3) if os.environ.get(WITH_FORMAT_3) else (1, 2)
 
 
 def read_lists(document):
     """The rows of each list, each looked at by itself."""
-    allowed = {b"format"} | {name.encode() for name, _ in LISTS}
+    allowed = {b"format"} | {name.encode() for name in LIMITS}
     if any(key not in allowed for key in document) or b"format" not in document:
         raise refusal("key in case row 0")
     format_number = document[b"format"]
-    if type(format_number) is not int or format_number not in (1, 2):
+    if type(format_number) is not int or format_number not in known_formats():
         raise refusal("value in case row 0 field format")
-    rows = {}
-    for name, most in LISTS:
+    rules, rows = FORMATS[format_number], {}
+    for name, most in rules.limits.items():
         items = document.get(name.encode(), [])
         if type(items) is not list:
             raise refusal(f"key in {name} row 0")
         if len(items) > most:
             raise refusal(f"too many in {name}")
-        rows[name] = [read_row(name, number, row, format_number) for number, row in enumerate(items, 1)]
+        rows[name] = [read_row(name, number, row, rules) for number, row in enumerate(items, 1)]
     return rows
 
 
 def refuse_repeated_names(rows):
     seen = set()
-    for name, _ in LISTS:
+    for name in LIMITS:
         for number, row in enumerate(rows[name], 1):
             if row["name"] in seen:
                 raise refusal(f"duplicate name in {name} row {number}")
@@ -246,29 +353,36 @@ def refuse_repeated_names(rows):
 
 def resolve_references(rows):
     """Puts places in place of names."""
-    places = {name: {row["name"]: place for place, row in enumerate(rows[name])} for name, _ in LISTS}
+    places = {name: {row["name"]: place for place, row in enumerate(rows[name])} for name in LIMITS}
+
+    def resolve(table, key, target, told):
+        if table[key] not in places[target]:
+            raise refusal(f"unknown name in {told}")
+        table[key] = places[target][table[key]]
+
     for name, references in REFERENCES.items():
         for number, row in enumerate(rows[name], 1):
             for key, target in references:
                 if key in row:
-                    if row[key] not in places[target]:
-                        raise refusal(f"unknown name in {name} row {number} field {key}")
-                    row[key] = places[target][row[key]]
+                    resolve(row, key, target, f"{name} row {number} field {key}")
+            for part in row.get("part", []):
+                resolve(part, "zone", "zone", f"{name} row {number} field part")
 
 
 def refuse_wrong_sides(rows):
-    sided = [(number, row) for number, row in enumerate(rows["transformer"], 1) if "low" in row]
     for number, row in enumerate(rows["line"], 1):
         if row["from"] == row["to"]:
             raise refusal(f"same ends in line row {number}")
-    for number, row in sided:
-        if row["high"] == row["low"]:
+    units = list(enumerate(rows["transformer"], 1))
+    buses = [[row[side] for side in SIDES if side in row] for _, row in units]
+    for (number, _), own in zip(units, buses):
+        if len(set(own)) < len(own):
             raise refusal(f"same ends in transformer row {number}")
-    for number, row in sided:
-        if rows["bus"][row["high"]]["substation"] != rows["bus"][row["low"]]["substation"]:
+    for (number, _), own in zip(units, buses):
+        if len({rows["bus"][bus]["substation"] for bus in own}) > 1:
             raise refusal(f"apart in transformer row {number}")
-    for number, row in sided:
-        if row["low_volts"] > row["high_volts"]:
+    for number, row in units:
+        if max(row.get(side + "_volts", 0) for side in SIDES) > row["high_volts"]:
             raise refusal(f"voltage order in transformer row {number}")
 
 
@@ -314,7 +428,7 @@ def make_case(seed, size):
     """The made case of a seed and a number of sites."""
     draws = Draws(seed)
     rows = {"zone": [{"name": "Z", "latitude": 6000, "beta": 100}]}
-    rows.update((name, []) for name, _ in LISTS[1:])
+    rows |= {name: [] for name in LIMITS if name != "zone"}
     for place in range(size):
         rows["substation"].append({"name": f"S{place}", "ground": 100000 + 1000 * draws.below(900)})
         rows["bus"].append({"name": f"B{place}", "substation": place})

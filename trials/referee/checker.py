@@ -3,6 +3,7 @@
 import re
 from fractions import Fraction
 
+from case import NO_CURRENT
 from certificate import GRAINS_PER_MILLIVOLT, check_certificate, read_certificate
 from findings import lines_of
 from outcome import Epoch
@@ -217,6 +218,8 @@ class Checker:
             self.holds(*ends[2:], east, label + " east")
             square = sum_of_squares(north, east)
             self.worst(low, high, [square], label + " worst")
+            if row["kind"] in NO_CURRENT and {low, high, *ends} != {0}:
+                self.text.fault_here(f"{label}: it has no effective current, so each interval is 0 0")
             self.check_verdict(low, high, place, verdict, lambda: at_least(square, self.threshold**2), label)
         self.text.line("end")
 

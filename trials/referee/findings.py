@@ -2,6 +2,8 @@
 
 from typing import NamedTuple
 
+from case import SIDES, parts_of
+
 # The usual range of each value: the least and the greatest number that isn't told, or None where there is no such end.
 USUAL = {
     "latitude": (2000, 7500),
@@ -16,14 +18,13 @@ USUAL = {
 }
 KILOMETRE = 1000
 GAP, SPAN_FOR_A_METRE = 2000, 20
-WINDINGS = ("high_resistance", "low_resistance", "series_resistance", "common_resistance")
+WINDINGS = ("high_resistance", "low_resistance", "series_resistance", "common_resistance", "third_resistance")
 # The fields of each list but the lines, in their order.
 FIELDS = {
     "zone": ("latitude", "beta"),
     "substation": ("ground",),
     "transformer": ("high_volts", *WINDINGS, "neutral"),
 }
-SIDES = (("high", "high_volts"), ("low", "low_volts"))
 ASSESSED_ABOVE = 200000
 
 
@@ -38,8 +39,13 @@ class Place(NamedTuple):
         return Place(group, self.north + north, self.east + east)
 
 
+def span(line):
+    """The span of a line to the north and to the east, its parts together."""
+    return [sum(part[key] for part in parts_of(line)) for key in ("north", "east")]
+
+
 def length(line):
-    return abs(line["north"]) + abs(line["east"])
+    return sum(map(abs, span(line)))
 
 
 def is_usual(number, least, most):
@@ -79,7 +85,8 @@ def closures(case):
     places = [Place(number, 0, 0) for number in range(len(case.substations))]
     for line in case.lines:
         start, end = (places[case.buses[line[key]]["substation"]] for key in ("from", "to"))
-        north, east = start.north + line["north"] - end.north, start.east + line["east"] - end.east
+        to_north, to_east = span(line)
+        north, east = start.north + to_north - end.north, start.east + to_east - end.east
         if start.group != end.group:
             places = [one.moved(start.group, north, east) if one.group == end.group else one for one in places]
         elif max(abs(north), abs(east)) > GAP + length(line) // SPAN_FOR_A_METRE:
@@ -96,7 +103,7 @@ def measured(kind, row):
             yield "perkm", USUAL["perkm"], row["resistance"] * KILOMETRE // length(row)
         return
     for field in FIELDS[kind]:
-        if type(row.get(field)) is int:
+        if type(row.get(field)) is int and (field, row.get("kind")) != ("high_volts", "reactor"):
             yield field, USUAL["winding" if field in WINDINGS else field], row[field]
 
 
@@ -114,7 +121,8 @@ def volts(case):
     """The rated voltages that don't fit that of the first side at their bus."""
     measures = {}
     for row in case.transformers:
-        for side, field in SIDES:
+        for side in SIDES:
+            field = side + "_volts"
             if side in row:
                 measure = measures.setdefault(row[side], row[field])
                 if row[field] * 10 < 9 * measure or row[field] * 9 > 10 * measure:

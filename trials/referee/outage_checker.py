@@ -1,5 +1,6 @@
 """Says whether a report of `outage` is right."""
 
+from case import NO_CURRENT
 from checker import VERDICTS, Checker
 from earthing import CAP, least_capped, unearthed
 from storm import standing
@@ -81,6 +82,8 @@ class OutageChecker(Checker):
         squares = [outage[place] for outage in solved]
         label = "transformer " + name
         self.worst(low, high, squares, label)
+        if self.case.transformers[place]["kind"] in NO_CURRENT and (low, high) != (0, 0):
+            self.text.fault_here(f"{label}: it has no effective current, so the interval is 0 0")
 
         def reaches():
             return any(at_least(square, self.threshold**2) for square in squares)

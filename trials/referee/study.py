@@ -38,8 +38,7 @@ class Study:
 
     def __init__(self, case, epochs, storm_steps, by_zone, exactly):
         self.case, self.counts, self.found = case, None, {}
-        zones_of_lines = sorted({case.lines[line]["zone"] for line in case.line_element})
-        self.base_fields = [(zone, to_east) for zone in zones_of_lines for to_east in (0, 1)]
+        self.base_fields = [(zone, to_east) for zone in case.zones_of_lines() for to_east in (0, 1)]
         if not by_zone:
             self.base_fields = [(None, 0), (None, 1)]
         self.networks, self.network_at = [], []
