@@ -3,32 +3,44 @@
 /// The longest file that is read, in bytes: 16 MiB, whatever the file is.
 pub const LIMIT: usize = 16777216;
 
-/// The zones of a case, by the case format.
+/// The zones of a case, of whichever format.
 pub const MOST_ZONES: usize = 256;
 
-/// The substations of a case, by the case format.
-pub const MOST_SUBSTATIONS: usize = 1024;
+/// The substations of a case, of whichever format.
+pub const MOST_SUBSTATIONS: usize = 4096;
 
-/// The buses of a case, by the case format: three times the most substations, however they are shared out.
-pub const MOST_BUSES: usize = 3072;
+/// The buses of a case, of whichever format: three times the most substations, however they are shared out.
+pub const MOST_BUSES: usize = 12288;
 
-/// The lines of a case, by the case format.
-pub const MOST_LINES: usize = 8192;
+/// The lines of a case, of whichever format.
+pub const MOST_LINES: usize = 24576;
 
-/// The transformers of a case, by the case format.
-pub const MOST_TRANSFORMERS: usize = 3584;
+/// The transformers of a case, of whichever format.
+pub const MOST_TRANSFORMERS: usize = 8192;
+
+/// The substations of a case of format 1 or 2.
+pub const MOST_SUBSTATIONS_TO_FORMAT_2: usize = 1024;
+
+/// The buses of a case of format 1 or 2.
+pub const MOST_BUSES_TO_FORMAT_2: usize = 3072;
+
+/// The lines of a case of format 1 or 2.
+pub const MOST_LINES_TO_FORMAT_2: usize = 8192;
+
+/// The transformers of a case of format 1 or 2.
+pub const MOST_TRANSFORMERS_TO_FORMAT_2: usize = 3584;
 
 /// The nodes of a network: a substation, a bus and a transformer's neutral each make at most one.
 pub const MOST_NODES: usize = MOST_SUBSTATIONS + MOST_BUSES + MOST_TRANSFORMERS;
 
-/// The elements of a network: a substation makes one earthing, a line one element, a transformer two windings and a
+/// The elements of a network: a substation makes one earthing, a line one element, a transformer three windings and a
 /// neutral resistor at most.
 pub const MOST_ELEMENTS: usize = MOST_SUBSTATIONS
     + MOST_LINES
-    + 2 * MOST_TRANSFORMERS
+    + 3 * MOST_TRANSFORMERS
     + MOST_TRANSFORMERS;
 
-/// The elements that end at a node, by the case format.
+/// The elements that end at a node, in whichever format.
 pub const MOST_AT_A_NODE: usize = 256;
 
 /// The greatest entry of a bound vector over which a network is solved: how far a node may lie from earth.

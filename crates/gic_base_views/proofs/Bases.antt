@@ -1,5 +1,5 @@
 -- Intervals that can be superposed.
-use Rattle.std.proofs.Common.{◌≡◌, ℕ, ◌*◌, ◌^◌, ℤ, ◌≤ℤ◌, arith, subst}
+use Rattle.std.proofs.Common.{◌≡◌, ℕ, ◌*◌, ◌^◌, ◌≤◌, ℤ, ◌≤ℤ◌, arith, subst}
 use Rattle.gic_fixed.specs.Encloses.{Encloses, IsWithin}
 use Rattle.gic_fixed.specs.Ends.{Ends, IsAtMostWide}
 use Rattle.gic_fixed.proofs.Widths.{wider}
@@ -10,8 +10,8 @@ use Rattle.gic_superpose.specs.Superposed.{IsNarrowBase}
 pub once_held : (lo hi n : ℤ) (d : ℕ) → Encloses lo hi n d → Encloses lo hi n (1 * d)
 once_held lo hi n d held = let once : d ≡ 1 * d = omega arith in subst (λ (m : ℕ). Encloses lo hi n m) once held
 
-pub narrow_from : (ends : Ends) → ends.low ≤ℤ ends.high → IsAtMostWide 400 ends.low ends.high → IsNarrowBase ends
-narrow_from ends order wide = record { ordered = order; width = wider ends.low ends.high 400 1000 (omega arith) wide }
+pub narrow_from : (ends : Ends) (width : ℕ) → width ≤ 1000 → ends.low ≤ℤ ends.high → IsAtMostWide width ends.low ends.high → IsNarrowBase ends
+narrow_from ends width most order wide = record { ordered = order; width = wider ends.low ends.high width 1000 most wide }
 
 pub base_within : (lo hi : ℤ) → IsWithin (2 ^ 80) lo hi → IsWithin most_base lo hi
 base_within lo hi within = record { low = omega (arith, within.low); high = omega (arith, within.high) }

@@ -1,2 +1,4 @@
 pub mod RightViews
 pub mod Bases
+pub mod Written
+pub mod Certified

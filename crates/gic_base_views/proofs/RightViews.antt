@@ -23,14 +23,15 @@ use Rattle.gic_winding.specs.Weights.{transformer_at, weighted_windings}
 use Rattle.gic_effective.specs.Narrow.{IsNarrowView, IsNoWider}
 use Rattle.gic_effective.specs.RightView.{IsRightView, IsRightNode, IsRightElement, IsRightEffective}
 use Rattle.gic_effective.specs.Weighted.{effective_numerator, effective_denominator}
-use Rattle.gic_bases.proofs.BaseVolts.{volts_combine}
-use Rattle.gic_bases.specs.Bases.{north_volts, east_volts, sum_below}
+use Rattle.gic_superpose.proofs.BaseVolts.{volts_combine}
+use Rattle.gic_superpose.specs.BaseFields.{north_volts, east_volts}
+use Rattle.gic_superpose.specs.Sums.{sum_below}
 use Rattle.gic_superpose.specs.Superposed.{ZoneEnds, no_zone_ends, zone_at, zone_low, zone_high, superposed}
 use Rattle.gic_superpose.specs.Quantities.{IsLinear, AreMadeOf}
 use Rattle.gic_superpose.proofs.Linear.{potential_linear, current_linear, weighted_linear}
 use Rattle.gic_superpose.proofs.Enclosing.{superposed_held}
 use Rattle.gic_superpose.proofs.Widths.{superposed_narrow}
-use Rattle.gic_base_views.specs.BaseRows.{BaseRows, IsCertifiedRow, AreCertifiedRows}
+use Rattle.gic_base_views.specs.BaseRows.{BaseRows, IsCertifiedZone, AreCertifiedRows}
 use Rattle.gic_base_views.specs.Superposed.{shown_where, AreFieldsOf, IsSuperposedView}
 
 -- over plain numbers
@@ -73,32 +74,36 @@ module _ (case : Lists) (stands : Item → Bool) (fields : List (ℤ × ℤ)) (r
       volts_combine case fields given.zones (elements_of case).list place
       ∙ ap (sum_below (λ zone. (field_at fields zone).0 *ℤ north_volts case (elements_of case).list zone place +ℤ (field_at fields zone).1 *ℤ east_volts case (elements_of case).list zone place)) (sym given.zones)
 
-  held : (quantity : Solution → ℤ) (over : ℕ) (row : List ZoneEnds) → IsLinear standing quantity → IsCertifiedRow case standing quantity over row → (s : Solution) → IsSolution standing volts s
+  -- of a row: it is certified in each zone
+  abbrev IsCertifiedRow : (Solution → ℤ) → (over : ℕ) → List ZoneEnds → Type 0
+  IsCertifiedRow quantity over row = (zone : ℕ) → zone < length case.zones → IsCertifiedZone case standing quantity over zone row
+
+  held : (quantity : Solution → ℤ) (over : ℕ) (row : List ZoneEnds) → IsLinear standing quantity → IsCertifiedRow quantity over row → (s : Solution) → IsSolution standing volts s
       → Encloses (superposed fields row).low (superposed fields row).high (quantity s) (1000000 * over * s.denominator)
   held quantity over row is_linear is_certified s solves =
       superposed_held (elements_of case) stands quantity over fields (north_volts case (elements_of case).list) (east_volts case (elements_of case).list) row limits earthed is_linear
       (λ zone less. (is_certified zone (within_zones zone less)).holds) volts made s solves
 
-  narrow : (quantity : Solution → ℤ) (over : ℕ) (row : List ZoneEnds) → IsCertifiedRow case standing quantity over row → IsAtMostWide width (superposed fields row).low (superposed fields row).high
+  narrow : (quantity : Solution → ℤ) (over : ℕ) (row : List ZoneEnds) → IsCertifiedRow quantity over row → IsAtMostWide width (superposed fields row).low (superposed fields row).high
   narrow quantity over row is_certified =
       wider (superposed fields row).low (superposed fields row).high 2 width least
       (superposed_narrow fields row given.few (λ zone less. All-get_or IsField fields zone no_field less given.within) (λ zone less. (is_certified zone (within_zones zone less)).narrow))
 
   -- a node or an element: as it shows
   right_node : (k : ℕ) (b : Bool) → is_live standing k ≡ b → IsRightNode standing volts k (shown_where b (superposed fields (rows.nodes k)))
-  right_node k true live = (live, λ s solves. held (λ s. s.potential k) 1 (rows.nodes k) (potential_linear standing k live) (certified.nodes k live) s solves)
+  right_node k true live = (live, λ s solves. held (λ s. s.potential k) 1 (rows.nodes k) (potential_linear standing k live) (λ zone less. (certified zone less).nodes k live) s solves)
   right_node k false dead = dead
 
   narrow_node : (k : ℕ) (b : Bool) → is_live standing k ≡ b → IsNoWider width (shown_where b (superposed fields (rows.nodes k)))
-  narrow_node k true live = narrow (λ s. s.potential k) 1 (rows.nodes k) (certified.nodes k live)
+  narrow_node k true live = narrow (λ s. s.potential k) 1 (rows.nodes k) (λ zone less. (certified zone less).nodes k live)
   narrow_node k false dead = tt
 
   right_element : (place : ℕ) (b : Bool) → is_standing standing place ≡ b → IsRightElement standing volts place (shown_where b (superposed fields (rows.elements place)))
-  right_element place true is = (is, λ s solves. held (λ s. s.current place) 1 (rows.elements place) (current_linear standing place) (certified.elements place is) s solves)
+  right_element place true is = (is, λ s solves. held (λ s. s.current place) 1 (rows.elements place) (current_linear standing place) (λ zone less. (certified zone less).elements place is) s solves)
   right_element place false none = none
 
   narrow_element : (place : ℕ) (b : Bool) → is_standing standing place ≡ b → IsNoWider width (shown_where b (superposed fields (rows.elements place)))
-  narrow_element place true is = narrow (λ s. s.current place) 1 (rows.elements place) (certified.elements place is)
+  narrow_element place true is = narrow (λ s. s.current place) 1 (rows.elements place) (λ zone less. (certified zone less).elements place is)
   narrow_element place false none = tt
 
   right_effective : (t : ℕ) → t < length case.transformers → IsRightEffective case standing volts t (superposed fields (rows.effective t))
@@ -106,8 +111,8 @@ module _ (case : Lists) (stands : Item → Bool) (fields : List (ℤ × ℤ)) (r
     holds = λ s solves.
         let same : 1000000 * (3 * (transformer_at case t).high_volts) * s.denominator ≡ effective_denominator case t s = omega arith in
         subst (λ (m : ℕ). Encloses (superposed fields (rows.effective t)).low (superposed fields (rows.effective t)).high (effective_numerator case s t) m) same
-        (held (λ s. effective_numerator case s t) (3 * (transformer_at case t).high_volts) (rows.effective t) (weighted_linear standing (weighted_windings case t)) (certified.effective t less) s solves);
-    nought = λ none. superposed_nought fields (rows.effective t) (λ zone within. certified.nought t less none zone (within_zones zone within));
+        (held (λ s. effective_numerator case s t) (3 * (transformer_at case t).high_volts) (rows.effective t) (weighted_linear standing (weighted_windings case t)) (λ zone within. (certified zone within).effective t less) s solves);
+    nought = λ none. superposed_nought fields (rows.effective t) (λ zone within. (certified zone (within_zones zone within)).nought t less none);
   }
 
   pub right_view : IsRightView case standing volts view
@@ -124,5 +129,5 @@ module _ (case : Lists) (stands : Item → Bool) (fields : List (ℤ × ℤ)) (r
     nodes = λ k less. subst (IsNoWider width) (sym (shown.nodes k less)) (narrow_node k (is_live standing k) refl);
     elements = λ place less. subst (IsNoWider width) (sym (shown.elements place less)) (narrow_element place (is_standing standing place) refl);
     effective = λ t less. subst (λ (e : Ends). IsNoWider width (Some e)) (sym (shown.effective t less))
-        (narrow (λ s. effective_numerator case s t) (3 * (transformer_at case t).high_volts) (rows.effective t) (certified.effective t less));
+        (narrow (λ s. effective_numerator case s t) (3 * (transformer_at case t).high_volts) (rows.effective t) (λ zone within. (certified zone within).effective t less));
   }

@@ -8,7 +8,7 @@ use Rattle.gic_winding.specs.ElementList.{elements_of}
 use Rattle.gic_winding.specs.Weights.{transformer_at}
 use Rattle.gic_effective.specs.Weighted.{effective_numerator}
 use Rattle.gic_effective.specs.RightView.{HasNoStandingWinding}
-use Rattle.gic_bases.specs.Bases.{north_volts, east_volts}
+use Rattle.gic_superpose.specs.BaseFields.{north_volts, east_volts}
 use Rattle.gic_superpose.specs.Superposed.{ZoneEnds, no_zone_ends, zone_at, IsNarrowZone}
 use Rattle.gic_superpose.specs.Quantities.{HoldsInZone}
 
@@ -18,19 +18,24 @@ pub record BaseRows : Type 0 where
   pub elements : ℕ → List ZoneEnds
   pub effective : ℕ → List ZoneEnds
 
--- a zone's two intervals are narrow and hold the quantity, over so many times the denominator, in every solution for the zone's base fields
-pub record IsCertifiedZone (case : Lists) (standing : List Placed) (quantity : Solution → ℤ) (over zone : ℕ) (row : List ZoneEnds) : Type 0 where
-  pub holds : HoldsInZone standing (north_volts case (elements_of case).list zone) (east_volts case (elements_of case).list zone) quantity over (zone_at row zone)
-  pub narrow : IsNarrowZone (zone_at row zone)
+-- two intervals, one to the north and one to the east, are narrow and hold the quantity, over so many times the denominator, in every solution for these voltages
+pub record IsCertifiedPair (standing : List Placed) (north east : ℕ → ℤ) (quantity : Solution → ℤ) (over : ℕ) (pair : ZoneEnds) : Type 0 where
+  pub holds : HoldsInZone standing north east quantity over pair
+  pub narrow : IsNarrowZone pair
+
+-- those of a zone in a row are so for the voltages of the zone's base fields
+abbrev pub IsCertifiedZone : Lists → List Placed → (Solution → ℤ) → (over zone : ℕ) → List ZoneEnds → Type 0
+IsCertifiedZone case standing quantity over zone row =
+    IsCertifiedPair standing (north_volts case (elements_of case).list zone) (east_volts case (elements_of case).list zone) quantity over (zone_at row zone)
+
+-- of one zone: the intervals are certified where something shows: live nodes, standing elements, and all transformers, those without a standing winding at 0 alone
+pub record IsCertifiedIn (case : Lists) (standing : List Placed) (rows : BaseRows) (zone : ℕ) : Type 0 where
+  pub nodes : (k : ℕ) → IsLive standing k → IsCertifiedZone case standing (λ s. s.potential k) 1 zone (rows.nodes k)
+  pub elements : (place : ℕ) → IsTrue (is_standing standing place) → IsCertifiedZone case standing (λ s. s.current place) 1 zone (rows.elements place)
+  pub effective : (t : ℕ) → t < length case.transformers →
+      IsCertifiedZone case standing (λ s. effective_numerator case s t) (3 * (transformer_at case t).high_volts) zone (rows.effective t)
+  pub nought : (t : ℕ) → t < length case.transformers → HasNoStandingWinding case standing t → zone_at (rows.effective t) zone ≡ no_zone_ends
 
 -- so are those of each zone
-abbrev pub IsCertifiedRow : Lists → List Placed → (Solution → ℤ) → (over : ℕ) → List ZoneEnds → Type 0
-IsCertifiedRow case standing quantity over row = (zone : ℕ) → zone < length case.zones → IsCertifiedZone case standing quantity over zone row
-
--- the rows are certified where something shows: live nodes, standing elements, and all transformers, those without a standing winding at 0 alone
-pub record AreCertifiedRows (case : Lists) (standing : List Placed) (rows : BaseRows) : Type 0 where
-  pub nodes : (k : ℕ) → IsLive standing k → IsCertifiedRow case standing (λ s. s.potential k) 1 (rows.nodes k)
-  pub elements : (place : ℕ) → IsTrue (is_standing standing place) → IsCertifiedRow case standing (λ s. s.current place) 1 (rows.elements place)
-  pub effective : (t : ℕ) → t < length case.transformers →
-      IsCertifiedRow case standing (λ s. effective_numerator case s t) (3 * (transformer_at case t).high_volts) (rows.effective t)
-  pub nought : (t : ℕ) → t < length case.transformers → HasNoStandingWinding case standing t → (zone : ℕ) → zone < length case.zones → zone_at (rows.effective t) zone ≡ no_zone_ends
+abbrev pub AreCertifiedRows : Lists → List Placed → BaseRows → Type 0
+AreCertifiedRows case standing rows = (zone : ℕ) → zone < length case.zones → IsCertifiedIn case standing rows zone

@@ -12,8 +12,8 @@ use Rattle.gic_model.specs.Bound.{MeetsRowRule, IsCappedVector, IsLeastCappedVec
 use Rattle.gic_model.proofs.Ends.{live_within, ohms_at_node, standing_within}
 use Rattle.gic_bound.specs.Shares.{entries_where_live}
 use Rattle.gic_bound.specs.Raising.{IsUnderCapped, IsTooSmall}
-use Rattle.gic_bound.specs.Starting.{IsNotAbove, IsInRange, IsHeld, IsLeastHeld, IsUnderHeld, KeepsShifts, lowered, IsSunk, IsTight}
-use Rattle.gic_bound.specs.StartLaws.{raised_at, RaisesKeepShifts, ShiftsLeadUnder, TightIsUnder, TightIsLeast, HeldIsCapped}
+use Rattle.gic_bound.specs.Starting.{IsNotAbove, IsInRange, IsHeld, IsLeastHeld, IsUnderHeld, KeepsShifts, lowered, IsSunk, IsHeldAlone}
+use Rattle.gic_bound.specs.StartLaws.{raised_at, RaisesKeepShifts, ShiftsLeadUnder, HeldAloneIsUnder, HeldAloneIsLeast, HeldIsCapped}
 use Rattle.gic_bound.proofs.RowParts.{parts_le, parts_le_by}
 use Rattle.gic_bound.proofs.Rising.{IsRaisedAt, IsEnough, raised_list, raised_sum, sum_most, live_or_dead, look, starts_under}
 
@@ -49,10 +49,10 @@ module _ (standing : List Placed) where
       (λ dead. let e = entry_dead (λ j. max (v j - step) 1) k dead in omega (arith, e))
       (live_or_dead standing k)
 
-  pub tight_held : (v : ℕ → ℕ) → IsInRange standing v → IsTight standing v → IsSunk standing 1 v v
-  tight_held v range tight = record {
+  pub alone_held : (v : ℕ → ℕ) → IsInRange standing v → IsHeldAlone standing v → IsSunk standing 1 v v
+  alone_held v range alone = record {
     itself = record { from_low = lowered_below 1 v range; to_cap = λ k. omega arith; rows = λ k live room. absurd (omega (arith, room)) };
-    least = λ other held k. omega (arith, tight other held k);
+    least = λ other held k. omega (arith, alone other held k);
   }
 
   lowered_less : (step : ℕ) (v : ℕ → ℕ) → 1 ≤ step → IsNotAbove (lowered standing step v) (lowered standing 1 v)
@@ -71,19 +71,19 @@ module _ (standing : List Placed) where
     dead_0 = λ k dead. is k ∙ entry_dead (λ j. max (v j - step) 1) k dead;
   }
 
-  -- a vector that sinks by some step to itself is tight
-  pub sunk_tight : (step : ℕ) (v : ℕ → ℕ) → 1 ≤ step → IsSunk standing step v v → IsTight standing v
-  sunk_tight step v some sunk other held k =
+  -- a vector that sinks by some step to itself is held alone
+  pub sunk_alone : (step : ℕ) (v : ℕ → ℕ) → 1 ≤ step → IsSunk standing step v v → IsHeldAlone standing v
+  sunk_alone step v some sunk other held k =
       let low = lowered_less step v some in
       let above = sunk.least other (record { from_low = λ j. let a = low j in let b = held.from_low j in omega (arith, a, b); to_cap = held.to_cap; rows = held.rows }) k in
       let below = held.to_cap k in
       omega (arith, above, below)
 
-  -- so a vector is tight exactly where it sinks to itself
-  pub tight_where_same : (vs ws : List ℕ) → length ws ≡ length vs → IsSunk standing 1 (slice_index vs) (slice_index ws) → ((ws ≡ vs) ↔ IsTight standing (slice_index vs))
-  tight_where_same vs ws count sunk = (
-    λ same. sunk_tight 1 (slice_index vs) (omega arith) (subst (λ (xs : List ℕ). IsSunk standing 1 (slice_index vs) (slice_index xs)) same sunk),
-    λ tight. ext_get_or 0 ws vs count (λ k _. tight (slice_index ws) sunk.itself k),
+  -- so a vector is held alone exactly where it sinks to itself
+  pub alone_where_same : (vs ws : List ℕ) → length ws ≡ length vs → IsSunk standing 1 (slice_index vs) (slice_index ws) → ((ws ≡ vs) ↔ IsHeldAlone standing (slice_index vs))
+  alone_where_same vs ws count sunk = (
+    λ same. sunk_alone 1 (slice_index vs) (omega arith) (subst (λ (xs : List ℕ). IsSunk standing 1 (slice_index vs) (slice_index xs)) same sunk),
+    λ alone. ext_get_or 0 ws vs count (λ k _. alone (slice_index ws) sunk.itself k),
   )
 
   pub sunk_range : (step : ℕ) (v w : ℕ → ℕ) → IsInRange standing v → IsSunk standing step v w → IsInRange standing w
@@ -270,10 +270,10 @@ module _ (nodes : ℕ) (standing : List Placed) (within : AllByRecursion (λ p. 
       elsewhere : (j ≡ k → ⊥) → v j ≤ u j + d → raised_at k v j ≤ u j + d
       elsewhere other h = grind (arith, h)
 
-  -- ---- tight vectors
+  -- ---- vectors held alone
 
-  pub tight_under : (v : ℕ → ℕ) → IsInRange standing v → IsTight standing v → IsUnderCapped standing v
-  tight_under v range tight = shifts_lead_under standing v range (keeps_shifts (lowered standing 1 v) v v range.capped (tight_held standing v range tight))
+  pub alone_under : (v : ℕ → ℕ) → IsInRange standing v → IsHeldAlone standing v → IsUnderCapped standing v
+  alone_under v range alone = shifts_lead_under standing v range (keeps_shifts (lowered standing 1 v) v v range.capped (alone_held standing v range alone))
 
   -- what is held from a vector in range up to a capped vector is capped
   pub held_capped : (low v w : ℕ → ℕ) → IsInRange standing low → IsCappedVector standing v → IsHeld standing low v w → IsCappedVector standing w
@@ -293,9 +293,9 @@ module _ (nodes : ℕ) (standing : List Placed) (within : AllByRecursion (λ p. 
   range_of : (v : ℕ → ℕ) → IsCappedVector standing v → IsInRange standing v
   range_of v capped = record { live_above_0 = capped.live_above_0; capped = capped.capped; dead_0 = capped.dead_0 }
 
-  pub tight_least : (v : ℕ → ℕ) → IsCappedVector standing v → (IsTight standing v ↔ IsLeastCappedVector standing v)
-  tight_least v capped = (
-    λ tight. record { itself = capped; least = (tight_under v (range_of v capped) tight).under },
+  pub alone_least : (v : ℕ → ℕ) → IsCappedVector standing v → (IsHeldAlone standing v ↔ IsLeastCappedVector standing v)
+  alone_least v capped = (
+    λ alone. record { itself = capped; least = (alone_under v (range_of v capped) alone).under },
     λ least other held k.
         let below = least.least other (sunk_capped 1 v other capped held) k in
         let above = held.to_cap k in
@@ -322,7 +322,7 @@ module _ (nodes : ℕ) (standing : List Placed) (within : AllByRecursion (λ p. 
 
   -- a capped vector that sinks by some step to itself is the least one
   pub sunk_least : (step : ℕ) (v : ℕ → ℕ) → 1 ≤ step → IsCappedVector standing v → IsSunk standing step v v → IsLeastCappedVector standing v
-  sunk_least step v some capped sunk = (tight_least v capped).0 (sunk_tight standing step v some sunk)
+  sunk_least step v some capped sunk = (alone_least v capped).0 (sunk_alone standing step v some sunk)
 
   -- ---- raising ends, since each raise takes one off the room
 
@@ -369,11 +369,11 @@ raises_keep_shifts network stands v k limits small = raise_keeps network.nodes _
 pub shifts_law : ShiftsLeadUnder
 shifts_law network stands v range keeps = shifts_lead_under _ v range keeps
 
-pub tight_is_under : TightIsUnder
-tight_is_under network stands v limits range tight = tight_under network.nodes _ (standing_within network stands limits) v range tight
+pub alone_is_under : HeldAloneIsUnder
+alone_is_under network stands v limits range alone = alone_under network.nodes _ (standing_within network stands limits) v range alone
 
-pub tight_is_least : TightIsLeast
-tight_is_least network stands v limits capped = tight_least network.nodes _ (standing_within network stands limits) v capped
+pub alone_is_least : HeldAloneIsLeast
+alone_is_least network stands v limits capped = alone_least network.nodes _ (standing_within network stands limits) v capped
 
 pub held_is_capped : HeldIsCapped
 held_is_capped network stands low v w limits range capped held = held_capped network.nodes _ (standing_within network stands limits) low v w range capped held

@@ -7,7 +7,7 @@ use Rattle.gic_model.specs.Limits.{IsWithinLimits}
 use Rattle.gic_model.specs.Standing.{standing_elements}
 use Rattle.gic_model.specs.Bound.{IsCappedVector, IsLeastCappedVector}
 use Rattle.gic_bound.specs.Raising.{IsUnderCapped, IsTooSmall}
-use Rattle.gic_bound.specs.Starting.{IsInRange, KeepsShifts, lowered, IsHeld, IsTight}
+use Rattle.gic_bound.specs.Starting.{IsInRange, KeepsShifts, lowered, IsHeld, IsHeldAlone}
 
 -- the entries, and one more at the node k
 abbrev pub raised_at : ℕ → (ℕ → ℕ) → ℕ → ℕ
@@ -25,17 +25,17 @@ ShiftsLeadUnder = (network : Network) (stands : Item → Bool) (v : ℕ → ℕ)
     let standing = standing_elements network stands in
     IsInRange standing v → KeepsShifts standing (lowered standing 1 v) v → IsUnderCapped standing v
 
--- so is a vector that is tight
-abbrev pub TightIsUnder : Type 0
-TightIsUnder = (network : Network) (stands : Item → Bool) (v : ℕ → ℕ) →
+-- so is a vector that is held alone
+abbrev pub HeldAloneIsUnder : Type 0
+HeldAloneIsUnder = (network : Network) (stands : Item → Bool) (v : ℕ → ℕ) →
     let standing = standing_elements network stands in
-    IsWithinLimits network → IsInRange standing v → IsTight standing v → IsUnderCapped standing v
+    IsWithinLimits network → IsInRange standing v → IsHeldAlone standing v → IsUnderCapped standing v
 
--- a capped vector is tight exactly where it is the least one
-abbrev pub TightIsLeast : Type 0
-TightIsLeast = (network : Network) (stands : Item → Bool) (v : ℕ → ℕ) →
+-- a capped vector is held alone exactly where it is the least one
+abbrev pub HeldAloneIsLeast : Type 0
+HeldAloneIsLeast = (network : Network) (stands : Item → Bool) (v : ℕ → ℕ) →
     let standing = standing_elements network stands in
-    IsWithinLimits network → IsCappedVector standing v → (IsTight standing v ↔ IsLeastCappedVector standing v)
+    IsWithinLimits network → IsCappedVector standing v → (IsHeldAlone standing v ↔ IsLeastCappedVector standing v)
 
 -- what is held from a vector in range up to a capped vector is capped: so sinking leads from capped vectors to capped vectors
 abbrev pub HeldIsCapped : Type 0

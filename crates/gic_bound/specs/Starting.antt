@@ -51,6 +51,6 @@ lowered standing step v = entries_where_live standing (λ k. max (v k - step) 1)
 abbrev pub IsSunk : List Placed → ℕ → (ℕ → ℕ) → (ℕ → ℕ) → Type 0
 IsSunk standing step v w = IsLeastHeld standing (lowered standing step v) v w
 
--- no other vector is held from v less 1 up to v
-abbrev pub IsTight : List Placed → (ℕ → ℕ) → Type 0
-IsTight standing v = (other : ℕ → ℕ) → IsHeld standing (lowered standing 1 v) v other → (k : ℕ) → other k ≡ v k
+-- v is held alone: no other vector is held from v less 1 up to v
+abbrev pub IsHeldAlone : List Placed → (ℕ → ℕ) → Type 0
+IsHeldAlone standing v = (other : ℕ → ℕ) → IsHeld standing (lowered standing 1 v) v other → (k : ℕ) → other k ≡ v k

@@ -1,7 +1,7 @@
 //! Laws over the definitions, each the contract of a function that does nothing: a function whose proof rests on a
 //! law calls it.
 ghost use Rattle.gic_bound.specs.Laws.{LeastCappedVectorExists, NoFullEntryIsEarthed, NoFullEntryIsBound, FullEntryIsBelowAll};
-ghost use Rattle.gic_bound.specs.StartLaws.{RaisesKeepShifts, ShiftsLeadUnder, TightIsUnder, TightIsLeast, HeldIsCapped};
+ghost use Rattle.gic_bound.specs.StartLaws.{RaisesKeepShifts, ShiftsLeadUnder, HeldAloneIsUnder, HeldAloneIsLeast, HeldIsCapped};
 ghost use Rattle.gic_bound.specs.Shares.{IsCaseNetwork};
 ghost use Rattle.gic_bound.specs.WorkedShares.{grounds_standing};
 ghost use Rattle.gic_bound.specs.Raising.{IsTooSmall};
@@ -26,8 +26,8 @@ pub fn least_capped_vector_law()
 pub fn starts_law()
     ensures raises { RaisesKeepShifts }
     ensures shifts { ShiftsLeadUnder }
-    ensures under { TightIsUnder }
-    ensures least { TightIsLeast }
+    ensures under { HeldAloneIsUnder }
+    ensures least { HeldAloneIsLeast }
     ensures held { HeldIsCapped }
 {}
 
@@ -55,7 +55,7 @@ pub fn worked_shares_law()
 {}
 
 /// In the loop worked by hand A's entry is too small where all entries are 1, the bound vector is held from 1 to
-/// `FULL_WALK`, and twice that vector isn't tight, since with 1 less at each node it is held too.
+/// `FULL_WALK`, and twice that vector isn't held alone, since with 1 less at each node it is held too.
 pub fn worked_starts_law()
     ensures small { IsTooSmall loop_standing loop_full loop_ones 0 }
     ensures held { IsHeld loop_standing loop_ones loop_full loop_vector }

@@ -12,9 +12,9 @@ mod row;
 mod starting;
 mod vector;
 
-pub use checking::rows_positive;
+pub use checking::is_bound_vector;
 pub use raising::{Unresolved, bound, bound_from, some_bound};
 pub use room::Room;
-pub use row::is_row_positive;
+pub use row::meets_row_rule;
 pub use starting::is_start;
 pub use vector::BoundVector;

@@ -9,7 +9,7 @@ ghost use Rattle.gic_bound.specs.Shares.{entries_where_live};
 ghost use Rattle.gic_bound.specs.Starting.{IsNotAbove, IsLeastHeld, IsUnderHeld, KeepsShifts};
 
 use crate::cap::Cap;
-use crate::row::is_row_positive;
+use crate::row::meets_row_rule;
 use crate::vector::BoundVector;
 use gic_base::NodeId;
 use gic_base::limits::FULL_WALK;
@@ -134,7 +134,7 @@ fn is_too_small(net: &Net, cap: &Cap, vector: &BoundVector, node: NodeId) -> boo
 {
     net.live(node)
         && vector.entry(node) < most_at(net, cap, node)
-        && !is_row_positive(net, vector, node)
+        && !meets_row_rule(net, vector, node)
 }
 
 /// The greatest entry that the cap lets a node have.

@@ -10,7 +10,7 @@ use crate::cap::Cap;
 use crate::laws::least_capped_vector_law;
 use crate::lifting::{raise_all, raise_under};
 use crate::room::Room;
-use crate::starting::{begin, is_tight, lower, sinks_to_itself};
+use crate::starting::{begin, is_held_alone, lower, sinks_to_itself};
 use crate::vector::BoundVector;
 use gic_base::NodeId;
 use gic_base::limits::{FULL_WALK, MOST_WALK};
@@ -125,7 +125,7 @@ fn raise_proposed(net: &Net, out: &mut BoundVector, other: &mut BoundVector, wai
 {
     lower(net, 0, out);
     for _ in 0..MOST_SINKINGS {
-        if is_tight(net, out, other, waiting) {
+        if is_held_alone(net, out, other, waiting) {
             raise_fully(net, out, waiting);
             return;
         }

@@ -3,7 +3,7 @@ ghost use Rattle.std.specs.Prelude.{◌≡◌, ℕ, ◌<◌, ◌≤◌, ◌↔�
 ghost use Rattle.gic_model.specs.Bound.{IsCappedVector, IsLeastCappedVector};
 ghost use Rattle.gic_net.specs.Net.{standing};
 ghost use Rattle.gic_bound.specs.Raising.{IsUnderCapped};
-ghost use Rattle.gic_bound.specs.Starting.{AreForNodes, IsInRange, lowered, IsSunk, IsTight};
+ghost use Rattle.gic_bound.specs.Starting.{AreForNodes, IsInRange, lowered, IsSunk, IsHeldAlone};
 
 use crate::cap::Cap;
 use crate::laws::starts_law;
@@ -21,20 +21,20 @@ pub fn is_start(net: &Net, vector: &BoundVector, room: &mut Room) -> bool
     requires room { room.old ≡ net.now.network.nodes }
     requires range { IsInRange (standing net.now) (slice_index vector.now) }
 
-    // Then it is at no node above any capped vector. Of a vector that is not tight only this much is known: it is not
+    // Then it is at no node above any capped vector. Of a vector that is not held alone only this much is known: it is not
     // the least capped one.
-    ensures tight { IsTrue result ↔ IsTight (standing net.now) (slice_index vector.now) }
+    ensures alone { IsTrue result ↔ IsHeldAlone (standing net.now) (slice_index vector.now) }
     ensures under { IsTrue result → IsUnderCapped (standing net.now) (slice_index vector.now) }
     ensures least { IsCappedVector (standing net.now) (slice_index vector.now) →
         (IsTrue result ↔ IsLeastCappedVector (standing net.now) (slice_index vector.now)) }
 
     ensures same_room { room.new ≡ room.old }
 {
-    is_tight(net, vector, &mut room.vector, room.waiting.as_mut_slice())
+    is_held_alone(net, vector, &mut room.vector, room.waiting.as_mut_slice())
 }
 
-/// Whether the vector is tight. The other vector then has what the vector less 1 was raised to.
-pub fn is_tight(
+/// Whether the vector is held alone. The other vector then has what the vector less 1 was raised to.
+pub fn is_held_alone(
     net: &Net,
     vector: &BoundVector,
     other: &mut BoundVector,
@@ -42,7 +42,7 @@ pub fn is_tight(
 ) -> bool
     requires nodes { AreForNodes net.now.network.nodes vector.now other.old }
     requires range { IsInRange (standing net.now) (slice_index vector.now) }
-    ensures tight { IsTrue result ↔ IsTight (standing net.now) (slice_index vector.now) }
+    ensures alone { IsTrue result ↔ IsHeldAlone (standing net.now) (slice_index vector.now) }
     ensures under { IsTrue result → IsUnderCapped (standing net.now) (slice_index vector.now) }
     ensures least { IsCappedVector (standing net.now) (slice_index vector.now) →
         (IsTrue result ↔ IsLeastCappedVector (standing net.now) (slice_index vector.now)) }

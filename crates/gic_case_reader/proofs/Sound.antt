@@ -323,10 +323,10 @@ resolved_sound w form ruled =
     let places = none_of_both _ _ buses.1 in
     record {
       few_zones = form.few_zones;
-      few_substations = form.few_substations;
-      few_buses = rw (length-map w.buses (bus_with_place w)) form.few_buses;
-      few_lines = rw (length-map w.lines (line_with_places w)) form.few_lines;
-      few_transformers = rw (length-map w.transformers (transformer_with_places w)) form.few_transformers;
+      few_substations = omega (arith, form.few_substations);
+      few_buses = rw (length-map w.buses (bus_with_place w)) (omega (arith, form.few_buses));
+      few_lines = rw (length-map w.lines (line_with_places w)) (omega (arith, form.few_lines));
+      few_transformers = rw (length-map w.transformers (transformer_with_places w)) (omega (arith, form.few_transformers));
       zones_sound = form.zones;
       substations_sound = form.substations;
       buses_within = buses_by w buses.0;

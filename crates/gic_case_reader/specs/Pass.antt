@@ -2,7 +2,7 @@
 use Rattle.std.specs.Prelude.{ℕ, ◌+◌, ◌==◌, nat_lt, suc, List, [], ◌∷◌, length, Bool, false, if◌then◌else◌, Option, Some, None, option_and_then, option_map, unwrap_or, Result, Ok, Err}
 use Rattle.toml.specs.Data.{Data, Items, no_items, item, Members, get_member, as_array, as_bool, as_table}
 use Rattle.gic_base.specs.Refusals.{settle}
-use Rattle.gic_base.specs.declared.limits.TheConstants.{MOST_ZONES, MOST_SUBSTATIONS, MOST_BUSES, MOST_LINES, MOST_TRANSFORMERS}
+use Rattle.gic_base.specs.declared.limits.TheConstants.{MOST_ZONES, MOST_SUBSTATIONS_TO_FORMAT_2, MOST_BUSES_TO_FORMAT_2, MOST_LINES_TO_FORMAT_2, MOST_TRANSFORMERS_TO_FORMAT_2}
 use Rattle.gic_base.specs.Passes.{◌>>=◌, or_refuse, test}
 use Rattle.gic_scale.specs.ZoneView.{ZoneView}
 use Rattle.gic_case_reader.specs.Keys.{key_of, has, fits, fits_document, list_key}
@@ -168,10 +168,10 @@ rows_of ms = do
   keys ← test (fits_document ms) (refusals.Key parts.Case 0)
   format ← required (natural_within 1 2) parts.Case 0 fields.Format ms
   zones ← list_at parts.Zone MOST_ZONES zone_row ms
-  substations ← list_at parts.Substation MOST_SUBSTATIONS substation_row ms
-  buses ← list_at parts.Bus MOST_BUSES bus_row ms
-  lines ← list_at parts.Line MOST_LINES line_row ms
-  transformers ← list_at parts.Transformer MOST_TRANSFORMERS (transformer_row (format == 2)) ms
+  substations ← list_at parts.Substation MOST_SUBSTATIONS_TO_FORMAT_2 substation_row ms
+  buses ← list_at parts.Bus MOST_BUSES_TO_FORMAT_2 bus_row ms
+  lines ← list_at parts.Line MOST_LINES_TO_FORMAT_2 line_row ms
+  transformers ← list_at parts.Transformer MOST_TRANSFORMERS_TO_FORMAT_2 (transformer_row (format == 2)) ms
   Ok (record { zones = zones; substations = substations; buses = buses; lines = lines; transformers = transformers })
 
 -- the refusal, if there is one

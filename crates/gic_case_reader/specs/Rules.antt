@@ -5,7 +5,7 @@ use Rattle.std.specs.Str.{is_utf8}
 use Rattle.toml.specs.Data.{Data, Items, no_items, item, Members, get_member, as_array}
 use Rattle.toml.specs.Parse.{parse_document}
 use Rattle.gic_base.specs.Refusals.{unless, settle}
-use Rattle.gic_base.specs.declared.limits.TheConstants.{MOST_ZONES, MOST_SUBSTATIONS, MOST_BUSES, MOST_LINES, MOST_TRANSFORMERS, MOST_AT_A_NODE}
+use Rattle.gic_base.specs.declared.limits.TheConstants.{MOST_ZONES, MOST_SUBSTATIONS_TO_FORMAT_2, MOST_BUSES_TO_FORMAT_2, MOST_LINES_TO_FORMAT_2, MOST_TRANSFORMERS_TO_FORMAT_2, MOST_AT_A_NODE}
 use Rattle.gic_scale.specs.ZoneView.{ZoneView}
 use Rattle.gic_case_reader.specs.Keys.{fits_document, list_key}
 use Rattle.gic_case_reader.specs.Values.{natural_within, value_at}
@@ -68,10 +68,10 @@ breaks_form ms =
     unless (fits_document ms) (refusals.Key parts.Case 0)
     ++ (breaks_value (natural_within 1 2) parts.Case 0 fields.Format ms
     ++ (breaks_list parts.Zone MOST_ZONES breaks_zone ms
-    ++ (breaks_list parts.Substation MOST_SUBSTATIONS breaks_substation ms
-    ++ (breaks_list parts.Bus MOST_BUSES breaks_bus ms
-    ++ (breaks_list parts.Line MOST_LINES breaks_line ms
-    ++ breaks_list parts.Transformer MOST_TRANSFORMERS (breaks_transformer (allows_devices ms)) ms)))))
+    ++ (breaks_list parts.Substation MOST_SUBSTATIONS_TO_FORMAT_2 breaks_substation ms
+    ++ (breaks_list parts.Bus MOST_BUSES_TO_FORMAT_2 breaks_bus ms
+    ++ (breaks_list parts.Line MOST_LINES_TO_FORMAT_2 breaks_line ms
+    ++ breaks_list parts.Transformer MOST_TRANSFORMERS_TO_FORMAT_2 (breaks_transformer (allows_devices ms)) ms)))))
 
 -- the rows as they are written, with names in place of references
 pub record Written : Type 0 where

@@ -16,7 +16,10 @@ use crate::refusal::{CaseRefusal, Part};
 use crate::row::{BusRow, LineRow, TransformerRow};
 use crate::value::natural_at;
 use gic_base::ReadFault;
-use gic_base::limits::{MOST_BUSES, MOST_LINES, MOST_SUBSTATIONS, MOST_TRANSFORMERS, MOST_ZONES};
+use gic_base::limits::{
+    MOST_BUSES_TO_FORMAT_2, MOST_LINES_TO_FORMAT_2, MOST_SUBSTATIONS_TO_FORMAT_2,
+    MOST_TRANSFORMERS_TO_FORMAT_2, MOST_ZONES,
+};
 use gic_case::Substation;
 use gic_scale::Zone;
 use std::alloc::Global;
@@ -84,10 +87,22 @@ impl Rows {
         document_keys(table)?;
         let devices = natural_at(Part::Case, 0, Field::Format, 1, 2, table)? == 2;
         let zones = list_at(alloc, Part::Zone, MOST_ZONES, devices, table)?;
-        let substations = list_at(alloc, Part::Substation, MOST_SUBSTATIONS, devices, table)?;
-        let buses = list_at(alloc, Part::Bus, MOST_BUSES, devices, table)?;
-        let lines = list_at(alloc, Part::Line, MOST_LINES, devices, table)?;
-        let transformers = list_at(alloc, Part::Transformer, MOST_TRANSFORMERS, devices, table)?;
+        let substations = list_at(
+            alloc,
+            Part::Substation,
+            MOST_SUBSTATIONS_TO_FORMAT_2,
+            devices,
+            table,
+        )?;
+        let buses = list_at(alloc, Part::Bus, MOST_BUSES_TO_FORMAT_2, devices, table)?;
+        let lines = list_at(alloc, Part::Line, MOST_LINES_TO_FORMAT_2, devices, table)?;
+        let transformers = list_at(
+            alloc,
+            Part::Transformer,
+            MOST_TRANSFORMERS_TO_FORMAT_2,
+            devices,
+            table,
+        )?;
         Ok(Rows {
             zones,
             substations,

@@ -15,7 +15,7 @@ use crate::limits::MOST_CHECKED_RESIDUAL;
 use crate::refusal::CertRefusal;
 use crate::step::{checked_step, most_residual};
 use gic_base::NodeId;
-use gic_bound::is_row_positive;
+use gic_bound::meets_row_rule;
 use gic_model::Volts;
 use gic_net::Net;
 
@@ -25,7 +25,7 @@ fn is_row_right(net: &Net, cert: &Cert, node: NodeId) -> bool
     requires node { node.0 < net.now.network.nodes }
     ensures { IsTrue result ↔ MeetsRowRule (standing net.now) (entry_of cert.now) node.0 }
 {
-    is_row_positive(net, cert.entries(), node)
+    meets_row_rule(net, cert.entries(), node)
 }
 
 /// Whether the residual at a node is small.

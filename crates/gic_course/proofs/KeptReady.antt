@@ -1,29 +1,38 @@
 -- What is ready, while a course goes on.
-use Rattle.std.proofs.Common.{◌≡◌, ℕ, List, ℤ, Option, Some, None, Result, Ok, Err, sym, ap, subst, refl}
-use Rattle.std.specs.Prelude.{IsSomeAnd, IsErrAnd, IfErr, slice_index}
+use Rattle.std.proofs.Common.{◌≡◌, ℕ, Bool, true, false, is_some, List, ℤ, Option, Some, None, Result, Ok, Err, sym, ap, subst, refl}
+use Rattle.std.specs.Prelude.{IfSome, IsSomeAnd, IsErrAnd, IfErr, slice_index}
 use Rattle.gic_base.specs.declared.limits.TheConstants.{MOST_WALK}
-use Rattle.gic_bases.specs.Bases.{ZoneBases, AreSettledBases}
+use Rattle.gic_base_views.specs.BaseRows.{AreCertifiedRows}
+use Rattle.gic_base_views.specs.Table.{base_rows_of}
+use Rattle.gic_base_views.specs.declared.room.BaseRoom.{BaseRoom}
 use Rattle.gic_bound.specs.Entries.{IsBoundWithin}
 use Rattle.gic_case.specs.Lists.{Lists}
 use Rattle.gic_net.specs.Net.{NetView, standing}
 use Rattle.gic_stand.specs.declared.fault.NetworkRefusal.{NetworkRefusal}
+use Rattle.gic_epoch.specs.declared.epoch.Epoch.{Epoch}
 use Rattle.gic_inputs.specs.declared.inputs.StormInputs.{StormInputs}
 use Rattle.gic_inputs.specs.Inputs.{IsStormOf}
 use Rattle.gic_winding.specs.ElementList.{elements_of}
 use Rattle.gic_course.specs.declared.ready.Ready.{Ready}
 use Rattle.gic_course.specs.declared.ready.Way.{Way}
-use Rattle.gic_course.specs.declared.ready.Way.TheVariants.{Solve, Combine}
+use Rattle.gic_course.specs.declared.ready.Way.TheVariants.{Solve, Superpose}
 use Rattle.gic_course.specs.declared.room.Room.{Room}
 use Rattle.gic_course.specs.RoomFor.{IsRoomForCourse, IsStepped}
+use Rattle.gic_course.specs.Ways.{way_by_count}
 use Rattle.gic_course.specs.Ready.{IsSettledBy, IsReadyAt, IsReady, IsShownBy}
 
--- a room with the same bound vector and the same bases has what a way takes
+-- a room with the same bound vector and the same base fields has what a way takes
 pub settled_alike : (way : Way) (case : Lists) (net : NetView) (old new : Room) → new.vector ≡ old.vector → new.bases ≡ old.bases → IsSettledBy way case net old → IsSettledBy way case net new
 settled_alike Solve case net old new vector bases settled = subst (λ (v : List ℕ). IsBoundWithin (standing net) MOST_WALK (slice_index v)) (sym vector) settled
-settled_alike Combine case net old new vector bases settled = record {
+settled_alike Superpose case net old new vector bases settled = record {
   bound = subst (λ (v : List ℕ). IsBoundWithin (standing net) MOST_WALK (slice_index v)) (sym vector) settled.bound;
-  bases = subst (λ (b : List ZoneBases). AreSettledBases (standing net) case net.network.list b) (sym bases) settled.bases;
+  bases = subst (λ (b : Option BaseRoom). IsSomeAnd b (λ base. AreCertifiedRows case (standing net) (base_rows_of base.table))) (sym bases) settled.bases;
 }
+
+-- a bound vector is there for both ways
+pub settled_bound : (way : Way) (case : Lists) (net : NetView) (room : Room) → IsSettledBy way case net room → IsBoundWithin (standing net) MOST_WALK (slice_index room.vector)
+settled_bound Solve case net room settled = settled
+settled_bound Superpose case net room settled = settled.bound
 
 -- so has one with other fields
 pub settled_with_fields : (way : Way) (case : Lists) (net : NetView) (room : Room) (fields : List (ℤ × ℤ)) → IsSettledBy way case net room → IsSettledBy way case net (record room { fields = fields })
@@ -32,6 +41,16 @@ settled_with_fields way case net room fields = settled_alike way case net room (
 -- so has one after a step
 pub settled_after : (way : Way) (case : Lists) (net : NetView) (width : ℕ) (old new : Room) → IsStepped case net width old new → IsSettledBy way case net old → IsSettledBy way case net new
 settled_after way case net width old new stepped = settled_alike way case net old new (ap (λ (r : Room). r.vector) stepped.rest) (ap (λ (r : Room). r.bases) stepped.rest)
+
+-- steps are superposed only where there is room for base fields
+pub superposes_with : (epoch : Epoch) (zones : ℕ) (superposes : Bool) → way_by_count epoch zones superposes ≡ Superpose → superposes ≡ true
+superposes_with epoch zones true e = refl
+superposes_with epoch zones false e = cc
+
+-- what holds of all that is there holds of what is
+pub some_holds : {A : Type 0} (P : A → Type 0) (o : Option A) → is_some o ≡ true → IfSome o P → IsSomeAnd o P
+some_holds P None has holds = cc
+some_holds P (Some a) has holds = holds
 
 -- what is ready for an epoch is ready for a step of it
 pub ready_for : (inputs : StormInputs) (ready : Option Ready) (net : NetView) (room : Room) (number : ℕ) (way : Way) → IsStormOf inputs → net.network ≡ elements_of inputs.inputs.case → IsRoomForCourse inputs.inputs.case room →

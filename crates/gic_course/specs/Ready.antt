@@ -6,14 +6,15 @@ use Rattle.gic_case.specs.Lists.{Lists}
 use Rattle.gic_net.specs.Net.{NetView, standing}
 use Rattle.gic_winding.specs.ElementList.{elements_of}
 use Rattle.gic_inputs.specs.Inputs.{rows_in, IsStormOf}
+use Rattle.gic_stand.specs.Standing.{IsSolvable}
 use Rattle.gic_inputs.specs.declared.inputs.StormInputs.{StormInputs}
 use Rattle.gic_course.specs.declared.ready.Ready.{Ready}
 use Rattle.gic_course.specs.declared.ready.Way.{Way}
-use Rattle.gic_course.specs.declared.ready.Way.TheVariants.{Solve, Combine}
+use Rattle.gic_course.specs.declared.ready.Way.TheVariants.{Solve, Superpose}
 use Rattle.gic_course.specs.declared.room.Room.{Room}
 use Rattle.gic_course.specs.declared.switched.SwitchedNet.{SwitchedNet}
 use Rattle.gic_course.specs.Epochs.{HasStep}
-use Rattle.gic_course.specs.RoomFor.{IsRoomForCourse, IsSettledIn}
+use Rattle.gic_course.specs.RoomFor.{IsRoomForCourse, IsCertifiedFor}
 use Rattle.gic_course.specs.Steps.{IsStepOf, standing_at_step}
 use Rattle.gic_course.specs.Switched.{StandsThrough}
 
@@ -22,10 +23,17 @@ pub record IsSwitchedFor (inputs : StormInputs) (now : SwitchedNet) : Type 0 whe
   pub network : now.net.network ≡ elements_of inputs.inputs.case
   pub stands : StandsThrough (rows_in inputs.inputs.switchings) now
 
--- what this way of showing steps takes is there: a bound vector of the net, and for combining settled bases too
+-- what this way of showing steps takes is there: a bound vector of the net, and for superposing certified base fields too
 abbrev pub IsSettledBy : Way → Lists → NetView → Room → Type 0
 IsSettledBy Solve case net room = IsBoundWithin (standing net) MOST_WALK (slice_index room.vector)
-IsSettledBy Combine case net room = IsSettledIn case net room
+IsSettledBy Superpose case net room = IsCertifiedFor case net room
+
+-- a step can be shown this way: the net is the case's and can be solved, and what the way takes is there
+pub record CanShowBy (way : Way) (case : Lists) (net : NetView) (room : Room) : Type 0 where
+  pub network : net.network ≡ elements_of case
+  pub solvable : IsSolvable (standing net)
+  pub space : IsRoomForCourse case room
+  pub settled : IsSettledBy way case net room
 
 -- the net is that of a step, and what this way of showing it takes is there
 pub record IsReadyAt (inputs : StormInputs) (number : ℕ) (way : Way) (net : NetView) (room : Room) : Type 0 where

@@ -1,5 +1,5 @@
 -- The network of a case and its voltages at each step of a storm.
-use Rattle.std.specs.Prelude.{ℕ, ◌≡◌, ◌≤◌, ℤ, List, length, map}
+use Rattle.std.specs.Prelude.{ℕ, ◌≤◌, ℤ, List, length, map}
 use Rattle.gic_model.specs.Standing.{rows_in_force}
 use Rattle.gic_model.specs.Sums.{Placed}
 use Rattle.gic_model.specs.Voltages.{number_at}

@@ -1,14 +1,27 @@
 -- When the views of the steps of a storm are right.
-use Rattle.std.specs.Prelude.{ℕ, suc, ◌≡◌, ◌<◌, List, All, length, slice_index_or}
+use Rattle.std.specs.Prelude.{ℕ, ℤ, suc, ◌≡◌, ◌<◌, List, All, length, slice_index_or}
 use Rattle.gic_case.specs.Lists.{Lists}
+use Rattle.gic_induce.specs.LineVolts.{volts_of}
+use Rattle.gic_model.specs.Limits.{AreVolts}
+use Rattle.gic_model.specs.Sums.{Placed}
+use Rattle.gic_model.specs.Voltages.{number_at}
 use Rattle.gic_storm.specs.Steps.{steps_in, time_of_step}
 use Rattle.gic_view.specs.View.{View}
+use Rattle.gic_view.specs.Absolute.{HasAbsolute}
 use Rattle.gic_view.specs.Kept.{blank_view}
+use Rattle.gic_winding.specs.ElementList.{elements_of}
 use Rattle.gic_effective.specs.RightView.{IsRightView}
 use Rattle.gic_effective.specs.Narrow.{IsNarrowView}
 use Rattle.gic_uniform.specs.Solving.{IsSmallView, IsSolvedView}
 use Rattle.gic_inputs.specs.declared.inputs.StormInputs.{StormInputs}
 use Rattle.gic_course.specs.Steps.{standing_at_step, storm_volts}
+
+-- what the view shows is right for these standing elements and the voltages of these fields, which are within their limits; no interval of it is wider than this, and its effective currents have absolute values
+pub record IsShownIn (case : Lists) (standing : List Placed) (fields : List (ℤ × ℤ)) (width : ℕ) (view : View) : Type 0 where
+  pub right : IsRightView case standing (number_at (volts_of case fields (elements_of case).list)) view
+  pub narrow : IsNarrowView case width view
+  pub absolutes : All HasAbsolute view.effective
+  pub driven : AreVolts (number_at (volts_of case fields (elements_of case).list))
 
 -- the view tells the step's number and its time, and what it shows is right for the elements and the voltages of the step
 pub record IsRightStep (inputs : StormInputs) (step : ℕ) (view : View) : Type 0 where

@@ -10,11 +10,11 @@ ghost use Rattle.gic_stand.specs.Standing.{IsSolvable};
 ghost use Rattle.gic_course.specs.Epochs.{IsEpochOf};
 ghost use Rattle.gic_course.specs.Ready.{IsSettledBy};
 ghost use Rattle.gic_course.specs.RoomFor.{IsRoomForCourse, IsPrepared};
-ghost use Rattle.gic_course.specs.Ways.{way_by_count, way_from};
+ghost use Rattle.gic_course.specs.Ways.{can_superpose, way_by_count, way_from};
 
 use crate::ready::Way;
 use crate::room::Room;
-use gic_bases::prepare;
+use gic_base_views::prepare_bases;
 use gic_bound::BoundVector;
 use gic_case::Case;
 use gic_epoch::Epoch;
@@ -36,7 +36,7 @@ fn fill_bound(net: &Net, vector: &mut BoundVector, start: &mut Start)
     let _found = find_bound(net, vector, start);
 }
 
-/// Prepares the bases, as `prepare` does, and counts none of the steps of that.
+/// Certifies base fields where there is room for them, as `prepare_bases` does, and counts none of the steps of that.
 fn prepare_uncounted<L: Ledger>(case: &Case, net: &Net, room: &mut Room, blank: Blank)
     requires name { blank.name ≡ L.name }
     requires parts { blank.parts ≡ L.parts }
@@ -47,39 +47,41 @@ fn prepare_uncounted<L: Ledger>(case: &Case, net: &Net, room: &mut Room, blank: 
     ensures { IsPrepared case.now net.now room.old room.new }
 {
     let mut steps: Steps<L> = Steps::new(blank);
-    prepare(
-        case,
-        net,
-        &room.vector,
-        &mut room.fields,
-        &mut room.volts,
-        &mut room.solver,
-        &mut room.bases,
-        &mut steps,
-    );
+    if let Some(bases) = &mut room.bases {
+        prepare_bases(
+            case,
+            net,
+            &room.vector,
+            &mut room.fields,
+            &mut room.solver,
+            bases,
+            &mut steps,
+        );
+    }
 }
 
-/// Makes bases ready where the steps of an epoch are enough for them, and tells how its steps are shown.
+/// Certifies base fields where there is room for them and the steps of an epoch are enough, and tells how its steps are
+/// shown.
 fn settle_epoch(inputs: &StormInputs, epoch: Epoch, net: &Net, room: &mut Room) -> Way
     requires epoch { IsEpochOf inputs.now epoch }
     requires network { net.now.network ≡ elements_of inputs.now.inputs.case }
     requires room { IsRoomForCourse inputs.now.inputs.case room.old }
     requires bound { IsBoundWithin (standing net.now) MOST_WALK (slice_index room.old.vector) }
     ensures settled { IsSettledBy result inputs.now.inputs.case net.now room.new }
-    ensures way { result ≡ way_by_count epoch inputs.now.storm.zones }
+    ensures way { result ≡ way_by_count epoch inputs.now.storm.zones (can_superpose inputs.now.inputs.case) }
     ensures room { IsRoomForCourse inputs.now.inputs.case room.new }
 {
-    match Way::by_count(epoch, inputs.storm.zones()) {
+    match Way::by_count(epoch, inputs.storm.zones(), room.bases.is_some()) {
         Way::Solve => Way::Solve,
-        Way::Combine => {
+        Way::Superpose => {
             prepare_uncounted::<Brand>(&inputs.inputs.case, net, room, Blank::new(1));
-            Way::Combine
+            Way::Superpose
         }
     }
 }
 
-/// Makes a bound vector of the net ready, and bases where the steps of the epoch are enough for them, but for what is kept;
-/// and tells how the steps of the epoch are shown. Takes no memory.
+/// Makes a bound vector of the net ready, and certifies base fields where the steps of the epoch are enough for them, but
+/// for what is kept; and tells how the steps of the epoch are shown. Takes no memory.
 pub(crate) fn prepare_epoch(
     inputs: &StormInputs,
     epoch: Epoch,
@@ -93,11 +95,11 @@ pub(crate) fn prepare_epoch(
     requires room { IsRoomForCourse inputs.now.inputs.case room.old }
     requires kept { IfSome kept (λ way. IsSettledBy way inputs.now.inputs.case net.now room.old) }
     ensures settled { IsSettledBy result inputs.now.inputs.case net.now room.new }
-    ensures way { result ≡ way_from kept epoch inputs.now.storm.zones }
+    ensures way { result ≡ way_from kept epoch inputs.now.storm.zones (can_superpose inputs.now.inputs.case) }
     ensures room { IsRoomForCourse inputs.now.inputs.case room.new }
 {
     match kept {
-        Some(Way::Combine) => Way::Combine,
+        Some(Way::Superpose) => Way::Superpose,
         Some(Way::Solve) => settle_epoch(inputs, epoch, net, room),
         None => {
             fill_bound(net, &mut room.vector, &mut room.start);

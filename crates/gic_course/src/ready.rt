@@ -9,20 +9,20 @@ use gic_epoch::Epoch;
 pub(crate) enum Way {
     /// Each is solved by itself.
     Solve,
-    /// They are combined from bases, which take two solves for each zone before the first of them.
-    Combine,
+    /// They are superposed from certified base fields, which take two solves for each zone before the first of them.
+    Superpose,
 }
 
 impl Way {
-    /// The way that takes the fewer solves, where no bases are there.
-    pub(crate) fn by_count(epoch: Epoch, zones: u16) -> Way
+    /// The way that takes the fewer solves, where no base fields are certified yet; without room for these it is to solve.
+    pub(crate) fn by_count(epoch: Epoch, zones: u16, superposes: bool) -> Way
         requires { epoch.first ≤ epoch.last }
-        ensures { result ≡ way_by_count epoch zones }
+        ensures { result ≡ way_by_count epoch zones superposes }
     {
-        if epoch.last - epoch.first < 2 * u32::from(zones) {
+        if !superposes || epoch.last - epoch.first < 2 * u32::from(zones) {
             Way::Solve
         } else {
-            Way::Combine
+            Way::Superpose
         }
     }
 }

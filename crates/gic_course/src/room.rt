@@ -1,13 +1,14 @@
 //! What a course writes to.
-ghost use Rattle.std.specs.Prelude.{◌≡◌, length, IfOk};
+ghost use Rattle.std.specs.Prelude.{◌≡◌, length, is_some, IfOk, IfSome};
 ghost use Rattle.gic_winding.specs.ElementList.{elements_of};
+ghost use Rattle.gic_base_views.specs.BaseFields.{IsBaseRoomFor};
 ghost use Rattle.gic_course.specs.RoomFor.{IsRoomForCourse};
+ghost use Rattle.gic_course.specs.Ways.{can_superpose};
 
 use gic_base::OutOfMemory;
-use gic_bases::Bases;
+use gic_base_views::BaseRoom;
 use gic_bound::BoundVector;
 use gic_case::Case;
-use gic_effective::laws::line_items_law;
 use gic_enclose::Potentials;
 use gic_induce::Fields;
 use gic_island::Scratch;
@@ -15,6 +16,38 @@ use gic_model::{Elements, Volts};
 use gic_start::Start;
 use gic_sweep::Solver;
 use std::alloc::Global;
+
+/// The most pairs of intervals that are kept for base fields: 32 MiB of them. At the limits of formats 1 and 2 that is
+/// enough for sixteen zones.
+const MOST_PAIRS: usize = 1 << 19;
+
+/// Whether the pairs of intervals of a case are few enough to be kept.
+fn can_superpose(case: &Case, elements: &Elements) -> bool
+    requires { elements.now ≡ elements_of case.now }
+    ensures { result ≡ can_superpose case.now }
+{
+    elements.within_limits();
+    case.keeps_rules();
+    let places = elements.nodes() as usize + elements.list().len() + case.transformers().len();
+    case.zones().len() * places <= MOST_PAIRS
+}
+
+/// Room for the base fields of a case, where their intervals are few enough to be kept.
+fn room_for_bases(
+    alloc: Global,
+    case: &Case,
+    elements: &Elements,
+) -> Result<Option<BaseRoom>, OutOfMemory>
+    requires { elements.now ≡ elements_of case.now }
+    ensures superposes { IfOk result (λ bases. is_some bases ≡ can_superpose case.now) }
+    ensures room { IfOk result (λ bases. IfSome bases (IsBaseRoomFor case.now)) }
+{
+    if !can_superpose(case, elements) {
+        return Ok(None);
+    }
+    let room = BaseRoom::new(alloc, case, elements)?;
+    Ok(Some(room))
+}
 
 /// What a course writes to. It is made before any step is looked at.
 #[derive(Drop)]
@@ -26,11 +59,11 @@ pub(crate) struct Room {
     pub(crate) volts: Volts,
     pub(crate) solver: Solver,
     pub(crate) potentials: Potentials,
-    pub(crate) bases: Bases,
+    /// Room for base fields, where their intervals are few enough to be kept.
+    pub(crate) bases: Option<BaseRoom>,
 }
 
 /// Room for the network of a case and its zones.
-#[tactic(auto, using(gic_stand::proofs::Rooms::room_for))]
 pub(crate) fn make_room(
     alloc: Global,
     case: &Case,
@@ -41,16 +74,16 @@ pub(crate) fn make_room(
     requires zones { zones ≡ length case.now.zones }
     ensures { IfOk result (IsRoomForCourse case.now) }
 {
-    line_items_law();
     let nodes = elements.nodes();
+    let count = elements.count();
     let scratch = Scratch::new(alloc, nodes)?;
     let vector = BoundVector::new(alloc, nodes)?;
-    let start = Start::new(alloc, nodes)?;
+    let start = Start::new(alloc, nodes, count)?;
     let fields = Fields::new(alloc, zones)?;
     let volts = Volts::new(alloc, elements)?;
-    let solver = Solver::new(alloc, nodes)?;
+    let solver = Solver::new(alloc, nodes, count)?;
     let potentials = Potentials::new(alloc, nodes)?;
-    let bases = Bases::new(alloc, nodes, zones)?;
+    let bases = room_for_bases(alloc, case, elements)?;
     Ok(Room {
         scratch,
         vector,

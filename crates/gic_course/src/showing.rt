@@ -1,27 +1,32 @@
 //! The view of a step.
-ghost use Rattle.std.specs.Prelude.{◌≡◌, ◌<◌, slice_index, All};
+ghost use Rattle.std.specs.Prelude.{ℕ, ◌≡◌, ◌<◌, ◌≤◌, ◌-◌, length, slice_index};
 ghost use Rattle.gic_base.specs.declared.limits.TheConstants.{MOST_WALK};
-ghost use Rattle.gic_model.specs.Limits.{AreVolts};
 ghost use Rattle.gic_net.specs.Net.{standing};
 ghost use Rattle.gic_bound.specs.Entries.{IsBoundWithin};
 ghost use Rattle.gic_enclose.specs.Solved.{IsWidth};
 ghost use Rattle.gic_winding.specs.ElementList.{elements_of};
-ghost use Rattle.gic_effective.specs.Narrow.{IsNarrowView};
+ghost use Rattle.gic_effective.specs.Shown.{IsSameStep};
 ghost use Rattle.gic_effective.specs.ViewLengths.{HasViewLengths};
-ghost use Rattle.gic_view.specs.Absolute.{HasAbsolute};
-ghost use Rattle.gic_course.specs.Ready.{IsReadyAt, IsSettledBy};
-ghost use Rattle.gic_course.specs.RoomFor.{IsRoomForCourse, IsSettledIn, IsStepped};
-ghost use Rattle.gic_course.specs.Steps.{storm_volts};
-ghost use Rattle.gic_course.specs.Views.{IsRightStep};
+ghost use Rattle.gic_stand.specs.Standing.{IsSolvable};
+ghost use Rattle.gic_base_views.specs.BaseFields.{IsBaseRoomFor};
+ghost use Rattle.gic_base_views.specs.BaseRows.{AreCertifiedRows};
+ghost use Rattle.gic_base_views.specs.Table.{base_rows_of};
+ghost use Rattle.gic_course.specs.Ready.{CanShowBy, IsReadyAt};
+ghost use Rattle.gic_course.specs.RoomFor.{IsRoomForCourse, IsStepped};
+ghost use Rattle.gic_storm.specs.Steps.{time_of_step};
+ghost use Rattle.gic_course.specs.Steps.{standing_at_step, storm_fields};
+ghost use Rattle.gic_course.specs.Views.{IsShownIn};
 
 use crate::ready::Way;
 use crate::room::Room;
-use gic_bases::step_from_bases;
+use gic_base_views::laws::superposed_views_law;
+use gic_base_views::{BaseRoom, fill_superposed};
 use gic_case::Case;
 use gic_effective::fill_view;
+use gic_effective::laws::line_items_law;
 use gic_enclose::solve;
 use gic_epoch::time_of_step;
-use gic_induce::fill_volts;
+use gic_induce::{Fields, fill_volts};
 use gic_inputs::StormInputs;
 use gic_net::Net;
 use gic_storm::fill_fields;
@@ -29,32 +34,6 @@ use gic_sweep::Steps;
 use gic_view::StepView;
 use std::marker::Brand;
 use std::sync::ledger::{Blank, Ledger};
-
-/// Solves the network in the fields from the bases, as `step_from_bases` does, and doesn't count the step of that.
-fn step_uncounted<L: Ledger>(case: &Case, net: &Net, width: u32, room: &mut Room, blank: Blank)
-    requires name { blank.name ≡ L.name }
-    requires parts { blank.parts ≡ L.parts }
-    requires some { 0 < blank.parts }
-    requires network { net.now.network ≡ elements_of case.now }
-    requires room { IsRoomForCourse case.now room.old }
-    requires settled { IsSettledIn case.now net.now room.old }
-    requires width { IsWidth width }
-    ensures { IsStepped case.now net.now width room.old room.new }
-{
-    let mut steps: Steps<L> = Steps::new(blank);
-    step_from_bases(
-        case,
-        net,
-        &room.fields,
-        &room.vector,
-        width,
-        &room.bases,
-        &mut room.volts,
-        &mut room.solver,
-        &mut room.potentials,
-        &mut steps,
-    );
-}
 
 /// Solves the network in the fields, as `solve` does, from the guesses that are there, and counts none of its steps.
 fn solve_uncounted<L: Ledger>(case: &Case, net: &Net, width: u32, room: &mut Room, blank: Blank)
@@ -64,9 +43,10 @@ fn solve_uncounted<L: Ledger>(case: &Case, net: &Net, width: u32, room: &mut Roo
     requires network { net.now.network ≡ elements_of case.now }
     requires room { IsRoomForCourse case.now room.old }
     requires bound { IsBoundWithin (standing net.now) MOST_WALK (slice_index room.old.vector) }
-    requires width { IsWidth width }
+    requires width { 2 ≤ width }
     ensures { IsStepped case.now net.now width room.old room.new }
 {
+    line_items_law();
     let mut steps: Steps<L> = Steps::new(blank);
     fill_volts(case, net.list(), &room.fields, &mut room.volts);
     solve(
@@ -80,18 +60,56 @@ fn solve_uncounted<L: Ledger>(case: &Case, net: &Net, width: u32, room: &mut Roo
     );
 }
 
-/// Solves the network in the fields, one way or the other.
-fn take_step(way: Way, case: &Case, net: &Net, width: u32, room: &mut Room)
+/// Sets all intervals of the view to those that a solve in the fields gives.
+fn show_solved(case: &Case, net: &Net, width: u32, room: &mut Room, view: &mut StepView)
     requires network { net.now.network ≡ elements_of case.now }
     requires room { IsRoomForCourse case.now room.old }
-    requires settled { IsSettledBy way case.now net.now room.old }
+    requires bound { IsBoundWithin (standing net.now) MOST_WALK (slice_index room.old.vector) }
     requires width { IsWidth width }
-    ensures stepped { IsStepped case.now net.now width room.old room.new }
-    ensures settled { IsSettledBy way case.now net.now room.new }
+    requires view { HasViewLengths case.now view.old }
+    ensures shown { IsShownIn case.now (standing net.now) room.old.fields width view.new }
+    ensures step { IsSameStep view.old view.new }
+    ensures stepped { IsStepped case.now net.now (width - 1) room.old room.new }
 {
-    match way {
-        Way::Solve => solve_uncounted::<Brand>(case, net, width, room, Blank::new(1)),
-        Way::Combine => step_uncounted::<Brand>(case, net, width, room, Blank::new(1)),
+    // Effective currents are rounded outward once more.
+    solve_uncounted::<Brand>(case, net, width - 1, room, Blank::new(1));
+    room.volts.within_limit();
+    fill_view(case, net, &room.volts, &room.potentials, view);
+}
+
+/// Sets all intervals of the view to those that are superposed for the fields from certified base fields. None is wider
+/// than 2, and so than any width that can be asked for.
+fn show_superposed(case: &Case, net: &Net, fields: &Fields, bases: &BaseRoom, view: &mut StepView)
+    requires network { net.now.network ≡ elements_of case.now }
+    requires solvable { IsSolvable (standing net.now) }
+    requires fields { length fields.now ≡ length case.now.zones }
+    requires bases { IsBaseRoomFor case.now bases.now }
+    requires certified { AreCertifiedRows case.now (standing net.now) (base_rows_of bases.now.table) }
+    requires view { HasViewLengths case.now view.old }
+    ensures shown { (width : ℕ) → 2 ≤ width → IsShownIn case.now (standing net.now) fields.now width view.new }
+    ensures step { IsSameStep view.old view.new }
+{
+    superposed_views_law();
+    case.keeps_rules();
+    net.within_limits();
+    fields.within_limit();
+    fill_superposed(case, net, fields, &bases.table, view);
+}
+
+/// Sets all intervals of the view in the fields, one way or the other.
+fn show_fields(way: Way, case: &Case, net: &Net, width: u32, room: &mut Room, view: &mut StepView)
+    requires can { CanShowBy way case.now net.now room.old }
+    requires width { IsWidth width }
+    requires view { HasViewLengths case.now view.old }
+    ensures shown { IsShownIn case.now (standing net.now) room.old.fields width view.new }
+    ensures step { IsSameStep view.old view.new }
+    ensures can { CanShowBy way case.now net.now room.new }
+{
+    match (way, &room.bases) {
+        (Way::Superpose, Some(bases)) => {
+            show_superposed(case, net, &room.fields, bases, view);
+        }
+        _ => show_solved(case, net, width, room, view),
     }
 }
 
@@ -106,19 +124,17 @@ pub(crate) fn show_step(
     view: &mut StepView,
 )
     requires ready { IsReadyAt inputs.now number way net.now room.old }
+    requires solvable { IsSolvable (standing net.now) }
     requires width { IsWidth width }
     requires view { HasViewLengths inputs.now.inputs.case view.old }
-    ensures right { IsRightStep inputs.now number view.new }
-    ensures narrow { IsNarrowView inputs.now.inputs.case width view.new }
-    ensures absolutes { All HasAbsolute view.new.effective }
-    ensures volts { AreVolts (storm_volts inputs.now number) }
+    ensures shown { IsShownIn inputs.now.inputs.case (standing_at_step inputs.now number) (storm_fields inputs.now number) width view.new }
+    ensures number { view.new.number ≡ number }
+    ensures time { view.new.time ≡ time_of_step inputs.now.storm.rows number }
     ensures stays { IsReadyAt inputs.now number way net.now room.new }
 {
     let case = &inputs.inputs.case;
     fill_fields(&inputs.storm, number, &mut room.fields);
-    take_step(way, case, net, width, room);
-    room.volts.within_limit();
-    fill_view(case, net, &room.volts, &room.potentials, view);
+    show_fields(way, case, net, width, room, view);
     view.set_number(number);
     view.set_time(time_of_step(&inputs.storm, number));
 }

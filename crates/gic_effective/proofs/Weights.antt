@@ -32,7 +32,7 @@ part_small (Some w) z h =
     let most : w.1 * unsigned_abs z ≤ w.1 * 2 ^ 80 = mul-le-mul_left w.1 h in
     omega (arith, parts, most)
 
-pub sum_small : (first second : Option (ElementId × ℕ)) (volts : ℕ) (one other : ℤ) → weight_in first + weight_in second ≤ 2 * volts →
+pub sum_small : (first second : Option (ElementId × ℕ)) (volts : ℕ) (one other : ℤ) → weight_in first + weight_in second ≤ 3 * volts →
     unsigned_abs one ≤ 2 ^ 80 → unsigned_abs other ≤ 2 ^ 80 → unsigned_abs (weighted first one +ℤ weighted second other) ≤ 3 * volts * 2 ^ 80
 sum_small first second volts one other sum h k =
     let a = part_small first one h in

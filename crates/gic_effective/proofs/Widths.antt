@@ -1,5 +1,5 @@
 -- How wide outward intervals are.
-use Rattle.std.proofs.Common.{◌≡◌, ℕ, ◌+◌, ◌*◌, ◌-◌, ◌^◌, ◌<◌, ◌≤◌, Option, None, Some, ℤ, pos, ◌+ℤ◌, ◌-ℤ◌, ◌*ℤ◌, ◌≤ℤ◌, arith, ap, sym, subst, ◌∙◌}
+use Rattle.std.proofs.Common.{◌≡◌, ℕ, ◌+◌, ◌*◌, ◌^◌, ◌<◌, ◌≤◌, Option, None, Some, ℤ, pos, ◌+ℤ◌, ◌-ℤ◌, ◌*ℤ◌, ◌≤ℤ◌, arith, ap, sym, subst, ◌∙◌}
 use Rattle.std.proofs.lemmas.Int.{ints}
 use Rattle.std.proofs.Math.Nat.{mul-le-mul_left}
 use Rattle.gic_fixed.specs.Rounding.{floor_div, ceil_div}
@@ -53,35 +53,28 @@ part_width (Some x) lo hi w h = times_width lo hi x.1 w h
 sum_width : (lo hi lo' hi' : ℤ) (a b : ℕ) → IsAtMostWide a lo hi → IsAtMostWide b lo' hi' → IsAtMostWide (a + b) (lo +ℤ lo') (hi +ℤ hi')
 sum_width lo hi lo' hi' a b h k = omega (arith, linear)
 
--- the arithmetic of a third of twice the width
-enough : (first second volts k : ℕ) → 2 ≤ k → first + second ≤ 2 * volts → first * (1000000 * (k + 1)) + second * (1000000 * (k + 1)) ≤ 3000000 * volts * k
-enough first second volts k h sum =
-    let one = mul-le-mul_left (1000000 * (k + 1)) sum in
-    let other = mul-le-mul_left (1000000 * volts) h in
-    omega arith
-
-effective_by : (first second : Option (ElementId × ℕ)) (volts : ℕ) (lo hi lo' hi' : ℤ) (k : ℕ) → 1 ≤ volts → 2 ≤ k → weight_in first + weight_in second ≤ 2 * volts →
-    IsAtMostWide (1000000 * (k + 1)) lo hi → IsAtMostWide (1000000 * (k + 1)) lo' hi' →
-    IsAtMostWide (k + 1) (floor_div (weighted first lo +ℤ weighted second lo') (pos (3000000 * volts))) (ceil_div (weighted first hi +ℤ weighted second hi') (pos (3000000 * volts)))
-effective_by first second volts lo hi lo' hi' k some least sum one other =
-    let a = part_width first lo hi (1000000 * (k + 1)) one in
-    let b = part_width second lo' hi' (1000000 * (k + 1)) other in
+-- a weighted pair, divided outward, is one wider than the weights make it
+pair_width : (first second : Option (ElementId × ℕ)) (lo hi lo' hi' : ℤ) (w d k : ℕ) → 0 < d → weight_in first * w + weight_in second * w ≤ d * k →
+    IsAtMostWide w lo hi → IsAtMostWide w lo' hi' →
+    IsAtMostWide (k + 1) (floor_div (weighted first lo +ℤ weighted second lo') (pos d)) (ceil_div (weighted first hi +ℤ weighted second hi') (pos d))
+pair_width first second lo hi lo' hi' w d k some most one other =
     let low = weighted first lo +ℤ weighted second lo' in
     let high = weighted first hi +ℤ weighted second hi' in
-    let most = weight_in first * (1000000 * (k + 1)) + weight_in second * (1000000 * (k + 1)) in
-    let both : IsAtMostWide most low high = sum_width (weighted first lo) (weighted first hi) (weighted second lo') (weighted second hi') (weight_in first * (1000000 * (k + 1))) (weight_in second * (1000000 * (k + 1))) a b in
-    outward_width low high (3000000 * volts) k (omega arith) (wider low high most (3000000 * volts * k) (enough (weight_in first) (weight_in second) volts k least sum) both)
+    let parts = weight_in first * w + weight_in second * w in
+    let both : IsAtMostWide parts low high =
+    sum_width (weighted first lo) (weighted first hi) (weighted second lo') (weighted second hi') (weight_in first * w) (weight_in second * w) (part_width first lo hi w one) (part_width second lo' hi' w other) in
+    outward_width low high d k some (wider low high parts (d * k) most both)
 
-pub effective_width : (first second : Option (ElementId × ℕ)) (volts : ℕ) (lo hi lo' hi' : ℤ) (width : ℕ) → 1 ≤ volts → 3 ≤ width → weight_in first + weight_in second ≤ 2 * volts →
+-- weights of three times the voltage make it as wide as the currents
+enough : (first second volts width : ℕ) → first + second ≤ 3 * volts → first * (1000000 * width) + second * (1000000 * width) ≤ 3000000 * volts * width
+enough first second volts width sum = let most = mul-le-mul_left (1000000 * width) sum in omega arith
+
+pub effective_width : (first second : Option (ElementId × ℕ)) (volts : ℕ) (lo hi lo' hi' : ℤ) (width : ℕ) → 1 ≤ volts → weight_in first + weight_in second ≤ 3 * volts →
     IsAtMostWide width (floor_div lo (pos 1000000)) (ceil_div hi (pos 1000000)) → IsAtMostWide width (floor_div lo' (pos 1000000)) (ceil_div hi' (pos 1000000)) →
-    IsAtMostWide width (floor_div (weighted first lo +ℤ weighted second lo') (pos (3000000 * volts))) (ceil_div (weighted first hi +ℤ weighted second hi') (pos (3000000 * volts)))
-effective_width first second volts lo hi lo' hi' width some least sum one other =
-    let k = width - 1 in
-    let same : k + 1 ≡ width = omega arith in
-    let a : IsAtMostWide (1000000 * (k + 1)) lo hi = subst (λ (n : ℕ). IsAtMostWide (1000000 * n) lo hi) (sym same) (inner_width lo hi 1000000 width (omega arith) one) in
-    let b : IsAtMostWide (1000000 * (k + 1)) lo' hi' = subst (λ (n : ℕ). IsAtMostWide (1000000 * n) lo' hi') (sym same) (inner_width lo' hi' 1000000 width (omega arith) other) in
-    subst (λ (n : ℕ). IsAtMostWide n (floor_div (weighted first lo +ℤ weighted second lo') (pos (3000000 * volts))) (ceil_div (weighted first hi +ℤ weighted second hi') (pos (3000000 * volts)))) same
-    (effective_by first second volts lo hi lo' hi' k some (omega arith) sum a b)
+    IsAtMostWide (width + 1) (floor_div (weighted first lo +ℤ weighted second lo') (pos (3000000 * volts))) (ceil_div (weighted first hi +ℤ weighted second hi') (pos (3000000 * volts)))
+effective_width first second volts lo hi lo' hi' width some sum one other =
+    pair_width first second lo hi lo' hi' (1000000 * width) (3000000 * volts) width (omega (arith, some)) (enough (weight_in first) (weight_in second) volts width sum)
+    (inner_width lo hi 1000000 width (omega arith) one) (inner_width lo' hi' 1000000 width (omega arith) other)
 
 -- from potentials at most 2^32 grains wide a current in nanoamperes is at most 400 wide
 drive_tight : (push flo fhi tlo thi : ℤ) → IsAtMostWide (2 ^ 32) flo fhi → IsAtMostWide (2 ^ 32) tlo thi → IsAtMostWide (2 ^ 33) (flo -ℤ thi +ℤ push) (fhi -ℤ tlo +ℤ push)
@@ -112,18 +105,12 @@ pub potential_tight : (lo hi : ℤ) → IsAtMostWide (2 ^ 32) lo hi → IsAtMost
 potential_tight lo hi h =
     wider (floor_div lo (pos (2 ^ 36))) (ceil_div hi (pos (2 ^ 36))) 2 400 (omega arith) (outward_width lo hi (2 ^ 36) 1 (omega arith) (wider lo hi (2 ^ 32) (2 ^ 36 * 1) (omega arith) h))
 
--- an effective current in nanoamperes is at most as wide as the currents of its windings
-pub effective_tight : (first second : Option (ElementId × ℕ)) (volts : ℕ) (lo hi lo' hi' : ℤ) → 1 ≤ volts → weight_in first + weight_in second ≤ 2 * volts →
+-- an effective current in nanoamperes is at most one wider than the currents of its windings
+pub effective_tight : (first second : Option (ElementId × ℕ)) (volts : ℕ) (lo hi lo' hi' : ℤ) → 1 ≤ volts → weight_in first + weight_in second ≤ 3 * volts →
     IsAtMostWide 400 lo hi → IsAtMostWide 400 lo' hi' →
-    IsAtMostWide 400 (floor_div (weighted first lo +ℤ weighted second lo') (pos (3 * volts))) (ceil_div (weighted first hi +ℤ weighted second hi') (pos (3 * volts)))
+    IsAtMostWide 401 (floor_div (weighted first lo +ℤ weighted second lo') (pos (3 * volts))) (ceil_div (weighted first hi +ℤ weighted second hi') (pos (3 * volts)))
 effective_tight first second volts lo hi lo' hi' some sum one other =
-    let low = weighted first lo +ℤ weighted second lo' in
-    let high = weighted first hi +ℤ weighted second hi' in
-    let most = weight_in first * 400 + weight_in second * 400 in
-    let both : IsAtMostWide most low high =
-    sum_width (weighted first lo) (weighted first hi) (weighted second lo') (weighted second hi') (weight_in first * 400) (weight_in second * 400) (part_width first lo hi 400 one) (part_width second lo' hi' 400 other) in
-    wider (floor_div low (pos (3 * volts))) (ceil_div high (pos (3 * volts))) 268 400 (omega arith)
-    (outward_width low high (3 * volts) 267 (omega (arith, some)) (wider low high most (3 * volts * 267) (omega (arith, sum)) both))
+    pair_width first second lo hi lo' hi' 400 (3 * volts) 400 (omega (arith, some)) (omega (arith, sum)) one other
 
 -- an interval with equal ends
 pub same_width : (lo hi lo' hi' : ℤ) (w : ℕ) → lo ≡ lo' → hi ≡ hi' → IsAtMostWide w lo' hi' → IsAtMostWide w lo hi

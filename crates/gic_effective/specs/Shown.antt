@@ -1,5 +1,5 @@
 -- What intervals show where the potentials that they are made of hold every solution, and where these are sharp.
-use Rattle.std.specs.Prelude.{ℕ, ◌≡◌, ◌≤◌, ◌^◌, Option, None, Some, List, IsFalse, ℤ, pos}
+use Rattle.std.specs.Prelude.{ℕ, ◌≡◌, ◌+◌, ◌^◌, Option, None, Some, List, IsFalse, ℤ, pos}
 use Rattle.gic_base.specs.declared.id.ElementId.{ElementId}
 use Rattle.gic_case.specs.Lists.{Lists}
 use Rattle.gic_enclose.specs.Ends.{high_at, low_at}
@@ -40,10 +40,10 @@ pub record IsShownElement (standing : List Placed) (volts : ℕ → ℤ) (potent
   pub right : HoldsSolutions standing volts potentials → IsRightElement standing volts place interval
   pub narrow : (width : ℕ) → AreSharp standing volts potentials width → IsNoWider width interval
 
--- that of a transformer
+-- that of a transformer, which is rounded outward once more and so may be one wider
 pub record IsShownEffective (c : Lists) (standing : List Placed) (volts : ℕ → ℤ) (potentials : List Ends) (t : ℕ) (ends : Ends) : Type 0 where
   pub right : HoldsSolutions standing volts potentials → IsRightEffective c standing volts t ends
-  pub narrow : (width : ℕ) → 5 ≤ width → AreSharp standing volts potentials width → IsAtMostWide width ends.low ends.high
+  pub narrow : (width : ℕ) → AreSharp standing volts potentials width → IsAtMostWide (width + 1) ends.low ends.high
   pub small : IsWithin (2 ^ 113) ends.low ends.high
 
 -- the two views are of one step: number and time are the same

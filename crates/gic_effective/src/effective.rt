@@ -38,13 +38,13 @@ pub fn signed_effective(weights: &Weights, first: Interval, second: Interval) ->
         Encloses result.lo result.hi (weighted_sum weights.now one other) (3000000 * weights.now.high_volts * denominator) }
     ensures small { IsWithin (2 ^ 113) result.lo result.hi }
 
-    // From currents at most so many milliamperes wide it is at most as wide, from 3 on, where the weights add up to no
-    // more than twice the voltage of the high side.
-    ensures narrow { (width : ℕ) → 3 ≤ width →
-        weight_in weights.now.first + weight_in weights.now.second ≤ 2 * weights.now.high_volts →
+    // From currents at most so many milliamperes wide it is at most one wider, where the weights add up to no more than
+    // three times the voltage of the high side.
+    ensures narrow { (width : ℕ) →
+        weight_in weights.now.first + weight_in weights.now.second ≤ 3 * weights.now.high_volts →
         IsAtMostWide width (floor_div first.lo (pos 1000000)) (ceil_div first.hi (pos 1000000)) →
         IsAtMostWide width (floor_div second.lo (pos 1000000)) (ceil_div second.hi (pos 1000000)) →
-        IsAtMostWide width result.lo result.hi }
+        IsAtMostWide (width + 1) result.lo result.hi }
 {
     part(weights.first, first)
         .add(part(weights.second, second))
@@ -63,13 +63,13 @@ pub fn effective_na(weights: &Weights, first: Interval, second: Interval) -> Int
         Encloses second.lo second.hi other denominator →
         Encloses result.lo result.hi (weighted_sum weights.now one other) (3 * weights.now.high_volts * denominator) }
 
-    // Where the weights add up to no more than twice the voltage of the high side, no end is beyond those of the currents'
-    // bound, and from currents at most 400 nanoamperes wide it is at most as wide.
-    ensures small { weight_in weights.now.first + weight_in weights.now.second ≤ 2 * weights.now.high_volts → IsWithin (2 ^ 80) result.lo result.hi }
-    ensures tight { weight_in weights.now.first + weight_in weights.now.second ≤ 2 * weights.now.high_volts →
+    // Where the weights add up to no more than three times the voltage of the high side, no end is beyond those of the
+    // currents' bound, and from currents at most 400 nanoamperes wide it is at most one wider.
+    ensures small { weight_in weights.now.first + weight_in weights.now.second ≤ 3 * weights.now.high_volts → IsWithin (2 ^ 80) result.lo result.hi }
+    ensures tight { weight_in weights.now.first + weight_in weights.now.second ≤ 3 * weights.now.high_volts →
         IsAtMostWide 400 first.lo first.hi →
         IsAtMostWide 400 second.lo second.hi →
-        IsAtMostWide 400 result.lo result.hi }
+        IsAtMostWide 401 result.lo result.hi }
 {
     let one = part(weights.first, first);
     let other = part(weights.second, second);

@@ -1,5 +1,5 @@
 //! The view of a step.
-ghost use Rattle.std.specs.Prelude.{◌≡◌, ℕ, ◌^◌, ◌<◌, ◌≤◌, length, ℤ, IfOk};
+ghost use Rattle.std.specs.Prelude.{◌≡◌, ℕ, ◌^◌, ◌<◌, length, ℤ, IfOk};
 ghost use Rattle.gic_fixed.specs.Ends.{ends_of};
 ghost use Rattle.gic_fixed.specs.Encloses.{IsWithin};
 ghost use Rattle.gic_model.specs.Sharp.{IsSharp};
@@ -51,8 +51,10 @@ pub fn fill_view(case: &Case, net: &Net, volts: &Volts, potentials: &Potentials,
     requires room { HasViewLengths case.now out.old }
     ensures right { HoldsSolutions (standing net.now) (number_at volts.now) potentials.now →
         IsRightView case.now (standing net.now) (number_at volts.now) out.new }
-    ensures narrow { (width : ℕ) → 5 ≤ width → IsSharp (standing net.now) (number_at volts.now) (low_at potentials.now) (high_at potentials.now) width →
-        IsNarrowView case.now width out.new }
+
+    // Where the potentials are sharp for a width, no interval of the view is more than one wider.
+    ensures narrow { (width wider : ℕ) → width < wider →
+        IsSharp (standing net.now) (number_at volts.now) (low_at potentials.now) (high_at potentials.now) width → IsNarrowView case.now wider out.new }
     ensures small { (t : ℕ) → t < length out.new.effective → IsWithin (2 ^ 113) (effective_at out.new t).low (effective_at out.new t).high }
     ensures lengths { HasViewLengths case.now out.new }
     ensures stays { IsSameStep out.old out.new }

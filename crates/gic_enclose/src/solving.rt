@@ -6,7 +6,7 @@ ghost use Rattle.gic_model.specs.Guess.{IsSettled};
 ghost use Rattle.gic_net.specs.Net.{standing};
 ghost use Rattle.gic_bound.specs.Entries.{IsBoundWithin};
 ghost use Rattle.gic_enclose.specs.Together.{BelongTogether};
-ghost use Rattle.gic_enclose.specs.Solved.{IsWidth, IsSolvedWithin};
+ghost use Rattle.gic_enclose.specs.Solved.{IsSolvedWithin};
 
 use crate::enclosing::enclose;
 use crate::potentials::Potentials;
@@ -21,8 +21,8 @@ use std::sync::ledger::Ledger;
 pub const MOST_TICKS: u32 = 1 << 22;
 
 /// Makes the guesses settled, whatever they were before, and the potentials certain, as `enclose` does, and sharp for
-/// the width, which is from 5 to 10000. At most four rough corrections come first, then sweeps; each of both ticks once.
-/// The vector is a bound vector of the net, as `rows_positive` tests it; voltages, guesses, vector and potentials are
+/// the width, which is at least 2. At most four rough corrections come first, then sweeps; each of both ticks once.
+/// The vector is a bound vector of the net, as `is_bound_vector` tests it; voltages, guesses, vector and potentials are
 /// those of the net's elements and nodes.
 pub fn solve<L: Ledger>(
     net: &Net,
@@ -35,7 +35,7 @@ pub fn solve<L: Ledger>(
 )
     requires together { BelongTogether net.now.network volts.now solver.old bound.now out.old }
     requires bound { IsBoundWithin (standing net.now) MOST_WALK (slice_index bound.now) }
-    requires width { IsWidth width }
+    requires width { 2 ≤ width }
     ensures settled { IsSettled (standing net.now) (number_at volts.now) (number_at solver.new) }
     ensures solved { IsSolvedWithin (standing net.now) (number_at volts.now) width out.new }
     ensures together { BelongTogether net.now.network volts.now solver.new bound.now out.new }

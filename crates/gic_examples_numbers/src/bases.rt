@@ -1,26 +1,24 @@
-//! Potentials of any field from the guesses for two base fields.
+//! A current in any field, superposed from two base fields.
 ghost use Rattle.std.specs.Prelude.{◌≡◌, ◌<◌, IfOk, length, slice_index};
 ghost use Rattle.gic_base.specs.declared.limits.TheConstants.{MOST_WALK};
 ghost use Rattle.gic_bound.specs.Entries.{IsBoundWithin};
-ghost use Rattle.gic_effective.specs.Holds.{AreOfNetwork};
 ghost use Rattle.gic_induce.specs.Voltage.{IsFieldWithin};
 ghost use Rattle.gic_net.specs.Net.{standing};
 ghost use Rattle.gic_winding.specs.ElementList.{elements_of};
 
 use crate::vectors::least_bound;
 use gic_base::{ElementId, OutOfMemory};
-use gic_bases::{Bases, prepare, step_from_bases};
+use gic_base_views::{BaseRoom, fill_superposed, prepare_bases};
 use gic_bound::BoundVector;
 use gic_case::Case;
 use gic_case_reader::read_case;
-use gic_effective::laws::line_items_law;
-use gic_effective::{current_na, milli};
-use gic_enclose::Potentials;
+use gic_effective::view_of_case;
 use gic_fixed::Interval;
 use gic_induce::Fields;
-use gic_model::{Elements, Volts};
+use gic_model::Elements;
 use gic_net::Net;
 use gic_sweep::{Solver, Steps};
+use gic_view::StepView;
 use gic_winding::elements;
 use gic_worked::CASE_P;
 use std::alloc::Global;
@@ -41,24 +39,18 @@ fn uniform_fields(alloc: Global, zones: u16, north: i32, east: i32) -> Result<Fi
     Ok(fields)
 }
 
-/// The current of an element in milliamperes, where it stands.
-fn current_ma(
-    net: &Net,
-    volts: &Volts,
-    potentials: &Potentials,
-    element: ElementId,
-) -> Option<Interval>
-    requires { AreOfNetwork net.now.network volts.now potentials.now }
-{
-    if element.0 < net.count() && net.stands(element) {
-        Some(milli(current_na(net, volts, potentials, element)))
+/// The current of an element in milliamperes, where the view has one.
+fn current_ma(view: &StepView, element: ElementId) -> Option<Interval> {
+    let (_, elements, _) = view.sizes();
+    if element.0 < elements {
+        view.element(element)
     } else {
         None
     }
 }
 
-/// The current of the third element of a case's network in milliamperes, where it stands, in a field in mV/km, for the
-/// width 10. The elements and the net are those of the case.
+/// The current of the third element of a case's network in milliamperes, where it stands, in a field in mV/km, superposed
+/// from the base fields. The elements and the net are those of the case.
 fn current_in_field<L: Ledger>(
     alloc: Global,
     case: &Case,
@@ -81,39 +73,25 @@ fn current_in_field<L: Ledger>(
 {
     let mut steps: Steps<L> = Steps::new(blank);
     let zones = case.zones().len() as u16;
-    let mut volts = Volts::new(alloc, list)?;
-    let mut solver = Solver::new(alloc, net.nodes())?;
-    let mut bases = Bases::new(alloc, net.nodes(), zones)?;
+    let mut solver = Solver::new(alloc, net.nodes(), net.count())?;
     let mut base_fields = uniform_fields(alloc, zones, 0, 0)?;
+    let mut bases = BaseRoom::new(alloc, case, list)?;
     let fields = uniform_fields(alloc, zones, north, east)?;
-    let mut potentials = Potentials::new(alloc, net.nodes())?;
-    line_items_law();
-    prepare(
+    let mut view = view_of_case(alloc, case, net)?;
+    prepare_bases(
         case,
         net,
         vector,
         &mut base_fields,
-        &mut volts,
         &mut solver,
         &mut bases,
         &mut steps,
     );
-    step_from_bases(
-        case,
-        net,
-        &fields,
-        vector,
-        10,
-        &bases,
-        &mut volts,
-        &mut solver,
-        &mut potentials,
-        &mut steps,
-    );
-    Ok(current_ma(net, &volts, &potentials, ElementId(2)))
+    fill_superposed(case, net, &fields, &bases.table, &mut view);
+    Ok(current_ma(&view, ElementId(2)))
 }
 
-/// The current in the line of case P in milliamperes, in a field in mV/km, for the width 10.
+/// The current in the line of case P in milliamperes, in a field in mV/km.
 fn line_current<L: Ledger>(
     alloc: Global,
     north: i32,
@@ -145,7 +123,7 @@ fn is_near(interval: Option<Interval>, number: i128) -> bool {
 
 /// Each 1000 mV/km to the north drives 31.25 amperes, and nothing to the east does.
 #[test]
-fn combines_the_bases_of_case_p(rt: HostRuntime) -> Result<(), Fail> {
+fn superposes_the_base_fields_of_case_p(rt: HostRuntime) -> Result<(), Fail> {
     let alloc = rt.alloc();
     let weak = line_current::<Brand>(alloc, 1000, 0, Blank::new(1))?;
     assert!(rt; is_near(weak, 31_250));

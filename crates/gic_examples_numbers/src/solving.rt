@@ -7,7 +7,7 @@ ghost use Rattle.gic_bound.specs.Entries.{IsBoundWithin};
 ghost use Rattle.gic_enclose.specs.Together.{BelongTogether};
 
 use gic_base::{ElementId, NodeId};
-use gic_bound::{BoundVector, rows_positive};
+use gic_bound::{BoundVector, is_bound_vector};
 use gic_enclose::{Potentials, solve};
 use gic_model::Volts;
 use gic_net::Net;
@@ -72,8 +72,8 @@ fn solves_from_guesses_at_both_limits(rt: HostRuntime) -> Result<(), Fail> {
     vector.set(NodeId(1), 31);
     vector.set(NodeId(2), 33);
     vector.set(NodeId(3), 33);
-    assert!(rt; rows_positive(&net, &vector));
-    let mut solver = Solver::new(rt.alloc(), 4)?;
+    assert!(rt; is_bound_vector(&net, &vector));
+    let mut solver = Solver::new(rt.alloc(), 4, net.count())?;
     let mut potentials = Potentials::new(rt.alloc(), 4)?;
     far_guesses::<Brand>(&mut solver, Blank::new(1));
     solved::<Brand>(

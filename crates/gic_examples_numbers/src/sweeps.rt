@@ -67,7 +67,7 @@ fn residuals_of_the_loop_at_no_guesses(rt: HostRuntime) -> Result<(), Fail> {
     let net = Net::build(rt.alloc(), &elements)?;
     let mut volts = Volts::new(rt.alloc(), &elements)?;
     volts.set(ElementId(2), 100_000_000_000);
-    let solver = Solver::new(rt.alloc(), 4)?;
+    let solver = Solver::new(rt.alloc(), 4, net.count())?;
     let current = 100_000_000_000 * (1 << 44);
     let at_b = residual(&net, &volts, &solver, NodeId(3));
     assert_eq!(rt; (at_b.lo, at_b.hi), (-current, -current));
@@ -87,7 +87,7 @@ fn guesses_of_the_loop(rt: HostRuntime) -> Result<(), Fail> {
     let net = Net::build(rt.alloc(), &elements)?;
     let mut volts = Volts::new(rt.alloc(), &elements)?;
     volts.set(ElementId(2), 100_000_000_000);
-    let mut solver = Solver::new(rt.alloc(), 4)?;
+    let mut solver = Solver::new(rt.alloc(), 4, net.count())?;
     swept::<Brand>(&net, &volts, &mut solver, Blank::new(1));
     let missed = solver.guess(NodeId(3)) - 100_000_000_000 * (1 << 36) / 11;
     assert!(rt; -3 < missed && missed < 3);
@@ -110,7 +110,7 @@ fn guesses_of_the_loop_opened(rt: HostRuntime) -> Result<(), Fail> {
     let mut net = Net::build(rt.alloc(), &elements)?;
     let mut volts = Volts::new(rt.alloc(), &elements)?;
     volts.set(ElementId(2), 100_000_000_000);
-    let mut solver = Solver::new(rt.alloc(), 4)?;
+    let mut solver = Solver::new(rt.alloc(), 4, net.count())?;
     let closed = missed_at_the_bus(&net, &volts, &mut solver, 34_375_000_000);
     assert!(rt; -(1 << 24) < closed && closed < (1 << 24));
     net.switch(Item::Transformer(1), true);

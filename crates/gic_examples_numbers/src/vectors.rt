@@ -6,7 +6,7 @@ ghost use Rattle.gic_net.specs.Net.{standing};
 
 use crate::texts::REALISTIC_CASE;
 use gic_base::{NodeId, OutOfMemory};
-use gic_bound::{BoundVector, Room, bound, bound_from, rows_positive, some_bound};
+use gic_bound::{BoundVector, Room, bound, bound_from, is_bound_vector, some_bound};
 use gic_case_reader::read_case;
 use gic_model::Item;
 use gic_net::Net;
@@ -80,7 +80,7 @@ fn bounded(alloc: Global, text: &str) -> Result<(Vec<u16>, u16), Fail> {
 }
 
 /// Whether these entries are a bound vector of a case, with this item open or closed.
-fn is_bound_vector(
+fn are_bound(
     alloc: Global,
     text: &str,
     entries: &[u16],
@@ -90,7 +90,7 @@ fn is_bound_vector(
     let mut net = net_of(alloc, text)?;
     net.switch(item, opens);
     let vector = vector_of(alloc, net.nodes(), entries)?;
-    Ok(rows_positive(&net, &vector))
+    Ok(is_bound_vector(&net, &vector))
 }
 
 #[test]
@@ -124,7 +124,7 @@ fn tells_bound_vectors(rt: HostRuntime) -> Result<(), Fail> {
         (REALISTIC_CASE, &realistic, true, true),
     ];
     for (text, entries, opens, wanted) in table {
-        let is_bound = is_bound_vector(rt.alloc(), text, entries, Item::Line(2), opens)?;
+        let is_bound = are_bound(rt.alloc(), text, entries, Item::Line(2), opens)?;
         assert_eq!(rt; is_bound, wanted);
     }
     Ok(())
@@ -166,12 +166,12 @@ fn finds_bound_vectors_from_proposals(rt: HostRuntime) -> Result<(), Fail> {
 fn are_found(alloc: Global, text: &str, item: Item) -> Result<(bool, bool), Fail> {
     let mut net = net_of(alloc, text)?;
     let mut vector = BoundVector::new(alloc, net.nodes())?;
-    let mut start = Start::new(alloc, net.nodes())?;
+    let mut start = Start::new(alloc, net.nodes(), net.count())?;
     find_bound(&net, &mut vector, &mut start)?;
-    let whole = rows_positive(&net, &vector);
+    let whole = is_bound_vector(&net, &vector);
     net.switch(item, true);
     find_bound(&net, &mut vector, &mut start)?;
-    Ok((whole, rows_positive(&net, &vector)))
+    Ok((whole, is_bound_vector(&net, &vector)))
 }
 
 /// Of case P, case PS and the realistic case, with all elements standing and then with a line out.

@@ -3,7 +3,7 @@ ghost use Rattle.std.specs.Prelude.{◌≡◌, length, IfOk, IfSome};
 ghost use Rattle.gic_winding.specs.ElementList.{elements_of};
 
 use gic_base::{MemorySink, NodeId, ReadFault};
-use gic_bound::{BoundVector, rows_positive};
+use gic_bound::{BoundVector, is_bound_vector};
 use gic_case::Case;
 use gic_case_reader::read_case;
 use gic_cert::{Cert, CertRefusal, check, make_cert_room, read_cert, write_cert};
@@ -127,8 +127,8 @@ fn made(alloc: Global, grounded: &Grounded) -> Result<Option<Cert>, Fail>
 {
     let nodes = grounded.net.nodes();
     let vector = one_at_first(alloc, nodes)?;
-    let mut solver = Solver::new(alloc, nodes)?;
-    if !rows_positive(&grounded.net, &vector) {
+    let mut solver = Solver::new(alloc, nodes, grounded.net.count())?;
+    if !is_bound_vector(&grounded.net, &vector) {
         return Ok(None);
     }
     if !is_settled(&grounded.net, &grounded.volts, &mut solver) {

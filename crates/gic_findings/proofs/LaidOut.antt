@@ -244,7 +244,7 @@ start_near count way k m k_in m_in same =
     near_itself (way (at (start_of count) k)) (way (at (start_of count) m)) (size_of (start_of count) (at (start_of count) k).group)
     (ap (λ (j : ℕ). way (at (start_of count) j)) one) (counted_itself (start_of count) k k_in)
 
-pub laid_start : (count : ℕ) → count ≤ 1024 → AreLaidOut (start_of count)
+pub laid_start : (count : ℕ) → count ≤ 4096 → AreLaidOut (start_of count)
 laid_start count few =
     let count_is = length-start count in
     record {
@@ -260,10 +260,10 @@ laid_start count few =
 
 -- ---- no place lies far off in its group
 
-from_nought : (x zero_way : ℤ) (n : ℕ) → zero_way ≡ pos 0 → n ≤ 1024 → IsWithinSteps x zero_way n → IsWithinSteps zero_way x n → unsigned_abs x ≤ 1024000000
+from_nought : (x zero_way : ℤ) (n : ℕ) → zero_way ≡ pos 0 → n ≤ 4096 → IsWithinSteps x zero_way n → IsWithinSteps zero_way x n → unsigned_abs x ≤ 4096000000
 from_nought x zero_way n is few above below = omega (arith, ints, is, few, above, below)
 
-way_near : (places : List Position) → AreLaidOut places → (way : Position → ℤ) → ((g : ℕ) → way (alone g) ≡ pos 0) → Near way places → (k : ℕ) → k < length places → unsigned_abs (way (at places k)) ≤ 1024000000
+way_near : (places : List Position) → AreLaidOut places → (way : Position → ℤ) → ((g : ℕ) → way (alone g) ≡ pos 0) → Near way places → (k : ℕ) → k < length places → unsigned_abs (way (at places k)) ≤ 4096000000
 way_near places h way nought near k within =
     let g_in = h.inside k within in
     let is = h.own k within in

@@ -12,6 +12,7 @@ use Rattle.gic_case.specs.declared.item.Bus.{Bus}
 use Rattle.gic_case.specs.Sound.{names_of, IsSoundSubstation, IsSoundLine, IsSoundTransformer, IsSound}
 use Rattle.gic_make.specs.Generator.{states_after}
 use Rattle.gic_make.specs.Made.{first_draw, numbered, made_zone, made_substation, made_bus, made_transformer, made_line, drawn_case, made_case}
+use Rattle.gic_make.specs.Accepted.{HasRows}
 use Rattle.gic_make.proofs.ElementsOfSites.{nodes_are}
 use Rattle.gic_make.proofs.EndsAtNodes.{few_ends}
 use Rattle.gic_make.proofs.Names.{numbered_name}
@@ -85,3 +86,14 @@ drawn_sound states size least most =
 pub made_sound : (seed size : ℕ) → 2 ≤ size → size ≤ 1000 → IsSound (made_case seed size)
 unfolding made_case
 made_sound seed size least most = drawn_sound (states_after seed (first_draw size)) size least most
+
+pub made_rows : (seed size : ℕ) → HasRows size (made_case seed size)
+unfolding made_case
+made_rows seed size =
+    let states = states_after seed (first_draw size) in
+    record {
+      substations = length-map-range_with_len (made_substation states) 0 size;
+      buses = length-map-range_with_len made_bus 0 size;
+      lines = length-map-range_with_len (made_line states) 1 (size - 1);
+      transformers = length-map-range_with_len (made_transformer states) 0 size;
+    }

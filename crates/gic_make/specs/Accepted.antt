@@ -22,6 +22,16 @@ all_standing case = standing_elements (elements_of case) (λ item. true)
 abbrev pub MadeCasesAreSound : Type 0
 MadeCasesAreSound = OfMadeCases (λ size case. IsSound case)
 
+-- it has a substation, a bus and a transformer a site, and a line a site but for the first
+pub record HasRows (size : ℕ) (case : Lists) : Type 0 where
+  pub substations : length case.substations ≡ size
+  pub buses : length case.buses ≡ size
+  pub lines : length case.lines ≡ size - 1
+  pub transformers : length case.transformers ≡ size
+
+abbrev pub MadeCasesHaveTheirRows : Type 0
+MadeCasesHaveTheirRows = OfMadeCases HasRows
+
 -- it has two nodes a site, and three elements a site but for the line of the first
 pub record HasSize (size : ℕ) (case : Lists) : Type 0 where
   pub nodes : (elements_of case).nodes ≡ 2 * size

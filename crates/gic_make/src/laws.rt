@@ -1,17 +1,19 @@
 //! The laws over made cases, each the contract of a function that does nothing but bring the laws that it rests on.
 ghost use Rattle.std.specs.Prelude.{◌≡◌, [], ◌∷◌};
 ghost use Rattle.gic_make.specs.Generator.{states_after};
-ghost use Rattle.gic_make.specs.Accepted.{MadeCasesAreSound, MadeCasesHaveTheirSize, MadeNodesAreEarthed, MadeCasesAreNearEarth};
+ghost use Rattle.gic_make.specs.Accepted.{MadeCasesAreSound, MadeCasesHaveTheirRows, MadeCasesHaveTheirSize, MadeNodesAreEarthed, MadeCasesAreNearEarth};
 ghost use Rattle.gic_make.specs.Worked.{small_case, grounds_of, first_resistance_of, ways_of};
 
 use gic_bound::laws::second_share_law;
 use gic_winding::laws::limits_law;
 
 /// For every seed and every number of sites from `LEAST_SIZE` to `MOST_SIZE`: the made case keeps the rules of the reader
-/// of cases, has two nodes a site and three elements a site but one, each of its nodes is live and earthed while all
-/// elements stand, and it is earthed within 448.
+/// of cases, has a row a site in each list but one line less, so that it is within the limits of every format, and two
+/// nodes a site and three elements a site but one. Each of its nodes is live and earthed while all elements stand, and it
+/// is earthed within 448.
 pub fn made_cases_law()
     ensures sound { MadeCasesAreSound }
+    ensures rows { MadeCasesHaveTheirRows }
     ensures size { MadeCasesHaveTheirSize }
     ensures earthed { MadeNodesAreEarthed }
     ensures near { MadeCasesAreNearEarth }

@@ -1,4 +1,4 @@
--- Bound vectors, which say how far a node can lie from earth: where the row rule holds at each live node, an entry is at least how many steps a walk from its node to earth takes in the mean, if it goes over elements by their conductances.
+-- Bound vectors: entries at the nodes that keep the row rule. A picture of it, which no clause tells: an entry is at least how many steps a walk from its node to earth takes in the mean, if it goes over elements by their conductances.
 use Rattle.std.specs.Prelude.{ℕ, ◌≡◌, ◌≤◌, ◌<◌, ◌*◌, ◌^◌, List, IsFalse, ℤ, pos, ◌-ℤ◌, ◌*ℤ◌, ◌≤ℤ◌}
 use Rattle.gic_base.specs.declared.limits.TheConstants.{FULL_WALK}
 use Rattle.gic_fixed.specs.Rounding.{floor_div}

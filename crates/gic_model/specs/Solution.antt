@@ -20,7 +20,7 @@ IsOhm volts s p =
 abbrev pub IsKirchhoff : List Placed → Solution → ℕ → Type 0
 IsKirchhoff standing s k = sum_of (λ p. leaving k p.1 (s.current p.0)) (elements_at standing k) ≡ pos 0
 
--- the numbers solve the network of these standing elements. Where each live node is earthed there are such numbers (`solutions_exist_law`), and any two agree (`agreement_law`)
+-- the numbers solve the network of these standing elements. Within the limits, where each live node is earthed, there are such numbers (`existence_law` of `gic_exists`), and any two agree (`agreement_law` there)
 pub record IsSolution (standing : List Placed) (volts : ℕ → ℤ) (s : Solution) : Type 0 where
   pub denominator_above_0 : 0 < s.denominator
   pub ohm : All (IsOhm volts s) standing

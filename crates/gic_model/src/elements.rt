@@ -23,7 +23,7 @@ impl Model for Elements {
 }
 
 impl Elements {
-    ghost use Rattle.std.specs.Prelude.{◌≡◌};
+    ghost use Rattle.std.specs.Prelude.{◌≡◌, length};
     ghost use Rattle.gic_model.specs.Limits.{IsWithinLimits};
 
     /// The elements of this list, over this many nodes.
@@ -47,6 +47,14 @@ impl Elements {
         ensures limits { IsWithinLimits self.now }
     {
         self.nodes
+    }
+
+    /// How many elements there are.
+    pub fn count(&self) -> u16
+        ensures value { result ≡ length self.now.list }
+        ensures limits { IsWithinLimits self.now }
+    {
+        self.list.len() as u16
     }
 
     /// The elements, by their places.

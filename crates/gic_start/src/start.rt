@@ -39,11 +39,11 @@ impl Drop for Start {
 }
 
 impl Start {
-    /// For networks of this many nodes.
-    pub fn new(alloc: Global, nodes: u16) -> Result<Start, OutOfMemory>
+    /// For networks of this many nodes and elements.
+    pub fn new(alloc: Global, nodes: u16, elements: u16) -> Result<Start, OutOfMemory>
         ensures { IfOk result (λ start. start ≡ nodes) }
     {
-        let thinning = Thinning::new(alloc, nodes)?;
+        let thinning = Thinning::new(alloc, nodes, elements)?;
         let conductances = zeros(alloc, nodes)?;
         let room = Room::new(alloc, nodes)?;
         Ok(Start {

@@ -19,7 +19,7 @@ use Rattle.gic_model.specs.Standing.{standing_elements}
 use Rattle.gic_model.specs.Sums.{Placed}
 use Rattle.gic_model.proofs.Superposition.{superposition}
 use Rattle.gic_exists.proofs.InNetworks.{exists_in, agree_in}
-use Rattle.gic_bases.specs.Bases.{sum_below}
+use Rattle.gic_superpose.specs.Sums.{sum_below}
 use Rattle.gic_superpose.specs.Superposed.{ZoneEnds, zone_at, low_part, high_part, zone_low, zone_high, sum_low, sum_high, sums_in_milli, superposed}
 use Rattle.gic_superpose.specs.Quantities.{IsLinear, HoldsInZone, AreMadeOf}
 

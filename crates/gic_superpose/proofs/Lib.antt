@@ -1,6 +1,9 @@
+pub mod BaseVolts
 pub mod Sums
 pub mod Weighted
 pub mod Linear
 pub mod Enclosing
 pub mod Widths
 pub mod Parts
+pub mod Places
+pub mod Small

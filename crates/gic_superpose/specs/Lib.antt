@@ -1,5 +1,8 @@
+pub mod Sums
+pub mod BaseFields
 pub mod Superposed
 pub mod Quantities
 pub mod Pairs
 pub mod Compact
+pub mod Rows
 pub mod Worked

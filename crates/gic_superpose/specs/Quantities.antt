@@ -14,7 +14,7 @@ use Rattle.gic_model.specs.SolutionLaws.{combined}
 use Rattle.gic_model.specs.Standing.{IsLive, standing_elements}
 use Rattle.gic_model.specs.Sums.{Placed, sum_of}
 use Rattle.gic_exists.specs.Exists.{Agree}
-use Rattle.gic_bases.specs.Bases.{sum_below}
+use Rattle.gic_superpose.specs.Sums.{sum_below}
 use Rattle.gic_superpose.specs.Superposed.{ZoneEnds, zone_at, superposed, IsNarrowZone}
 
 -- a number over the denominator of a solution: it is combined as solutions are, and is the same in solutions that agree

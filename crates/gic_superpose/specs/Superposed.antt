@@ -5,7 +5,7 @@ use Rattle.gic_base.specs.declared.limits.TheConstants.{MOST_FIELD}
 use Rattle.gic_fixed.specs.Ends.{Ends, zero_ends, IsAtMostWide}
 use Rattle.gic_fixed.specs.Rounding.{floor_div, ceil_div}
 use Rattle.gic_induce.specs.Fields.{field_at}
-use Rattle.gic_bases.specs.Bases.{sum_below}
+use Rattle.gic_superpose.specs.Sums.{sum_below}
 
 -- the intervals of a quantity in the two base fields of a zone
 pub record ZoneEnds : Type 0 where

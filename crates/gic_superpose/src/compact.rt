@@ -1,5 +1,5 @@
 //! A superposed interval, computed in 64 bits where these serve.
-ghost use Rattle.std.specs.Prelude.{◌≡◌, ℕ, ◌-◌, ◌*◌, ◌<◌, ◌≤◌, ◌^◌, ◌+ℤ◌, ◌*ℤ◌, ◌≤ℤ◌, length, unsigned_abs, pos, All, FitsSigned, IfSome, None, ◌⊎◌};
+ghost use Rattle.std.specs.Prelude.{◌≡◌, ℕ, ◌-◌, ◌*◌, ◌<◌, ◌≤◌, ◌^◌, ◌+ℤ◌, ◌*ℤ◌, ◌≤ℤ◌, length, unsigned_abs, pos, All, FitsSigned, IsTrue, IsFalse, ◌⊎◌};
 ghost use Rattle.std.specs.Int.{w64};
 ghost use Rattle.gic_base.specs.declared.limits.TheConstants.{MOST_FIELD};
 ghost use Rattle.gic_fixed.specs.Encloses.{IsWithin};
@@ -7,74 +7,67 @@ ghost use Rattle.gic_fixed.specs.Ends.{ends_of};
 ghost use Rattle.gic_fixed.specs.Rounding.{floor_div, ceil_div};
 ghost use Rattle.gic_induce.specs.Fields.{field_at};
 ghost use Rattle.gic_superpose.specs.Superposed.{zone_at, low_part, high_part, zone_low, zone_high, sum_low, sum_high, sums_in_milli, superposed};
-ghost use Rattle.gic_superpose.specs.Pairs.{zone_of};
-ghost use Rattle.gic_superpose.specs.Compact.{compact_ends_of, compact_zone_of, compact_row_of, most_compact, IsCompact, IsBeyond};
+ghost use Rattle.gic_superpose.specs.Pairs.{row_of};
+ghost use Rattle.gic_superpose.specs.Compact.{most_compact, IsCompact, IsBeyond};
 
-use crate::pairs::{CompactEnds, CompactPair, ZonePair};
+use crate::pairs::ZonePair;
+use crate::superposing::pair_at;
 use gic_base::limits::MOST_FIELD;
 use gic_fixed::Interval;
 use gic_induce::Fields;
 
+/// A low end and a high end in 64 bits, or sums of such.
+#[derive(Clone, Copy)]
+struct CompactEnds {
+    low: i64,
+    high: i64,
+}
+
 /// The most that an end may be, either way, for so many zones, that 64 bits serve.
-pub fn most_compact(zones: u16) -> i64
+fn most_compact(zones: u16) -> i64
     requires { 0 < zones }
     ensures { result ≡ pos (most_compact zones) }
 {
     i64::MAX / (2 * MOST_FIELD as i64 * zones as i64)
 }
 
-/// The ends of an interval in 64 bits, where both are within this.
-fn compacted_ends(interval: Interval, most: i64) -> Option<CompactEnds>
+/// Whether both ends of an interval are within this.
+fn is_within(interval: Interval, most: i64) -> bool
     requires { pos 0 ≤ℤ most }
-    ensures same { IfSome result (λ ends. compact_ends_of ends ≡ ends_of interval) }
-    ensures within { IfSome result (λ ends. IsWithin (unsigned_abs most) ends.low ends.high) }
-    ensures none { result ≡ None → (unsigned_abs most < unsigned_abs interval.lo) ⊎ (unsigned_abs most < unsigned_abs interval.hi) }
+    ensures yes { IsTrue result → IsWithin (unsigned_abs most) interval.lo interval.hi }
+    ensures no { IsFalse result → (unsigned_abs most < unsigned_abs interval.lo) ⊎ (unsigned_abs most < unsigned_abs interval.hi) }
 {
-    if interval.lo >= -(most as i128) && interval.hi <= most as i128 {
-        Some(CompactEnds {
-            low: interval.lo as i64,
-            high: interval.hi as i64,
-        })
-    } else {
-        None
-    }
+    interval.lo >= -(most as i128) && interval.hi <= most as i128
 }
 
-/// The two intervals of a zone in 64 bits, where these serve for so many zones.
-pub fn compacted(pair: ZonePair, zones: u16) -> Option<CompactPair>
+/// Whether 64 bits serve for the two intervals of a zone, where there are so many zones.
+pub(crate) fn is_compact(pair: ZonePair, zones: u16) -> bool
     requires { 0 < zones }
-    ensures same { IfSome result (λ compact. compact_zone_of compact ≡ zone_of pair) }
-    ensures within { IfSome result (IsCompact zones) }
-    ensures none { result ≡ None → IsBeyond zones (ends_of pair.north) ⊎ IsBeyond zones (ends_of pair.east) }
+    ensures yes { IsTrue result → IsCompact zones pair }
+    ensures no { IsFalse result → IsBeyond zones (ends_of pair.north) ⊎ IsBeyond zones (ends_of pair.east) }
 {
     let most = most_compact(zones);
-    match (
-        compacted_ends(pair.north, most),
-        compacted_ends(pair.east, most),
-    ) {
-        (Some(north), Some(east)) => Some(CompactPair { north, east }),
-        _ => None,
-    }
+    is_within(pair.north, most) && is_within(pair.east, most)
 }
 
 /// An end times a part of a field.
-fn product(end: i64, part: i32) -> i64
+fn product(end: i128, part: i32) -> i64
     requires end { unsigned_abs end ≤ most_compact 1 }
     requires part { unsigned_abs part ≤ MOST_FIELD }
     ensures { result ≡ end *ℤ part }
 {
-    end * part as i64
+    end as i64 * part as i64
 }
 
 /// An interval times a part of a field: below 0 it swaps the ends.
-fn times(ends: CompactEnds, part: i32) -> CompactEnds
-    requires small { IsWithin (most_compact 1) ends.low ends.high }
+fn times(interval: Interval, part: i32) -> CompactEnds
+    requires small { IsWithin (most_compact 1) interval.lo interval.hi }
     requires part { unsigned_abs part ≤ MOST_FIELD }
-    ensures low { result.low ≡ low_part (compact_ends_of ends) part }
-    ensures high { result.high ≡ high_part (compact_ends_of ends) part }
+    ensures low { result.low ≡ low_part (ends_of interval) part }
+    ensures high { result.high ≡ high_part (ends_of interval) part }
 {
-    let one = product(ends.low, part);
-    let other = product(ends.high, part);
+    let one = product(interval.lo, part);
+    let other = product(interval.hi, part);
     CompactEnds {
         low: one.min(other),
         high: one.max(other),
@@ -94,22 +87,13 @@ fn added(one: CompactEnds, other: CompactEnds) -> CompactEnds
     }
 }
 
-/// The intervals of a zone.
-fn pair_at(row: &[CompactPair], zone: u16) -> CompactPair
-    requires { zone < length row.now }
-    ensures value { compact_zone_of result ≡ zone_at (compact_row_of row.now) zone }
-    ensures compact { (zones : ℕ) → All (IsCompact zones) row.now → IsCompact zones result }
-{
-    row[zone as usize]
-}
-
 /// What the field of a zone makes of its two intervals.
-fn zone_part(fields: &Fields, row: &[CompactPair], zone: u16) -> CompactEnds
+fn zone_part(fields: &Fields, row: &[ZonePair], zone: u16) -> CompactEnds
     requires fields { zone < length fields.now }
     requires row { zone < length row.now }
     requires compact { All (IsCompact (length fields.now)) row.now }
-    ensures low { result.low ≡ zone_low (field_at fields.now zone) (zone_at (compact_row_of row.now) zone) }
-    ensures high { result.high ≡ zone_high (field_at fields.now zone) (zone_at (compact_row_of row.now) zone) }
+    ensures low { result.low ≡ zone_low (field_at fields.now zone) (zone_at (row_of row.now) zone) }
+    ensures high { result.high ≡ zone_high (field_at fields.now zone) (zone_at (row_of row.now) zone) }
     ensures small { IsWithin (2 * MOST_FIELD * most_compact (length fields.now)) result.low result.high }
 {
     let (north, east) = fields.get(zone);
@@ -118,11 +102,11 @@ fn zone_part(fields: &Fields, row: &[CompactPair], zone: u16) -> CompactEnds
 }
 
 /// What the fields of all zones make of a row of intervals.
-fn whole(fields: &Fields, row: &[CompactPair]) -> CompactEnds
+fn whole(fields: &Fields, row: &[ZonePair]) -> CompactEnds
     requires row { length row.now ≡ length fields.now }
     requires compact { All (IsCompact (length fields.now)) row.now }
-    ensures low { result.low ≡ sum_low fields.now (compact_row_of row.now) }
-    ensures high { result.high ≡ sum_high fields.now (compact_row_of row.now) }
+    ensures low { result.low ≡ sum_low fields.now (row_of row.now) }
+    ensures high { result.high ≡ sum_high fields.now (row_of row.now) }
     ensures small { IsWithin (2 ^ 63 - 1) result.low result.high }
 {
     let mut sum = CompactEnds { low: 0, high: 0 };
@@ -148,10 +132,10 @@ fn milli(sums: CompactEnds) -> Interval
 }
 
 /// The interval that `superpose` gives, from intervals that 64 bits serve for.
-pub fn superpose_compact(fields: &Fields, row: &[CompactPair]) -> Interval
+pub(crate) fn superpose_compact(fields: &Fields, row: &[ZonePair]) -> Interval
     requires row { length row.now ≡ length fields.now }
     requires compact { All (IsCompact (length fields.now)) row.now }
-    ensures { ends_of result ≡ superposed fields.now (compact_row_of row.now) }
+    ensures { ends_of result ≡ superposed fields.now (row_of row.now) }
 {
     milli(whole(fields, row))
 }

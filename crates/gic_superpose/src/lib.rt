@@ -4,8 +4,8 @@
 mod compact;
 pub mod laws;
 mod pairs;
+mod rows;
 mod superposing;
 
-pub use compact::{compacted, most_compact, superpose_compact};
-pub use pairs::{CompactEnds, CompactPair, ZonePair};
-pub use superposing::superpose;
+pub use pairs::ZonePair;
+pub use rows::PairRows;

@@ -8,17 +8,3 @@ pub struct ZonePair {
     pub north: Interval,
     pub east: Interval,
 }
-
-/// The ends of an interval in 64 bits.
-#[derive(Clone, Copy, Debug, PartialEq, Eq)]
-pub struct CompactEnds {
-    pub low: i64,
-    pub high: i64,
-}
-
-/// The intervals in 64 bits.
-#[derive(Clone, Copy, Debug, PartialEq, Eq)]
-pub struct CompactPair {
-    pub north: CompactEnds,
-    pub east: CompactEnds,
-}

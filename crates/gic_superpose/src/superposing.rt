@@ -1,11 +1,12 @@
 //! A superposed interval, computed in 128 bits.
-ghost use Rattle.std.specs.Prelude.{◌≡◌, ◌*◌, ◌<◌, ◌≤◌, ◌*ℤ◌, length, unsigned_abs, All};
+ghost use Rattle.std.specs.Prelude.{◌≡◌, ℕ, ◌*◌, ◌<◌, ◌≤◌, ◌*ℤ◌, length, unsigned_abs, All};
 ghost use Rattle.gic_base.specs.declared.limits.TheConstants.{MOST_FIELD, MOST_ZONES};
 ghost use Rattle.gic_fixed.specs.Encloses.{IsWithin};
 ghost use Rattle.gic_fixed.specs.Ends.{ends_of};
 ghost use Rattle.gic_induce.specs.Fields.{field_at};
 ghost use Rattle.gic_superpose.specs.Superposed.{zone_at, low_part, high_part, zone_low, zone_high, sum_low, sum_high, superposed};
 ghost use Rattle.gic_superpose.specs.Pairs.{zone_of, row_of, most_base, IsSmallPair};
+ghost use Rattle.gic_superpose.specs.Compact.{IsCompact};
 
 use crate::pairs::ZonePair;
 use gic_base::limits::MOST_FIELD;
@@ -37,10 +38,11 @@ fn times(interval: Interval, part: i32) -> Interval
 }
 
 /// The intervals of a zone.
-fn pair_at(row: &[ZonePair], zone: u16) -> ZonePair
+pub(crate) fn pair_at(row: &[ZonePair], zone: u16) -> ZonePair
     requires { zone < length row.now }
     ensures value { zone_of result ≡ zone_at (row_of row.now) zone }
     ensures small { All IsSmallPair row.now → IsSmallPair result }
+    ensures compact { (zones : ℕ) → All (IsCompact zones) row.now → IsCompact zones result }
 {
     row[zone as usize]
 }
@@ -77,7 +79,7 @@ fn whole(fields: &Fields, row: &[ZonePair]) -> Interval
 /// The interval of a quantity in millivolts or milliamperes for these fields, from its intervals in the base fields of
 /// each zone in nanovolts or nanoamperes: the sum over the zones of what the field of each makes of its two, a
 /// MOST_FIELD-th of it, rounded outward once. No end that is given is beyond 2^81 either way.
-pub fn superpose(fields: &Fields, row: &[ZonePair]) -> Interval
+pub(crate) fn superpose(fields: &Fields, row: &[ZonePair]) -> Interval
     requires few { length fields.now ≤ MOST_ZONES }
     requires row { length row.now ≡ length fields.now }
     requires small { All IsSmallPair row.now }

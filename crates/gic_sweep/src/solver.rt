@@ -53,15 +53,15 @@ ghost use Rattle.gic_sweep.specs.Sweep.{IsSweep};
 ghost use Rattle.gic_thin.specs.declared.gradients.TheConstants.{MOST_PASSES};
 
 impl Solver {
-    /// For a network of this many nodes; all guesses are 0.
-    pub fn new(alloc: Global, nodes: u16) -> Result<Solver, OutOfMemory>
+    /// For a network of this many nodes and elements; all guesses are 0.
+    pub fn new(alloc: Global, nodes: u16, elements: u16) -> Result<Solver, OutOfMemory>
         ensures { IfOk result (λ solver. solver ≡ replicate nodes (pos 0)) }
     {
         let guesses = Guesses::new(alloc, nodes)?;
         let before = zeros(alloc, nodes)?;
         let low = zeros(alloc, nodes)?;
         let high = zeros(alloc, nodes)?;
-        let thinning = Thinning::new(alloc, nodes)?;
+        let thinning = Thinning::new(alloc, nodes, elements)?;
         Ok(Solver {
             guesses,
             before,

@@ -36,13 +36,13 @@ ghost use Rattle.std.specs.Prelude.{◌≡◌, ◌<◌, IfOk};
 ghost use Rattle.gic_thin.specs.Inside.{AreArmsInside, IsWireInside};
 
 impl Elimination {
-    /// For a network of this many nodes.
-    pub(crate) fn new(alloc: Global, nodes: u16) -> Result<Elimination, OutOfMemory>
+    /// For a network of this many nodes and elements.
+    pub(crate) fn new(alloc: Global, nodes: u16, elements: u16) -> Result<Elimination, OutOfMemory>
         ensures { IfOk result (λ elimination. elimination ≡ nodes) }
     {
-        let web = Web::new(alloc, nodes)?;
+        let web = Web::new(alloc, nodes, elements)?;
         let star = Star::new(alloc, nodes)?;
-        let factors = Factors::new(alloc, nodes)?;
+        let factors = Factors::new(alloc, nodes, elements)?;
         Ok(Elimination {
             web,
             star,

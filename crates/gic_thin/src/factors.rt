@@ -1,6 +1,6 @@
 //! The factors that an elimination makes.
 use crate::dividing::Whole;
-use crate::parts::{Arm, Entry, MOST_ENTRIES, Step};
+use crate::parts::{Arm, ENTRIES_PER_ELEMENT, Entry, LEAST_ENTRIES, MOST_ENTRIES, Step};
 use gic_base::OutOfMemory;
 use gic_base::limits::MOST_AT_A_NODE;
 use std::alloc::Global;
@@ -39,12 +39,13 @@ ghost use Rattle.std.specs.Prelude.{ℕ, ◌≡◌, ◌<◌, ◌≤◌, IfOk, le
 ghost use Rattle.gic_thin.specs.Inside.{AreArmsInside, AreStepsInside, AreEntriesInside};
 
 impl Factors {
-    /// For a network of this many nodes, with room for [`MOST_ENTRIES`] at most.
-    pub(crate) fn new(alloc: Global, nodes: u16) -> Result<Factors, OutOfMemory>
+    /// For a network of this many nodes and elements, with room for [`ENTRIES_PER_ELEMENT`] and for
+    /// [`LEAST_ENTRIES`] at least, but for no more than `MOST_AT_A_NODE` at each node.
+    pub(crate) fn new(alloc: Global, nodes: u16, elements: u16) -> Result<Factors, OutOfMemory>
         ensures { IfOk result (λ factors. factors ≡ nodes) }
     {
         let steps = empty_steps(alloc, nodes)?;
-        let entries = empty_entries(alloc, nodes)?;
+        let entries = empty_entries(alloc, nodes, elements)?;
         Ok(Factors {
             steps,
             entries,
@@ -156,10 +157,12 @@ fn empty_steps(alloc: Global, nodes: u16) -> Result<Vec<Step>, OutOfMemory>
     Ok(steps)
 }
 
-fn empty_entries(alloc: Global, nodes: u16) -> Result<Vec<Entry>, OutOfMemory>
+fn empty_entries(alloc: Global, nodes: u16, elements: u16) -> Result<Vec<Entry>, OutOfMemory>
     ensures { IfOk result (λ entries. AreEntriesInside nodes entries.items × (length entries.items ≤ MOST_ENTRIES)) }
 {
     let entry = Entry { share: 0, far: 0 };
-    let entries = vec![in alloc; entry; (MOST_AT_A_NODE * nodes as usize).min(MOST_ENTRIES)]?;
+    let most = MOST_AT_A_NODE * nodes as usize;
+    let room = (ENTRIES_PER_ELEMENT * elements as usize).max(LEAST_ENTRIES);
+    let entries = vec![in alloc; entry; room.min(most)]?;
     Ok(entries)
 }

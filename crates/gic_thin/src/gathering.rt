@@ -6,7 +6,7 @@ use crate::star::Star;
 use crate::web::Web;
 
 /// Takes a half of a node's list as an arm of its star.
-fn take(web: &mut Web, star: &mut Star, place: u16, half: Half)
+fn take(web: &mut Web, star: &mut Star, place: u32, half: Half)
     requires far { half.far < web.old }
     requires star { star.old ≡ web.old }
     ensures web { web.new ≡ web.old }

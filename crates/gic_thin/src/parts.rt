@@ -1,20 +1,29 @@
 //! The parts that lists are made of.
 ghost use Rattle.std.specs.Prelude.{◌^◌, ◌≤◌, ◌<◌};
 
-use gic_base::limits::MOST_ELEMENTS;
 use gic_model::End;
 
-/// The halves of all links, at most: an element makes one link, which has two.
-pub const MOST_HALVES: usize = 2 * MOST_ELEMENTS;
+/// The halves that an element makes: those of one link.
+pub const HALVES_PER_ELEMENT: usize = 2;
+
+/// The halves of all links, at most, since the numbers of elements have 16 bits.
+pub const MOST_HALVES: usize = HALVES_PER_ELEMENT * u16::MAX as usize;
+
+/// The entries of the factors for which there is room, for each element: what is left out makes a correction rougher.
+pub const ENTRIES_PER_ELEMENT: usize = 4;
+
+/// The entries for which there is room all the same in a smaller network: those for 19968 elements, the most of a case of
+/// format 1 or 2.
+pub const LEAST_ENTRIES: usize = ENTRIES_PER_ELEMENT * 19968;
 
 /// The entries of the factors, at most.
-pub const MOST_ENTRIES: usize = 4 * MOST_ELEMENTS;
+pub const MOST_ENTRIES: usize = ENTRIES_PER_ELEMENT * u16::MAX as usize;
 
 /// The far ends of a star, at most.
 pub const MOST_ARMS: usize = 512;
 
 /// Where a list of halves ends.
-pub const NO_HALF: u16 = u16::MAX;
+pub const NO_HALF: u32 = u32::MAX;
 
 /// A standing element: its ends, and its conductance in units of 2^-36 siemens.
 #[derive(Clone, Copy, PartialEq)]
@@ -31,7 +40,7 @@ pub struct Wire {
 pub struct Half {
     pub siemens: u64,
     pub far: u16,
-    pub next: u16,
+    pub next: u32,
 }
 
 /// A node of the web: its list of halves, how many of them lead to nodes that are left, where it stood in the last star
@@ -39,7 +48,7 @@ pub struct Half {
 #[derive(Clone, Copy)]
 pub struct Knot {
     pub earthing: u64,
-    pub first: u16,
+    pub first: u32,
     pub links: u16,
     pub place: u16,
     pub gone: bool,
@@ -50,7 +59,7 @@ pub struct Knot {
 pub struct Arm {
     pub siemens: u64,
     pub far: u16,
-    pub half: u16,
+    pub half: u32,
 }
 
 /// A node's elimination: 1 over its conductance, which is `inverse / 2 ^ bits`, and where its entries begin and end.

@@ -34,12 +34,12 @@ ghost use Rattle.std.specs.Prelude.{◌≡◌, ◌<◌, ◌≤◌, IfOk, length}
 ghost use Rattle.gic_thin.specs.Inside.{AreNodes, AreWiresInside, AreStepsInside, AreEntriesInside};
 
 impl System {
-    /// For a network of this many nodes.
-    pub(crate) fn new(alloc: Global, nodes: u16) -> Result<System, OutOfMemory>
+    /// For a network of this many nodes and elements.
+    pub(crate) fn new(alloc: Global, nodes: u16, elements: u16) -> Result<System, OutOfMemory>
         ensures { IfOk result (λ system. system ≡ nodes) }
     {
-        let wires = Wires::new(alloc, nodes)?;
-        let elimination = Elimination::new(alloc, nodes)?;
+        let wires = Wires::new(alloc, nodes, elements)?;
+        let elimination = Elimination::new(alloc, nodes, elements)?;
         let list = empty_list(alloc, nodes)?;
         Ok(System {
             wires,

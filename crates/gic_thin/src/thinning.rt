@@ -52,11 +52,11 @@ impl Drop for Thinning {
 }
 
 impl Thinning {
-    /// For a network of this many nodes, with room for `MOST_AT_A_NODE` elements at each node.
-    pub fn new(alloc: Global, nodes: u16) -> Result<Thinning, OutOfMemory>
+    /// For a network of this many nodes and elements. Of a network of more elements some are left out.
+    pub fn new(alloc: Global, nodes: u16, elements: u16) -> Result<Thinning, OutOfMemory>
         ensures { IfOk result (λ thinning. thinning ≡ nodes) }
     {
-        let system = System::new(alloc, nodes)?;
+        let system = System::new(alloc, nodes, elements)?;
         let vectors = Vectors::new(alloc, nodes)?;
         let conductances = no_conductances(alloc, nodes)?;
         Ok(Thinning {

@@ -5,7 +5,7 @@ ghost use Rattle.gic_thin.specs.Inside.{AreHalvesInside};
 use crate::parts::{Half, Knot, MOST_HALVES};
 
 /// Puts a half in front of a node's list.
-fn hang(knots: &mut [Knot], halves: &mut [Half], half: u16, node: u16, far: u16, siemens: u64)
+fn hang(knots: &mut [Knot], halves: &mut [Half], half: u32, node: u16, far: u16, siemens: u64)
     requires half { half < length halves.old }
     requires node { node < length knots.old }
     requires far { far < length knots.old }
@@ -39,8 +39,8 @@ pub(crate) fn join_knots(
     if halves.len() > MOST_HALVES || used >= halves.len() || used + 1 >= halves.len() {
         return used;
     }
-    hang(knots, halves, used as u16, from, to, siemens);
-    hang(knots, halves, used as u16 + 1, to, from, siemens);
+    hang(knots, halves, used as u32, from, to, siemens);
+    hang(knots, halves, used as u32 + 1, to, from, siemens);
     used + 2
 }
 
@@ -49,7 +49,7 @@ pub(crate) fn join_knots(
 pub(crate) fn tie_again(
     knots: &mut [Knot],
     halves: &mut [Half],
-    half: u16,
+    half: u32,
     far: u16,
     other: u16,
     siemens: u64,

@@ -1,5 +1,5 @@
 //! The links between the nodes that are left.
-use crate::parts::{Half, Knot, MOST_HALVES, NO_HALF};
+use crate::parts::{HALVES_PER_ELEMENT, Half, Knot, NO_HALF};
 use crate::tying::{join_knots, tie_again};
 use gic_base::OutOfMemory;
 use gic_base::limits::MOST_AT_A_NODE;
@@ -32,13 +32,12 @@ ghost use Rattle.gic_thin.specs.declared.parts.Half.{Half};
 ghost use Rattle.gic_thin.specs.Inside.{AreHalvesInside};
 
 impl Web {
-    /// For a network of this many nodes, with room for `MOST_AT_A_NODE` halves at each node and for [`MOST_HALVES`] in
-    /// all.
-    pub(crate) fn new(alloc: Global, nodes: u16) -> Result<Web, OutOfMemory>
+    /// For a network of this many nodes and elements, with room for the halves of all links.
+    pub(crate) fn new(alloc: Global, nodes: u16, elements: u16) -> Result<Web, OutOfMemory>
         ensures { IfOk result (λ web. web ≡ nodes) }
     {
         let knots = loose_knots(alloc, nodes)?;
-        let halves = empty_halves(alloc, nodes)?;
+        let halves = empty_halves(alloc, nodes, elements)?;
         Ok(Web {
             knots,
             halves,
@@ -71,7 +70,7 @@ impl Web {
     }
 
     /// Makes of the link of this half, which led from a node that is eliminated to `far`, one from `far` to `other`.
-    pub(crate) fn tie(&mut self, half: u16, far: u16, other: u16, siemens: u64)
+    pub(crate) fn tie(&mut self, half: u32, far: u16, other: u16, siemens: u64)
         requires far { far < self.old }
         requires other { other < self.old }
         ensures { self.new ≡ self.old }
@@ -149,14 +148,14 @@ impl Web {
     }
 
     /// The number of the first half in a node's list, [`NO_HALF`] where there is none.
-    pub(crate) fn first(&self, node: u16) -> u16
+    pub(crate) fn first(&self, node: u16) -> u32
         requires { node < self.now }
     {
         self.knots[node as usize].first
     }
 
     /// A half of a link, unless the number says that there is none.
-    pub(crate) fn half(&self, half: u16) -> Option<Half>
+    pub(crate) fn half(&self, half: u32) -> Option<Half>
         ensures { IfSome result (λ half. half.far < self.now) }
     {
         let half = half as usize;
@@ -184,7 +183,7 @@ fn loose_knots(alloc: Global, nodes: u16) -> Result<Vec<Knot>, OutOfMemory>
     Ok(knots)
 }
 
-fn empty_halves(alloc: Global, nodes: u16) -> Result<Vec<Half>, OutOfMemory>
+fn empty_halves(alloc: Global, nodes: u16, elements: u16) -> Result<Vec<Half>, OutOfMemory>
     ensures { IfOk result (λ halves. AreHalvesInside nodes halves.items) }
 {
     let half = Half {
@@ -192,6 +191,7 @@ fn empty_halves(alloc: Global, nodes: u16) -> Result<Vec<Half>, OutOfMemory>
         far: 0,
         next: NO_HALF,
     };
-    let halves = vec![in alloc; half; (MOST_AT_A_NODE * nodes as usize).min(MOST_HALVES)]?;
+    let most = MOST_AT_A_NODE * nodes as usize;
+    let halves = vec![in alloc; half; (HALVES_PER_ELEMENT * elements as usize).min(most)]?;
     Ok(halves)
 }

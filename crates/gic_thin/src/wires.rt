@@ -2,7 +2,7 @@
 use crate::parts::Wire;
 use crate::wiring::put_wires;
 use gic_base::OutOfMemory;
-use gic_base::limits::{MOST_AT_A_NODE, MOST_ELEMENTS};
+use gic_base::limits::MOST_AT_A_NODE;
 use gic_model::End;
 use gic_net::Net;
 use std::alloc::Global;
@@ -31,12 +31,11 @@ ghost use Rattle.std.specs.Prelude.{◌≡◌, ◌<◌, ◌≤◌, IfOk, length}
 ghost use Rattle.gic_thin.specs.Inside.{AreWiresInside};
 
 impl Wires {
-    /// For a network of this many nodes, with room for `MOST_AT_A_NODE` elements at each node and for `MOST_ELEMENTS` in
-    /// all.
-    pub(crate) fn new(alloc: Global, nodes: u16) -> Result<Wires, OutOfMemory>
+    /// For a network of this many nodes and elements.
+    pub(crate) fn new(alloc: Global, nodes: u16, elements: u16) -> Result<Wires, OutOfMemory>
         ensures { IfOk result (λ wires. wires ≡ nodes) }
     {
-        let wires = empty_wires(alloc, nodes)?;
+        let wires = empty_wires(alloc, nodes, elements)?;
         Ok(Wires {
             wires,
             count: 0,
@@ -62,7 +61,7 @@ impl Wires {
     }
 }
 
-fn empty_wires(alloc: Global, nodes: u16) -> Result<Vec<Wire>, OutOfMemory>
+fn empty_wires(alloc: Global, nodes: u16, elements: u16) -> Result<Vec<Wire>, OutOfMemory>
     ensures { IfOk result (λ wires. AreWiresInside nodes wires.items) }
 {
     let wire = Wire {
@@ -70,6 +69,7 @@ fn empty_wires(alloc: Global, nodes: u16) -> Result<Vec<Wire>, OutOfMemory>
         from: 0,
         to: End::Earth,
     };
-    let wires = vec![in alloc; wire; (MOST_AT_A_NODE * nodes as usize).min(MOST_ELEMENTS)]?;
+    let most = MOST_AT_A_NODE * nodes as usize;
+    let wires = vec![in alloc; wire; (elements as usize).min(most)]?;
     Ok(wires)
 }

@@ -57,10 +57,11 @@ pub fn make_room(alloc: Global, case: &Case, net: &Net) -> Result<Room, OutOfMem
     ensures { IfOk result (IsRoomForCase case.now) }
 {
     let nodes = net.nodes();
+    let count = net.count();
     let scratch = Scratch::new(alloc, nodes)?;
     let vector = BoundVector::new(alloc, nodes)?;
-    let start = Start::new(alloc, nodes)?;
-    let solver = Solver::new(alloc, nodes)?;
+    let start = Start::new(alloc, nodes, count)?;
+    let solver = Solver::new(alloc, nodes, count)?;
     let potentials = Potentials::new(alloc, nodes)?;
     Ok(Room {
         scratch,

@@ -1,5 +1,5 @@
 //! A network, looked at once and then solved in any voltages.
-ghost use Rattle.std.specs.Prelude.{◌≡◌, ◌<◌, length, slice_index, IfErr, OnOk};
+ghost use Rattle.std.specs.Prelude.{◌≡◌, ◌<◌, ◌≤◌, length, slice_index, IfErr, OnOk};
 ghost use Rattle.gic_base.specs.declared.limits.TheConstants.{MOST_WALK};
 ghost use Rattle.gic_model.specs.Guess.{IsSettled};
 ghost use Rattle.gic_model.specs.Voltages.{number_at};
@@ -56,7 +56,7 @@ fn solve_uncounted<L: Ledger>(
     requires some { 0 < blank.parts }
     requires together { BelongTogether net.now.network volts.now solver.old vector.now out.old }
     requires bound { IsBoundWithin (standing net.now) MOST_WALK (slice_index vector.now) }
-    requires width { IsWidth width }
+    requires width { 2 ≤ width }
     ensures solved { IsSolvedWithin (standing net.now) (number_at volts.now) width out.new }
     ensures together { BelongTogether net.now.network volts.now solver.new vector.now out.new }
 {
@@ -118,11 +118,12 @@ pub fn solve_view(
     case.keeps_rules();
     net.within_limits();
     volts.within_limit();
+    // Effective currents are rounded outward once more.
     solve_uncounted::<Brand>(
         net,
         volts,
         &room.vector,
-        width,
+        width - 1,
         &mut room.solver,
         &mut room.potentials,
         Blank::new(1),

@@ -44,7 +44,7 @@ sum_is c s =
     let w = c.effective_weights-weights.result in
     both_summed s w.first w.second ∙ sym (ap (sum_of (λ w. pos w.1 *ℤ s.current w.0.0)) c.effective_weights-weights.ensures.all)
 
-most : (c : goal.After-effective_na) → let w = c.effective_weights-weights.result in weight_in w.first + weight_in w.second ≤ 2 * w.high_volts
+most : (c : goal.After-effective_na) → let w = c.effective_weights-weights.result in weight_in w.first + weight_in w.second ≤ 3 * w.high_volts
 most c =
     let w = c.effective_weights-weights.result in
     let sum = weights_most (transformer_at c.args.case.now c.args.transformer) (windings_at (elements_of c.args.case.now) c.args.transformer) w.first w.second (order c) c.effective_weights-weights.ensures.all in
@@ -77,7 +77,7 @@ returns-clause-nought c none =
 
 pub returns-clause-narrow : goal.returns-clause-narrow
 returns-clause-narrow c tight =
-    narrow_from (ends_of c.effective_na.result) c.effective_na.result.ordered
+    narrow_from (ends_of c.effective_na.result) 401 (omega arith) c.effective_na.result.ordered
     (c.effective_na.ensures.tight (most c) (c.winding_or_nought-first.ensures.tight tight) (c.winding_or_nought-second.ensures.tight tight))
 
 pub returns-clause-small : goal.returns-clause-small

@@ -10,7 +10,7 @@ returns-clause-few c =
     let same : c.push_transformer_ends.new.ends.items ≡ element_ends c.args.network.now = grind (arith, common_steps) in
     let many = ap length same in
     let most = length-element_ends c.args.network.now in
-    let substations : length c.args.network.now.substations ≤ 1024 = search rules in
-    let lines : length c.args.network.now.lines ≤ 8192 = search rules in
-    let transformers : length c.args.network.now.transformers ≤ 3584 = search rules in
+    let substations : length c.args.network.now.substations ≤ 4096 = search rules in
+    let lines : length c.args.network.now.lines ≤ 24576 = search rules in
+    let transformers : length c.args.network.now.transformers ≤ 8192 = search rules in
     omega (arith, many, most)

@@ -1,44 +1,51 @@
-use Rattle.std.proofs.Common.{◌≡◌, ℕ, List, length, ap, sym, subst, ◌∙◌}
-use Rattle.std.specs.Prelude.{All}
+use Rattle.std.proofs.Common.{◌≡◌, ℕ, length, ap, sym, subst, ◌∙◌}
+use Rattle.gic_net.specs.Net.{standing}
 use Rattle.gic_view.specs.View.{View}
-use Rattle.gic_effective.specs.Narrow.{IsNarrowView}
-use Rattle.gic_view.specs.Absolute.{HasAbsolute}
-use Rattle.gic_course.specs.declared.room.Room.{Room}
-use Rattle.gic_course.proofs.Told.{narrow_told, have_absolutes, fields-count}
+use Rattle.gic_course.specs.Steps.{standing_at_step, storm_fields}
+use Rattle.gic_course.specs.Views.{IsShownIn}
+use Rattle.gic_course.proofs.Told.{shown_told, fields-count}
 use Rattle.gic_course.proofs.KeptReady.{settled_with_fields}
+use Rattle.gic_course.proofs.SuperposedSteps.{shown_with}
 use Rattle.gic_course.proofs.showing.show_step.Goals as goal
 
-pub take_step-requires-clause-room : goal.take_step-requires-clause-room
-take_step-requires-clause-room c =
-    let space = c.requires.ready.space in
+pub show_fields-requires-clause-can : goal.show_fields-requires-clause-can
+show_fields-requires-clause-can c =
+    let ready = c.requires.ready in
     record {
-      scratch = space.scratch;
-      start = space.start;
-      together = space.together;
-      fit = record {
-        lines = space.fit.lines;
-        zones = ap length c.fill_fields.ensures ∙ fields-count _ _ ∙ c.requires.ready.storm;
-        shape = space.fit.shape;
+      network = ready.network;
+      solvable = c.requires.solvable;
+      space = record {
+        scratch = ready.space.scratch;
+        start = ready.space.start;
+        together = ready.space.together;
+        zones = ap length c.fill_fields.ensures ∙ fields-count _ _ ∙ ready.storm;
+        superposes = ready.space.superposes;
+        base_room = ready.space.base_room;
       };
+      settled = settled_with_fields c.args.way c.args.inputs.now.inputs.case c.args.net.now c.args.room.now _ ready.settled;
     }
-
-pub take_step-requires-clause-settled : goal.take_step-requires-clause-settled
-take_step-requires-clause-settled c = settled_with_fields c.args.way c.args.inputs.now.inputs.case c.args.net.now c.args.room.now _ c.requires.ready.settled
 
 both_told : (view numbered timed : View) (number time : ℕ) → numbered ≡ record view { number = number } → timed ≡ record numbered { time = time } → timed ≡ record view { number = number; time = time }
 both_told view numbered timed number time first second = second ∙ ap (λ (v : View). record v { time = time }) first
 
-pub returns-clause-narrow : goal.returns-clause-narrow
-returns-clause-narrow c =
-    let case = c.args.inputs.now.inputs.case in
-    let narrow = c.fill_view.ensures.narrow c.args.width c.requires.width.least c.take_step.ensures.stepped.solved.sharp in
-    subst (IsNarrowView case c.args.width) (sym (both_told c.fill_view.new.out c.set_number.new.self c.set_time.new.self _ _ c.set_number.ensures c.set_time.ensures))
-    (narrow_told case c.args.width c.fill_view.new.out _ _ narrow)
+told : (c : goal.After-set_time) → c.set_time.new.self ≡ record c.show_fields.new.view { number = c.args.number; time = c.time_of_step.result }
+told c = both_told c.show_fields.new.view c.set_number.new.self c.set_time.new.self c.args.number c.time_of_step.result c.set_number.ensures c.set_time.ensures
 
-pub returns-clause-absolutes : goal.returns-clause-absolutes
-returns-clause-absolutes c =
-    let same : c.set_time.new.self.effective ≡ c.fill_view.new.out.effective = ap (λ (v : View). v.effective) c.set_time.ensures ∙ ap (λ (v : View). v.effective) c.set_number.ensures in
-    subst (All HasAbsolute) (sym same) (have_absolutes c.fill_view.new.out c.fill_view.ensures.small)
+pub returns-clause-shown : goal.returns-clause-shown
+returns-clause-shown c =
+    let inputs = c.args.inputs.now in
+    let case = inputs.inputs.case in
+    let stands = standing_at_step inputs c.args.number in
+    let fields = storm_fields inputs c.args.number in
+    subst (IsShownIn case stands fields c.args.width) (sym (told c))
+    (shown_told case stands fields c.args.width c.show_fields.new.view _ _
+    (shown_with case (standing c.args.net.now) _ _ _ c.args.width c.show_fields.new.view c.requires.ready.stands c.fill_fields.ensures c.show_fields.ensures.shown))
+
+pub returns-clause-number : goal.returns-clause-number
+returns-clause-number c = ap (λ (v : View). v.number) (told c)
+
+pub returns-clause-time : goal.returns-clause-time
+returns-clause-time c = ap (λ (v : View). v.time) (told c) ∙ c.time_of_step.ensures
 
 pub returns-clause-stays : goal.returns-clause-stays
 returns-clause-stays c = record {
@@ -46,6 +53,6 @@ returns-clause-stays c = record {
   step = c.requires.ready.step;
   network = c.requires.ready.network;
   stands = c.requires.ready.stands;
-  space = c.take_step.ensures.stepped.room;
-  settled = c.take_step.ensures.settled;
+  space = c.show_fields.ensures.can.space;
+  settled = c.show_fields.ensures.can.settled;
 }

@@ -1,4 +1,4 @@
-use Rattle.std.proofs.Common.{ℕ, ◌<◌, drop}
+use Rattle.std.proofs.Common.{◌<◌, drop}
 use Rattle.gic_net.specs.Net.{standing}
 use Rattle.gic_stand.specs.Standing.{IsSolvable}
 use Rattle.gic_course.specs.Ready.{IsSwitchedFor}

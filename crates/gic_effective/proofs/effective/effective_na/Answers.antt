@@ -34,5 +34,5 @@ returns-clause-small c sum =
 pub returns-clause-tight : goal.returns-clause-tight
 returns-clause-tight c sum one other =
     let w = c.args.weights.now in
-    same_width c.div_out.result.lo c.div_out.result.hi _ _ 400 (low c) (high c)
+    same_width c.div_out.result.lo c.div_out.result.hi _ _ 401 (low c) (high c)
     (effective_tight w.first w.second w.high_volts c.args.first.lo c.args.first.hi c.args.second.lo c.args.second.hi c.requires.volts sum one other)

@@ -1,4 +1,4 @@
-use Rattle.std.proofs.Common.{◌≡◌, ◌*◌, pos, ◌+ℤ◌, arith, rules}
+use Rattle.std.proofs.Common.{◌≡◌, ◌+◌, ◌*◌, pos, ◌+ℤ◌, arith, rules}
 use Rattle.gic_fixed.specs.Rounding.{floor_div, ceil_div}
 use Rattle.gic_effective.specs.WeightedPair.{weighted}
 use Rattle.gic_effective.proofs.Currents.{Encloses-same, quotient_within}
@@ -14,11 +14,12 @@ returns-clause-holds c one other d e f =
     Encloses-same _ _ _ _ _ _ low high (effective_holds w.first w.second w.high_volts c.args.first.lo c.args.first.hi c.args.second.lo c.args.second.hi one other d c.requires.volts e f)
 
 pub returns-clause-narrow : goal.returns-clause-narrow
-returns-clause-narrow c width least sum one other =
+returns-clause-narrow c width sum one other =
     let w = c.args.weights.now in
     let low : c.div_out.result.lo ≡ floor_div (weighted w.first c.args.first.lo +ℤ weighted w.second c.args.second.lo) (pos (3000000 * w.high_volts)) = search rules in
     let high : c.div_out.result.hi ≡ ceil_div (weighted w.first c.args.first.hi +ℤ weighted w.second c.args.second.hi) (pos (3000000 * w.high_volts)) = search rules in
-    same_width c.div_out.result.lo c.div_out.result.hi (floor_div (weighted w.first c.args.first.lo +ℤ weighted w.second c.args.second.lo) (pos (3000000 * w.high_volts))) (ceil_div (weighted w.first c.args.first.hi +ℤ weighted w.second c.args.second.hi) (pos (3000000 * w.high_volts))) width low high (effective_width w.first w.second w.high_volts c.args.first.lo c.args.first.hi c.args.second.lo c.args.second.hi width c.requires.volts least sum one other)
+    same_width c.div_out.result.lo c.div_out.result.hi _ _ (width + 1) low high
+    (effective_width w.first w.second w.high_volts c.args.first.lo c.args.first.hi c.args.second.lo c.args.second.hi width c.requires.volts sum one other)
 
 pub returns-clause-small : goal.returns-clause-small
 returns-clause-small c =

@@ -64,9 +64,9 @@ returns c =
             one.result.lo one.result.hi other.result.lo other.result.hi c.effective_weights-weights.ensures.all one.ensures.shown other.ensures.shown none in
             quotients_nought _ _ result.lo result.hi (3000000 * w.high_volts) some c.signed_effective.ensures.low c.signed_effective.ensures.high sums.0 sums.1;
       };
-      narrow = λ width least sharp.
+      narrow = λ width sharp.
           let most = weights_most (transformer_at c.args.case.now c.args.transformer) (windings_at (elements_of c.args.case.now) c.args.transformer) w.first w.second (order c) c.effective_weights-weights.ensures.all in
-          c.signed_effective.ensures.narrow width (omega (arith, least)) (omega (arith, most, volts_are c))
+          c.signed_effective.ensures.narrow width (omega (arith, most, volts_are c))
           (winding_narrow stand volts xs w.first one.result.lo one.result.hi width one.ensures.shown sharp)
           (winding_narrow stand volts xs w.second other.result.lo other.result.hi width other.ensures.shown sharp);
       small = c.signed_effective.ensures.small;

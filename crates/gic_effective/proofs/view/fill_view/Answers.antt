@@ -1,9 +1,11 @@
-use Rattle.std.proofs.Common.{◌≡◌, ℕ, ◌<◌, None, length, slice_index_or, ap, sym, subst, ◌∙◌}
+use Rattle.std.proofs.Common.{◌≡◌, ℕ, ◌+◌, ◌<◌, ◌≤◌, Option, None, Some, length, slice_index_or, arith, ap, sym, subst, ◌∙◌}
 use Rattle.gic_case.specs.Lists.{node_names}
+use Rattle.gic_fixed.specs.Ends.{Ends}
+use Rattle.gic_fixed.proofs.Widths.{wider}
 use Rattle.gic_model.specs.Network.{Network}
 use Rattle.gic_model.specs.Voltages.{number_at}
 use Rattle.gic_net.specs.Net.{standing}
-use Rattle.gic_view.specs.View.{View}
+use Rattle.gic_view.specs.View.{View, effective_at}
 use Rattle.gic_winding.specs.ElementList.{elements_of}
 use Rattle.gic_effective.specs.Narrow.{IsNoWider}
 use Rattle.gic_effective.specs.RightView.{IsRightNode, IsRightElement}
@@ -57,19 +59,25 @@ returns-clause-right c holds =
       effective = λ t below. (c.fill_effective.ensures.shown t (subst (λ (n : ℕ). t < n) (sym lengths.transformers) below)).right holds;
     }
 
+no_wider : (width more : ℕ) → width ≤ more → (interval : Option Ends) → IsNoWider width interval → IsNoWider more interval
+no_wider width more h None narrow = tt
+no_wider width more h (Some ends) narrow = wider ends.low ends.high width more h narrow
+
 pub returns-clause-narrow : goal.returns-clause-narrow
-returns-clause-narrow c width least sharp =
+returns-clause-narrow c width more finer sharp =
     let volts = number_at c.args.volts.now in
     let lengths = lengths_are c in
+    let most : width ≤ more = omega (arith, finer) in
+    let next : width + 1 ≤ more = omega (arith, finer) in
     record {
       lengths = lengths;
       nodes = λ k below.
-          subst (λ xs. IsNoWider width (slice_index_or xs k None)) (sym (nodes_are c))
-          ((c.fill_nodes.ensures.shown volts k (subst (λ (n : ℕ). k < n) (sym (node_count c)) below)).narrow width sharp);
+          subst (λ xs. IsNoWider more (slice_index_or xs k None)) (sym (nodes_are c)) (no_wider width more most _
+          ((c.fill_nodes.ensures.shown volts k (subst (λ (n : ℕ). k < n) (sym (node_count c)) below)).narrow width sharp));
       elements = λ k below.
-          subst (λ xs. IsNoWider width (slice_index_or xs k None)) (sym (elements_are c))
-          ((c.fill_elements.ensures.shown k (subst (λ (n : ℕ). k < n) (sym (element_count c)) below)).narrow width sharp);
-      effective = λ t below. (c.fill_effective.ensures.shown t (subst (λ (n : ℕ). t < n) (sym lengths.transformers) below)).narrow width least sharp;
+          subst (λ xs. IsNoWider more (slice_index_or xs k None)) (sym (elements_are c)) (no_wider width more most _
+          ((c.fill_elements.ensures.shown k (subst (λ (n : ℕ). k < n) (sym (element_count c)) below)).narrow width sharp));
+      effective = λ t below. no_wider (width + 1) more next (Some (effective_at c.fill_effective.new.out t)) ((c.fill_effective.ensures.shown t (subst (λ (n : ℕ). t < n) (sym lengths.transformers) below)).narrow width sharp);
     }
 
 pub returns-clause-small : goal.returns-clause-small

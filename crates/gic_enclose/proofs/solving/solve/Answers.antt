@@ -15,6 +15,6 @@ returns-clause-solved g c =
     let more : 2 ^ 18 ≤ 2 ^ 29 = omega arith in
     record {
       certain = c.enclose.ensures.certain;
-      sharp = narrow_is_sharp net.network.nodes volts (low_at c.enclose.new.out) (high_at c.enclose.new.out) c.args.width (omega (arith, c.requires.width.least))
+      sharp = narrow_is_sharp net.network.nodes volts (low_at c.enclose.new.out) (high_at c.enclose.new.out) c.args.width c.requires.width
           (c.enclose.ensures.narrow (λ k live. settled_more (standing net) volts x k (2 ^ 18) (2 ^ 29) more (c.settle.ensures.settled k live))) (standing net) (standing_within net.network (stands net) c.within_limits.ensures);
     }

@@ -24,7 +24,7 @@ from_solver-cert-requires-clause-certifiable c =
       volt_count = grounded.volts_count;
       guess_count = ap length zeros ∙ length-replicate nodes (pos 0) ∙ c.nodes-nodes.ensures.value;
       entry_count = c.in_ok-vector.ensures ∙ c.nodes-nodes.ensures.value;
-      bound = c.rows_positive.ensures.0 c.if-not-rows_positive.false;
+      bound = c.is_bound_vector.ensures.0 c.if-not-is_bound_vector.false;
       settled =
           subst (λ xs. IsSettled (standing grounded.net) (number_at grounded.volts) (number_at xs)) (sym same)
           (c.is_settled.ensures.settled c.if-not-is_settled.false);

@@ -2,9 +2,10 @@ use Rattle.std.proofs.Common.{◌+◌, ◌*◌, ◌≤◌, length, ◌+ℤ◌, a
 use Rattle.gic_fixed.specs.Encloses.{IsWithin}
 use Rattle.gic_induce.specs.Fields.{field_at}
 use Rattle.gic_superpose.specs.Superposed.{zone_at, zone_low, zone_high}
-use Rattle.gic_superpose.specs.Compact.{compact_row_of, most_compact}
+use Rattle.gic_superpose.specs.Pairs.{row_of}
+use Rattle.gic_superpose.specs.Compact.{most_compact}
 use Rattle.gic_superpose.proofs.Parts.{next_small, fits_compact, same_within, compact_part}
-use Rattle.gic_bases.proofs.SumsBelow.{sum_below-next}
+use Rattle.gic_superpose.proofs.Sums.{sum_below-next}
 use Rattle.gic_superpose.proofs.compact.whole.Goals as goal
 
 next : (c : goal.After-zone_part) → IsWithin ((c.loop-zone.zone + 1) * (40000 * most_compact (length c.args.fields.now))) (c.loop-zone.sum.low +ℤ c.zone_part.result.low) (c.loop-zone.sum.high +ℤ c.zone_part.result.high)
@@ -26,7 +27,7 @@ pub loop-zone-preserved : goal.loop-zone-preserved
 loop-zone-preserved c =
     let i = c.loop-zone.invariant in
     let fields = c.args.fields.now in
-    let row = compact_row_of c.args.row.now in
+    let row = row_of c.args.row.now in
     let zone = c.loop-zone.zone in
     let part = c.zone_part.ensures in
     record {

@@ -3,7 +3,7 @@ use Rattle.gic_induce.specs.Fields.{field_at}
 use Rattle.gic_superpose.specs.Superposed.{zone_at, zone_low, zone_high}
 use Rattle.gic_superpose.specs.Pairs.{row_of}
 use Rattle.gic_superpose.proofs.Parts.{next_fits, next_small, same_within}
-use Rattle.gic_bases.proofs.SumsBelow.{sum_below-next}
+use Rattle.gic_superpose.proofs.Sums.{sum_below-next}
 use Rattle.gic_superpose.proofs.superposing.whole.Goals as goal
 
 few : (c : goal.After-zone_part) → c.loop-zone.zone < 256

@@ -1,7 +1,7 @@
 use Rattle.std.proofs.Common.{◌≡◌, ◌*◌, ◌^◌}
 use Rattle.gic_fixed.specs.Encloses.{IsWithin}
 use Rattle.gic_induce.specs.Fields.{field_at}
-use Rattle.gic_bases.specs.Bases.{sum_below}
+use Rattle.gic_superpose.specs.Sums.{sum_below}
 use Rattle.gic_superpose.specs.Superposed.{zone_at, zone_low, zone_high}
 use Rattle.gic_superpose.specs.Pairs.{row_of}
 use Rattle.gic_superpose.proofs.superposing.whole.Given as goal

@@ -1,4 +1,4 @@
-use Rattle.std.proofs.Common.{◌≡◌, ap, sym, ◌∙◌}
+use Rattle.std.proofs.Common.{◌≡◌, arith, ap, sym, ◌∙◌}
 use Rattle.gic_model.specs.Network.{Network}
 use Rattle.gic_model.specs.Voltages.{number_at}
 use Rattle.gic_net.specs.Net.{stands}
@@ -25,7 +25,7 @@ fill_view-requires-clause-together c = record {
 pub returns-clause-solved : goal.returns-clause-solved
 returns-clause-solved c =
     let right = c.fill_view.ensures.right (λ s solves k live. (c.solve_uncounted.ensures.solved.certain k).live live s solves) in
-    let narrow = c.fill_view.ensures.narrow c.args.width c.requires.width.least c.solve_uncounted.ensures.solved.sharp in
+    let narrow = c.fill_view.ensures.narrow _ c.args.width (omega (arith, c.requires.width.least)) c.solve_uncounted.ensures.solved.sharp in
     record {
       right = right;
       narrow = narrow;

@@ -1,0 +1,29 @@
+use Rattle.std.proofs.Common.{◌≡◌, ℕ, ◌<◌, length, slice_index_or, slice_set, Option, None, arith, ap, sym, subst, ◌∙◌}
+use Rattle.std.proofs.lemmas.List.{length-set}
+use Rattle.gic_fixed.specs.Ends.{Ends}
+use Rattle.gic_model.specs.Standing.{is_live}
+use Rattle.gic_net.specs.Net.{standing}
+use Rattle.gic_view.specs.View.{View}
+use Rattle.gic_view.specs.Kept.{optional_ends}
+use Rattle.gic_superpose.specs.Rows.{row_at}
+use Rattle.gic_superpose.specs.Superposed.{superposed}
+use Rattle.gic_base_views.specs.Superposed.{shown_where}
+use Rattle.gic_view.proofs.Alone.{nodes_alone}
+use Rattle.gic_effective.proofs.Filled.{filled}
+use Rattle.gic_base_views.proofs.showing.fill_nodes.Goals as goal
+
+pub loop-node-preserved : goal.loop-node-preserved
+loop-node-preserved c =
+    let P : ℕ → Option Ends → Type 0 = λ k e. e ≡ shown_where (is_live (standing c.args.net.now) k) (superposed c.args.fields.now (row_at c.args.rows.now k)) in
+    let i = c.loop-node.invariant in
+    let xs = c.loop-node.out.nodes in
+    let at = c.loop-node.node in
+    let x = optional_ends c.node_interval.result in
+    let new = c.set_node.new.self in
+    let lists : new.nodes ≡ slice_set xs at x = ap (λ (v : View). v.nodes) c.set_node.ensures in
+    let inside : at < length xs = omega (arith, c.loop-node-test.true, c.nodes-node-end.ensures.value, c.requires.room, i.count) in
+    record {
+      shown = λ k below. subst (λ ys. P k (slice_index_or ys k None)) (sym lists) (filled P xs None x at inside i.shown c.node_interval.ensures k below);
+      rest = nodes_alone c.args.out.now c.loop-node.out new (slice_set xs at x) i.rest c.set_node.ensures;
+      count = ap length lists ∙ length-set xs at x ∙ i.count;
+    }

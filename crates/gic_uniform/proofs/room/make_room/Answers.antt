@@ -1,0 +1,17 @@
+use Rattle.std.proofs.Common.{◌≡◌, ap, ◌∙◌}
+use Rattle.gic_island.specs.Scratch.{ScratchView}
+use Rattle.gic_model.specs.Network.{Network}
+use Rattle.gic_winding.specs.ElementList.{elements_of}
+use Rattle.gic_stand.proofs.Rooms.{room_for}
+use Rattle.gic_uniform.proofs.room.make_room.Goals as goal
+
+pub returns : goal.returns
+returns c =
+    let nodes : c.nodes-nodes.result ≡ (elements_of c.args.case.now).nodes = c.nodes-nodes.ensures.value ∙ ap (λ (n : Network). n.nodes) c.requires in
+    record {
+      scratch = ap (λ (s : ScratchView). s.nodes) c.in_ok-scratch.ensures ∙ nodes;
+      start = c.in_ok-start.ensures ∙ nodes;
+      solver = room_for _ _ _ c.in_ok-solver.ensures ∙ nodes;
+      vector = room_for _ _ _ c.in_ok-vector.ensures ∙ nodes;
+      potentials = room_for _ _ _ c.in_ok-potentials.ensures ∙ nodes;
+    }
