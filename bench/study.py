@@ -6,7 +6,7 @@ doubles, and prints a table. `study.sh` calls it.
 
 PROGRAM is the built program, SUPERPOSE the built `baselines/superpose.c`, and each CASE a file. Times are the least of some
 runs. The time of a step is that of more than 20 steps by the number of those more; what is left of a run of 20 steps is
-reading, preparing the bases and writing. A case of more than a hundred zones gets 500 steps, each with one field for all zones:
+reading, certifying the base fields and writing. A case of more than a hundred zones gets 500 steps, each with one field for all zones:
 its steps are slow enough to be timed so.
 """
 
