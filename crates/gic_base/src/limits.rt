@@ -19,16 +19,19 @@ pub const MOST_LINES: usize = 24576;
 pub const MOST_TRANSFORMERS: usize = 8192;
 
 /// The substations of a case of format 1 or 2.
-pub const MOST_SUBSTATIONS_TO_FORMAT_2: usize = 1024;
+pub const MOST_SUBSTATIONS_BEFORE_FORMAT_3: usize = 1024;
 
 /// The buses of a case of format 1 or 2.
-pub const MOST_BUSES_TO_FORMAT_2: usize = 3072;
+pub const MOST_BUSES_BEFORE_FORMAT_3: usize = 3072;
 
 /// The lines of a case of format 1 or 2.
-pub const MOST_LINES_TO_FORMAT_2: usize = 8192;
+pub const MOST_LINES_BEFORE_FORMAT_3: usize = 8192;
 
 /// The transformers of a case of format 1 or 2.
-pub const MOST_TRANSFORMERS_TO_FORMAT_2: usize = 3584;
+pub const MOST_TRANSFORMERS_BEFORE_FORMAT_3: usize = 3584;
+
+/// The parts of a line that leads through several zones.
+pub const MOST_PARTS: usize = 16;
 
 /// The nodes of a network: a substation, a bus and a transformer's neutral each make at most one.
 pub const MOST_NODES: usize = MOST_SUBSTATIONS + MOST_BUSES + MOST_TRANSFORMERS;
@@ -39,6 +42,12 @@ pub const MOST_ELEMENTS: usize = MOST_SUBSTATIONS
     + MOST_LINES
     + 3 * MOST_TRANSFORMERS
     + MOST_TRANSFORMERS;
+
+/// The elements of a network of format 1 or 2, where a transformer makes two windings at most.
+pub const MOST_ELEMENTS_BEFORE_FORMAT_3: usize = MOST_SUBSTATIONS_BEFORE_FORMAT_3
+    + MOST_LINES_BEFORE_FORMAT_3
+    + 2 * MOST_TRANSFORMERS_BEFORE_FORMAT_3
+    + MOST_TRANSFORMERS_BEFORE_FORMAT_3;
 
 /// The elements that end at a node, in whichever format.
 pub const MOST_AT_A_NODE: usize = 256;

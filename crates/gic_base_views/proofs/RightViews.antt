@@ -111,8 +111,8 @@ module _ (case : Lists) (stands : Item → Bool) (fields : List (ℤ × ℤ)) (r
     holds = λ s solves.
         let same : 1000000 * (3 * (transformer_at case t).high_volts) * s.denominator ≡ effective_denominator case t s = omega arith in
         subst (λ (m : ℕ). Encloses (superposed fields (rows.effective t)).low (superposed fields (rows.effective t)).high (effective_numerator case s t) m) same
-        (held (λ s. effective_numerator case s t) (3 * (transformer_at case t).high_volts) (rows.effective t) (weighted_linear standing (weighted_windings case t)) (λ zone within. (certified zone within).effective t less) s solves);
-    nought = λ none. superposed_nought fields (rows.effective t) (λ zone within. (certified zone (within_zones zone within)).nought t less none);
+        (held (λ s. effective_numerator case s t) (3 * (transformer_at case t).high_volts) (rows.effective t) (weighted_linear standing (weighted_windings case t)) (λ zone within. ((certified zone within).effective t less).certified) s solves);
+    nought = λ none. superposed_nought fields (rows.effective t) (λ zone within. ((certified zone (within_zones zone within)).effective t less).nought none);
   }
 
   pub right_view : IsRightView case standing volts view
@@ -129,5 +129,5 @@ module _ (case : Lists) (stands : Item → Bool) (fields : List (ℤ × ℤ)) (r
     nodes = λ k less. subst (IsNoWider width) (sym (shown.nodes k less)) (narrow_node k (is_live standing k) refl);
     elements = λ place less. subst (IsNoWider width) (sym (shown.elements place less)) (narrow_element place (is_standing standing place) refl);
     effective = λ t less. subst (λ (e : Ends). IsNoWider width (Some e)) (sym (shown.effective t less))
-        (narrow (λ s. effective_numerator case s t) (3 * (transformer_at case t).high_volts) (rows.effective t) (λ zone within. (certified zone within).effective t less));
+        (narrow (λ s. effective_numerator case s t) (3 * (transformer_at case t).high_volts) (rows.effective t) (λ zone within. ((certified zone within).effective t less).certified));
   }

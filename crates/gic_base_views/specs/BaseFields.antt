@@ -1,5 +1,5 @@
 -- Base fields that are solved.
-use Rattle.std.specs.Prelude.{ℕ, ◌≡◌, ◌*◌, List, length, slice_index, ℤ}
+use Rattle.std.specs.Prelude.{ℕ, ◌≡◌, List, length, slice_index, ℤ}
 use Rattle.gic_base.specs.declared.limits.TheConstants.{MOST_WALK}
 use Rattle.gic_bound.specs.Entries.{IsBoundWithin}
 use Rattle.gic_case.specs.Lists.{Lists}
@@ -10,16 +10,11 @@ use Rattle.gic_model.specs.Sums.{Placed}
 use Rattle.gic_model.specs.Voltages.{number_at}
 use Rattle.gic_net.specs.Net.{NetView, standing}
 use Rattle.gic_winding.specs.ElementList.{elements_of}
-use Rattle.gic_winding.specs.Weights.{transformer_at}
 use Rattle.gic_effective.specs.Holds.{AreOfNetwork, HoldsSolutions}
-use Rattle.gic_effective.specs.RightView.{HasNoStandingWinding}
-use Rattle.gic_effective.specs.Weighted.{effective_numerator}
-use Rattle.gic_superpose.specs.Superposed.{ZoneEnds, no_zone_ends}
 use Rattle.gic_base_views.specs.declared.room.BaseField.{BaseField}
 use Rattle.gic_base_views.specs.declared.room.BaseRoom.{BaseRoom}
-use Rattle.gic_base_views.specs.BaseRows.{IsCertifiedPair}
 use Rattle.gic_base_views.specs.Table.{IsTableOf}
-use Rattle.gic_base_views.specs.Tight.{AreTight}
+use Rattle.gic_enclose.specs.Certain.{AreTight}
 
 -- base fields can be solved in the net: it is the case's, the entries are a bound vector of it, and fields and guesses are for the case's zones and nodes
 pub record CanSolveBases (case : Lists) (net : NetView) (entries : List ℕ) (fields : List (ℤ × ℤ)) (guesses : List ℤ) : Type 0 where
@@ -39,11 +34,6 @@ pub record IsSolvedIn (network : Network) (standing : List Placed) (base : BaseF
 pub record IsSolvedBase (case : Lists) (standing : List Placed) (zone : ℕ) (field : ℤ × ℤ) (base : BaseField) : Type 0 where
   pub induced : base.volts ≡ volts_of case (lone_field (length case.zones) zone field) (elements_of case).list
   pub solved : IsSolvedIn (elements_of case) standing base
-
--- the two intervals of a transformer are certified for the voltages of two base fields, and are 0 alone where none of its windings stands
-pub record IsCertifiedEffective (case : Lists) (standing : List Placed) (north east : ℕ → ℤ) (t : ℕ) (pair : ZoneEnds) : Type 0 where
-  pub certified : IsCertifiedPair standing north east (λ s. effective_numerator case s t) (3 * (transformer_at case t).high_volts) pair
-  pub nought : HasNoStandingWinding case standing t → pair ≡ no_zone_ends
 
 -- both base fields have room for the elements and nodes of the case, and the table is one of the case
 pub record IsBaseRoomFor (case : Lists) (room : BaseRoom) : Type 0 where

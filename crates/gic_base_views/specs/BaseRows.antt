@@ -7,7 +7,7 @@ use Rattle.gic_model.specs.Sums.{Placed}
 use Rattle.gic_winding.specs.ElementList.{elements_of}
 use Rattle.gic_winding.specs.Weights.{transformer_at}
 use Rattle.gic_effective.specs.Weighted.{effective_numerator}
-use Rattle.gic_effective.specs.RightView.{HasNoStandingWinding}
+use Rattle.gic_effective.specs.RightView.{HasNoEffect}
 use Rattle.gic_superpose.specs.BaseFields.{north_volts, east_volts}
 use Rattle.gic_superpose.specs.Superposed.{ZoneEnds, no_zone_ends, zone_at, IsNarrowZone}
 use Rattle.gic_superpose.specs.Quantities.{HoldsInZone}
@@ -28,13 +28,17 @@ abbrev pub IsCertifiedZone : Lists → List Placed → (Solution → ℤ) → (o
 IsCertifiedZone case standing quantity over zone row =
     IsCertifiedPair standing (north_volts case (elements_of case).list zone) (east_volts case (elements_of case).list zone) quantity over (zone_at row zone)
 
--- of one zone: the intervals are certified where something shows: live nodes, standing elements, and all transformers, those without a standing winding at 0 alone
+-- the two intervals of a transformer are certified for the voltages of two base fields, and are 0 alone where no winding that stands has a weight
+pub record IsCertifiedEffective (case : Lists) (standing : List Placed) (north east : ℕ → ℤ) (t : ℕ) (pair : ZoneEnds) : Type 0 where
+  pub certified : IsCertifiedPair standing north east (λ s. effective_numerator case s t) (3 * (transformer_at case t).high_volts) pair
+  pub nought : HasNoEffect case standing t → pair ≡ no_zone_ends
+
+-- of one zone: the intervals are certified where something shows: live nodes, standing elements, and all transformers
 pub record IsCertifiedIn (case : Lists) (standing : List Placed) (rows : BaseRows) (zone : ℕ) : Type 0 where
   pub nodes : (k : ℕ) → IsLive standing k → IsCertifiedZone case standing (λ s. s.potential k) 1 zone (rows.nodes k)
   pub elements : (place : ℕ) → IsTrue (is_standing standing place) → IsCertifiedZone case standing (λ s. s.current place) 1 zone (rows.elements place)
   pub effective : (t : ℕ) → t < length case.transformers →
-      IsCertifiedZone case standing (λ s. effective_numerator case s t) (3 * (transformer_at case t).high_volts) zone (rows.effective t)
-  pub nought : (t : ℕ) → t < length case.transformers → HasNoStandingWinding case standing t → zone_at (rows.effective t) zone ≡ no_zone_ends
+      IsCertifiedEffective case standing (north_volts case (elements_of case).list zone) (east_volts case (elements_of case).list zone) t (zone_at (rows.effective t) zone)
 
 -- so are those of each zone
 abbrev pub AreCertifiedRows : Lists → List Placed → BaseRows → Type 0

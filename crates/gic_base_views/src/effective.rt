@@ -7,13 +7,13 @@ ghost use Rattle.gic_net.specs.Net.{standing};
 ghost use Rattle.gic_winding.specs.ElementList.{elements_of};
 ghost use Rattle.gic_winding.specs.Weights.{transformer_at};
 ghost use Rattle.gic_effective.specs.Holds.{AreOfNetwork, HoldsSolutions};
-ghost use Rattle.gic_effective.specs.RightView.{HasNoStandingWinding};
+ghost use Rattle.gic_effective.specs.RightView.{HasNoEffect};
 ghost use Rattle.gic_effective.specs.Shown.{IsShownCurrent, IsShownWinding};
 ghost use Rattle.gic_effective.specs.Weighted.{effective_numerator};
 ghost use Rattle.gic_superpose.specs.Pairs.{most_base};
 ghost use Rattle.gic_superpose.specs.Quantities.{HoldsQuantity};
 ghost use Rattle.gic_superpose.specs.Superposed.{IsNarrowBase};
-ghost use Rattle.gic_base_views.specs.Tight.{AreTight};
+ghost use Rattle.gic_enclose.specs.Certain.{AreTight};
 
 use gic_base::ElementId;
 use gic_case::Case;
@@ -79,7 +79,7 @@ pub fn base_effective(
     requires place { transformer < length case.now.transformers }
     ensures holds { HoldsSolutions (standing net.now) (number_at volts.now) potentials.now →
         HoldsQuantity (standing net.now) (number_at volts.now) (λ s. effective_numerator case.now s transformer) (3 * (transformer_at case.now transformer).high_volts) (ends_of result) }
-    ensures nought { HasNoStandingWinding case.now (standing net.now) transformer → ends_of result ≡ zero_ends }
+    ensures nought { HasNoEffect case.now (standing net.now) transformer → ends_of result ≡ zero_ends }
     ensures narrow { AreTight potentials.now → IsNarrowBase (ends_of result) }
     ensures small { IsWithin most_base result.lo result.hi }
 {
@@ -88,5 +88,6 @@ pub fn base_effective(
     let weights = effective_weights(case, net.list(), transformer);
     let first = winding_or_nought(net, volts, potentials, weights.first);
     let second = winding_or_nought(net, volts, potentials, weights.second);
-    effective_na(&weights, first, second)
+    let third = winding_or_nought(net, volts, potentials, weights.third);
+    effective_na(&weights, first, second, third)
 }

@@ -10,7 +10,7 @@ ghost use Rattle.gic_effective.specs.Holds.{AreOfNetwork, HoldsSolutions};
 ghost use Rattle.gic_superpose.specs.Pairs.{most_base};
 ghost use Rattle.gic_superpose.specs.Quantities.{HoldsQuantity};
 ghost use Rattle.gic_superpose.specs.Superposed.{IsNarrowBase};
-ghost use Rattle.gic_base_views.specs.Tight.{AreTight};
+ghost use Rattle.gic_enclose.specs.Certain.{AreTight};
 
 use gic_base::{ElementId, NodeId};
 use gic_effective::{potential_nv, tight_current_na};

@@ -7,8 +7,8 @@ ghost use Rattle.gic_winding.specs.ElementList.{elements_of};
 ghost use Rattle.gic_superpose.specs.Superposed.{zone_at};
 ghost use Rattle.gic_superpose.specs.Pairs.{zone_of, IsSmallPair};
 ghost use Rattle.gic_superpose.specs.Rows.{row_at, AreRowsOf};
-ghost use Rattle.gic_base_views.specs.BaseRows.{IsCertifiedPair};
-ghost use Rattle.gic_base_views.specs.BaseFields.{IsSolvedIn, IsCertifiedEffective};
+ghost use Rattle.gic_base_views.specs.BaseRows.{IsCertifiedPair, IsCertifiedEffective};
+ghost use Rattle.gic_base_views.specs.BaseFields.{IsSolvedIn};
 ghost use Rattle.gic_base_views.specs.Table.{OthersStay};
 
 use crate::effective::base_effective;

@@ -1,3 +1,4 @@
+pub mod Courses
 pub mod Lists
 pub mod Sound
 pub mod Names

@@ -5,6 +5,7 @@ use Rattle.gic_scale.specs.ZoneView.{ZoneView}
 use Rattle.gic_case.specs.declared.item.Substation.{Substation}
 use Rattle.gic_case.specs.declared.item.Bus.{Bus}
 use Rattle.gic_case.specs.declared.item.Line.{Line}
+use Rattle.gic_case.specs.declared.item.Third.{Third}
 use Rattle.gic_case.specs.declared.item.Kind.{Kind}
 use Rattle.gic_case.specs.declared.item.Kind.TheVariants as kinds
 use Rattle.gic_case.specs.declared.item.Neutral.{Neutral}
@@ -46,8 +47,9 @@ substation_at buses place = slice_index_or (map (λ b. b.substation) buses) plac
 -- the ground grid of a transformer: the substation of its high bus; a delta-delta unit, which has no bus, counts as at the first
 abbrev pub grid_of : List Bus → Kind → ℕ
 grid_of buses (kinds.DeltaWye high high_resistance) = substation_at buses high
-grid_of buses (kinds.WyeWye high low low_volts high_resistance low_resistance) = substation_at buses high
-grid_of buses (kinds.Auto high low low_volts series_resistance common_resistance) = substation_at buses high
+grid_of buses (kinds.WyeWye high low low_volts high_resistance low_resistance third) = substation_at buses high
+grid_of buses (kinds.Auto high low low_volts series_resistance common_resistance third) = substation_at buses high
+grid_of buses (kinds.Reactor high high_resistance) = substation_at buses high
 grid_of buses kinds.DeltaDelta = 0
 
 -- each of these transformers with the node of its neutral: its own where it has a neutral device, numbered from here on, and its ground grid otherwise
@@ -59,11 +61,17 @@ neutrals_from buses node (t ∷ ts) = if is_some t.neutral then (node, t) ∷ ne
 abbrev pub neutrals_of : Lists → List (ℕ × Transformer)
 neutrals_of c = neutrals_from c.buses (length c.substations + length c.buses) c.transformers
 
+-- the nodes at which a third winding ends: it runs from its bus to the neutral
+abbrev pub third_ends : (first_bus neutral : ℕ) → Option Third → List ℕ
+third_ends first_bus neutral None = []
+third_ends first_bus neutral (Some t) = (first_bus + t.bus) ∷ neutral ∷ []
+
 -- the nodes at which the windings of a transformer with this neutral end: high and low windings run to the neutral, the series winding to the low bus, and the common one from there to the neutral
 abbrev pub winding_ends : (first_bus neutral : ℕ) → Kind → List ℕ
 winding_ends first_bus neutral (kinds.DeltaWye high high_resistance) = (first_bus + high) ∷ neutral ∷ []
-winding_ends first_bus neutral (kinds.WyeWye high low low_volts high_resistance low_resistance) = (first_bus + high) ∷ neutral ∷ (first_bus + low) ∷ neutral ∷ []
-winding_ends first_bus neutral (kinds.Auto high low low_volts series_resistance common_resistance) = (first_bus + high) ∷ (first_bus + low) ∷ (first_bus + low) ∷ neutral ∷ []
+winding_ends first_bus neutral (kinds.WyeWye high low low_volts high_resistance low_resistance third) = (first_bus + high) ∷ neutral ∷ (first_bus + low) ∷ neutral ∷ third_ends first_bus neutral third
+winding_ends first_bus neutral (kinds.Auto high low low_volts series_resistance common_resistance third) = (first_bus + high) ∷ (first_bus + low) ∷ (first_bus + low) ∷ neutral ∷ third_ends first_bus neutral third
+winding_ends first_bus neutral (kinds.Reactor high high_resistance) = (first_bus + high) ∷ neutral ∷ []
 winding_ends first_bus neutral kinds.DeltaDelta = []
 
 -- the nodes at which a neutral resistor ends: the neutral node and the ground grid; a blocking device gives no element
@@ -89,6 +97,15 @@ degree_of ends k = count_by (λ n. n == k) ends
 -- whether a kind has windings in the network
 abbrev pub has_windings : Kind → Bool
 has_windings (kinds.DeltaWye high high_resistance) = true
-has_windings (kinds.WyeWye high low low_volts high_resistance low_resistance) = true
-has_windings (kinds.Auto high low low_volts series_resistance common_resistance) = true
+has_windings (kinds.WyeWye high low low_volts high_resistance low_resistance third) = true
+has_windings (kinds.Auto high low low_volts series_resistance common_resistance third) = true
+has_windings (kinds.Reactor high high_resistance) = true
 has_windings kinds.DeltaDelta = false
+
+-- whether the core of a unit of a kind has an effective current here: not that of a reactor, and not where there are no windings
+abbrev pub has_effect : Kind → Bool
+has_effect (kinds.DeltaWye high high_resistance) = true
+has_effect (kinds.WyeWye high low low_volts high_resistance low_resistance third) = true
+has_effect (kinds.Auto high low low_volts series_resistance common_resistance third) = true
+has_effect (kinds.Reactor high high_resistance) = false
+has_effect kinds.DeltaDelta = false

@@ -90,8 +90,8 @@ impl Case {
     }
 
     /// The case of these lists, in which places stand for names and which keep all rules: limits and ranges, places
-    /// within the lists, no name twice, two buses for each line and each transformer with two sides, those of a
-    /// transformer in one substation, no low voltage above the high one, no neutral device at a delta-delta unit, and
+    /// within the lists, no name twice, two buses for each line, a bus of its own for each side of a transformer, all of
+    /// them in one substation, no low or third voltage above the high one, no neutral device at a delta-delta unit, and
     /// at most 256 elements at each node.
     pub fn from_parts(
         zones: Vec<Zone>,

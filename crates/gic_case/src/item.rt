@@ -1,5 +1,6 @@
-//! The items of a case's lists. Zones are those of the scaling by latitude.
+//! The items of a case's lists. Zones are those of the scaling of fields.
 
+use crate::course::Course;
 use gic_base::Name;
 
 /// A node with its earthing, if it has one, in micro-ohm from 1000 to 1000000000, for the three phases together.
@@ -16,19 +17,26 @@ pub struct Bus {
     pub substation: u16,
 }
 
-/// A line between two buses, through one zone; these are places in the case's lists, from 0. The resistance is in
-/// micro-ohm per phase, from 1000 to 1000000000; the span, how far `to` lies to the north and to the east of `from`, is in
-/// metres, from -1000000 to 1000000. A blocked line has a series capacitor, which passes no direct current.
-#[derive(Clone, Copy, Debug, PartialEq, Eq)]
+/// A line between two buses, which are places in the case's list, from 0. Its parts lead from `from` to `to`, at most
+/// 1000000 metres to the north and to the south together, and as far to the east and to the west. The resistance is in
+/// micro-ohm per phase, from 1000 to 1000000000. A blocked line has a series capacitor, which passes no direct current.
+#[derive(Drop)]
 pub struct Line {
     pub name: Name,
     pub from: u16,
     pub to: u16,
-    pub zone: u16,
+    pub course: Course,
     pub resistance: u32,
-    pub north: i32,
-    pub east: i32,
     pub blocked: bool,
+}
+
+/// A third winding, from its bus to the neutral: the place of the bus in the case's list, from 0, its rated voltage in V,
+/// from 1000 to 2000000, and its resistance in micro-ohm per phase, from 1000 to 1000000000.
+#[derive(Clone, Copy, Debug, PartialEq, Eq)]
+pub struct Third {
+    pub bus: u16,
+    pub volts: u32,
+    pub resistance: u32,
 }
 
 /// How a transformer's windings are joined, as far as they carry direct current. The numbers `high` and `low` are the
@@ -41,21 +49,30 @@ pub enum Kind {
         high: u16,
         high_resistance: u32,
     },
-    /// Earthed wyes on both sides: a winding from each bus to the neutral.
+    /// Earthed wyes on both sides, or on all three: a winding from each bus to the neutral.
     WyeWye {
         high: u16,
         low: u16,
         low_volts: u32,
         high_resistance: u32,
         low_resistance: u32,
+        third: Option<Third>,
     },
-    /// An autotransformer: the series winding from the high bus to the low bus, the common one from there to the neutral.
+    /// An autotransformer: the series winding from the high bus to the low bus, the common one from there to the neutral,
+    /// and maybe an earthed wye on a third side.
     Auto {
         high: u16,
         low: u16,
         low_volts: u32,
         series_resistance: u32,
         common_resistance: u32,
+        third: Option<Third>,
+    },
+    /// A shunt reactor or an earthing transformer: one winding, from the bus to the neutral. Its core has no effective
+    /// current here.
+    Reactor {
+        high: u16,
+        high_resistance: u32,
     },
     /// Deltas on both sides: no winding in the network.
     DeltaDelta,

@@ -2,13 +2,19 @@
 #![tactic(auto)]
 
 mod case;
+mod course;
 mod item;
 mod network;
 mod neutral;
 mod node;
+mod part;
+mod parts;
 
 pub use case::Case;
-pub use item::{Bus, Kind, Line, Neutral, Substation, Transformer};
+pub use course::Course;
+pub use item::{Bus, Kind, Line, Neutral, Substation, Third, Transformer};
 pub use network::Network;
 pub use neutral::{grid_of, ground_grid, neutrals, substation_at};
 pub use node::{NodeNames, node_count, node_name};
+pub use part::LinePart;
+pub use parts::LineParts;

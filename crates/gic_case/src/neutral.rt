@@ -48,6 +48,7 @@ pub fn grid_of(buses: &[Bus], kind: &Kind) -> u16
         Kind::DeltaWye { high, .. } => substation_at(buses, high),
         Kind::WyeWye { high, .. } => substation_at(buses, high),
         Kind::Auto { high, .. } => substation_at(buses, high),
+        Kind::Reactor { high, .. } => substation_at(buses, high),
         Kind::DeltaDelta => 0,
     }
 }

@@ -7,13 +7,14 @@ use Rattle.std.proofs.lemmas.List.{get_or-set_same, get_or-set_other, get_or_def
 use Rattle.std.proofs.lemmas.List.Sums.{count_by_more_no, count_by_more_yes, count_by-le-length}
 use Rattle.std.specs.Prelude.{◌==◌}
 use Rattle.std.specs.List.{flat_map}
-use Rattle.gic_case.specs.Lists.{Lists, earthing_ends, line_ends, grid_of, neutrals_of, winding_ends, device_ends, transformer_ends, element_ends, degree_of}
+use Rattle.gic_case.specs.Lists.{Lists, earthing_ends, line_ends, grid_of, neutrals_of, third_ends, winding_ends, device_ends, transformer_ends, element_ends, degree_of}
 use Rattle.gic_case.proofs.Earthings.{earthing_ends_from}
 use Rattle.gic_case_reader.specs.OneByOne.{breaks_degree_from}
 use Rattle.gic_case.proofs.NeutralNodes.{length-neutrals_of}
 use Rattle.gic_case.specs.declared.item.Substation.{Substation}
 use Rattle.gic_case.specs.declared.item.Line.{Line}
 use Rattle.gic_case.specs.declared.item.Bus.{Bus}
+use Rattle.gic_case.specs.declared.item.Third.{Third}
 use Rattle.gic_case.specs.declared.item.Kind.{Kind}
 use Rattle.gic_case.specs.declared.item.Kind.TheVariants as kinds
 use Rattle.gic_case.specs.declared.item.Neutral.{Neutral}
@@ -83,10 +84,15 @@ length-flat_map : {A : Type 0} (f : A → List ℕ) (n : ℕ) → ((x : A) → l
 length-flat_map f n few [] = omega arith
 length-flat_map f n few (x ∷ xs) = rw length-append (omega (arith, few x, length-flat_map f n few xs))
 
-length-winding_ends : (first_bus neutral : ℕ) (k : Kind) → length (winding_ends first_bus neutral k) ≤ 4
+length-third_ends : (first_bus neutral : ℕ) (third : Option Third) → length (third_ends first_bus neutral third) ≤ 2
+length-third_ends first_bus neutral None = omega arith
+length-third_ends first_bus neutral (Some t) = omega arith
+
+length-winding_ends : (first_bus neutral : ℕ) (k : Kind) → length (winding_ends first_bus neutral k) ≤ 6
 length-winding_ends first_bus neutral (kinds.DeltaWye high high_resistance) = omega arith
-length-winding_ends first_bus neutral (kinds.WyeWye high low low_volts high_resistance low_resistance) = omega arith
-length-winding_ends first_bus neutral (kinds.Auto high low low_volts series_resistance common_resistance) = omega arith
+length-winding_ends first_bus neutral (kinds.WyeWye high low low_volts high_resistance low_resistance third) = omega (arith, length-third_ends first_bus neutral third)
+length-winding_ends first_bus neutral (kinds.Auto high low low_volts series_resistance common_resistance third) = omega (arith, length-third_ends first_bus neutral third)
+length-winding_ends first_bus neutral (kinds.Reactor high high_resistance) = omega arith
 length-winding_ends first_bus neutral kinds.DeltaDelta = omega arith
 
 length-device_ends : (neutral grid : ℕ) (o : Option Neutral) → length (device_ends neutral grid o) ≤ 2
@@ -94,14 +100,14 @@ length-device_ends neutral grid None = omega arith
 length-device_ends neutral grid (Some (devices.Resistor ohm)) = omega arith
 length-device_ends neutral grid (Some devices.Blocked) = omega arith
 
-length-transformer_ends : (c : Lists) → length (transformer_ends c) ≤ 6 * length c.transformers
+length-transformer_ends : (c : Lists) → length (transformer_ends c) ≤ 8 * length c.transformers
 length-transformer_ends c =
     let many = length-neutrals_of c in
-    let windings = length-flat_map {A = ℕ × Transformer} (λ p. winding_ends (length c.substations) p.0 p.1.kind) 4 (λ p. length-winding_ends (length c.substations) p.0 p.1.kind) (neutrals_of c) in
+    let windings = length-flat_map {A = ℕ × Transformer} (λ p. winding_ends (length c.substations) p.0 p.1.kind) 6 (λ p. length-winding_ends (length c.substations) p.0 p.1.kind) (neutrals_of c) in
     let devices = length-flat_map {A = ℕ × Transformer} (λ p. device_ends p.0 (grid_of c.buses p.1.kind) p.1.neutral) 2 (λ p. length-device_ends p.0 (grid_of c.buses p.1.kind) p.1.neutral) (neutrals_of c) in
     rw length-append (omega (arith, many, windings, devices))
 
-pub length-element_ends : (c : Lists) → length (element_ends c) ≤ length c.substations + (2 * length c.lines + 6 * length c.transformers)
+pub length-element_ends : (c : Lists) → length (element_ends c) ≤ length c.substations + (2 * length c.lines + 8 * length c.transformers)
 unfolding element_ends
 length-element_ends c =
     let earthings = length-earthing_ends_from 0 c.substations in

@@ -6,11 +6,13 @@ use Rattle.gic_base.specs.Passes.{◌>>=◌, or_refuse}
 use Rattle.gic_base.proofs.RefusalLaws.{then_law, last_law, value_law, test_law}
 use Rattle.gic_case_reader.specs.Keys.{key_of, has, fits}
 use Rattle.gic_case_reader.specs.Values.{natural_within, read_name, value_at}
-use Rattle.gic_case_reader.specs.Rows.{members_in, breaks_keys, breaks_value, breaks_present, breaks_optional, ohm_within, volts_within, metres_within, read_neutral, zone_fields, breaks_zone, zone_of, breaks_substation, substation_of, bus_fields, breaks_bus, bus_of, line_fields, breaks_line, line_of}
-use Rattle.gic_case_reader.specs.Transformers.{read_kind, kind_of, breaks_bus_name, breaks_ohm, breaks_volts, breaks_own, breaks_transformer, name_in, ohm_in, volts_in, own_of, transformer_of}
-use Rattle.gic_case_reader.specs.Pass.{required, optional_in, optional, row_table, zone_row, substation_row, bus_row, line_row, table_with, delta_wye_row, wye_wye_row, auto_row, kind_row, transformer_row}
+use Rattle.gic_case_reader.specs.Rows.{members_in, breaks_keys, breaks_value, breaks_present, breaks_optional, ohm_within, volts_within, metres_within, read_neutral, earth_zone_fields, scaled_zone_fields, is_scaled, breaks_earth_zone, breaks_scaled_zone, breaks_zone, earth_zone_of, scaled_zone_of, zone_of, breaks_substation, substation_of, bus_fields, breaks_bus, bus_of}
+use Rattle.gic_case_reader.specs.Lines.{plain_line_fields, parted_line_fields, is_parted, read_parts, breaks_plain_line, breaks_parted_line, breaks_line, plain_line_of, parted_line_of, line_of}
+use Rattle.gic_case_reader.specs.Transformers.{read_kind, kind_of, breaks_bus_name, breaks_ohm, breaks_volts, breaks_third, breaks_wye_wye, breaks_auto, breaks_own, breaks_transformer, name_in, ohm_in, volts_in, third_told, wye_wye_in, auto_in, own_of, transformer_of}
+use Rattle.gic_case_reader.specs.Pass.{required, optional_in, optional, row_table, earth_zone_row, scaled_zone_row, zone_row, substation_row, bus_row, plain_line_row, parted_line_row, line_row, table_with, delta_wye_row, third_row, third_if, wye_wye_row, auto_row, reactor_row, kind_row, transformer_row}
 use Rattle.gic_case_reader.specs.declared.field.Field.{Field}
 use Rattle.gic_case_reader.specs.declared.field.Field.TheVariants as fields
+use Rattle.gic_case_reader.specs.declared.format.Format.{Format}
 use Rattle.gic_case_reader.specs.declared.refusal.Part.{Part}
 use Rattle.gic_case_reader.specs.declared.refusal.Part.TheVariants as parts
 use Rattle.gic_case_reader.specs.declared.refusal.CaseRefusal.{CaseRefusal}
@@ -69,14 +71,31 @@ natural_law : (low high : ℕ) (list : Part) (row : ℕ) (at : Field) (ms : Memb
     → required (natural_within low high) list row at ms ≡ settle (breaks_value (natural_within low high) list row at ms) (unwrap_or (value_at (natural_within low high) at ms) 0)
 natural_law low high list row at ms = required_law (natural_within low high) list row at ms 0
 
-pub zone_law : (row : ℕ) (d : Data) → zone_row row d ≡ settle (breaks_zone row d) (zone_of d)
-unfolding zone_row
-zone_law row d =
+-- a row that is read in one of two ways, as a test tells
+either_law : {A : Type 0} (b : Bool) (r s : Result A CaseRefusal) (es fs : List CaseRefusal) (x y : A) → r ≡ settle es x → s ≡ settle fs y → cond b r s ≡ settle (cond b es fs) (cond b x y)
+either_law true r s es fs x y one other = one
+either_law false r s es fs x y one other = other
+
+earth_zone_law : (row : ℕ) (d : Data) → earth_zone_row row d ≡ settle (breaks_earth_zone row d) (earth_zone_of d)
+unfolding earth_zone_row
+earth_zone_law row d =
     let ms = members_in d in
-    table_law parts.Zone zone_fields [] row d _ _ _
+    table_law parts.Zone earth_zone_fields [] row d _ _ _
     (then_law _ _ _ _ _ _ (name_law parts.Zone row fields.Name ms)
     (then_law _ _ _ _ _ _ (natural_law 0 9000 parts.Zone row fields.Latitude ms)
     (last_law _ _ _ _ (natural_law 1 150 parts.Zone row fields.Beta ms))))
+
+scaled_zone_law : (row : ℕ) (d : Data) → scaled_zone_row row d ≡ settle (breaks_scaled_zone row d) (scaled_zone_of d)
+unfolding scaled_zone_row
+scaled_zone_law row d =
+    let ms = members_in d in
+    table_law parts.Zone scaled_zone_fields [] row d _ _ _
+    (then_law _ _ _ _ _ _ (name_law parts.Zone row fields.Name ms)
+    (last_law _ _ _ _ (natural_law 1 1500 parts.Zone row fields.Scale ms)))
+
+pub zone_law : (format : Format) (row : ℕ) (d : Data) → zone_row format row d ≡ settle (breaks_zone format row d) (zone_of format d)
+unfolding zone_row
+zone_law format row d = either_law (is_scaled format d) _ _ _ _ _ _ (scaled_zone_law row d) (earth_zone_law row d)
 
 pub substation_law : (row : ℕ) (d : Data) → substation_row row d ≡ settle (breaks_substation row d) (substation_of d)
 unfolding substation_row
@@ -94,11 +113,11 @@ bus_law row d =
     (then_law _ _ _ _ _ _ (name_law parts.Bus row fields.Name ms)
     (last_law _ _ _ _ (name_law parts.Bus row fields.Substation ms)))
 
-pub line_law : (row : ℕ) (d : Data) → line_row row d ≡ settle (breaks_line row d) (line_of d)
-unfolding line_row
-line_law row d =
+plain_line_law : (row : ℕ) (d : Data) → plain_line_row row d ≡ settle (breaks_plain_line row d) (plain_line_of d)
+unfolding plain_line_row
+plain_line_law row d =
     let ms = members_in d in
-    table_law parts.Line line_fields (fields.Blocked ∷ []) row d _ _ _
+    table_law parts.Line plain_line_fields (fields.Blocked ∷ []) row d _ _ _
     (then_law _ _ _ _ _ _ (name_law parts.Line row fields.Name ms)
     (then_law _ _ _ _ _ _ (name_law parts.Line row fields.From ms)
     (then_law _ _ _ _ _ _ (name_law parts.Line row fields.To ms)
@@ -107,6 +126,22 @@ line_law row d =
     (then_law _ _ _ _ _ _ (required_law metres_within parts.Line row fields.North ms (pos 0))
     (then_law _ _ _ _ _ _ (required_law metres_within parts.Line row fields.East ms (pos 0))
     (last_law _ _ _ _ (optional_law as_bool parts.Line row fields.Blocked ms)))))))))
+
+parted_line_law : (row : ℕ) (d : Data) → parted_line_row row d ≡ settle (breaks_parted_line row d) (parted_line_of d)
+unfolding parted_line_row
+parted_line_law row d =
+    let ms = members_in d in
+    table_law parts.Line parted_line_fields (fields.Blocked ∷ []) row d _ _ _
+    (then_law _ _ _ _ _ _ (name_law parts.Line row fields.Name ms)
+    (then_law _ _ _ _ _ _ (name_law parts.Line row fields.From ms)
+    (then_law _ _ _ _ _ _ (name_law parts.Line row fields.To ms)
+    (then_law _ _ _ _ _ _ (natural_law 1000 1000000000 parts.Line row fields.Resistance ms)
+    (then_law _ _ _ _ _ _ (optional_law as_bool parts.Line row fields.Blocked ms)
+    (last_law _ _ _ _ (required_law read_parts parts.Line row fields.Part ms [])))))))
+
+pub line_law : (format : Format) (row : ℕ) (d : Data) → line_row format row d ≡ settle (breaks_line format row d) (line_of format d)
+unfolding line_row
+line_law format row d = either_law (is_parted format d) _ _ _ _ _ _ (parted_line_law row d) (plain_line_law row d)
 
 bus_name_law : (row : ℕ) (at : Field) (ms : Members) → required read_name parts.Transformer row at ms ≡ settle (breaks_bus_name row at ms) (name_in at ms)
 bus_name_law row at ms = name_law parts.Transformer row at ms
@@ -117,32 +152,58 @@ ohm_law row at ms = natural_law 1000 1000000000 parts.Transformer row at ms
 volts_law : (row : ℕ) (at : Field) (ms : Members) → required volts_within parts.Transformer row at ms ≡ settle (breaks_volts row at ms) (volts_in at ms)
 volts_law row at ms = natural_law 1000 2000000 parts.Transformer row at ms
 
--- the fields that are a kind's own
-own_law : (kind : KindWord) (row : ℕ) (ms : Members) → kind_row kind row ms ≡ settle (breaks_own kind row ms) (own_of kind ms)
-unfolding kind_row delta_wye_row wye_wye_row auto_row
-own_law words.DeltaWye row ms = then_law _ _ _ _ _ _ (bus_name_law row fields.High ms) (last_law _ _ _ _ (ohm_law row fields.HighResistance ms))
-own_law words.WyeWye row ms =
+-- the fields of a third winding
+third_row_law : (row : ℕ) (ms : Members)
+    → third_row row ms ≡ settle (breaks_third true row ms) (record { bus = name_in fields.Third ms; volts = volts_in fields.ThirdVolts ms; resistance = ohm_in fields.ThirdResistance ms })
+unfolding third_row
+third_row_law row ms =
+    then_law _ _ _ _ _ _ (bus_name_law row fields.Third ms)
+    (then_law _ _ _ _ _ _ (volts_law row fields.ThirdVolts ms)
+    (last_law _ _ _ _ (ohm_law row fields.ThirdResistance ms)))
+
+third_law : (with_third : Bool) (row : ℕ) (ms : Members) → third_if with_third row ms ≡ settle (breaks_third with_third row ms) (third_told with_third ms)
+third_law false row ms = refl
+third_law true row ms = last_law _ _ _ (λ t. Some t) (third_row_law row ms)
+
+wye_wye_law : (with_third : Bool) (row : ℕ) (ms : Members) → wye_wye_row with_third row ms ≡ settle (breaks_wye_wye with_third row ms) (wye_wye_in with_third ms)
+unfolding wye_wye_row
+wye_wye_law with_third row ms =
     then_law _ _ _ _ _ _ (bus_name_law row fields.High ms)
     (then_law _ _ _ _ _ _ (bus_name_law row fields.Low ms)
     (then_law _ _ _ _ _ _ (volts_law row fields.LowVolts ms)
     (then_law _ _ _ _ _ _ (ohm_law row fields.HighResistance ms)
-    (last_law _ _ _ _ (ohm_law row fields.LowResistance ms)))))
-own_law words.Auto row ms =
+    (then_law _ _ _ _ _ _ (ohm_law row fields.LowResistance ms)
+    (last_law _ _ _ _ (third_law with_third row ms))))))
+
+auto_law : (with_third : Bool) (row : ℕ) (ms : Members) → auto_row with_third row ms ≡ settle (breaks_auto with_third row ms) (auto_in with_third ms)
+unfolding auto_row
+auto_law with_third row ms =
     then_law _ _ _ _ _ _ (bus_name_law row fields.High ms)
     (then_law _ _ _ _ _ _ (bus_name_law row fields.Low ms)
     (then_law _ _ _ _ _ _ (volts_law row fields.LowVolts ms)
     (then_law _ _ _ _ _ _ (ohm_law row fields.SeriesResistance ms)
-    (last_law _ _ _ _ (ohm_law row fields.CommonResistance ms)))))
+    (then_law _ _ _ _ _ _ (ohm_law row fields.CommonResistance ms)
+    (last_law _ _ _ _ (third_law with_third row ms))))))
+
+-- the fields that are a kind's own
+own_law : (kind : KindWord) (row : ℕ) (ms : Members) → kind_row kind row ms ≡ settle (breaks_own kind row ms) (own_of kind ms)
+unfolding kind_row delta_wye_row reactor_row
+own_law words.DeltaWye row ms = then_law _ _ _ _ _ _ (bus_name_law row fields.High ms) (last_law _ _ _ _ (ohm_law row fields.HighResistance ms))
+own_law words.WyeWye row ms = wye_wye_law false row ms
+own_law words.Auto row ms = auto_law false row ms
+own_law words.WyeWyeWye row ms = wye_wye_law true row ms
+own_law words.AutoWye row ms = auto_law true row ms
+own_law words.Reactor row ms = then_law _ _ _ _ _ _ (bus_name_law row fields.High ms) (last_law _ _ _ _ (ohm_law row fields.HighResistance ms))
 own_law words.DeltaDelta row ms = refl
 
-pub transformer_law : (devices : Bool) (row : ℕ) (d : Data) → transformer_row devices row d ≡ settle (breaks_transformer devices row d) (transformer_of d)
+pub transformer_law : (format : Format) (row : ℕ) (d : Data) → transformer_row format row d ≡ settle (breaks_transformer format row d) (transformer_of format d)
 unfolding transformer_row
-transformer_law devices row d =
+transformer_law format row d =
     let ms = members_in d in
     kinded_law row d _ _ _
-    (then_law _ _ _ _ _ _ (required_law read_kind parts.Transformer row fields.Kind ms words.DeltaDelta)
+    (then_law _ _ _ _ _ _ (required_law (read_kind format) parts.Transformer row fields.Kind ms words.DeltaDelta)
     (then_law _ _ _ _ _ _ (test_law _ _)
     (then_law _ _ _ _ _ _ (bus_name_law row fields.Name ms)
     (then_law _ _ _ _ _ _ (volts_law row fields.HighVolts ms)
-    (then_law _ _ _ _ _ _ (own_law (kind_of ms) row ms)
+    (then_law _ _ _ _ _ _ (own_law (kind_of format ms) row ms)
     (last_law _ _ _ _ (optional_law read_neutral parts.Transformer row fields.Neutral ms)))))))

@@ -1,6 +1,7 @@
 pub mod Degrees
 pub mod Documents
 pub mod FieldLaws
+pub mod PartLists
 pub mod PassLaws
 pub mod Ranges
 pub mod Repeats

@@ -1,32 +1,39 @@
 -- One pass over a document answers the first refusal of all rules.
-use Rattle.std.proofs.Common.{◌≡◌, ℕ, zero, suc, ◌+◌, nat_le, nat_lt, List, [], ◌∷◌, ◌++◌, length, map, Bool, true, false, cond, not, Option, Some, None, option_map, unwrap_or, is_some, Result, Ok, Err, refl, ap, arith, inl, inr}
+use Rattle.std.proofs.Common.{◌≡◌, ℕ, zero, suc, ◌+◌, nat_le, nat_lt, List, [], ◌∷◌, ◌++◌, length, map, Bool, true, false, cond, not, ◌&&◌, Option, Some, None, option_map, unwrap_or, is_some, Result, Ok, Err, refl, ap, ◌∙◌, arith, inl, inr}
 use Rattle.std.proofs.lemmas.Bool.{cases_Bool}
 use Rattle.std.proofs.lemmas.Bool.Decides.{nat_tests}
-use Rattle.std.specs.List.{flat_map, enumerate_from, range_with_len}
+use Rattle.std.specs.List.{flat_map, enumerate_from, range_with_len, list_all}
 use Rattle.toml.specs.Data.{Data, Items, no_items, item, Members, get_member, as_array}
 use Rattle.gic_base.specs.Refusals.{unless, settle}
 use Rattle.gic_base.specs.Passes.{◌>>=◌, or_refuse}
 use Rattle.gic_base.proofs.RefusalLaws.{then_law, last_law, value_law, test_law}
 use Rattle.gic_case_reader.specs.Keys.{list_key}
-use Rattle.gic_case_reader.specs.Values.{natural_within}
-use Rattle.gic_case_reader.specs.Rows.{breaks_zone, zone_of, breaks_substation, substation_of, breaks_bus, bus_of, breaks_line, line_of}
+use Rattle.gic_case_reader.specs.Formats.{read_format, format_in, most_rows}
+use Rattle.gic_case_reader.specs.Rows.{breaks_zone, zone_of, breaks_substation, substation_of, breaks_bus, bus_of}
+use Rattle.gic_case_reader.specs.Lines.{breaks_line, line_of}
 use Rattle.gic_case_reader.specs.Transformers.{breaks_transformer, transformer_of}
 use Rattle.gic_case.specs.Lists.{Lists}
 use Rattle.gic_case.specs.Names.{is_repeat}
 use Rattle.gic_case_reader.specs.OneByOne.{first_from, first_repeat}
-use Rattle.gic_case_reader.specs.Rules.{list_in, array_in, entries_of, is_array, breaks_list, allows_devices, breaks_form, Written, written_in, written_names, duplicate_at, breaks_once, substation_place, bus_place, zone_place, breaks_bus_reference, breaks_line_references, breaks_side_reference, breaks_kind_references, breaks_references, bus_with_place, line_with_places, side_place, kind_with_places, transformer_with_places, resolved, breaks_same_ends, breaks_same_sides, breaks_apart, breaks_voltage_order, breaks_degree, broken_in, document_of, broken, lists_of, case_of}
-use Rattle.gic_case_reader.specs.Pass.{items_or, items_at, count_of, rows_from, list_at, zone_row, substation_row, bus_row, line_row, transformer_row, rows_of, refuse_if, unique, each, side_at, bus_in, line_in, kind_in, transformer_in, resolve, case_in}
+use Rattle.gic_case_reader.specs.Rules.{list_in, array_in, entries_of, is_array, breaks_list, breaks_form, Written, written_in, written_names, duplicate_at, breaks_once, substation_place, bus_place, zone_place, breaks_bus_reference, is_in_zone, breaks_course_reference, breaks_line_references, breaks_side_reference, breaks_third_reference, breaks_kind_references, breaks_references, bus_with_place, part_with_place, course_with_places, line_with_places, side_place, third_with_place, kind_with_places, transformer_with_places, resolved, breaks_same_ends, breaks_same_sides, breaks_apart, breaks_voltage_order, breaks_degree, broken_in, document_of, broken, lists_of, case_of}
+use Rattle.gic_case_reader.specs.Pass.{items_or, items_at, count_of, rows_from, list_at, zone_row, substation_row, bus_row, line_row, transformer_row, rows_of, refuse_if, unique, each, side_at, bus_in, part_in, parts_with, course_in, line_in, third_in, kind_in, transformer_in, resolve, case_in}
 use Rattle.gic_case_reader.specs.declared.field.Field.{Field}
 use Rattle.gic_case_reader.specs.declared.field.Field.TheVariants as fields
+use Rattle.gic_case_reader.specs.declared.format.Format.TheVariants as formats
 use Rattle.gic_case_reader.specs.declared.refusal.Part.{Part}
 use Rattle.gic_case_reader.specs.declared.refusal.Part.TheVariants as parts
 use Rattle.gic_case_reader.specs.declared.refusal.CaseRefusal.{CaseRefusal}
 use Rattle.gic_case_reader.specs.declared.refusal.CaseRefusal.TheVariants as refusals
 use Rattle.gic_case_reader.specs.declared.row.BusRow.{BusRow}
+use Rattle.gic_case_reader.specs.declared.part_row.PartRow.{PartRow}
+use Rattle.gic_case_reader.specs.declared.row.CourseRow.{CourseRow}
+use Rattle.gic_case_reader.specs.declared.row.CourseRow.TheVariants as written
 use Rattle.gic_case_reader.specs.declared.row.LineRow.{LineRow}
+use Rattle.gic_case_reader.specs.declared.row.ThirdRow.{ThirdRow}
 use Rattle.gic_case_reader.specs.declared.row.KindRow.{KindRow}
 use Rattle.gic_case_reader.specs.declared.row.KindRow.TheVariants as rows
 use Rattle.gic_case_reader.specs.declared.row.TransformerRow.{TransformerRow}
+use Rattle.gic_case.specs.declared.course.Course.TheVariants as courses
 use Rattle.gic_case.specs.declared.item.Kind.TheVariants as kinds
 use Rattle.gic_case_reader.proofs.FieldLaws.{required_law, zone_law, substation_law, bus_law, line_law, transformer_law}
 
@@ -82,14 +89,14 @@ list_law list limit read breaks of law ms =
 rows_of_law : (ms : Members) → rows_of ms ≡ settle (breaks_form ms) (written_in ms)
 unfolding rows_of breaks_form written_in
 rows_of_law ms =
-    let devices = allows_devices ms in
+    let format = format_in ms in
     then_law _ _ _ _ _ _ (test_law _ _)
-    (then_law _ _ _ _ _ _ (required_law (natural_within 1 2) parts.Case 0 fields.Format ms 0)
-    (then_law _ _ _ _ _ _ (list_law parts.Zone 256 zone_row breaks_zone zone_of zone_law ms)
-    (then_law _ _ _ _ _ _ (list_law parts.Substation 1024 substation_row breaks_substation substation_of substation_law ms)
-    (then_law _ _ _ _ _ _ (list_law parts.Bus 3072 bus_row breaks_bus bus_of bus_law ms)
-    (then_law _ _ _ _ _ _ (list_law parts.Line 8192 line_row breaks_line line_of line_law ms)
-    (last_law _ _ _ _ (list_law parts.Transformer 3584 (transformer_row devices) (breaks_transformer devices) transformer_of (transformer_law devices) ms)))))))
+    (then_law _ _ _ _ _ _ (required_law read_format parts.Case 0 fields.Format ms formats.One)
+    (then_law _ _ _ _ _ _ (list_law parts.Zone (most_rows format parts.Zone) (zone_row format) (breaks_zone format) (zone_of format) (zone_law format) ms)
+    (then_law _ _ _ _ _ _ (list_law parts.Substation (most_rows format parts.Substation) substation_row breaks_substation substation_of substation_law ms)
+    (then_law _ _ _ _ _ _ (list_law parts.Bus (most_rows format parts.Bus) bus_row breaks_bus bus_of bus_law ms)
+    (then_law _ _ _ _ _ _ (list_law parts.Line (most_rows format parts.Line) (line_row format) (breaks_line format) (line_of format) (line_law format) ms)
+    (last_law _ _ _ _ (list_law parts.Transformer (most_rows format parts.Transformer) (transformer_row format) (breaks_transformer format) (transformer_of format) (transformer_law format) ms)))))))
 
 first_law : (test : ℕ → Bool) (refusal : ℕ → CaseRefusal) (n i : ℕ)
     → refuse_if (option_map refusal (first_from test n i)) ≡ settle (flat_map (λ k. unless (not (test k)) (refusal k)) (range_with_len i n)) tt
@@ -109,25 +116,52 @@ bus_in_law : (w : Written) (row : ℕ) (b : BusRow) → bus_in (substation_place
 unfolding bus_in
 bus_in_law w row b = last_law _ _ _ _ (value_law (substation_place w b.substation) (refusals.Unknown parts.Bus row fields.Substation) 0)
 
+part_in_law : (w : Written) (row : ℕ) (at : Field) (part : PartRow) → part_in (zone_place w) row at part ≡ settle (unless (is_in_zone w part) (refusals.Unknown parts.Line row at)) (part_with_place w part)
+part_in_law w row at part = last_law _ _ _ _ (value_law (zone_place w part.zone) (refusals.Unknown parts.Line row at) 0)
+
+-- two facts that are refused alike
+both_law : {A : Type 0} (a b : Bool) (e : CaseRefusal) (x : A) → settle (unless a e ++ unless b e) x ≡ settle (unless (a && b) e) x
+both_law true b e x = refl
+both_law false b e x = refl
+
+parts_with_law : (w : Written) (row : ℕ) (ps : List PartRow)
+    → parts_with (zone_place w) row ps ≡ settle (unless (list_all (is_in_zone w) ps) (refusals.Unknown parts.Line row fields.Part)) (map (part_with_place w) ps)
+parts_with_law w row [] = refl
+parts_with_law w row (part ∷ ps) =
+    then_law _ _ _ _ _ _ (part_in_law w row fields.Part part) (last_law _ _ _ (λ xs. part_with_place w part ∷ xs) (parts_with_law w row ps))
+    ∙ both_law (is_in_zone w part) (list_all (is_in_zone w) ps) (refusals.Unknown parts.Line row fields.Part) (map (part_with_place w) (part ∷ ps))
+
+course_in_law : (w : Written) (row : ℕ) (course : CourseRow) → course_in (zone_place w) row course ≡ settle (breaks_course_reference w row course) (course_with_places w course)
+unfolding course_in
+course_in_law w row (written.One part) = last_law _ _ _ (λ x. courses.One x) (part_in_law w row fields.Zone part)
+course_in_law w row (written.Several ps) = last_law _ _ _ (λ xs. courses.Several xs) (parts_with_law w row ps)
+
 line_in_law : (w : Written) (row : ℕ) (l : LineRow) → line_in (bus_place w) (zone_place w) row l ≡ settle (breaks_line_references w row l) (line_with_places w l)
 unfolding line_in
 line_in_law w row l =
     then_law _ _ _ _ _ _ (value_law (bus_place w l.from) (refusals.Unknown parts.Line row fields.From) 0)
     (then_law _ _ _ _ _ _ (value_law (bus_place w l.to) (refusals.Unknown parts.Line row fields.To) 0)
-    (last_law _ _ _ _ (value_law (zone_place w l.zone) (refusals.Unknown parts.Line row fields.Zone) 0)))
+    (last_law _ _ _ _ (course_in_law w row l.course)))
 
 side_law : (w : Written) (row : ℕ) (at : Field) (bus : List ℕ) → side_at (bus_place w) row at bus ≡ settle (breaks_side_reference w row at bus) (side_place w bus)
 side_law w row at bus = value_law (bus_place w bus) (refusals.Unknown parts.Transformer row at) 0
 
+third_in_law : (w : Written) (row : ℕ) (third : Option ThirdRow) → third_in (bus_place w) row third ≡ settle (breaks_third_reference w row third) (option_map (third_with_place w) third)
+third_in_law w row None = refl
+third_in_law w row (Some t) = last_law _ _ _ (λ place. Some (record { bus = place; volts = t.volts; resistance = t.resistance })) (side_law w row fields.Third t.bus)
+
 kind_in_law : (w : Written) (row : ℕ) (k : KindRow) → kind_in (bus_place w) row k ≡ settle (breaks_kind_references w row k) (kind_with_places w k)
 unfolding kind_in
 kind_in_law w row (rows.DeltaWye high high_resistance) = last_law _ _ _ (λ h. kinds.DeltaWye h high_resistance) (side_law w row fields.High high)
-kind_in_law w row (rows.WyeWye high low low_volts high_resistance low_resistance) =
+kind_in_law w row (rows.WyeWye high low low_volts high_resistance low_resistance third) =
     then_law _ _ _ _ _ _ (side_law w row fields.High high)
-    (last_law _ _ _ (λ l. kinds.WyeWye (side_place w high) l low_volts high_resistance low_resistance) (side_law w row fields.Low low))
-kind_in_law w row (rows.Auto high low low_volts series_resistance common_resistance) =
+    (then_law _ _ _ _ _ _ (side_law w row fields.Low low)
+    (last_law _ _ _ (λ t. kinds.WyeWye (side_place w high) (side_place w low) low_volts high_resistance low_resistance t) (third_in_law w row third)))
+kind_in_law w row (rows.Auto high low low_volts series_resistance common_resistance third) =
     then_law _ _ _ _ _ _ (side_law w row fields.High high)
-    (last_law _ _ _ (λ l. kinds.Auto (side_place w high) l low_volts series_resistance common_resistance) (side_law w row fields.Low low))
+    (then_law _ _ _ _ _ _ (side_law w row fields.Low low)
+    (last_law _ _ _ (λ t. kinds.Auto (side_place w high) (side_place w low) low_volts series_resistance common_resistance t) (third_in_law w row third)))
+kind_in_law w row (rows.Reactor high high_resistance) = last_law _ _ _ (λ h. kinds.Reactor h high_resistance) (side_law w row fields.High high)
 kind_in_law w row rows.DeltaDelta = refl
 
 transformer_in_law : (w : Written) (row : ℕ) (t : TransformerRow) → transformer_in (bus_place w) row t ≡ settle (breaks_kind_references w row t.kind) (transformer_with_places w t)

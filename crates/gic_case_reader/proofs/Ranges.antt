@@ -1,31 +1,38 @@
 -- The values of a row that breaks no rule lie within their ranges.
-use Rattle.std.proofs.Common.{◌≡◌, ℕ, ℤ, pos, negsuc, ◌≤◌, ◌&&◌, nat_le, List, [], ◌∷◌, ◌++◌, Bool, true, false, cond, Ordering, Less, Equal, Greater, nat_cmp, Option, Some, None, option_and_then, option_map, unwrap_or, is_some, IfSome, arith, refl, sym, ap, ◌∙◌}
+use Rattle.std.proofs.Common.{◌≡◌, ℕ, ℤ, pos, negsuc, ◌+◌, ◌≤◌, ◌&&◌, nat_le, List, [], ◌∷◌, ◌++◌, length, Bool, true, false, cond, Ordering, Less, Equal, Greater, nat_cmp, Option, Some, None, option_and_then, option_map, unwrap_or, is_some, IfSome, arith, refl, sym, ap, ◌∙◌}
 use Rattle.std.proofs.lemmas.Bool.{false≢true, and_parts}
 use Rattle.std.proofs.lemmas.Bool.Decides.{nat_tests}
 use Rattle.std.proofs.lemmas.Map.Lookups.{exact_bytes}
 use Rattle.std.specs.Cmp.Lexicographic.{slice_cmp}
 use Rattle.std.specs.Ordering.{match_ordering}
 use Rattle.std.specs.Prelude.{unsigned_abs, IsTrue, codes, ◌||◌}
-use Rattle.toml.specs.Data.{Data, Members, no_members, member, get_member, as_integer, as_bool, as_str, as_table}
+use Rattle.toml.specs.Data.{Data, Members, no_members, member, get_member, as_integer, as_bool, as_array, as_str, as_table}
 use Rattle.gic_base.specs.Refusals.{unless}
 use Rattle.gic_base.proofs.RefusalLaws.{none_of_both, unless_holds}
 use Rattle.gic_base.specs.Name.{is_name}
+use Rattle.gic_base.specs.declared.limits.TheConstants.{MOST_PARTS}
 use Rattle.gic_scale.specs.ZoneView.{IsZone}
 use Rattle.gic_case_reader.specs.declared.refusal.CaseRefusal.{CaseRefusal}
 use Rattle.gic_case_reader.specs.Keys.{key_of, is_among, has, has_only, has_all, fits}
 use Rattle.gic_case.specs.Names.{same}
 use Rattle.gic_case_reader.specs.Values.{whole_within, natural_within, near_nought, span_within, read_name, value_at}
-use Rattle.gic_case_reader.specs.Rows.{members_in, breaks_keys, breaks_value, breaks_optional, ohm_within, metres_within, device_in, read_neutral, zone_fields, breaks_zone, zone_of, breaks_substation, substation_of, bus_fields, breaks_bus, bus_of, line_fields, breaks_line, line_of}
+use Rattle.gic_case_reader.specs.Rows.{members_in, breaks_keys, breaks_value, breaks_optional, ohm_within, metres_within, device_in, read_neutral, earth_zone_fields, scaled_zone_fields, is_scaled, breaks_earth_zone, breaks_scaled_zone, breaks_zone, earth_zone_of, scaled_zone_of, zone_of, breaks_substation, substation_of, bus_fields, breaks_bus, bus_of}
+use Rattle.gic_case_reader.specs.Lines.{plain_line_fields, parted_line_fields, is_parted, parts_in, north_way, east_way, are_parts, read_parts, breaks_plain_line, breaks_parted_line, breaks_line, plain_line_of, parted_line_of, line_of}
 use Rattle.gic_case.specs.Sound.{IsResistance, IsRated, IsSoundDevice}
-use Rattle.gic_case_reader.specs.Transformers.{read_kind, fields_of, others_of, kind_of, breaks_bus_name, breaks_ohm, breaks_volts, breaks_own, breaks_transformer, ohm_in, volts_in, own_of, transformer_of}
+use Rattle.gic_case_reader.specs.Transformers.{read_kind, fields_of, others_of, kind_of, breaks_bus_name, breaks_ohm, breaks_volts, breaks_third, breaks_wye_wye, breaks_auto, breaks_one_winding, breaks_own, breaks_transformer, ohm_in, volts_in, third_told, wye_wye_in, auto_in, own_of, transformer_of}
 use Rattle.gic_case_reader.specs.declared.field.Field.{Field}
 use Rattle.gic_case_reader.specs.declared.field.Field.TheVariants as fields
+use Rattle.gic_case_reader.specs.declared.format.Format.{Format}
 use Rattle.gic_case_reader.specs.declared.refusal.Part.{Part}
 use Rattle.gic_case_reader.specs.declared.refusal.Part.TheVariants as parts
 use Rattle.gic_case_reader.specs.declared.refusal.CaseRefusal.TheVariants as refusals
 use Rattle.gic_case.specs.declared.item.Neutral.{Neutral}
 use Rattle.gic_case.specs.declared.item.Neutral.TheVariants as devices
+use Rattle.gic_case_reader.specs.declared.part_row.PartRow.{PartRow}
+use Rattle.gic_case_reader.specs.declared.row.CourseRow.{CourseRow}
+use Rattle.gic_case_reader.specs.declared.row.CourseRow.TheVariants as courses
 use Rattle.gic_case_reader.specs.declared.row.LineRow.{LineRow}
+use Rattle.gic_case_reader.specs.declared.row.ThirdRow.{ThirdRow}
 use Rattle.gic_case_reader.specs.declared.row.KindRow.{KindRow}
 use Rattle.gic_case_reader.specs.declared.row.KindRow.TheVariants as kinds
 use Rattle.gic_case_reader.specs.declared.row.TransformerRow.{TransformerRow}
@@ -98,8 +105,15 @@ first_name list needed others row d rest h =
     let keys = none_of_both (breaks_keys list needed others row d) (name ++ rest) h in
     name_taken list row fields.Name (members_in d) (none_of_both name rest keys.1).0
 
-pub zone_named : (row : ℕ) (d : Data) → breaks_zone row d ≡ [] → IsTrue (is_name (zone_of d).name)
-zone_named row d h = first_name parts.Zone zone_fields [] row d _ h
+-- what rows that are read in one of two ways have in either
+either_holds : {A : Type 0} (P : A → Type 0) (b : Bool) (es fs : List CaseRefusal) (x y : A) → (es ≡ [] → P x) → (fs ≡ [] → P y) → cond b es fs ≡ [] → P (cond b x y)
+either_holds P true es fs x y one other h = one h
+either_holds P false es fs x y one other h = other h
+
+pub zone_named : (format : Format) (row : ℕ) (d : Data) → breaks_zone format row d ≡ [] → IsTrue (is_name (zone_of format d).name)
+zone_named format row d h =
+    either_holds (λ z. IsTrue (is_name z.name)) (is_scaled format d) (breaks_scaled_zone row d) (breaks_earth_zone row d) (scaled_zone_of d) (earth_zone_of d)
+    (λ none. first_name parts.Zone scaled_zone_fields [] row d _ none) (λ none. first_name parts.Zone earth_zone_fields [] row d _ none) h
 
 pub substation_named : (row : ℕ) (d : Data) → breaks_substation row d ≡ [] → IsTrue (is_name (substation_of d).name)
 substation_named row d h = first_name parts.Substation (fields.Name ∷ []) (fields.Ground ∷ []) row d _ h
@@ -107,34 +121,61 @@ substation_named row d h = first_name parts.Substation (fields.Name ∷ []) (fie
 pub bus_named : (row : ℕ) (d : Data) → breaks_bus row d ≡ [] → IsTrue (is_name (bus_of d).name)
 bus_named row d h = first_name parts.Bus bus_fields [] row d _ h
 
-pub line_named : (row : ℕ) (d : Data) → breaks_line row d ≡ [] → IsTrue (is_name (line_of d).name)
-line_named row d h = first_name parts.Line line_fields (fields.Blocked ∷ []) row d _ h
+pub line_named : (format : Format) (row : ℕ) (d : Data) → breaks_line format row d ≡ [] → IsTrue (is_name (line_of format d).name)
+line_named format row d h =
+    either_holds (λ l. IsTrue (is_name l.name)) (is_parted format d) (breaks_parted_line row d) (breaks_plain_line row d) (parted_line_of d) (plain_line_of d)
+    (λ none. first_name parts.Line parted_line_fields (fields.Blocked ∷ []) row d _ none) (λ none. first_name parts.Line plain_line_fields (fields.Blocked ∷ []) row d _ none) h
 
--- the ranges of a zone
-pub zone_measured : (row : ℕ) (d : Data) → breaks_zone row d ≡ [] → IsZone (zone_of d)
-zone_measured row d h =
+earth_zone_measured : (row : ℕ) (d : Data) → breaks_earth_zone row d ≡ [] → IsZone (earth_zone_of d)
+earth_zone_measured row d h =
     let ms = members_in d in
     let list = parts.Zone in
-    let keys = none_of_both (breaks_keys list zone_fields [] row d) _ h in
+    let keys = none_of_both (breaks_keys list earth_zone_fields [] row d) _ h in
     let name = none_of_both (breaks_value read_name list row fields.Name ms) _ keys.1 in
     let numbers = none_of_both (breaks_value (natural_within 0 9000) list row fields.Latitude ms) (breaks_value (natural_within 1 150) list row fields.Beta ms) name.1 in
-    record {
-      latitude_most = (natural_taken 0 9000 list row fields.Latitude ms numbers.0).1;
-      beta_least = (natural_taken 1 150 list row fields.Beta ms numbers.1).0;
-      beta_most = (natural_taken 1 150 list row fields.Beta ms numbers.1).1;
-    }
+    let latitude = natural_taken 0 9000 list row fields.Latitude ms numbers.0 in
+    let beta = natural_taken 1 150 list row fields.Beta ms numbers.1 in
+    (latitude.1, beta.0, beta.1)
+
+scaled_zone_measured : (row : ℕ) (d : Data) → breaks_scaled_zone row d ≡ [] → IsZone (scaled_zone_of d)
+scaled_zone_measured row d h =
+    let ms = members_in d in
+    let list = parts.Zone in
+    let keys = none_of_both (breaks_keys list scaled_zone_fields [] row d) _ h in
+    let values = none_of_both (breaks_value read_name list row fields.Name ms) (breaks_value (natural_within 1 1500) list row fields.Scale ms) keys.1 in
+    natural_taken 1 1500 list row fields.Scale ms values.1
+
+-- the ranges of a zone
+pub zone_measured : (format : Format) (row : ℕ) (d : Data) → breaks_zone format row d ≡ [] → IsZone (zone_of format d)
+zone_measured format row d h =
+    either_holds IsZone (is_scaled format d) (breaks_scaled_zone row d) (breaks_earth_zone row d) (scaled_zone_of d) (earth_zone_of d) (scaled_zone_measured row d) (earth_zone_measured row d) h
+
+-- the parts of a course as it is written
+abbrev pub written_parts : CourseRow → List PartRow
+written_parts (courses.One part) = part ∷ []
+written_parts (courses.Several ps) = ps
+
+-- where there are several, there are at least two, and at most MOST_PARTS
+abbrev pub AreFewWritten : CourseRow → Type 0
+AreFewWritten (courses.One part) = Unit {0}
+AreFewWritten (courses.Several ps) = (2 ≤ length ps) × (length ps ≤ MOST_PARTS)
 
 -- the ranges of a line
 pub record IsMeasured (l : LineRow) : Type 0 where
   pub resistance : (1000 ≤ l.resistance) × (l.resistance ≤ 1000000000)
-  pub north : unsigned_abs l.north ≤ 1000000
-  pub east : unsigned_abs l.east ≤ 1000000
+  pub few : AreFewWritten l.course
+  pub north : north_way (written_parts l.course) ≤ 1000000
+  pub east : east_way (written_parts l.course) ≤ 1000000
 
-pub line_measured : (row : ℕ) (d : Data) → breaks_line row d ≡ [] → IsMeasured (line_of d)
-line_measured row d h =
+-- the way of one part
+one_way : (n : ℕ) → n ≤ 1000000 → 0 + n ≤ 1000000
+one_way n h = omega (arith, h)
+
+plain_line_measured : (row : ℕ) (d : Data) → breaks_plain_line row d ≡ [] → IsMeasured (plain_line_of d)
+plain_line_measured row d h =
     let ms = members_in d in
     let list = parts.Line in
-    let keys = none_of_both (breaks_keys list line_fields (fields.Blocked ∷ []) row d) _ h in
+    let keys = none_of_both (breaks_keys list plain_line_fields (fields.Blocked ∷ []) row d) _ h in
     let name = none_of_both (breaks_value read_name list row fields.Name ms) _ keys.1 in
     let from = none_of_both (breaks_value read_name list row fields.From ms) _ name.1 in
     let to = none_of_both (breaks_value read_name list row fields.To ms) _ from.1 in
@@ -144,22 +185,65 @@ line_measured row d h =
     let east = none_of_both (breaks_value metres_within list row fields.East ms) (breaks_optional as_bool list row fields.Blocked ms) north.1 in
     record {
       resistance = natural_taken 1000 1000000000 list row fields.Resistance ms resistance.0;
-      north = span_taken 1000000 list row fields.North ms north.0;
-      east = span_taken 1000000 list row fields.East ms east.0;
+      few = tt;
+      north = one_way _ (span_taken 1000000 list row fields.North ms north.0);
+      east = one_way _ (span_taken 1000000 list row fields.East ms east.0);
     }
+
+if_parts : (ps : List PartRow) (b : Bool) → are_parts ps ≡ b → IfSome (cond b (Some ps) None) (λ qs. are_parts qs ≡ true)
+if_parts ps false h = tt
+if_parts ps true h = h
+
+parts_hold : (ms : Members) → IfSome (value_at read_parts fields.Part ms) (λ ps. are_parts ps ≡ true)
+parts_hold ms =
+    then_holds _ read_parts (λ d. then_holds _ (λ ps. cond (are_parts ps) (Some ps) None) (λ ps. if_parts ps (are_parts ps) refl) (option_and_then parts_in (as_array d))) (get_member (key_of fields.Part) ms)
+
+parts_taken : (row : ℕ) (ms : Members) → breaks_value read_parts parts.Line row fields.Part ms ≡ [] → are_parts (unwrap_or (value_at read_parts fields.Part ms) []) ≡ true
+parts_taken row ms h = taken_holds (λ ps. are_parts ps ≡ true) (value_at read_parts fields.Part ms) [] (unless_holds _ (refusals.Value parts.Line row fields.Part) h) (parts_hold ms)
+
+parted_line_measured : (row : ℕ) (d : Data) → breaks_parted_line row d ≡ [] → IsMeasured (parted_line_of d)
+parted_line_measured row d h =
+    let ms = members_in d in
+    let list = parts.Line in
+    let ps = unwrap_or (value_at read_parts fields.Part ms) [] in
+    let keys = none_of_both (breaks_keys list parted_line_fields (fields.Blocked ∷ []) row d) _ h in
+    let name = none_of_both (breaks_value read_name list row fields.Name ms) _ keys.1 in
+    let from = none_of_both (breaks_value read_name list row fields.From ms) _ name.1 in
+    let to = none_of_both (breaks_value read_name list row fields.To ms) _ from.1 in
+    let resistance = none_of_both (breaks_value ohm_within list row fields.Resistance ms) _ to.1 in
+    let several = none_of_both (breaks_optional as_bool list row fields.Blocked ms) (breaks_value read_parts list row fields.Part ms) resistance.1 in
+    let two = and_parts (nat_le 2 (length ps)) (nat_le (length ps) MOST_PARTS && (nat_le (north_way ps) 1000000 && nat_le (east_way ps) 1000000)) (parts_taken row ms several.1) in
+    let most = and_parts (nat_le (length ps) MOST_PARTS) (nat_le (north_way ps) 1000000 && nat_le (east_way ps) 1000000) two.1 in
+    let ways = and_parts (nat_le (north_way ps) 1000000) (nat_le (east_way ps) 1000000) most.1 in
+    record {
+      resistance = natural_taken 1000 1000000000 list row fields.Resistance ms resistance.0;
+      few = (few_of 2 (length ps) two.0, few_of (length ps) MOST_PARTS most.0);
+      north = few_of (north_way ps) 1000000 ways.0;
+      east = few_of (east_way ps) 1000000 ways.1;
+    }
+
+pub line_measured : (format : Format) (row : ℕ) (d : Data) → breaks_line format row d ≡ [] → IsMeasured (line_of format d)
+line_measured format row d h =
+    either_holds IsMeasured (is_parted format d) (breaks_parted_line row d) (breaks_plain_line row d) (parted_line_of d) (plain_line_of d) (parted_line_measured row d) (plain_line_measured row d) h
+
+-- the ranges of a third winding
+abbrev pub IsMeasuredThird : ThirdRow → Type 0
+IsMeasuredThird t = IsRated t.volts × IsResistance t.resistance
 
 -- the ranges of what a kind has of its own
 abbrev pub IsMeasuredKind : KindRow → Type 0
 IsMeasuredKind (kinds.DeltaWye high high_resistance) = IsResistance high_resistance
-IsMeasuredKind (kinds.WyeWye high low low_volts high_resistance low_resistance) = IsRated low_volts × (IsResistance high_resistance × IsResistance low_resistance)
-IsMeasuredKind (kinds.Auto high low low_volts series_resistance common_resistance) = IsRated low_volts × (IsResistance series_resistance × IsResistance common_resistance)
+IsMeasuredKind (kinds.WyeWye high low low_volts high_resistance low_resistance third) = IsRated low_volts × (IsResistance high_resistance × IsResistance low_resistance) × IfSome third IsMeasuredThird
+IsMeasuredKind (kinds.Auto high low low_volts series_resistance common_resistance third) = IsRated low_volts × (IsResistance series_resistance × IsResistance common_resistance) × IfSome third IsMeasuredThird
+IsMeasuredKind (kinds.Reactor high high_resistance) = IsResistance high_resistance
 IsMeasuredKind kinds.DeltaDelta = Unit {0}
 
 -- a delta-delta unit has no neutral device
 abbrev pub HasPlaceFor : KindRow → Option Neutral → Type 0
 HasPlaceFor (kinds.DeltaWye high high_resistance) neutral = Unit {0}
-HasPlaceFor (kinds.WyeWye high low low_volts high_resistance low_resistance) neutral = Unit {0}
-HasPlaceFor (kinds.Auto high low low_volts series_resistance common_resistance) neutral = Unit {0}
+HasPlaceFor (kinds.WyeWye high low low_volts high_resistance low_resistance third) neutral = Unit {0}
+HasPlaceFor (kinds.Auto high low low_volts series_resistance common_resistance third) neutral = Unit {0}
+HasPlaceFor (kinds.Reactor high high_resistance) neutral = Unit {0}
 HasPlaceFor kinds.DeltaDelta neutral = neutral ≡ None
 
 -- the ranges of a transformer
@@ -175,20 +259,41 @@ ohm_taken row at ms h = natural_taken 1000 1000000000 parts.Transformer row at m
 volts_taken : (row : ℕ) (at : Field) (ms : Members) → breaks_volts row at ms ≡ [] → IsRated (volts_in at ms)
 volts_taken row at ms h = natural_taken 1000 2000000 parts.Transformer row at ms h
 
+one_winding_measured : (row : ℕ) (ms : Members) → breaks_one_winding row ms ≡ [] → IsResistance (ohm_in fields.HighResistance ms)
+one_winding_measured row ms h = ohm_taken row fields.HighResistance ms (none_of_both (breaks_bus_name row fields.High ms) (breaks_ohm row fields.HighResistance ms) h).1
+
+third_measured : (with_third : Bool) (row : ℕ) (ms : Members) → breaks_third with_third row ms ≡ [] → IfSome (third_told with_third ms) IsMeasuredThird
+third_measured false row ms h = tt
+third_measured true row ms h =
+    let bus = none_of_both (breaks_bus_name row fields.Third ms) _ h in
+    let values = none_of_both (breaks_volts row fields.ThirdVolts ms) (breaks_ohm row fields.ThirdResistance ms) bus.1 in
+    (volts_taken row fields.ThirdVolts ms values.0, ohm_taken row fields.ThirdResistance ms values.1)
+
+wye_wye_measured : (with_third : Bool) (row : ℕ) (ms : Members) → breaks_wye_wye with_third row ms ≡ [] → IsMeasuredKind (wye_wye_in with_third ms)
+wye_wye_measured with_third row ms h =
+    let high = none_of_both (breaks_bus_name row fields.High ms) _ h in
+    let low = none_of_both (breaks_bus_name row fields.Low ms) _ high.1 in
+    let volts = none_of_both (breaks_volts row fields.LowVolts ms) _ low.1 in
+    let one = none_of_both (breaks_ohm row fields.HighResistance ms) _ volts.1 in
+    let two = none_of_both (breaks_ohm row fields.LowResistance ms) (breaks_third with_third row ms) one.1 in
+    (volts_taken row fields.LowVolts ms volts.0, (ohm_taken row fields.HighResistance ms one.0, ohm_taken row fields.LowResistance ms two.0), third_measured with_third row ms two.1)
+
+auto_measured : (with_third : Bool) (row : ℕ) (ms : Members) → breaks_auto with_third row ms ≡ [] → IsMeasuredKind (auto_in with_third ms)
+auto_measured with_third row ms h =
+    let high = none_of_both (breaks_bus_name row fields.High ms) _ h in
+    let low = none_of_both (breaks_bus_name row fields.Low ms) _ high.1 in
+    let volts = none_of_both (breaks_volts row fields.LowVolts ms) _ low.1 in
+    let one = none_of_both (breaks_ohm row fields.SeriesResistance ms) _ volts.1 in
+    let two = none_of_both (breaks_ohm row fields.CommonResistance ms) (breaks_third with_third row ms) one.1 in
+    (volts_taken row fields.LowVolts ms volts.0, (ohm_taken row fields.SeriesResistance ms one.0, ohm_taken row fields.CommonResistance ms two.0), third_measured with_third row ms two.1)
+
 own_measured : (word : KindWord) (row : ℕ) (ms : Members) → breaks_own word row ms ≡ [] → IsMeasuredKind (own_of word ms)
-own_measured words.DeltaWye row ms h = ohm_taken row fields.HighResistance ms (none_of_both (breaks_bus_name row fields.High ms) (breaks_ohm row fields.HighResistance ms) h).1
-own_measured words.WyeWye row ms h =
-    let high = none_of_both (breaks_bus_name row fields.High ms) _ h in
-    let low = none_of_both (breaks_bus_name row fields.Low ms) _ high.1 in
-    let volts = none_of_both (breaks_volts row fields.LowVolts ms) _ low.1 in
-    let ohms = none_of_both (breaks_ohm row fields.HighResistance ms) (breaks_ohm row fields.LowResistance ms) volts.1 in
-    (volts_taken row fields.LowVolts ms volts.0, (ohm_taken row fields.HighResistance ms ohms.0, ohm_taken row fields.LowResistance ms ohms.1))
-own_measured words.Auto row ms h =
-    let high = none_of_both (breaks_bus_name row fields.High ms) _ h in
-    let low = none_of_both (breaks_bus_name row fields.Low ms) _ high.1 in
-    let volts = none_of_both (breaks_volts row fields.LowVolts ms) _ low.1 in
-    let ohms = none_of_both (breaks_ohm row fields.SeriesResistance ms) (breaks_ohm row fields.CommonResistance ms) volts.1 in
-    (volts_taken row fields.LowVolts ms volts.0, (ohm_taken row fields.SeriesResistance ms ohms.0, ohm_taken row fields.CommonResistance ms ohms.1))
+own_measured words.DeltaWye row ms h = one_winding_measured row ms h
+own_measured words.WyeWye row ms h = wye_wye_measured false row ms h
+own_measured words.Auto row ms h = auto_measured false row ms h
+own_measured words.WyeWyeWye row ms h = wye_wye_measured true row ms h
+own_measured words.AutoWye row ms h = auto_measured true row ms h
+own_measured words.Reactor row ms h = one_winding_measured row ms h
 own_measured words.DeltaDelta row ms h = tt
 
 if_blocked : (b : Bool) → IfSome (cond b (Some devices.Blocked) None) IsSoundDevice
@@ -222,33 +327,37 @@ absent allowed k (member l d ms) out only =
     let parts = and_parts (allowed l) (has_only allowed ms) only in
     other_key allowed k l d (get_member k ms) (slice_cmp nat_cmp k l) refl out parts.0 (absent allowed k ms out parts.1)
 
-device_place : (devices : Bool) (word : KindWord) (ms : Members) → fits (fields_of word) (others_of devices word) ms ≡ true
+device_place : (format : Format) (word : KindWord) (ms : Members) → fits (fields_of word) (others_of format word) ms ≡ true
     → HasPlaceFor (own_of word ms) (value_at read_neutral fields.Neutral ms)
 unfolding is_among
-device_place devices words.DeltaWye ms h = tt
-device_place devices words.WyeWye ms h = tt
-device_place devices words.Auto ms h = tt
-device_place devices words.DeltaDelta ms h =
+device_place format words.DeltaWye ms h = tt
+device_place format words.WyeWye ms h = tt
+device_place format words.Auto ms h = tt
+device_place format words.WyeWyeWye ms h = tt
+device_place format words.AutoWye ms h = tt
+device_place format words.Reactor ms h = tt
+device_place format words.DeltaDelta ms h =
     let required = fields_of words.DeltaDelta in
     let only = and_parts (has_only (λ k. is_among required k || is_among [] k) ms) (has_all required ms) h in
     ap (option_and_then read_neutral) (absent (λ k. is_among required k || is_among [] k) (key_of fields.Neutral) ms refl only.0)
 
 -- what each rule of a transformer that breaks none gives
-record IsKept (devices : Bool) (row : ℕ) (ms : Members) : Type 0 where
-  keys : fits (fields_of (kind_of ms)) (others_of devices (kind_of ms)) ms ≡ true
+record IsKept (format : Format) (row : ℕ) (ms : Members) : Type 0 where
+  keys : fits (fields_of (kind_of format ms)) (others_of format (kind_of format ms)) ms ≡ true
   name : breaks_value read_name parts.Transformer row fields.Name ms ≡ []
   volts : breaks_volts row fields.HighVolts ms ≡ []
-  own : breaks_own (kind_of ms) row ms ≡ []
+  own : breaks_own (kind_of format ms) row ms ≡ []
 
-kept : (devices : Bool) (row : ℕ) (d : Data) → breaks_transformer devices row d ≡ [] → IsKept devices row (members_in d)
-kept devices row d h =
+kept : (format : Format) (row : ℕ) (d : Data) → breaks_transformer format row d ≡ [] → IsKept format row (members_in d)
+kept format row d h =
     let ms = members_in d in
+    let kind = kind_of format ms in
     let table = none_of_both (unless (is_some (as_table d) && has fields.Kind ms) (refusals.Key parts.Transformer row)) _ h in
-    let word = none_of_both (breaks_value read_kind parts.Transformer row fields.Kind ms) _ table.1 in
-    let keys = none_of_both (unless (fits (fields_of (kind_of ms)) (others_of devices (kind_of ms)) ms) (refusals.Key parts.Transformer row)) _ word.1 in
+    let word = none_of_both (breaks_value (read_kind format) parts.Transformer row fields.Kind ms) _ table.1 in
+    let keys = none_of_both (unless (fits (fields_of kind) (others_of format kind) ms) (refusals.Key parts.Transformer row)) _ word.1 in
     let name = none_of_both (breaks_value read_name parts.Transformer row fields.Name ms) _ keys.1 in
     let volts = none_of_both (breaks_volts row fields.HighVolts ms) _ name.1 in
-    let own = none_of_both (breaks_own (kind_of ms) row ms) (breaks_optional read_neutral parts.Transformer row fields.Neutral ms) volts.1 in
+    let own = none_of_both (breaks_own kind row ms) (breaks_optional read_neutral parts.Transformer row fields.Neutral ms) volts.1 in
     record {
       keys = unless_holds _ (refusals.Key parts.Transformer row) keys.0;
       name = name.0;
@@ -256,16 +365,16 @@ kept devices row d h =
       own = own.0;
     }
 
-pub transformer_named : (devices : Bool) (row : ℕ) (d : Data) → breaks_transformer devices row d ≡ [] → IsTrue (is_name (transformer_of d).name)
-transformer_named devices row d h = name_taken parts.Transformer row fields.Name (members_in d) (kept devices row d h).name
+pub transformer_named : (format : Format) (row : ℕ) (d : Data) → breaks_transformer format row d ≡ [] → IsTrue (is_name (transformer_of format d).name)
+transformer_named format row d h = name_taken parts.Transformer row fields.Name (members_in d) (kept format row d h).name
 
-pub transformer_measured : (devices : Bool) (row : ℕ) (d : Data) → breaks_transformer devices row d ≡ [] → IsMeasuredTransformer (transformer_of d)
-transformer_measured devices row d h =
+pub transformer_measured : (format : Format) (row : ℕ) (d : Data) → breaks_transformer format row d ≡ [] → IsMeasuredTransformer (transformer_of format d)
+transformer_measured format row d h =
     let ms = members_in d in
-    let rules = kept devices row d h in
+    let rules = kept format row d h in
     record {
       rated = volts_taken row fields.HighVolts ms rules.volts;
-      kind = own_measured (kind_of ms) row ms rules.own;
+      kind = own_measured (kind_of format ms) row ms rules.own;
       device = device_sound ms;
-      place = device_place devices (kind_of ms) ms rules.keys;
+      place = device_place format (kind_of format ms) ms rules.keys;
     }

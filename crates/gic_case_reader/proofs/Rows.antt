@@ -1,5 +1,5 @@
 -- Rows read one after another.
-use Rattle.std.proofs.Common.{◌≡◌, List, [], ◌∷◌, ◌++◌, ◌+◌, length, Result, Ok, Err, refl, arith, length-append}
+use Rattle.std.proofs.Common.{◌≡◌, List, [], ◌∷◌, ◌++◌, ◌+◌, length, Option, Some, None, option_map, Result, Ok, Err, refl, ap, arith, length-append, append_assoc}
 use Rattle.std.proofs.lemmas.List.{length-map}
 use Rattle.toml.specs.declared.value.Value.{Value}
 use Rattle.toml.specs.View.{items_view}
@@ -11,6 +11,15 @@ use Rattle.gic_case_reader.specs.declared.refusal.CaseRefusal.{CaseRefusal}
 abbrev pub with_front : {A : Type 0} → List A → Result (List A) CaseRefusal → Result (List A) CaseRefusal
 with_front front (Ok xs) = Ok (front ++ xs)
 with_front front (Err e) = Err e
+
+-- the values behind these, where there are any
+abbrev pub behind : {A : Type 0} → List A → Option (List A) → Option (List A)
+behind front None = None
+behind front (Some xs) = Some (front ++ xs)
+
+pub behind_more : {A : Type 0} (front : List A) (x : A) (o : Option (List A)) → behind (front ++ x ∷ []) o ≡ behind front (option_map (λ xs. x ∷ xs) o)
+behind_more front x None = refl
+behind_more front x (Some xs) = ap (λ ys. Some ys) (append_assoc front (x ∷ []) xs)
 
 pub count_length : (vs : List Value) → count_of (items_view vs) ≡ length vs
 count_length [] = refl

@@ -1,14 +1,14 @@
 -- The lists of a document that breaks no rule are sound.
-use Rattle.std.proofs.Common.{◌≡◌, ◌≢◌, ℕ, zero, suc, ◌+◌, ◌≤◌, ◌<◌, nat_le, List, [], ◌∷◌, ◌++◌, length, map, take, get_or, Bool, true, false, not, Option, Some, None, unwrap_or, is_some, IfSome, Ok, refl, sym, ap, ◌∙◌, arith, inl, inr, subst, zero-add, length-take-le}
-use Rattle.std.proofs.lemmas.Bool.{cases_eq, false≢true}
+use Rattle.std.proofs.Common.{◌≡◌, ◌≢◌, ℕ, zero, suc, ◌+◌, ◌≤◌, ◌<◌, nat_le, List, [], ◌∷◌, ◌++◌, length, map, take, get_or, Bool, true, false, cond, not, Option, Some, None, unwrap_or, is_some, option_map, ◌&&◌, IfSome, Ok, refl, sym, ap, ◌∙◌, arith, inl, inr, subst, zero-add, length-take-le}
+use Rattle.std.proofs.lemmas.Bool.{cases_eq, false≢true, and_parts}
 use Rattle.std.proofs.lemmas.Bool.Decides.{nat_tests}
 use Rattle.std.proofs.lemmas.Cmp.{nat_list_eq_equiv}
 use Rattle.std.proofs.lemmas.List.{length-map, get_or-map, get_or-take, get_or_default}
 use Rattle.std.proofs.lemmas.List.Elements.{All-nil, All-cons, All-map, All-append}
-use Rattle.std.proofs.lemmas.List.Folds.{list_any_at}
+use Rattle.std.proofs.lemmas.List.Folds.{fold-map, list_any_at}
 use Rattle.std.proofs.lemmas.Simd.{map-map}
 use Rattle.std.specs.Prelude.{All, AllPairs, ◌==◌, unsigned_abs, IsTrue}
-use Rattle.std.specs.List.{flat_map, enumerate_from, range_with_len}
+use Rattle.std.specs.List.{flat_map, enumerate_from, range_with_len, list_all}
 use Rattle.toml.specs.Data.{Data, Members}
 use Rattle.gic_base.specs.Name.{is_name}
 use Rattle.gic_scale.specs.ZoneView.{IsZone}
@@ -17,11 +17,16 @@ use Rattle.gic_base.proofs.RefusalLaws.{none_of_both, none_settled, unless_holds
 use Rattle.gic_case.proofs.Places.{place_below}
 use Rattle.gic_case.specs.Names.{same, is_repeat, place_in}
 use Rattle.gic_case.specs.Lists.{Lists, node_names, substation_at, element_ends, degree_of, has_windings}
-use Rattle.gic_case.specs.Sound.{names_of, IsRated, IsSoundSubstation, IsSoundLine, AreSides, IsSoundKind, IsSoundTransformer, IsSound}
-use Rattle.gic_case_reader.specs.Sides.{sides_of, sides_differ, are_together, are_ordered}
+use Rattle.gic_base.specs.declared.limits.TheConstants.{MOST_ZONES, MOST_SUBSTATIONS, MOST_BUSES, MOST_LINES, MOST_TRANSFORMERS, MOST_SUBSTATIONS_BEFORE_FORMAT_3, MOST_BUSES_BEFORE_FORMAT_3, MOST_LINES_BEFORE_FORMAT_3, MOST_TRANSFORMERS_BEFORE_FORMAT_3}
+use Rattle.gic_case.specs.Courses.{parts_of, north_way, east_way, AreFewParts}
+use Rattle.gic_case.specs.Sound.{names_of, IsRated, IsSoundSubstation, IsSoundLine, AreSides, IsSoundThird, IsSoundKind, IsSoundTransformer, IsSound}
+use Rattle.gic_case_reader.specs.Sides.{sides_of, third_differs, sides_differ, third_together, are_together, third_ordered, are_ordered}
 use Rattle.gic_case_reader.specs.Transformers.{breaks_transformer, transformer_of}
-use Rattle.gic_case_reader.specs.Rows.{members_in, breaks_zone, zone_of, breaks_substation, substation_of, breaks_bus, bus_of, breaks_line, line_of}
-use Rattle.gic_case_reader.specs.Rules.{entries_of, breaks_list, allows_devices, breaks_form, Written, written_in, written_names, duplicate_at, breaks_once, breaks_bus_reference, breaks_line_references, breaks_side_reference, breaks_kind_references, breaks_references, bus_with_place, line_with_places, side_place, kind_with_places, transformer_with_places, resolved, breaks_same_ends, breaks_same_sides, breaks_apart, breaks_voltage_order, breaks_degree, broken_in, broken, lists_of, document_of, case_of}
+use Rattle.gic_case_reader.specs.Formats.{is_third, format_in, most_rows}
+use Rattle.gic_case_reader.specs.Rows.{members_in, breaks_zone, zone_of, breaks_substation, substation_of, breaks_bus, bus_of}
+use Rattle.gic_case_reader.specs.Lines as written_lines
+use Rattle.gic_case_reader.specs.Lines.{breaks_line, line_of}
+use Rattle.gic_case_reader.specs.Rules.{entries_of, breaks_list, breaks_form, Written, written_in, written_names, duplicate_at, breaks_once, breaks_bus_reference, is_in_zone, breaks_course_reference, breaks_line_references, breaks_side_reference, breaks_third_reference, breaks_kind_references, breaks_references, bus_with_place, part_with_place, course_with_places, line_with_places, side_place, third_with_place, kind_with_places, transformer_with_places, resolved, breaks_same_ends, breaks_same_sides, breaks_apart, breaks_voltage_order, breaks_degree, broken_in, broken, lists_of, document_of, case_of}
 use Rattle.gic_case_reader.specs.OneByOne.{breaks_degree_from}
 use Rattle.gic_case_reader.specs.Pass.{case_in}
 use Rattle.gic_case_reader.specs.declared.field.Field.{Field}
@@ -30,17 +35,22 @@ use Rattle.gic_case_reader.specs.declared.refusal.Part.{Part}
 use Rattle.gic_case_reader.specs.declared.refusal.Part.TheVariants as parts
 use Rattle.gic_case_reader.specs.declared.refusal.CaseRefusal.{CaseRefusal}
 use Rattle.gic_case_reader.specs.declared.refusal.CaseRefusal.TheVariants as refusals
+use Rattle.gic_case.specs.declared.part.LinePart.{LinePart}
 use Rattle.gic_case.specs.declared.item.Line.{Line}
 use Rattle.gic_case.specs.declared.item.Bus.{Bus}
 use Rattle.gic_case.specs.declared.item.Kind.{Kind}
 use Rattle.gic_case.specs.declared.item.Kind.TheVariants as kinds
 use Rattle.gic_case.specs.declared.item.Neutral.{Neutral}
 use Rattle.gic_case.specs.declared.item.Transformer.{Transformer}
+use Rattle.gic_case_reader.specs.declared.part_row.PartRow.{PartRow}
+use Rattle.gic_case_reader.specs.declared.row.CourseRow.{CourseRow}
+use Rattle.gic_case_reader.specs.declared.row.CourseRow.TheVariants as courses
 use Rattle.gic_case_reader.specs.declared.row.LineRow.{LineRow}
+use Rattle.gic_case_reader.specs.declared.row.ThirdRow.{ThirdRow}
 use Rattle.gic_case_reader.specs.declared.row.KindRow.{KindRow}
 use Rattle.gic_case_reader.specs.declared.row.KindRow.TheVariants as rows
 use Rattle.gic_case_reader.specs.declared.row.TransformerRow.{TransformerRow}
-use Rattle.gic_case_reader.proofs.Ranges.{zone_measured, zone_named, substation_named, bus_named, line_named, few_of, taken_holds, natural_holds, IsMeasured, line_measured, IsMeasuredKind, HasPlaceFor, IsMeasuredTransformer, transformer_named, transformer_measured}
+use Rattle.gic_case_reader.proofs.Ranges.{zone_measured, zone_named, substation_named, bus_named, line_named, few_of, taken_holds, natural_holds, written_parts, AreFewWritten, IsMeasured, line_measured, IsMeasuredThird, IsMeasuredKind, HasPlaceFor, IsMeasuredTransformer, transformer_named, transformer_measured}
 use Rattle.gic_case_reader.proofs.PassLaws.{case_in_law}
 
 -- what each row that breaks no rule has, all rows have
@@ -72,7 +82,21 @@ place_within name rows q there =
 record IsPlaced (buses zones : ℕ) (l : Line) : Type 0 where
   pub from : l.from < buses
   pub to : l.to < buses
-  pub zone : l.zone < zones
+  pub course : All (λ p. p.zone < zones) (parts_of l.course)
+
+part_placed : (w : Written) (part : PartRow) → is_in_zone w part ≡ true → (part_with_place w part).zone < length w.zones
+part_placed w part there = place_within (λ z. z.name) w.zones part.zone there
+
+parts_placed : (w : Written) (ps : List PartRow) → list_all (is_in_zone w) ps ≡ true → All (λ p. p.zone < length w.zones) (map (part_with_place w) ps)
+parts_placed w [] h = All-nil (λ (p : LinePart). p.zone < length w.zones)
+parts_placed w (part ∷ ps) h =
+    let both = and_parts (is_in_zone w part) (list_all (is_in_zone w) ps) h in
+    All-cons (λ (p : LinePart). p.zone < length w.zones) (part_with_place w part) (map (part_with_place w) ps) (part_placed w part both.0) (parts_placed w ps both.1)
+
+course_placed : (w : Written) (row : ℕ) (course : CourseRow) → breaks_course_reference w row course ≡ [] → All (λ p. p.zone < length w.zones) (parts_of (course_with_places w course))
+course_placed w row (courses.One part) h =
+    All-cons (λ (p : LinePart). p.zone < length w.zones) (part_with_place w part) [] (part_placed w part (unless_holds _ _ h)) (All-nil (λ (p : LinePart). p.zone < length w.zones))
+course_placed w row (courses.Several ps) h = parts_placed w ps (unless_holds _ _ h)
 
 line_placed : (w : Written) (row : ℕ) (l : LineRow) → breaks_line_references w row l ≡ [] → IsPlaced (length w.buses) (length w.zones) (line_with_places w l)
 line_placed w row l h =
@@ -81,36 +105,49 @@ line_placed w row l h =
     record {
       from = place_within (λ b. b.name) w.buses l.from (unless_holds _ _ from.0);
       to = place_within (λ b. b.name) w.buses l.to (unless_holds _ _ to.0);
-      zone = place_within (λ z. z.name) w.zones l.zone (unless_holds _ _ to.1);
+      course = course_placed w row l.course to.1;
     }
 
 -- where a transformer's references go
 abbrev IsPlacedKind : (buses : ℕ) → Kind → Type 0
 IsPlacedKind buses (kinds.DeltaWye high high_resistance) = high < buses
-IsPlacedKind buses (kinds.WyeWye high low low_volts high_resistance low_resistance) = (high < buses) × (low < buses)
-IsPlacedKind buses (kinds.Auto high low low_volts series_resistance common_resistance) = (high < buses) × (low < buses)
+IsPlacedKind buses (kinds.WyeWye high low low_volts high_resistance low_resistance third) = (high < buses) × (low < buses) × IfSome third (λ t. t.bus < buses)
+IsPlacedKind buses (kinds.Auto high low low_volts series_resistance common_resistance third) = (high < buses) × (low < buses) × IfSome third (λ t. t.bus < buses)
+IsPlacedKind buses (kinds.Reactor high high_resistance) = high < buses
 IsPlacedKind buses kinds.DeltaDelta = Unit {0}
 
 side_placed : (w : Written) (row : ℕ) (at : Field) (bus : List ℕ) → breaks_side_reference w row at bus ≡ [] → side_place w bus < length w.buses
 side_placed w row at bus h = place_within (λ b. b.name) w.buses bus (unless_holds _ (refusals.Unknown parts.Transformer row at) h)
 
-sides_placed : (w : Written) (row : ℕ) (high low : List ℕ) → breaks_side_reference w row fields.High high ++ breaks_side_reference w row fields.Low low ≡ []
-    → (side_place w high < length w.buses) × (side_place w low < length w.buses)
-sides_placed w row high low h =
-    let sides = none_of_both (breaks_side_reference w row fields.High high) (breaks_side_reference w row fields.Low low) h in
-    (side_placed w row fields.High high sides.0, side_placed w row fields.Low low sides.1)
+third_placed : (w : Written) (row : ℕ) (third : Option ThirdRow) → breaks_third_reference w row third ≡ [] → IfSome (option_map (third_with_place w) third) (λ t. t.bus < length w.buses)
+third_placed w row None h = tt
+third_placed w row (Some t) h = side_placed w row fields.Third t.bus h
+
+sides_placed : (w : Written) (row : ℕ) (high low : List ℕ) (third : Option ThirdRow)
+    → breaks_side_reference w row fields.High high ++ (breaks_side_reference w row fields.Low low ++ breaks_third_reference w row third) ≡ []
+    → (side_place w high < length w.buses) × (side_place w low < length w.buses) × IfSome (option_map (third_with_place w) third) (λ t. t.bus < length w.buses)
+sides_placed w row high low third h =
+    let first = none_of_both (breaks_side_reference w row fields.High high) _ h in
+    let others = none_of_both (breaks_side_reference w row fields.Low low) (breaks_third_reference w row third) first.1 in
+    (side_placed w row fields.High high first.0, side_placed w row fields.Low low others.0, third_placed w row third others.1)
 
 kind_placed : (w : Written) (row : ℕ) (k : KindRow) → breaks_kind_references w row k ≡ [] → IsPlacedKind (length w.buses) (kind_with_places w k)
 kind_placed w row (rows.DeltaWye high high_resistance) h = side_placed w row fields.High high h
-kind_placed w row (rows.WyeWye high low low_volts high_resistance low_resistance) h = sides_placed w row high low h
-kind_placed w row (rows.Auto high low low_volts series_resistance common_resistance) h = sides_placed w row high low h
+kind_placed w row (rows.WyeWye high low low_volts high_resistance low_resistance third) h = sides_placed w row high low third h
+kind_placed w row (rows.Auto high low low_volts series_resistance common_resistance third) h = sides_placed w row high low third h
+kind_placed w row (rows.Reactor high high_resistance) h = side_placed w row fields.High high h
 kind_placed w row rows.DeltaDelta h = tt
 
 no_not : (b : Bool) → not b ≡ true → b ≡ false
 no_not true h = absurd (false≢true h)
 no_not false h = refl
 
--- what the rules on its two sides give of a transformer
+unequal : (a b : ℕ) → not (a == b) ≡ true → a ≢ b
+unequal a b differ e =
+    let apart : (a == b) ≡ false = no_not (a == b) differ in
+    absurd (grind (arith, nat_tests, e, apart))
+
+-- what the rules on its sides give of a transformer
 record AreRuled (buses : List Bus) (t : Transformer) : Type 0 where
   pub differ : sides_differ (sides_of t.kind) ≡ true
   pub together : are_together buses (sides_of t.kind) ≡ true
@@ -120,31 +157,66 @@ record AreRuled (buses : List Bus) (t : Transformer) : Type 0 where
 sides_by : (c : Lists) (buses high low high_volts low_volts : ℕ) → length c.buses ≡ buses → high < buses → low < buses → IsRated low_volts
     → not (high == low) ≡ true → (substation_at c.buses high == substation_at c.buses low) ≡ true → nat_le low_volts high_volts ≡ true
     → AreSides c high low high_volts low_volts
-sides_by c buses high low high_volts low_volts many high_within low_within rated differ together ordered =
-    let apart : (high == low) ≡ false = no_not (high == low) differ in
+sides_by c buses high low high_volts low_volts many high_within low_within rated differ together ordered = record {
+  high_within = omega arith;
+  low_within = omega arith;
+  ends_differ = unequal high low differ;
+  together = grind (arith, nat_tests, together);
+  low_rated = rated;
+  order = few_of low_volts high_volts ordered;
+}
+
+-- a third side, from the rules on it
+third_by : (c : Lists) (w : Written) (high low volts : ℕ) (third : Option ThirdRow) → length c.buses ≡ length w.buses → IfSome third IsMeasuredThird
+    → IfSome (option_map (third_with_place w) third) (λ t. t.bus < length w.buses)
+    → third_differs high low (option_map (third_with_place w) third) ≡ true → third_together c.buses high (option_map (third_with_place w) third) ≡ true
+    → third_ordered volts (option_map (third_with_place w) third) ≡ true → IfSome (option_map (third_with_place w) third) (IsSoundThird c high low volts)
+third_by c w high low volts None many measured placed differ together ordered = tt
+third_by c w high low volts (Some t) many measured placed differ together ordered =
+    let bus = side_place w t.bus in
+    let apart = and_parts (not (bus == high)) (not (bus == low)) differ in
     record {
-      high_within = omega arith;
-      low_within = omega arith;
-      ends_differ = λ e. absurd (grind (arith, nat_tests, e, apart));
+      bus_within = subst (λ n. bus < n) (sym many) placed;
+      not_high = unequal bus high apart.0;
+      not_low = unequal bus low apart.1;
       together = grind (arith, nat_tests, together);
-      low_rated = rated;
-      order = few_of low_volts high_volts ordered;
+      rated = measured.0;
+      order = few_of t.volts volts ordered;
+      ohm = measured.1;
     }
+
+-- the sides of a unit with two or three, from the rules on them
+all_sides_by : (c : Lists) (w : Written) (high low volts low_volts : ℕ) (third : Option ThirdRow) → length c.buses ≡ length w.buses
+    → IsRated low_volts → IfSome third IsMeasuredThird
+    → (high < length w.buses) × (low < length w.buses) × IfSome (option_map (third_with_place w) third) (λ t. t.bus < length w.buses)
+    → (not (high == low) && third_differs high low (option_map (third_with_place w) third)) ≡ true
+    → ((substation_at c.buses high == substation_at c.buses low) && third_together c.buses high (option_map (third_with_place w) third)) ≡ true
+    → (nat_le low_volts volts && third_ordered volts (option_map (third_with_place w) third)) ≡ true
+    → AreSides c high low volts low_volts × IfSome (option_map (third_with_place w) third) (IsSoundThird c high low volts)
+all_sides_by c w high low volts low_volts third many rated measured placed differ together ordered =
+    let apart = and_parts (not (high == low)) (third_differs high low (option_map (third_with_place w) third)) differ in
+    let one = and_parts (substation_at c.buses high == substation_at c.buses low) (third_together c.buses high (option_map (third_with_place w) third)) together in
+    let order = and_parts (nat_le low_volts volts) (third_ordered volts (option_map (third_with_place w) third)) ordered in
+    (sides_by c (length w.buses) high low volts low_volts many placed.0 placed.1 rated apart.0 one.0 order.0, third_by c w high low volts third many measured placed.2 apart.1 one.1 order.1)
 
 kind_by : (c : Lists) (w : Written) (volts : ℕ) (k : KindRow) → length c.buses ≡ length w.buses → IsMeasuredKind k → IsPlacedKind (length w.buses) (kind_with_places w k)
     → sides_differ (sides_of (kind_with_places w k)) ≡ true → are_together c.buses (sides_of (kind_with_places w k)) ≡ true → are_ordered volts (sides_of (kind_with_places w k)) ≡ true
     → IsSoundKind c volts (kind_with_places w k)
 kind_by c w volts (rows.DeltaWye high high_resistance) many measured placed differ together ordered = (subst (λ n. side_place w high < n) (sym many) placed, measured)
-kind_by c w volts (rows.WyeWye high low low_volts high_resistance low_resistance) many measured placed differ together ordered =
-    (sides_by c (length w.buses) (side_place w high) (side_place w low) volts low_volts many placed.0 placed.1 measured.0 differ together ordered, measured.1)
-kind_by c w volts (rows.Auto high low low_volts series_resistance common_resistance) many measured placed differ together ordered =
-    (sides_by c (length w.buses) (side_place w high) (side_place w low) volts low_volts many placed.0 placed.1 measured.0 differ together ordered, measured.1)
+kind_by c w volts (rows.WyeWye high low low_volts high_resistance low_resistance third) many measured placed differ together ordered =
+    let sides = all_sides_by c w (side_place w high) (side_place w low) volts low_volts third many measured.0 measured.2 placed differ together ordered in
+    (sides.0, measured.1, sides.1)
+kind_by c w volts (rows.Auto high low low_volts series_resistance common_resistance third) many measured placed differ together ordered =
+    let sides = all_sides_by c w (side_place w high) (side_place w low) volts low_volts third many measured.0 measured.2 placed differ together ordered in
+    (sides.0, measured.1, sides.1)
+kind_by c w volts (rows.Reactor high high_resistance) many measured placed differ together ordered = (subst (λ n. side_place w high < n) (sym many) placed, measured)
 kind_by c w volts rows.DeltaDelta many measured placed differ together ordered = tt
 
 no_device_by : (w : Written) (k : KindRow) (neutral : Option Neutral) → HasPlaceFor k neutral → has_windings (kind_with_places w k) ≡ false → is_some neutral ≡ false
 no_device_by w (rows.DeltaWye high high_resistance) neutral place h = absurd (false≢true (sym h))
-no_device_by w (rows.WyeWye high low low_volts high_resistance low_resistance) neutral place h = absurd (false≢true (sym h))
-no_device_by w (rows.Auto high low low_volts series_resistance common_resistance) neutral place h = absurd (false≢true (sym h))
+no_device_by w (rows.WyeWye high low low_volts high_resistance low_resistance third) neutral place h = absurd (false≢true (sym h))
+no_device_by w (rows.Auto high low low_volts series_resistance common_resistance third) neutral place h = absurd (false≢true (sym h))
+no_device_by w (rows.Reactor high high_resistance) neutral place h = absurd (false≢true (sym h))
 no_device_by w rows.DeltaDelta neutral place h = ap is_some place
 
 -- a transformer of a document that breaks no rule
@@ -158,9 +230,7 @@ transformer_by c w t many measured placed ruled = record {
 }
 
 differ : (row : ℕ) (l : Line) → unless (not (l.from == l.to)) (refusals.SameEnds parts.Line row) ≡ [] → l.from ≢ l.to
-differ row l h e =
-    let apart : (l.from == l.to) ≡ false = no_not (l.from == l.to) (unless_holds _ _ h) in
-    absurd (grind (arith, nat_tests, e, apart))
+differ row l h = unequal l.from l.to (unless_holds _ _ h)
 
 none_repeated : (test : ℕ → Bool) (refusal : ℕ → CaseRefusal) (a n : ℕ) → flat_map (λ i. unless (not (test i)) (refusal i)) (range_with_len a n) ≡ []
     → (k : ℕ) → a ≤ k → k < a + n → test k ≡ false
@@ -205,54 +275,74 @@ named list limit breaks of name law ms h =
 
 -- what the form of the document gives
 record IsFormed (w : Written) : Type 0 where
-  pub few_zones : length w.zones ≤ 256
-  pub few_substations : length w.substations ≤ 1024
-  pub few_buses : length w.buses ≤ 3072
-  pub few_lines : length w.lines ≤ 8192
-  pub few_transformers : length w.transformers ≤ 3584
+  pub few_zones : length w.zones ≤ MOST_ZONES
+  pub few_substations : length w.substations ≤ MOST_SUBSTATIONS
+  pub few_buses : length w.buses ≤ MOST_BUSES
+  pub few_lines : length w.lines ≤ MOST_LINES
+  pub few_transformers : length w.transformers ≤ MOST_TRANSFORMERS
   pub names : All (λ n. IsTrue (is_name n)) (written_names w)
   pub zones : All IsZone w.zones
   pub substations : All IsSoundSubstation w.substations
   pub lines : All IsMeasured w.lines
   pub transformers : All IsMeasuredTransformer w.transformers
 
+-- no format has more rows than the third
+few_by : (third : Bool) (n most before : ℕ) → nat_le before most ≡ true → n ≤ cond third most before → n ≤ most
+few_by true n most before fewer few = few
+few_by false n most before fewer few = omega (arith, few_of before most fewer, few)
+
 formed : (ms : Members) → breaks_form ms ≡ [] → IsFormed (written_in ms)
 unfolding breaks_form written_in
 formed ms h =
+    let format = format_in ms in
     let keys = none_of_both _ _ h in
-    let format = none_of_both _ _ keys.1 in
-    let zones = none_of_both _ _ format.1 in
+    let number = none_of_both _ _ keys.1 in
+    let zones = none_of_both _ _ number.1 in
     let substations = none_of_both _ _ zones.1 in
     let buses = none_of_both _ _ substations.1 in
     let lists = none_of_both _ _ buses.1 in
-    let z = few_rows parts.Zone 256 breaks_zone ms zones.0 in
-    let s = few_rows parts.Substation 1024 breaks_substation ms substations.0 in
-    let b = few_rows parts.Bus 3072 breaks_bus ms buses.0 in
-    let l = few_rows parts.Line 8192 breaks_line ms lists.0 in
-    let ruled = breaks_transformer (allows_devices ms) in
-    let t = few_rows parts.Transformer 3584 ruled ms lists.1 in
+    let z = few_rows parts.Zone (most_rows format parts.Zone) (breaks_zone format) ms zones.0 in
+    let s = few_rows parts.Substation (most_rows format parts.Substation) breaks_substation ms substations.0 in
+    let b = few_rows parts.Bus (most_rows format parts.Bus) breaks_bus ms buses.0 in
+    let l = few_rows parts.Line (most_rows format parts.Line) (breaks_line format) ms lists.0 in
+    let t = few_rows parts.Transformer (most_rows format parts.Transformer) (breaks_transformer format) ms lists.1 in
     record {
       few_zones = rw length-map z;
-      few_substations = rw length-map s;
-      few_buses = rw length-map b;
-      few_lines = rw length-map l;
-      few_transformers = rw length-map t;
+      few_substations = rw length-map (few_by (is_third format) _ MOST_SUBSTATIONS MOST_SUBSTATIONS_BEFORE_FORMAT_3 refl s);
+      few_buses = rw length-map (few_by (is_third format) _ MOST_BUSES MOST_BUSES_BEFORE_FORMAT_3 refl b);
+      few_lines = rw length-map (few_by (is_third format) _ MOST_LINES MOST_LINES_BEFORE_FORMAT_3 refl l);
+      few_transformers = rw length-map (few_by (is_third format) _ MOST_TRANSFORMERS MOST_TRANSFORMERS_BEFORE_FORMAT_3 refl t);
       names =
-          All-append (λ n. IsTrue (is_name n)) (map (λ z. z.name) (map zone_of (entries_of parts.Zone ms))) _ (named parts.Zone 256 breaks_zone zone_of (λ z. z.name) zone_named ms zones.0)
-          (All-append (λ n. IsTrue (is_name n)) (map (λ s. s.name) (map substation_of (entries_of parts.Substation ms))) _ (named parts.Substation 1024 breaks_substation substation_of (λ s. s.name) substation_named ms substations.0)
-          (All-append (λ n. IsTrue (is_name n)) (map (λ b. b.name) (map bus_of (entries_of parts.Bus ms))) _ (named parts.Bus 3072 breaks_bus bus_of (λ b. b.name) bus_named ms buses.0)
-          (All-append (λ n. IsTrue (is_name n)) (map (λ l. l.name) (map line_of (entries_of parts.Line ms))) (map (λ t. t.name) (map transformer_of (entries_of parts.Transformer ms)))
-          (named parts.Line 8192 breaks_line line_of (λ l. l.name) line_named ms lists.0) (named parts.Transformer 3584 ruled transformer_of (λ t. t.name) (transformer_named (allows_devices ms)) ms lists.1))));
-      zones = All-map IsZone zone_of (entries_of parts.Zone ms) (all_kept breaks_zone (λ d. IsZone (zone_of d)) zone_measured 1 (entries_of parts.Zone ms) (rows_kept parts.Zone 256 breaks_zone ms zones.0));
+          All-append (λ n. IsTrue (is_name n)) (map (λ z. z.name) (map (zone_of format) (entries_of parts.Zone ms))) _ (named parts.Zone (most_rows format parts.Zone) (breaks_zone format) (zone_of format) (λ z. z.name) (zone_named format) ms zones.0)
+          (All-append (λ n. IsTrue (is_name n)) (map (λ s. s.name) (map substation_of (entries_of parts.Substation ms))) _ (named parts.Substation (most_rows format parts.Substation) breaks_substation substation_of (λ s. s.name) substation_named ms substations.0)
+          (All-append (λ n. IsTrue (is_name n)) (map (λ b. b.name) (map bus_of (entries_of parts.Bus ms))) _ (named parts.Bus (most_rows format parts.Bus) breaks_bus bus_of (λ b. b.name) bus_named ms buses.0)
+          (All-append (λ n. IsTrue (is_name n)) (map (λ l. l.name) (map (line_of format) (entries_of parts.Line ms))) (map (λ t. t.name) (map (transformer_of format) (entries_of parts.Transformer ms)))
+          (named parts.Line (most_rows format parts.Line) (breaks_line format) (line_of format) (λ l. l.name) (line_named format) ms lists.0) (named parts.Transformer (most_rows format parts.Transformer) (breaks_transformer format) (transformer_of format) (λ t. t.name) (transformer_named format) ms lists.1))));
+      zones = All-map IsZone (zone_of format) (entries_of parts.Zone ms) (all_kept (breaks_zone format) (λ d. IsZone (zone_of format d)) (zone_measured format) 1 (entries_of parts.Zone ms) (rows_kept parts.Zone (most_rows format parts.Zone) (breaks_zone format) ms zones.0));
       substations = All-map IsSoundSubstation substation_of (entries_of parts.Substation ms) (λ k d lt. natural_holds 1000 1000000000 fields.Ground (members_in (get_or (entries_of parts.Substation ms) k d)));
-      lines = All-map IsMeasured line_of (entries_of parts.Line ms) (all_kept breaks_line (λ d. IsMeasured (line_of d)) line_measured 1 (entries_of parts.Line ms) (rows_kept parts.Line 8192 breaks_line ms lists.0));
-      transformers = All-map IsMeasuredTransformer transformer_of (entries_of parts.Transformer ms) (all_kept ruled (λ d. IsMeasuredTransformer (transformer_of d)) (transformer_measured (allows_devices ms)) 1 (entries_of parts.Transformer ms) (rows_kept parts.Transformer 3584 ruled ms lists.1));
+      lines = All-map IsMeasured (line_of format) (entries_of parts.Line ms) (all_kept (breaks_line format) (λ d. IsMeasured (line_of format d)) (line_measured format) 1 (entries_of parts.Line ms) (rows_kept parts.Line (most_rows format parts.Line) (breaks_line format) ms lists.0));
+      transformers = All-map IsMeasuredTransformer (transformer_of format) (entries_of parts.Transformer ms) (all_kept (breaks_transformer format) (λ d. IsMeasuredTransformer (transformer_of format d)) (transformer_measured format) 1 (entries_of parts.Transformer ms) (rows_kept parts.Transformer (most_rows format parts.Transformer) (breaks_transformer format) ms lists.1));
     }
 
 buses_by : (w : Written) → flat_map (λ p. breaks_bus_reference w p.0 p.1) (enumerate_from 1 w.buses) ≡ [] → All (λ b. b.substation < length w.substations) (map (bus_with_place w) w.buses)
 buses_by w references =
     All-map (λ b. b.substation < length w.substations) (bus_with_place w) w.buses
     (all_kept (breaks_bus_reference w) (λ b. (bus_with_place w b).substation < length w.substations) (λ row b h. place_within (λ s. s.name) w.substations b.substation (unless_holds _ _ h)) 1 w.buses references)
+
+-- a course with places leads as far as it is written, in as many parts
+north_stays : (w : Written) (course : CourseRow) → north_way (parts_of (course_with_places w course)) ≡ written_lines.north_way (written_parts course)
+north_stays w (courses.One part) = refl
+north_stays w (courses.Several ps) = fold-map (λ a p. a + unsigned_abs p.north) (part_with_place w) 0 ps
+
+east_stays : (w : Written) (course : CourseRow) → east_way (parts_of (course_with_places w course)) ≡ written_lines.east_way (written_parts course)
+east_stays w (courses.One part) = refl
+east_stays w (courses.Several ps) = fold-map (λ a p. a + unsigned_abs p.east) (part_with_place w) 0 ps
+
+few_stay : (w : Written) (course : CourseRow) → AreFewWritten course → AreFewParts (course_with_places w course)
+few_stay w (courses.One part) h = tt
+few_stay w (courses.Several ps) h =
+    let many = length-map ps (part_with_place w) in
+    (omega (arith, many, h.0), omega (arith, many, h.1))
 
 -- the lines of a document that breaks no rule
 lines_by : (w : Written) → All IsMeasured w.lines → flat_map (λ p. breaks_line_references w p.0 p.1) (enumerate_from 1 w.lines) ≡ []
@@ -262,15 +352,17 @@ lines_by w measured references apart =
     let lines : List Line = map (line_with_places w) w.lines in
     let buses = length-map w.buses (bus_with_place w) in
     let sizes = All-map (λ l. (1000 ≤ l.resistance) × (l.resistance ≤ 1000000000)) (line_with_places w) w.lines (λ k d lt. (measured k d lt).resistance) in
-    let norths = All-map (λ l. unsigned_abs l.north ≤ 1000000) (line_with_places w) w.lines (λ k d lt. (measured k d lt).north) in
-    let easts = All-map (λ l. unsigned_abs l.east ≤ 1000000) (line_with_places w) w.lines (λ k d lt. (measured k d lt).east) in
+    let few = All-map (λ l. AreFewParts l.course) (line_with_places w) w.lines (λ k d lt. few_stay w (get_or w.lines k d).course (measured k d lt).few) in
+    let norths = All-map (λ l. north_way (parts_of l.course) ≤ 1000000) (line_with_places w) w.lines (λ k d lt. subst (λ n. n ≤ 1000000) (sym (north_stays w (get_or w.lines k d).course)) (measured k d lt).north) in
+    let easts = All-map (λ l. east_way (parts_of l.course) ≤ 1000000) (line_with_places w) w.lines (λ k d lt. subst (λ n. n ≤ 1000000) (sym (east_stays w (get_or w.lines k d).course)) (measured k d lt).east) in
     let IsHere : Line → Type 0 = IsPlaced (length w.buses) (length w.zones) in
     let placed = All-map IsHere (line_with_places w) w.lines (all_kept (breaks_line_references w) (λ l. IsHere (line_with_places w l)) (line_placed w) 1 w.lines references) in
     let two = all_kept (λ row l. unless (not (l.from == l.to)) (refusals.SameEnds parts.Line row)) (λ l. l.from ≢ l.to) differ 1 lines apart in
     λ k d lt. record {
       from_within = rw buses (placed k d lt).from;
       to_within = rw buses (placed k d lt).to;
-      zone_within = (placed k d lt).zone;
+      zones_within = (placed k d lt).course;
+      few_parts = few k d lt;
       ends_differ = two k d lt;
       resistance_least = (sizes k d lt).0;
       resistance_most = (sizes k d lt).1;
@@ -323,10 +415,10 @@ resolved_sound w form ruled =
     let places = none_of_both _ _ buses.1 in
     record {
       few_zones = form.few_zones;
-      few_substations = omega (arith, form.few_substations);
-      few_buses = rw (length-map w.buses (bus_with_place w)) (omega (arith, form.few_buses));
-      few_lines = rw (length-map w.lines (line_with_places w)) (omega (arith, form.few_lines));
-      few_transformers = rw (length-map w.transformers (transformer_with_places w)) (omega (arith, form.few_transformers));
+      few_substations = form.few_substations;
+      few_buses = rw (length-map w.buses (bus_with_place w)) form.few_buses;
+      few_lines = rw (length-map w.lines (line_with_places w)) form.few_lines;
+      few_transformers = rw (length-map w.transformers (transformer_with_places w)) form.few_transformers;
       zones_sound = form.zones;
       substations_sound = form.substations;
       buses_within = buses_by w buses.0;

@@ -1,5 +1,7 @@
 pub mod Accepted
+pub mod Formats
 pub mod Keys
+pub mod Lines
 pub mod OneByOne
 pub mod Pass
 pub mod Rows

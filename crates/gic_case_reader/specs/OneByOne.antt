@@ -17,15 +17,15 @@ use Rattle.gic_case.specs.declared.item.Transformer.{Transformer}
 abbrev pub breaks_same_ends_from : (row : ℕ) → List Line → List CaseRefusal
 breaks_same_ends_from row lines = flat_map (λ p. unless (not (p.1.from == p.1.to)) (refusals.SameEnds parts.Line p.0)) (enumerate_from row lines)
 
--- the two sides of each of these transformers, numbered from here on, have two buses
+-- the sides of each of these transformers, numbered from here on, have each a bus of its own
 abbrev pub breaks_same_sides_from : (row : ℕ) → List Transformer → List CaseRefusal
 breaks_same_sides_from row transformers = flat_map (λ p. unless (sides_differ (sides_of p.1.kind)) (refusals.SameEnds parts.Transformer p.0)) (enumerate_from row transformers)
 
--- the two sides of each of these transformers, numbered from here on, are in one substation
+-- the sides of each of these transformers, numbered from here on, are in one substation
 abbrev pub breaks_apart_from : List Bus → (row : ℕ) → List Transformer → List CaseRefusal
 breaks_apart_from buses row transformers = flat_map (λ p. unless (are_together buses (sides_of p.1.kind)) (refusals.Apart p.0)) (enumerate_from row transformers)
 
--- the low voltage of each of these transformers, numbered from here on, is not above its high voltage
+-- neither the low nor a third voltage of each of these transformers, numbered from here on, is above its high voltage
 abbrev pub breaks_voltage_order_from : (row : ℕ) → List Transformer → List CaseRefusal
 breaks_voltage_order_from row transformers = flat_map (λ p. unless (are_ordered p.1.high_volts (sides_of p.1.kind)) (refusals.VoltageOrder p.0)) (enumerate_from row transformers)
 

@@ -1,31 +1,42 @@
 -- What one pass over the document reads, up to the first refusal. It serves the private functions of the reader alone: its contract speaks of rules.
-use Rattle.std.specs.Prelude.{ℕ, ◌+◌, ◌==◌, nat_lt, suc, List, [], ◌∷◌, length, Bool, false, if◌then◌else◌, Option, Some, None, option_and_then, option_map, unwrap_or, Result, Ok, Err}
+use Rattle.std.specs.Prelude.{ℕ, ◌+◌, nat_lt, suc, List, [], ◌∷◌, length, Bool, true, false, if◌then◌else◌, Option, Some, None, option_and_then, option_map, unwrap_or, Result, Ok, Err}
 use Rattle.toml.specs.Data.{Data, Items, no_items, item, Members, get_member, as_array, as_bool, as_table}
 use Rattle.gic_base.specs.Refusals.{settle}
-use Rattle.gic_base.specs.declared.limits.TheConstants.{MOST_ZONES, MOST_SUBSTATIONS_TO_FORMAT_2, MOST_BUSES_TO_FORMAT_2, MOST_LINES_TO_FORMAT_2, MOST_TRANSFORMERS_TO_FORMAT_2}
 use Rattle.gic_base.specs.Passes.{◌>>=◌, or_refuse, test}
 use Rattle.gic_scale.specs.ZoneView.{ZoneView}
+use Rattle.gic_scale.specs.declared.scaling.Scaling.TheVariants as scalings
 use Rattle.gic_case_reader.specs.Keys.{key_of, has, fits, fits_document, list_key}
 use Rattle.gic_case_reader.specs.Values.{natural_within, read_name, value_at}
-use Rattle.gic_case_reader.specs.Rows.{ohm_within, volts_within, metres_within, read_neutral, zone_fields, bus_fields, line_fields}
+use Rattle.gic_case_reader.specs.Formats.{read_format, most_rows}
+use Rattle.gic_case_reader.specs.Rows.{ohm_within, volts_within, metres_within, read_neutral, is_scaled, earth_zone_fields, scaled_zone_fields, bus_fields}
+use Rattle.gic_case_reader.specs.Lines.{is_parted, plain_line_fields, parted_line_fields, read_parts}
 use Rattle.gic_case.specs.Lists.{substation_with, Lists}
 use Rattle.gic_case_reader.specs.Transformers.{read_kind, fields_of, others_of}
 use Rattle.gic_case_reader.specs.OneByOne.{first_repeat, breaks_same_ends_from, breaks_same_sides_from, breaks_apart_from, breaks_voltage_order_from}
 use Rattle.gic_case_reader.specs.Rules.{Written, written_names, duplicate_at, substation_place, bus_place, zone_place, breaks_degree}
 use Rattle.gic_case_reader.specs.declared.field.Field.{Field}
 use Rattle.gic_case_reader.specs.declared.field.Field.TheVariants as fields
+use Rattle.gic_case_reader.specs.declared.format.Format.{Format}
 use Rattle.gic_case_reader.specs.declared.refusal.Part.{Part}
 use Rattle.gic_case_reader.specs.declared.refusal.Part.TheVariants as parts
 use Rattle.gic_case_reader.specs.declared.refusal.CaseRefusal.{CaseRefusal}
 use Rattle.gic_case_reader.specs.declared.refusal.CaseRefusal.TheVariants as refusals
 use Rattle.gic_case.specs.declared.item.Substation.{Substation}
 use Rattle.gic_case.specs.declared.item.Bus.{Bus}
+use Rattle.gic_case.specs.declared.part.LinePart.{LinePart}
+use Rattle.gic_case.specs.declared.course.Course.{Course}
+use Rattle.gic_case.specs.declared.course.Course.TheVariants as courses
 use Rattle.gic_case.specs.declared.item.Line.{Line}
+use Rattle.gic_case.specs.declared.item.Third.{Third}
 use Rattle.gic_case.specs.declared.item.Kind.{Kind}
 use Rattle.gic_case.specs.declared.item.Kind.TheVariants as kinds
 use Rattle.gic_case.specs.declared.item.Transformer.{Transformer}
 use Rattle.gic_case_reader.specs.declared.row.BusRow.{BusRow}
+use Rattle.gic_case_reader.specs.declared.part_row.PartRow.{PartRow}
+use Rattle.gic_case_reader.specs.declared.row.CourseRow.{CourseRow}
+use Rattle.gic_case_reader.specs.declared.row.CourseRow.TheVariants as written
 use Rattle.gic_case_reader.specs.declared.row.LineRow.{LineRow}
+use Rattle.gic_case_reader.specs.declared.row.ThirdRow.{ThirdRow}
 use Rattle.gic_case_reader.specs.declared.row.KindRow.{KindRow}
 use Rattle.gic_case_reader.specs.declared.row.KindRow.TheVariants as rows
 use Rattle.gic_case_reader.specs.declared.row.TransformerRow.{TransformerRow}
@@ -50,14 +61,26 @@ unfoldable pub row_table : Part → (required others : List Field) → ℕ → D
 row_table list required others row d =
     or_refuse (option_and_then (λ ms. if fits required others ms then Some ms else None) (as_table d)) (refusals.Key list row)
 
--- a row of the zones
-unfoldable pub zone_row : ℕ → Data → Result ZoneView CaseRefusal
-zone_row row d = do
-  ms ← row_table parts.Zone zone_fields [] row d
+-- a row of the zones by its latitude and its earth
+unfoldable pub earth_zone_row : ℕ → Data → Result ZoneView CaseRefusal
+earth_zone_row row d = do
+  ms ← row_table parts.Zone earth_zone_fields [] row d
   name ← required read_name parts.Zone row fields.Name ms
   latitude ← required (natural_within 0 9000) parts.Zone row fields.Latitude ms
   beta ← required (natural_within 1 150) parts.Zone row fields.Beta ms
-  Ok (record { name = name; latitude = latitude; beta = beta })
+  Ok (record { name = name; scaling = scalings.Earth latitude beta })
+
+-- a row of the zones by its scale
+unfoldable pub scaled_zone_row : ℕ → Data → Result ZoneView CaseRefusal
+scaled_zone_row row d = do
+  ms ← row_table parts.Zone scaled_zone_fields [] row d
+  name ← required read_name parts.Zone row fields.Name ms
+  scale ← required (natural_within 1 1500) parts.Zone row fields.Scale ms
+  Ok (record { name = name; scaling = scalings.Factor scale })
+
+-- a row of the zones
+unfoldable pub zone_row : Format → ℕ → Data → Result ZoneView CaseRefusal
+zone_row format row d = if is_scaled format d then scaled_zone_row row d else earth_zone_row row d
 
 -- a row of the substations
 unfoldable pub substation_row : ℕ → Data → Result Substation CaseRefusal
@@ -75,10 +98,10 @@ bus_row row d = do
   substation ← required read_name parts.Bus row fields.Substation ms
   Ok (record { name = name; substation = substation })
 
--- a row of the lines
-unfoldable pub line_row : ℕ → Data → Result LineRow CaseRefusal
-line_row row d = do
-  ms ← row_table parts.Line line_fields (fields.Blocked ∷ []) row d
+-- a row of the lines through one zone
+unfoldable pub plain_line_row : ℕ → Data → Result LineRow CaseRefusal
+plain_line_row row d = do
+  ms ← row_table parts.Line plain_line_fields (fields.Blocked ∷ []) row d
   name ← required read_name parts.Line row fields.Name ms
   from ← required read_name parts.Line row fields.From ms
   to ← required read_name parts.Line row fields.To ms
@@ -87,7 +110,23 @@ line_row row d = do
   north ← required metres_within parts.Line row fields.North ms
   east ← required metres_within parts.Line row fields.East ms
   blocked ← optional as_bool parts.Line row fields.Blocked ms
-  Ok (record { name = name; from = from; to = to; zone = zone; resistance = resistance; north = north; east = east; blocked = unwrap_or blocked false })
+  Ok (record { name = name; from = from; to = to; course = written.One (record { zone = zone; north = north; east = east }); resistance = resistance; blocked = unwrap_or blocked false })
+
+-- a row of the lines in parts
+unfoldable pub parted_line_row : ℕ → Data → Result LineRow CaseRefusal
+parted_line_row row d = do
+  ms ← row_table parts.Line parted_line_fields (fields.Blocked ∷ []) row d
+  name ← required read_name parts.Line row fields.Name ms
+  from ← required read_name parts.Line row fields.From ms
+  to ← required read_name parts.Line row fields.To ms
+  resistance ← required ohm_within parts.Line row fields.Resistance ms
+  blocked ← optional as_bool parts.Line row fields.Blocked ms
+  several ← required read_parts parts.Line row fields.Part ms
+  Ok (record { name = name; from = from; to = to; course = written.Several several; resistance = resistance; blocked = unwrap_or blocked false })
+
+-- a row of the lines
+unfoldable pub line_row : Format → ℕ → Data → Result LineRow CaseRefusal
+line_row format row d = if is_parted format d then parted_line_row row d else plain_line_row row d
 
 -- a table that has a field
 unfoldable pub table_with : Part → Field → ℕ → Data → Result Members CaseRefusal
@@ -100,39 +139,63 @@ delta_wye_row row ms = do
   high_resistance ← required ohm_within parts.Transformer row fields.HighResistance ms
   Ok (rows.DeltaWye high high_resistance)
 
--- what a wye-wye unit has of its own
-unfoldable pub wye_wye_row : ℕ → Members → Result KindRow CaseRefusal
-wye_wye_row row ms = do
+-- a third winding
+unfoldable pub third_row : ℕ → Members → Result ThirdRow CaseRefusal
+third_row row ms = do
+  bus ← required read_name parts.Transformer row fields.Third ms
+  volts ← required volts_within parts.Transformer row fields.ThirdVolts ms
+  resistance ← required ohm_within parts.Transformer row fields.ThirdResistance ms
+  Ok (record { bus = bus; volts = volts; resistance = resistance })
+
+-- the same of a unit that has one
+abbrev pub third_if : (with_third : Bool) → ℕ → Members → Result (Option ThirdRow) CaseRefusal
+third_if with_third row ms = if with_third then third_row row ms >>= (λ t. Ok (Some t)) else Ok None
+
+-- what a wye-wye unit has of its own, with a third winding or without
+unfoldable pub wye_wye_row : (with_third : Bool) → ℕ → Members → Result KindRow CaseRefusal
+wye_wye_row with_third row ms = do
   high ← required read_name parts.Transformer row fields.High ms
   low ← required read_name parts.Transformer row fields.Low ms
   low_volts ← required volts_within parts.Transformer row fields.LowVolts ms
   high_resistance ← required ohm_within parts.Transformer row fields.HighResistance ms
   low_resistance ← required ohm_within parts.Transformer row fields.LowResistance ms
-  Ok (rows.WyeWye high low low_volts high_resistance low_resistance)
+  third ← third_if with_third row ms
+  Ok (rows.WyeWye high low low_volts high_resistance low_resistance third)
 
--- what an autotransformer has of its own
-unfoldable pub auto_row : ℕ → Members → Result KindRow CaseRefusal
-auto_row row ms = do
+-- what an autotransformer has of its own, with a third winding or without
+unfoldable pub auto_row : (with_third : Bool) → ℕ → Members → Result KindRow CaseRefusal
+auto_row with_third row ms = do
   high ← required read_name parts.Transformer row fields.High ms
   low ← required read_name parts.Transformer row fields.Low ms
   low_volts ← required volts_within parts.Transformer row fields.LowVolts ms
   series_resistance ← required ohm_within parts.Transformer row fields.SeriesResistance ms
   common_resistance ← required ohm_within parts.Transformer row fields.CommonResistance ms
-  Ok (rows.Auto high low low_volts series_resistance common_resistance)
+  third ← third_if with_third row ms
+  Ok (rows.Auto high low low_volts series_resistance common_resistance third)
+
+-- what a reactor has of its own
+unfoldable pub reactor_row : ℕ → Members → Result KindRow CaseRefusal
+reactor_row row ms = do
+  high ← required read_name parts.Transformer row fields.High ms
+  high_resistance ← required ohm_within parts.Transformer row fields.HighResistance ms
+  Ok (rows.Reactor high high_resistance)
 
 -- what a transformer of a kind has of its own
 unfoldable pub kind_row : KindWord → ℕ → Members → Result KindRow CaseRefusal
 kind_row words.DeltaWye row ms = delta_wye_row row ms
-kind_row words.WyeWye row ms = wye_wye_row row ms
-kind_row words.Auto row ms = auto_row row ms
+kind_row words.WyeWye row ms = wye_wye_row false row ms
+kind_row words.Auto row ms = auto_row false row ms
+kind_row words.WyeWyeWye row ms = wye_wye_row true row ms
+kind_row words.AutoWye row ms = auto_row true row ms
+kind_row words.Reactor row ms = reactor_row row ms
 kind_row words.DeltaDelta row ms = Ok rows.DeltaDelta
 
 -- a row of the transformers
-unfoldable pub transformer_row : (devices : Bool) → ℕ → Data → Result TransformerRow CaseRefusal
-transformer_row devices row d = do
+unfoldable pub transformer_row : Format → ℕ → Data → Result TransformerRow CaseRefusal
+transformer_row format row d = do
   ms ← table_with parts.Transformer fields.Kind row d
-  word ← required read_kind parts.Transformer row fields.Kind ms
-  keys ← test (fits (fields_of word) (others_of devices word) ms) (refusals.Key parts.Transformer row)
+  word ← required (read_kind format) parts.Transformer row fields.Kind ms
+  keys ← test (fits (fields_of word) (others_of format word) ms) (refusals.Key parts.Transformer row)
   name ← required read_name parts.Transformer row fields.Name ms
   high_volts ← required volts_within parts.Transformer row fields.HighVolts ms
   kind ← kind_row word row ms
@@ -166,12 +229,12 @@ list_at list limit read ms = items_at list ms >>= (λ ds. if nat_lt limit (count
 unfoldable pub rows_of : Members → Result Written CaseRefusal
 rows_of ms = do
   keys ← test (fits_document ms) (refusals.Key parts.Case 0)
-  format ← required (natural_within 1 2) parts.Case 0 fields.Format ms
-  zones ← list_at parts.Zone MOST_ZONES zone_row ms
-  substations ← list_at parts.Substation MOST_SUBSTATIONS_TO_FORMAT_2 substation_row ms
-  buses ← list_at parts.Bus MOST_BUSES_TO_FORMAT_2 bus_row ms
-  lines ← list_at parts.Line MOST_LINES_TO_FORMAT_2 line_row ms
-  transformers ← list_at parts.Transformer MOST_TRANSFORMERS_TO_FORMAT_2 (transformer_row (format == 2)) ms
+  format ← required read_format parts.Case 0 fields.Format ms
+  zones ← list_at parts.Zone (most_rows format parts.Zone) (zone_row format) ms
+  substations ← list_at parts.Substation (most_rows format parts.Substation) substation_row ms
+  buses ← list_at parts.Bus (most_rows format parts.Bus) bus_row ms
+  lines ← list_at parts.Line (most_rows format parts.Line) (line_row format) ms
+  transformers ← list_at parts.Transformer (most_rows format parts.Transformer) (transformer_row format) ms
   Ok (record { zones = zones; substations = substations; buses = buses; lines = lines; transformers = transformers })
 
 -- the refusal, if there is one
@@ -198,25 +261,45 @@ bus_in substation row b = do
   place ← place_at substation parts.Bus row fields.Substation b.substation
   Ok (record { name = b.name; substation = place })
 
--- a line, with the places of its buses and its zone
+-- a part of a line, with the place of its zone, to which this field refers
+abbrev pub part_in : (zone : List ℕ → Option ℕ) → ℕ → Field → PartRow → Result LinePart CaseRefusal
+part_in zone row at part = place_at zone parts.Line row at part.zone >>= (λ place. Ok (record { zone = place; north = part.north; east = part.east }))
+
+-- parts, with the places of their zones
+abbrev pub parts_with : (zone : List ℕ → Option ℕ) → ℕ → List PartRow → Result (List LinePart) CaseRefusal
+parts_with zone row [] = Ok []
+parts_with zone row (part ∷ ps) = part_in zone row fields.Part part >>= (λ x. parts_with zone row ps >>= (λ xs. Ok (x ∷ xs)))
+
+-- where a line leads, with the places of the zones
+unfoldable pub course_in : (zone : List ℕ → Option ℕ) → ℕ → CourseRow → Result Course CaseRefusal
+course_in zone row (written.One part) = part_in zone row fields.Zone part >>= (λ x. Ok (courses.One x))
+course_in zone row (written.Several ps) = parts_with zone row ps >>= (λ xs. Ok (courses.Several xs))
+
+-- a line, with the places of its buses and its zones
 unfoldable pub line_in : (bus zone : List ℕ → Option ℕ) → ℕ → LineRow → Result Line CaseRefusal
 line_in bus zone row l = do
   from ← place_at bus parts.Line row fields.From l.from
   to ← place_at bus parts.Line row fields.To l.to
-  place ← place_at zone parts.Line row fields.Zone l.zone
-  Ok (record { name = l.name; from = from; to = to; zone = place; resistance = l.resistance; north = l.north; east = l.east; blocked = l.blocked })
+  course ← course_in zone row l.course
+  Ok (record { name = l.name; from = from; to = to; course = course; resistance = l.resistance; blocked = l.blocked })
 
 -- the place of the bus of a side
 abbrev pub side_at : (bus : List ℕ → Option ℕ) → ℕ → Field → List ℕ → Result ℕ CaseRefusal
 side_at bus = place_at bus parts.Transformer
 
+-- a third side, with the place of its bus
+abbrev pub third_in : (bus : List ℕ → Option ℕ) → ℕ → Option ThirdRow → Result (Option Third) CaseRefusal
+third_in bus row None = Ok None
+third_in bus row (Some t) = side_at bus row fields.Third t.bus >>= (λ place. Ok (Some (record { bus = place; volts = t.volts; resistance = t.resistance })))
+
 -- a kind, with the places of its buses
 unfoldable pub kind_in : (bus : List ℕ → Option ℕ) → ℕ → KindRow → Result Kind CaseRefusal
 kind_in bus row (rows.DeltaWye high high_resistance) = side_at bus row fields.High high >>= (λ h. Ok (kinds.DeltaWye h high_resistance))
-kind_in bus row (rows.WyeWye high low low_volts high_resistance low_resistance) =
-    side_at bus row fields.High high >>= (λ h. side_at bus row fields.Low low >>= (λ l. Ok (kinds.WyeWye h l low_volts high_resistance low_resistance)))
-kind_in bus row (rows.Auto high low low_volts series_resistance common_resistance) =
-    side_at bus row fields.High high >>= (λ h. side_at bus row fields.Low low >>= (λ l. Ok (kinds.Auto h l low_volts series_resistance common_resistance)))
+kind_in bus row (rows.WyeWye high low low_volts high_resistance low_resistance third) =
+    side_at bus row fields.High high >>= (λ h. side_at bus row fields.Low low >>= (λ l. third_in bus row third >>= (λ t. Ok (kinds.WyeWye h l low_volts high_resistance low_resistance t))))
+kind_in bus row (rows.Auto high low low_volts series_resistance common_resistance third) =
+    side_at bus row fields.High high >>= (λ h. side_at bus row fields.Low low >>= (λ l. third_in bus row third >>= (λ t. Ok (kinds.Auto h l low_volts series_resistance common_resistance t))))
+kind_in bus row (rows.Reactor high high_resistance) = side_at bus row fields.High high >>= (λ h. Ok (kinds.Reactor h high_resistance))
 kind_in bus row rows.DeltaDelta = Ok kinds.DeltaDelta
 
 -- a transformer, with the places of its buses

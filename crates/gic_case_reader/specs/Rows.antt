@@ -1,14 +1,17 @@
 -- The rules of single rows, each read by itself: the refusals that a row gives, in order; and the rows as they are written, with names in place of references.
-use Rattle.std.specs.Prelude.{ℕ, ℤ, pos, List, [], ◌∷◌, ◌++◌, false, ◌&&◌, if◌then◌else◌, Option, Some, None, option_map, unwrap_or, is_some, codes}
-use Rattle.toml.specs.Data.{Data, Members, no_members, get_member, as_table, as_bool, as_str}
+use Rattle.std.specs.Prelude.{ℕ, ℤ, List, [], ◌∷◌, ◌++◌, Bool, ◌&&◌, if◌then◌else◌, Option, Some, None, option_map, unwrap_or, is_some, codes}
+use Rattle.toml.specs.Data.{Data, Members, no_members, get_member, as_table, as_str}
 use Rattle.gic_base.specs.Refusals.{unless}
 use Rattle.gic_scale.specs.ZoneView.{ZoneView}
+use Rattle.gic_scale.specs.declared.scaling.Scaling.TheVariants as scalings
 use Rattle.gic_case.specs.Lists.{substation_with}
-use Rattle.gic_case_reader.specs.Keys.{key_of, fits}
+use Rattle.gic_case_reader.specs.Keys.{key_of, has, fits}
+use Rattle.gic_case_reader.specs.Formats.{is_third}
 use Rattle.gic_case.specs.Names.{same}
 use Rattle.gic_case_reader.specs.Values.{natural_within, span_within, read_name, value_at}
 use Rattle.gic_case_reader.specs.declared.field.Field.{Field}
 use Rattle.gic_case_reader.specs.declared.field.Field.TheVariants as fields
+use Rattle.gic_case_reader.specs.declared.format.Format.{Format}
 use Rattle.gic_case_reader.specs.declared.refusal.Part.{Part}
 use Rattle.gic_case_reader.specs.declared.refusal.Part.TheVariants as parts
 use Rattle.gic_case_reader.specs.declared.refusal.CaseRefusal.{CaseRefusal}
@@ -17,7 +20,6 @@ use Rattle.gic_case.specs.declared.item.Substation.{Substation}
 use Rattle.gic_case.specs.declared.item.Neutral.{Neutral}
 use Rattle.gic_case.specs.declared.item.Neutral.TheVariants as devices
 use Rattle.gic_case_reader.specs.declared.row.BusRow.{BusRow}
-use Rattle.gic_case_reader.specs.declared.row.LineRow.{LineRow}
 
 -- the members of a table, none of anything else
 abbrev pub members_in : Data → Members
@@ -61,28 +63,60 @@ device_in (Some s) ohm = if same s (codes "blocked") then Some devices.Blocked e
 abbrev pub read_neutral : Data → Option Neutral
 read_neutral d = device_in (as_str d) (ohm_within d)
 
--- the fields of a zone
-abbrev pub zone_fields : List Field
-zone_fields = fields.Name ∷ fields.Latitude ∷ fields.Beta ∷ []
+-- the fields of a zone by its latitude and its earth
+abbrev pub earth_zone_fields : List Field
+earth_zone_fields = fields.Name ∷ fields.Latitude ∷ fields.Beta ∷ []
 
--- a zone has a name, a latitude in hundredths of a degree and a beta in hundredths
-abbrev pub breaks_zone : ℕ → Data → List CaseRefusal
-breaks_zone row d =
+-- the fields of a zone by its scale
+abbrev pub scaled_zone_fields : List Field
+scaled_zone_fields = fields.Name ∷ fields.Scale ∷ []
+
+-- a zone is told by its scale: in the third format, where the row has one
+abbrev pub is_scaled : Format → Data → Bool
+is_scaled format d = is_third format && has fields.Scale (members_in d)
+
+-- a zone by its latitude and its earth has a name, a latitude in hundredths of a degree and a beta in hundredths
+abbrev pub breaks_earth_zone : ℕ → Data → List CaseRefusal
+breaks_earth_zone row d =
     let ms = members_in d in
-    breaks_keys parts.Zone zone_fields [] row d
+    breaks_keys parts.Zone earth_zone_fields [] row d
     ++ (breaks_value read_name parts.Zone row fields.Name ms
     ++ (breaks_value (natural_within 0 9000) parts.Zone row fields.Latitude ms
     ++ breaks_value (natural_within 1 150) parts.Zone row fields.Beta ms))
 
--- the zone that a row is; a field that breaks its rule counts as nought, here and below
-abbrev pub zone_of : Data → ZoneView
-zone_of d =
+-- a zone by its scale has a name, and the scale in thousandths
+abbrev pub breaks_scaled_zone : ℕ → Data → List CaseRefusal
+breaks_scaled_zone row d =
+    let ms = members_in d in
+    breaks_keys parts.Zone scaled_zone_fields [] row d
+    ++ (breaks_value read_name parts.Zone row fields.Name ms
+    ++ breaks_value (natural_within 1 1500) parts.Zone row fields.Scale ms)
+
+-- a zone keeps the rules of a zone by its scale, or of one by its latitude and its earth
+abbrev pub breaks_zone : Format → ℕ → Data → List CaseRefusal
+breaks_zone format row d = if is_scaled format d then breaks_scaled_zone row d else breaks_earth_zone row d
+
+-- the zone by its latitude and its earth that a row is; a field that breaks its rule counts as nought, here and below
+abbrev pub earth_zone_of : Data → ZoneView
+earth_zone_of d =
     let ms = members_in d in
     record {
       name = unwrap_or (value_at read_name fields.Name ms) [];
-      latitude = unwrap_or (value_at (natural_within 0 9000) fields.Latitude ms) 0;
-      beta = unwrap_or (value_at (natural_within 1 150) fields.Beta ms) 0;
+      scaling = scalings.Earth (unwrap_or (value_at (natural_within 0 9000) fields.Latitude ms) 0) (unwrap_or (value_at (natural_within 1 150) fields.Beta ms) 0);
     }
+
+-- the zone by its scale that a row is
+abbrev pub scaled_zone_of : Data → ZoneView
+scaled_zone_of d =
+    let ms = members_in d in
+    record {
+      name = unwrap_or (value_at read_name fields.Name ms) [];
+      scaling = scalings.Factor (unwrap_or (value_at (natural_within 1 1500) fields.Scale ms) 0);
+    }
+
+-- the zone that a row is
+abbrev pub zone_of : Format → Data → ZoneView
+zone_of format d = if is_scaled format d then scaled_zone_of d else earth_zone_of d
 
 -- a substation has a name, and perhaps an earthing
 abbrev pub breaks_substation : ℕ → Data → List CaseRefusal
@@ -117,37 +151,4 @@ bus_of d =
     record {
       name = unwrap_or (value_at read_name fields.Name ms) [];
       substation = unwrap_or (value_at read_name fields.Substation ms) [];
-    }
-
--- the fields of a line
-abbrev pub line_fields : List Field
-line_fields = fields.Name ∷ fields.From ∷ fields.To ∷ fields.Zone ∷ fields.Resistance ∷ fields.North ∷ fields.East ∷ []
-
--- a line has a name, the names of two buses and of a zone, a resistance, a span to the north and to the east, and perhaps whether it is blocked
-abbrev pub breaks_line : ℕ → Data → List CaseRefusal
-breaks_line row d =
-    let ms = members_in d in
-    breaks_keys parts.Line line_fields (fields.Blocked ∷ []) row d
-    ++ (breaks_value read_name parts.Line row fields.Name ms
-    ++ (breaks_value read_name parts.Line row fields.From ms
-    ++ (breaks_value read_name parts.Line row fields.To ms
-    ++ (breaks_value read_name parts.Line row fields.Zone ms
-    ++ (breaks_value ohm_within parts.Line row fields.Resistance ms
-    ++ (breaks_value metres_within parts.Line row fields.North ms
-    ++ (breaks_value metres_within parts.Line row fields.East ms
-    ++ breaks_optional as_bool parts.Line row fields.Blocked ms)))))))
-
--- the line that a row is; one that doesn't say is not blocked
-abbrev pub line_of : Data → LineRow
-line_of d =
-    let ms = members_in d in
-    record {
-      name = unwrap_or (value_at read_name fields.Name ms) [];
-      from = unwrap_or (value_at read_name fields.From ms) [];
-      to = unwrap_or (value_at read_name fields.To ms) [];
-      zone = unwrap_or (value_at read_name fields.Zone ms) [];
-      resistance = unwrap_or (value_at ohm_within fields.Resistance ms) 0;
-      north = unwrap_or (value_at metres_within fields.North ms) (pos 0);
-      east = unwrap_or (value_at metres_within fields.East ms) (pos 0);
-      blocked = unwrap_or (value_at as_bool fields.Blocked ms) false;
     }

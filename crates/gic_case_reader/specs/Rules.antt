@@ -1,15 +1,16 @@
 -- The rules of a case, each read by itself: the refusals for all places where a document breaks it, in order. A document is accepted where no rule gives one, and the first of all answers otherwise.
-use Rattle.std.specs.Prelude.{ℕ, ◌+◌, ◌-◌, ◌==◌, nat_le, nat_lt, List, [], ◌∷◌, ◌++◌, length, map, flat_map, Bool, true, not, if◌then◌else◌, Option, Some, None, unwrap_or, is_some, Result}
-use Rattle.std.specs.List.{enumerate_from, range_with_len}
+use Rattle.std.specs.Prelude.{ℕ, ◌+◌, ◌-◌, ◌==◌, nat_le, nat_lt, List, [], ◌∷◌, ◌++◌, length, map, flat_map, Bool, true, not, if◌then◌else◌, Option, Some, None, option_map, unwrap_or, is_some, Result}
+use Rattle.std.specs.List.{enumerate_from, range_with_len, list_all}
 use Rattle.std.specs.Str.{is_utf8}
 use Rattle.toml.specs.Data.{Data, Items, no_items, item, Members, get_member, as_array}
 use Rattle.toml.specs.Parse.{parse_document}
 use Rattle.gic_base.specs.Refusals.{unless, settle}
-use Rattle.gic_base.specs.declared.limits.TheConstants.{MOST_ZONES, MOST_SUBSTATIONS_TO_FORMAT_2, MOST_BUSES_TO_FORMAT_2, MOST_LINES_TO_FORMAT_2, MOST_TRANSFORMERS_TO_FORMAT_2, MOST_AT_A_NODE}
+use Rattle.gic_base.specs.declared.limits.TheConstants.{MOST_AT_A_NODE}
 use Rattle.gic_scale.specs.ZoneView.{ZoneView}
 use Rattle.gic_case_reader.specs.Keys.{fits_document, list_key}
-use Rattle.gic_case_reader.specs.Values.{natural_within, value_at}
-use Rattle.gic_case_reader.specs.Rows.{breaks_value, breaks_zone, zone_of, breaks_substation, substation_of, breaks_bus, bus_of, breaks_line, line_of}
+use Rattle.gic_case_reader.specs.Formats.{read_format, format_in, most_rows}
+use Rattle.gic_case_reader.specs.Rows.{breaks_value, breaks_zone, zone_of, breaks_substation, substation_of, breaks_bus, bus_of}
+use Rattle.gic_case_reader.specs.Lines.{breaks_line, line_of}
 use Rattle.gic_case_reader.specs.Transformers.{breaks_transformer, transformer_of}
 use Rattle.gic_case.specs.Names.{is_repeat, place_in}
 use Rattle.gic_case.specs.Lists.{Lists, node_names, element_ends, degree_of}
@@ -22,12 +23,20 @@ use Rattle.gic_case_reader.specs.declared.refusal.CaseRefusal.{CaseRefusal}
 use Rattle.gic_case_reader.specs.declared.refusal.CaseRefusal.TheVariants as refusals
 use Rattle.gic_case.specs.declared.item.Substation.{Substation}
 use Rattle.gic_case.specs.declared.item.Bus.{Bus}
+use Rattle.gic_case.specs.declared.part.LinePart.{LinePart}
+use Rattle.gic_case.specs.declared.course.Course.{Course}
+use Rattle.gic_case.specs.declared.course.Course.TheVariants as courses
 use Rattle.gic_case.specs.declared.item.Line.{Line}
+use Rattle.gic_case.specs.declared.item.Third.{Third}
 use Rattle.gic_case.specs.declared.item.Kind.{Kind}
 use Rattle.gic_case.specs.declared.item.Kind.TheVariants as kinds
 use Rattle.gic_case.specs.declared.item.Transformer.{Transformer}
 use Rattle.gic_case_reader.specs.declared.row.BusRow.{BusRow}
+use Rattle.gic_case_reader.specs.declared.part_row.PartRow.{PartRow}
+use Rattle.gic_case_reader.specs.declared.row.CourseRow.{CourseRow}
+use Rattle.gic_case_reader.specs.declared.row.CourseRow.TheVariants as written
 use Rattle.gic_case_reader.specs.declared.row.LineRow.{LineRow}
+use Rattle.gic_case_reader.specs.declared.row.ThirdRow.{ThirdRow}
 use Rattle.gic_case_reader.specs.declared.row.KindRow.{KindRow}
 use Rattle.gic_case_reader.specs.declared.row.KindRow.TheVariants as rows
 use Rattle.gic_case_reader.specs.declared.row.TransformerRow.{TransformerRow}
@@ -58,20 +67,17 @@ breaks_list list limit breaks ms =
     ++ (unless (nat_le (length (entries_of list ms)) limit) (refusals.TooMany list)
     ++ flat_map (λ p. breaks p.0 p.1) (enumerate_from 1 (entries_of list ms)))
 
--- transformers may have neutral devices: the format is 2
-abbrev pub allows_devices : Members → Bool
-allows_devices ms = unwrap_or (value_at (natural_within 1 2) fields.Format ms) 0 == 2
-
--- the document has its keys, a format of 1 or 2, and its lists
+-- the document has its keys, a format, and its lists, each with at most as many rows as the format has
 unfoldable pub breaks_form : Members → List CaseRefusal
 breaks_form ms =
+    let format = format_in ms in
     unless (fits_document ms) (refusals.Key parts.Case 0)
-    ++ (breaks_value (natural_within 1 2) parts.Case 0 fields.Format ms
-    ++ (breaks_list parts.Zone MOST_ZONES breaks_zone ms
-    ++ (breaks_list parts.Substation MOST_SUBSTATIONS_TO_FORMAT_2 breaks_substation ms
-    ++ (breaks_list parts.Bus MOST_BUSES_TO_FORMAT_2 breaks_bus ms
-    ++ (breaks_list parts.Line MOST_LINES_TO_FORMAT_2 breaks_line ms
-    ++ breaks_list parts.Transformer MOST_TRANSFORMERS_TO_FORMAT_2 (breaks_transformer (allows_devices ms)) ms)))))
+    ++ (breaks_value read_format parts.Case 0 fields.Format ms
+    ++ (breaks_list parts.Zone (most_rows format parts.Zone) (breaks_zone format) ms
+    ++ (breaks_list parts.Substation (most_rows format parts.Substation) breaks_substation ms
+    ++ (breaks_list parts.Bus (most_rows format parts.Bus) breaks_bus ms
+    ++ (breaks_list parts.Line (most_rows format parts.Line) (breaks_line format) ms
+    ++ breaks_list parts.Transformer (most_rows format parts.Transformer) (breaks_transformer format) ms)))))
 
 -- the rows as they are written, with names in place of references
 pub record Written : Type 0 where
@@ -84,11 +90,11 @@ pub record Written : Type 0 where
 -- the rows of a document, each field that breaks its rule taken as nought
 unfoldable pub written_in : Members → Written
 written_in ms = record {
-  zones = map zone_of (entries_of parts.Zone ms);
+  zones = map (zone_of (format_in ms)) (entries_of parts.Zone ms);
   substations = map substation_of (entries_of parts.Substation ms);
   buses = map bus_of (entries_of parts.Bus ms);
-  lines = map line_of (entries_of parts.Line ms);
-  transformers = map transformer_of (entries_of parts.Transformer ms);
+  lines = map (line_of (format_in ms)) (entries_of parts.Line ms);
+  transformers = map (transformer_of (format_in ms)) (entries_of parts.Transformer ms);
 }
 
 -- the names of all rows, list after list
@@ -126,22 +132,37 @@ zone_place w = place_in (map (λ z. z.name) w.zones)
 abbrev pub breaks_bus_reference : Written → ℕ → BusRow → List CaseRefusal
 breaks_bus_reference w row b = unless (is_some (substation_place w b.substation)) (refusals.Unknown parts.Bus row fields.Substation)
 
--- a line runs between two of the buses, in one of the zones
+-- a part of a line is in one of the zones
+abbrev pub is_in_zone : Written → PartRow → Bool
+is_in_zone w part = is_some (zone_place w part.zone)
+
+-- a line leads through one of the zones, or each of its parts does
+abbrev pub breaks_course_reference : Written → ℕ → CourseRow → List CaseRefusal
+breaks_course_reference w row (written.One part) = unless (is_in_zone w part) (refusals.Unknown parts.Line row fields.Zone)
+breaks_course_reference w row (written.Several ps) = unless (list_all (is_in_zone w) ps) (refusals.Unknown parts.Line row fields.Part)
+
+-- a line runs between two of the buses, and through the zones
 abbrev pub breaks_line_references : Written → ℕ → LineRow → List CaseRefusal
 breaks_line_references w row l =
     unless (is_some (bus_place w l.from)) (refusals.Unknown parts.Line row fields.From)
     ++ (unless (is_some (bus_place w l.to)) (refusals.Unknown parts.Line row fields.To)
-    ++ unless (is_some (zone_place w l.zone)) (refusals.Unknown parts.Line row fields.Zone))
+    ++ breaks_course_reference w row l.course)
 
 -- a side of a transformer is at one of the buses
 abbrev pub breaks_side_reference : Written → ℕ → Field → (bus : List ℕ) → List CaseRefusal
 breaks_side_reference w row at bus = unless (is_some (bus_place w bus)) (refusals.Unknown parts.Transformer row at)
 
--- the sides that a kind has are at buses: first the high one, then the low one
+-- a third side, where there is one, is at one of the buses
+abbrev pub breaks_third_reference : Written → ℕ → Option ThirdRow → List CaseRefusal
+breaks_third_reference w row None = []
+breaks_third_reference w row (Some t) = breaks_side_reference w row fields.Third t.bus
+
+-- the sides that a kind has are at buses: first the high one, then the low one, then the third
 abbrev pub breaks_kind_references : Written → ℕ → KindRow → List CaseRefusal
 breaks_kind_references w row (rows.DeltaWye high high_resistance) = breaks_side_reference w row fields.High high
-breaks_kind_references w row (rows.WyeWye high low low_volts high_resistance low_resistance) = breaks_side_reference w row fields.High high ++ breaks_side_reference w row fields.Low low
-breaks_kind_references w row (rows.Auto high low low_volts series_resistance common_resistance) = breaks_side_reference w row fields.High high ++ breaks_side_reference w row fields.Low low
+breaks_kind_references w row (rows.WyeWye high low low_volts high_resistance low_resistance third) = breaks_side_reference w row fields.High high ++ (breaks_side_reference w row fields.Low low ++ breaks_third_reference w row third)
+breaks_kind_references w row (rows.Auto high low low_volts series_resistance common_resistance third) = breaks_side_reference w row fields.High high ++ (breaks_side_reference w row fields.Low low ++ breaks_third_reference w row third)
+breaks_kind_references w row (rows.Reactor high high_resistance) = breaks_side_reference w row fields.High high
 breaks_kind_references w row rows.DeltaDelta = []
 
 -- each reference is the name of a row of its list
@@ -155,16 +176,23 @@ breaks_references w =
 abbrev pub bus_with_place : Written → BusRow → Bus
 bus_with_place w b = record { name = b.name; substation = unwrap_or (substation_place w b.substation) 0 }
 
--- a line, with the places of its buses and its zone
+-- a part, with the place of its zone
+abbrev pub part_with_place : Written → PartRow → LinePart
+part_with_place w part = record { zone = unwrap_or (zone_place w part.zone) 0; north = part.north; east = part.east }
+
+-- where a line leads, with the places of the zones
+abbrev pub course_with_places : Written → CourseRow → Course
+course_with_places w (written.One part) = courses.One (part_with_place w part)
+course_with_places w (written.Several ps) = courses.Several (map (part_with_place w) ps)
+
+-- a line, with the places of its buses and its zones
 abbrev pub line_with_places : Written → LineRow → Line
 line_with_places w l = record {
   name = l.name;
   from = unwrap_or (bus_place w l.from) 0;
   to = unwrap_or (bus_place w l.to) 0;
-  zone = unwrap_or (zone_place w l.zone) 0;
+  course = course_with_places w l.course;
   resistance = l.resistance;
-  north = l.north;
-  east = l.east;
   blocked = l.blocked;
 }
 
@@ -172,11 +200,16 @@ line_with_places w l = record {
 abbrev pub side_place : Written → (bus : List ℕ) → ℕ
 side_place w bus = unwrap_or (bus_place w bus) 0
 
+-- a third side, with the place of its bus
+abbrev pub third_with_place : Written → ThirdRow → Third
+third_with_place w t = record { bus = side_place w t.bus; volts = t.volts; resistance = t.resistance }
+
 -- a kind, with the places of its buses
 abbrev pub kind_with_places : Written → KindRow → Kind
 kind_with_places w (rows.DeltaWye high high_resistance) = kinds.DeltaWye (side_place w high) high_resistance
-kind_with_places w (rows.WyeWye high low low_volts high_resistance low_resistance) = kinds.WyeWye (side_place w high) (side_place w low) low_volts high_resistance low_resistance
-kind_with_places w (rows.Auto high low low_volts series_resistance common_resistance) = kinds.Auto (side_place w high) (side_place w low) low_volts series_resistance common_resistance
+kind_with_places w (rows.WyeWye high low low_volts high_resistance low_resistance third) = kinds.WyeWye (side_place w high) (side_place w low) low_volts high_resistance low_resistance (option_map (third_with_place w) third)
+kind_with_places w (rows.Auto high low low_volts series_resistance common_resistance third) = kinds.Auto (side_place w high) (side_place w low) low_volts series_resistance common_resistance (option_map (third_with_place w) third)
+kind_with_places w (rows.Reactor high high_resistance) = kinds.Reactor (side_place w high) high_resistance
 kind_with_places w rows.DeltaDelta = kinds.DeltaDelta
 
 -- a transformer, with the places of its buses
@@ -201,7 +234,7 @@ breaks_rows test refusal rows = flat_map (λ p. unless (test p.1) (refusal p.0))
 abbrev pub breaks_same_ends : Lists → List CaseRefusal
 breaks_same_ends c = breaks_rows (λ l. not (l.from == l.to)) (refusals.SameEnds parts.Line) c.lines
 
--- no transformer has one bus for two
+-- no transformer has one bus for two of its sides
 abbrev pub breaks_same_sides : Lists → List CaseRefusal
 breaks_same_sides c = breaks_rows (λ t. sides_differ (sides_of t.kind)) (refusals.SameEnds parts.Transformer) c.transformers
 
@@ -209,7 +242,7 @@ breaks_same_sides c = breaks_rows (λ t. sides_differ (sides_of t.kind)) (refusa
 abbrev pub breaks_apart : Lists → List CaseRefusal
 breaks_apart c = breaks_rows (λ t. are_together c.buses (sides_of t.kind)) refusals.Apart c.transformers
 
--- no transformer has a low voltage above its high voltage
+-- no transformer has a low or third voltage above its high voltage
 abbrev pub breaks_voltage_order : Lists → List CaseRefusal
 breaks_voltage_order c = breaks_rows (λ t. are_ordered t.high_volts (sides_of t.kind)) refusals.VoltageOrder c.transformers
 

@@ -9,17 +9,12 @@ ghost use Rattle.gic_case_reader.specs.Keys.{fits_document};
 ghost use Rattle.gic_case_reader.specs.Rules.{Written, document_of};
 ghost use Rattle.gic_case_reader.specs.Pass.{rows_of};
 
-use crate::field::Field;
+use crate::format::format_at;
 use crate::keys::fits_document;
 use crate::list::list_at;
 use crate::refusal::{CaseRefusal, Part};
 use crate::row::{BusRow, LineRow, TransformerRow};
-use crate::value::natural_at;
 use gic_base::ReadFault;
-use gic_base::limits::{
-    MOST_BUSES_TO_FORMAT_2, MOST_LINES_TO_FORMAT_2, MOST_SUBSTATIONS_TO_FORMAT_2,
-    MOST_TRANSFORMERS_TO_FORMAT_2, MOST_ZONES,
-};
 use gic_case::Substation;
 use gic_scale::Zone;
 use std::alloc::Global;
@@ -85,24 +80,12 @@ impl Rows {
         ensures { AnswersRead (λ r. r) result (rows_of (table_view table.now)) }
     {
         document_keys(table)?;
-        let devices = natural_at(Part::Case, 0, Field::Format, 1, 2, table)? == 2;
-        let zones = list_at(alloc, Part::Zone, MOST_ZONES, devices, table)?;
-        let substations = list_at(
-            alloc,
-            Part::Substation,
-            MOST_SUBSTATIONS_TO_FORMAT_2,
-            devices,
-            table,
-        )?;
-        let buses = list_at(alloc, Part::Bus, MOST_BUSES_TO_FORMAT_2, devices, table)?;
-        let lines = list_at(alloc, Part::Line, MOST_LINES_TO_FORMAT_2, devices, table)?;
-        let transformers = list_at(
-            alloc,
-            Part::Transformer,
-            MOST_TRANSFORMERS_TO_FORMAT_2,
-            devices,
-            table,
-        )?;
+        let format = format_at(table)?;
+        let zones = list_at(alloc, Part::Zone, format, table)?;
+        let substations = list_at(alloc, Part::Substation, format, table)?;
+        let buses = list_at(alloc, Part::Bus, format, table)?;
+        let lines = list_at(alloc, Part::Line, format, table)?;
+        let transformers = list_at(alloc, Part::Transformer, format, table)?;
         Ok(Rows {
             zones,
             substations,

@@ -1,9 +1,25 @@
 //! The nodes at which windings and neutral resistors end.
 ghost use Rattle.std.specs.Prelude.{◌≡◌, ◌<◌, ◌^◌, ◌++◌, flat_map, OnOk};
-ghost use Rattle.gic_case.specs.Lists.{grid_of, winding_ends, device_ends};
+ghost use Rattle.gic_case.specs.Lists.{grid_of, third_ends, winding_ends, device_ends};
 
-use gic_case::{Bus, Kind, Neutral, Transformer, grid_of};
+use gic_case::{Bus, Kind, Neutral, Third, Transformer, grid_of};
 use std::alloc::AllocError;
+
+/// Adds the nodes at which a third winding ends, where there is one.
+fn push_ends_of_third(
+    ends: &mut Vec<u32>,
+    first_bus: u32,
+    neutral: u32,
+    third: Option<Third>,
+) -> Result<(), AllocError>
+    requires { first_bus < 2 ^ 16 }
+    ensures { OnOk result (ends.new.items ≡ ends.old.items ++ third_ends first_bus neutral third) }
+{
+    match third {
+        Some(third) => ends.extend_from_slice(&[first_bus + u32::from(third.bus), neutral]),
+        None => Ok(()),
+    }
+}
 
 /// Adds the nodes at which the windings of a transformer end.
 fn push_ends_of_windings(
@@ -16,21 +32,37 @@ fn push_ends_of_windings(
     ensures { OnOk result (ends.new.items ≡ ends.old.items ++ winding_ends first_bus neutral kind.now) }
 {
     match *kind {
-        Kind::DeltaWye { high, .. } => {
+        Kind::DeltaWye { high, .. } | Kind::Reactor { high, .. } => {
             ends.extend_from_slice(&[first_bus + u32::from(high), neutral])
         }
-        Kind::WyeWye { high, low, .. } => ends.extend_from_slice(&[
-            first_bus + u32::from(high),
-            neutral,
-            first_bus + u32::from(low),
-            neutral,
-        ]),
-        Kind::Auto { high, low, .. } => ends.extend_from_slice(&[
-            first_bus + u32::from(high),
-            first_bus + u32::from(low),
-            first_bus + u32::from(low),
-            neutral,
-        ]),
+        Kind::WyeWye {
+            high,
+            low,
+            third,
+            ..
+        } => {
+            ends.extend_from_slice(&[
+                first_bus + u32::from(high),
+                neutral,
+                first_bus + u32::from(low),
+                neutral,
+            ])?;
+            push_ends_of_third(ends, first_bus, neutral, third)
+        }
+        Kind::Auto {
+            high,
+            low,
+            third,
+            ..
+        } => {
+            ends.extend_from_slice(&[
+                first_bus + u32::from(high),
+                first_bus + u32::from(low),
+                first_bus + u32::from(low),
+                neutral,
+            ])?;
+            push_ends_of_third(ends, first_bus, neutral, third)
+        }
         Kind::DeltaDelta => Ok(()),
     }
 }

@@ -9,6 +9,7 @@ pub enum Field {
     Name,
     Latitude,
     Beta,
+    Scale,
     Ground,
     Substation,
     From,
@@ -18,6 +19,7 @@ pub enum Field {
     North,
     East,
     Blocked,
+    Part,
     Kind,
     HighVolts,
     High,
@@ -27,6 +29,9 @@ pub enum Field {
     LowResistance,
     SeriesResistance,
     CommonResistance,
+    Third,
+    ThirdVolts,
+    ThirdResistance,
     Neutral,
 }
 
@@ -40,6 +45,7 @@ impl Field {
             Field::Name => "name",
             Field::Latitude => "latitude",
             Field::Beta => "beta",
+            Field::Scale => "scale",
             Field::Ground => "ground",
             Field::Substation => "substation",
             Field::From => "from",
@@ -49,6 +55,7 @@ impl Field {
             Field::North => "north",
             Field::East => "east",
             Field::Blocked => "blocked",
+            Field::Part => "part",
             Field::Kind => "kind",
             Field::HighVolts => "high_volts",
             Field::High => "high",
@@ -58,6 +65,9 @@ impl Field {
             Field::LowResistance => "low_resistance",
             Field::SeriesResistance => "series_resistance",
             Field::CommonResistance => "common_resistance",
+            Field::Third => "third",
+            Field::ThirdVolts => "third_volts",
+            Field::ThirdResistance => "third_resistance",
             Field::Neutral => "neutral",
         }
     }

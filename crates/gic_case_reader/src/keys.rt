@@ -4,6 +4,7 @@ ghost use Rattle.toml.specs.Data.{get_member};
 ghost use Rattle.toml.specs.View.{view, table_view};
 ghost use Rattle.gic_base.specs.Refusals.{AnswersExactly};
 ghost use Rattle.gic_case_reader.specs.Keys.{list_key, is_among, is_list_key, is_document_key, has, has_only, has_all, fits, fits_document};
+ghost use Rattle.gic_case_reader.specs.Rows.{members_in};
 ghost use Rattle.gic_case_reader.specs.Pass.{row_table};
 
 use crate::field::{Field, is_among};
@@ -61,6 +62,16 @@ pub(crate) fn has(table: &Table, at: Field) -> bool
     ensures { result ≡ has at (table_view table.now) }
 {
     at_key(table, at.key()).is_some()
+}
+
+/// Whether a value is a table that has a field.
+pub(crate) fn has_in(value: &Value, at: Field) -> bool
+    ensures { result ≡ has at (members_in (view value.now)) }
+{
+    match value.as_table() {
+        Some(table) => has(table, at),
+        None => false,
+    }
 }
 
 /// Whether a table has each of these fields.

@@ -1,11 +1,14 @@
 //! Lists of rows.
-ghost use Rattle.std.specs.Prelude.{◌≡◌, ◌≤◌, ◌<◌, ◌^◌, ◌++◌, ℕ, List, Bool, map, Result, IfOk, OnOk, length, vec_len};
+ghost use Rattle.std.specs.Prelude.{◌≡◌, ◌≤◌, ◌<◌, ◌^◌, ◌++◌, ℕ, List, map, Result, IfOk, OnOk, length, vec_len};
 ghost use Rattle.toml.specs.Data.{Data};
 ghost use Rattle.toml.specs.View.{view, table_view, items_view};
 ghost use Rattle.gic_base.specs.Refusals.{AnswersRead, AnswersExactly};
 ghost use Rattle.gic_case_reader.specs.declared.refusal.CaseRefusal as refusal;
+ghost use Rattle.gic_case_reader.specs.declared.format.Format as format;
+ghost use Rattle.gic_case_reader.specs.Formats.{most_rows};
 ghost use Rattle.gic_case_reader.specs.Pass.{items_at, rows_from, list_at, zone_row, substation_row, bus_row, line_row, transformer_row};
 
+use crate::format::Format;
 use crate::keys::{at_key, list_key};
 use crate::refusal::{CaseRefusal, Part};
 use crate::row::{BusRow, LineRow, TransformerRow, bus_row, line_row, substation_row, zone_row};
@@ -18,8 +21,8 @@ use toml::{Table, Value};
 
 /// What a list of the document has as its rows.
 pub(crate) trait Row: Drop {
-    // The row that a value is, or the first rule that it breaks, with neutral devices allowed or not.
-    ghost reads: { Bool → ℕ → Data → Result Self refusal.CaseRefusal };
+    // The row that a value is in a case of a format, or the first rule that it breaks.
+    ghost reads: { format.Format → ℕ → Data → Result Self refusal.CaseRefusal };
 
     // The name of a row.
     ghost named: { Self → List ℕ };
@@ -28,13 +31,18 @@ pub(crate) trait Row: Drop {
     fn name(&self) -> Name
         ensures { result ≡ named self.now };
 
-    /// The row that a value is, in a case whose format has neutral devices or hasn't.
-    fn read(devices: bool, row: u32, value: &Value) -> Result<Self, CaseRefusal>
-        ensures { AnswersExactly (λ x. x) result (reads devices row (view value.now)) };
+    /// The row that a value is, in a case of a format.
+    fn read(
+        alloc: Global,
+        format: Format,
+        row: u32,
+        value: &Value,
+    ) -> Result<Self, ReadFault<CaseRefusal>>
+        ensures { AnswersRead (λ x. x) result (reads format row (view value.now)) };
 }
 
 impl Row for Zone {
-    ghost reads = { λ _. zone_row };
+    ghost reads = { zone_row };
 
     ghost named = { λ x. x.name };
 
@@ -42,8 +50,13 @@ impl Row for Zone {
         self.name
     }
 
-    fn read(_devices: bool, row: u32, value: &Value) -> Result<Zone, CaseRefusal> {
-        zone_row(row, value)
+    fn read(
+        _alloc: Global,
+        format: Format,
+        row: u32,
+        value: &Value,
+    ) -> Result<Zone, ReadFault<CaseRefusal>> {
+        Ok(zone_row(format, row, value)?)
     }
 }
 
@@ -56,8 +69,13 @@ impl Row for Substation {
         self.name
     }
 
-    fn read(_devices: bool, row: u32, value: &Value) -> Result<Substation, CaseRefusal> {
-        substation_row(row, value)
+    fn read(
+        _alloc: Global,
+        _format: Format,
+        row: u32,
+        value: &Value,
+    ) -> Result<Substation, ReadFault<CaseRefusal>> {
+        Ok(substation_row(row, value)?)
     }
 }
 
@@ -70,13 +88,18 @@ impl Row for BusRow {
         self.name
     }
 
-    fn read(_devices: bool, row: u32, value: &Value) -> Result<BusRow, CaseRefusal> {
-        bus_row(row, value)
+    fn read(
+        _alloc: Global,
+        _format: Format,
+        row: u32,
+        value: &Value,
+    ) -> Result<BusRow, ReadFault<CaseRefusal>> {
+        Ok(bus_row(row, value)?)
     }
 }
 
 impl Row for LineRow {
-    ghost reads = { λ _. line_row };
+    ghost reads = { line_row };
 
     ghost named = { λ x. x.name };
 
@@ -84,8 +107,13 @@ impl Row for LineRow {
         self.name
     }
 
-    fn read(_devices: bool, row: u32, value: &Value) -> Result<LineRow, CaseRefusal> {
-        line_row(row, value)
+    fn read(
+        alloc: Global,
+        format: Format,
+        row: u32,
+        value: &Value,
+    ) -> Result<LineRow, ReadFault<CaseRefusal>> {
+        line_row(alloc, format, row, value)
     }
 }
 
@@ -98,8 +126,13 @@ impl Row for TransformerRow {
         self.name
     }
 
-    fn read(devices: bool, row: u32, value: &Value) -> Result<TransformerRow, CaseRefusal> {
-        transformer_row(devices, row, value)
+    fn read(
+        _alloc: Global,
+        format: Format,
+        row: u32,
+        value: &Value,
+    ) -> Result<TransformerRow, ReadFault<CaseRefusal>> {
+        Ok(transformer_row(format, row, value)?)
     }
 }
 
@@ -120,38 +153,36 @@ fn items_at(list: Part, table: &Table) -> Result<&[Value], CaseRefusal>
 /// The rows of a list.
 fn rows_from<R: Row>(
     alloc: Global,
-    devices: bool,
+    format: Format,
     values: &[Value],
 ) -> Result<Vec<R>, ReadFault<CaseRefusal>>
     requires { length values.now < 2 ^ 32 }
-    ensures value { AnswersRead (λ v. v.items) result (rows_from (R.reads devices) 1 (items_view values.now)) }
+    ensures value { AnswersRead (λ v. v.items) result (rows_from (R.reads format) 1 (items_view values.now)) }
     ensures count { IfOk result (λ v. vec_len v ≡ length values.now) }
 {
     let mut rows = Vec::new(alloc);
     for (i, value) in values.iter().enumerate() {
-        rows.push(R::read(devices, i as u32 + 1, value)?)?;
+        rows.push(R::read(alloc, format, i as u32 + 1, value)?)?;
     }
     Ok(rows)
 }
 
-/// A list of the document, with at most so many rows.
+/// A list of the document, with at most as many rows as its format has.
 #[tactic(auto, using(crate::proofs::Rows::count_length), unfolding(crate::specs::Pass::list_at))]
 pub(crate) fn list_at<R: Row>(
     alloc: Global,
     list: Part,
-    limit: usize,
-    devices: bool,
+    format: Format,
     table: &Table,
 ) -> Result<Vec<R>, ReadFault<CaseRefusal>>
-    requires { limit < 2 ^ 16 }
-    ensures value { AnswersRead (λ v. v.items) result (list_at list limit (R.reads devices) (table_view table.now)) }
-    ensures few { IfOk result (λ v. vec_len v ≤ limit) }
+    ensures value { AnswersRead (λ v. v.items) result (list_at list (most_rows format list) (R.reads format) (table_view table.now)) }
+    ensures few { IfOk result (λ v. vec_len v ≤ most_rows format list) }
 {
     let values = items_at(list, table)?;
-    if values.len() > limit {
+    if values.len() > format.most_rows(list) {
         return Err(ReadFault::Refused(CaseRefusal::TooMany { list }));
     }
-    rows_from(alloc, devices, values)
+    rows_from(alloc, format, values)
 }
 
 /// Adds the names of rows at the end.

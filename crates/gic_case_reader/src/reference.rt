@@ -4,16 +4,17 @@ ghost use Rattle.std.specs.HashMap.{get};
 ghost use Rattle.gic_base.specs.Refusals.{AnswersRead, AnswersExactly};
 ghost use Rattle.gic_case.specs.Names.{same, place_in};
 ghost use Rattle.gic_case_reader.specs.Rules.{substation_place, bus_place, zone_place};
-ghost use Rattle.gic_case_reader.specs.Pass.{each, place_at, side_at, bus_in, line_in, kind_in, transformer_in, resolve};
+ghost use Rattle.gic_case_reader.specs.Pass.{each, place_at, side_at, bus_in, part_in, parts_with, course_in, line_in, third_in, kind_in, transformer_in, resolve};
 
 use crate::document::Rows;
 use crate::field::Field;
 use crate::list::{Row, push_names};
 use crate::names::places_of;
+use crate::part_row::PartRow;
 use crate::refusal::{CaseRefusal, Part};
-use crate::row::{BusRow, KindRow, LineRow, TransformerRow};
+use crate::row::{BusRow, CourseRow, KindRow, LineRow, ThirdRow, TransformerRow};
 use gic_base::{Name, ReadFault};
-use gic_case::{Bus, Kind, Line, Network, Transformer};
+use gic_case::{Bus, Course, Kind, Line, LinePart, LineParts, Network, Third, Transformer};
 use std::alloc::{AllocError, Global};
 use std::collections::HashMap;
 
@@ -65,27 +66,80 @@ fn bus_in(substations: &HashMap<Name, u16>, row: u32, bus: &BusRow) -> Result<Bu
     })
 }
 
-/// A line, with the places of its buses and its zone.
+/// A part of a line, with the place of its zone, to which a field refers.
+fn part_in(
+    zones: &HashMap<Name, u16>,
+    row: u32,
+    at: Field,
+    part: &PartRow,
+) -> Result<LinePart, CaseRefusal>
+    ensures { AnswersExactly (λ p. p) result (part_in (get same zones.now) row at part.now) }
+{
+    let zone = place_at(zones, Part::Line, row, at, &part.zone)?;
+    Ok(LinePart {
+        zone,
+        north: part.north,
+        east: part.east,
+    })
+}
+
+/// Parts of a line, with the places of their zones.
+fn parts_with(
+    alloc: Global,
+    zones: &HashMap<Name, u16>,
+    row: u32,
+    rows: &[PartRow],
+) -> Result<LineParts, ReadFault<CaseRefusal>>
+    ensures { AnswersRead (λ ps. ps) result (parts_with (get same zones.now) row rows.now) }
+{
+    let mut parts = Vec::new(alloc);
+    for part in rows {
+        parts.push(part_in(zones, row, Field::Part, part)?)?;
+    }
+    Ok(LineParts::of(parts))
+}
+
+/// Where a line leads, with the places of the zones.
+#[tactic(auto, unfolding(crate::specs::Pass::course_in))]
+fn course_in(
+    alloc: Global,
+    zones: &HashMap<Name, u16>,
+    row: u32,
+    course: &CourseRow,
+) -> Result<Course, ReadFault<CaseRefusal>>
+    ensures { AnswersRead (λ c. c) result (course_in (get same zones.now) row course.now) }
+{
+    match course {
+        CourseRow::One(part) => Ok(Course::One(part_in(zones, row, Field::Zone, part)?)),
+        CourseRow::Several(rows) => Ok(Course::Several(parts_with(
+            alloc,
+            zones,
+            row,
+            rows.as_slice(),
+        )?)),
+    }
+}
+
+/// A line, with the places of its buses and its zones.
 #[tactic(auto, unfolding(crate::specs::Pass::line_in))]
 fn line_in(
+    alloc: Global,
     buses: &HashMap<Name, u16>,
     zones: &HashMap<Name, u16>,
     row: u32,
     line: &LineRow,
-) -> Result<Line, CaseRefusal>
-    ensures { AnswersExactly (λ l. l) result (line_in (get same buses.now) (get same zones.now) row line.now) }
+) -> Result<Line, ReadFault<CaseRefusal>>
+    ensures { AnswersRead (λ l. l) result (line_in (get same buses.now) (get same zones.now) row line.now) }
 {
     let from = place_at(buses, Part::Line, row, Field::From, &line.from)?;
     let to = place_at(buses, Part::Line, row, Field::To, &line.to)?;
-    let zone = place_at(zones, Part::Line, row, Field::Zone, &line.zone)?;
+    let course = course_in(alloc, zones, row, &line.course)?;
     Ok(Line {
         name: line.name,
         from,
         to,
-        zone,
+        course,
         resistance: line.resistance,
-        north: line.north,
-        east: line.east,
         blocked: line.blocked,
     })
 }
@@ -95,6 +149,27 @@ fn side_at(buses: &HashMap<Name, u16>, row: u32, at: Field, bus: &Name) -> Resul
     ensures { AnswersExactly (λ n. n) result (side_at (get same buses.now) row at bus.now) }
 {
     place_at(buses, Part::Transformer, row, at, bus)
+}
+
+/// A third side, with the place of its bus.
+fn third_in(
+    buses: &HashMap<Name, u16>,
+    row: u32,
+    third: Option<ThirdRow>,
+) -> Result<Option<Third>, CaseRefusal>
+    ensures { AnswersExactly (λ t. t) result (third_in (get same buses.now) row third) }
+{
+    match third {
+        Some(third) => {
+            let bus = side_at(buses, row, Field::Third, &third.bus)?;
+            Ok(Some(Third {
+                bus,
+                volts: third.volts,
+                resistance: third.resistance,
+            }))
+        }
+        None => Ok(None),
+    }
 }
 
 /// A kind, with the places of its buses.
@@ -116,12 +191,14 @@ fn kind_in(buses: &HashMap<Name, u16>, row: u32, kind: &KindRow) -> Result<Kind,
             low_volts,
             high_resistance,
             low_resistance,
+            third,
         } => Ok(Kind::WyeWye {
             high: side_at(buses, row, Field::High, &high)?,
             low: side_at(buses, row, Field::Low, &low)?,
             low_volts,
             high_resistance,
             low_resistance,
+            third: third_in(buses, row, third)?,
         }),
         KindRow::Auto {
             high,
@@ -129,12 +206,21 @@ fn kind_in(buses: &HashMap<Name, u16>, row: u32, kind: &KindRow) -> Result<Kind,
             low_volts,
             series_resistance,
             common_resistance,
+            third,
         } => Ok(Kind::Auto {
             high: side_at(buses, row, Field::High, &high)?,
             low: side_at(buses, row, Field::Low, &low)?,
             low_volts,
             series_resistance,
             common_resistance,
+            third: third_in(buses, row, third)?,
+        }),
+        KindRow::Reactor {
+            high,
+            high_resistance,
+        } => Ok(Kind::Reactor {
+            high: side_at(buses, row, Field::High, &high)?,
+            high_resistance,
         }),
         KindRow::DeltaDelta => Ok(Kind::DeltaDelta),
     }
@@ -188,7 +274,7 @@ fn lines_in(
 {
     let mut lines = Vec::new(alloc);
     for (i, line) in rows.iter().enumerate() {
-        lines.push(line_in(buses, zones, i as u32 + 1, line)?)?;
+        lines.push(line_in(alloc, buses, zones, i as u32 + 1, line)?)?;
     }
     Ok(lines)
 }

@@ -39,13 +39,13 @@ pub enum CaseRefusal {
     /// The field's name is not in the list that it refers to.
     #[error("unknown name in {list:?} row {row} field {field:?}")]
     Unknown { list: Part, row: u32, field: Field },
-    /// The two buses of the row are one.
+    /// Two buses of the row are one.
     #[error("same ends in {list:?} row {row}")]
     SameEnds { list: Part, row: u32 },
-    /// The two buses of the transformer are in different substations.
+    /// Two buses of the transformer are in different substations.
     #[error("apart in transformer row {row}")]
     Apart { row: u32 },
-    /// The low voltage of the transformer is above its high voltage.
+    /// The low or the third voltage of the transformer is above its high voltage.
     #[error("voltage order in transformer row {row}")]
     VoltageOrder { row: u32 },
     /// More than 256 elements end at the node.

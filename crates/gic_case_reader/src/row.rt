@@ -1,15 +1,20 @@
 //! Rows, read from tables.
 ghost use Rattle.toml.specs.View.{view};
-ghost use Rattle.gic_base.specs.Refusals.{AnswersExactly};
-ghost use Rattle.gic_case_reader.specs.Pass.{zone_row, substation_row, bus_row, line_row};
+ghost use Rattle.gic_base.specs.Refusals.{AnswersExactly, AnswersRead};
+ghost use Rattle.gic_case_reader.specs.Pass.{earth_zone_row, scaled_zone_row, zone_row, substation_row, bus_row, plain_line_row, parted_line_row, line_row};
 
 use crate::field::Field;
-use crate::keys::row_table;
+use crate::format::Format;
+use crate::keys::{has_in, row_table};
+use crate::part_row::PartRow;
+use crate::part_rows::PartRows;
+use crate::parts::parts_at;
 use crate::refusal::{CaseRefusal, Part};
 use crate::value::{metres_at, name_at, natural_at, ohm_at, optional_flag_at, optional_ohm_at};
-use gic_base::Name;
+use gic_base::{Name, ReadFault};
 use gic_case::{Neutral, Substation};
-use gic_scale::Zone;
+use gic_scale::{Scaling, Zone};
+use std::alloc::Global;
 use toml::Value;
 
 /// A bus, with the name of its substation.
@@ -19,17 +24,30 @@ pub(crate) struct BusRow {
     pub(crate) substation: Name,
 }
 
-/// A line, with the names of its buses and its zone.
-#[derive(Clone, Copy)]
+/// Where a line leads: through one zone, or in parts through several.
+#[derive(Drop)]
+pub(crate) enum CourseRow {
+    One(PartRow),
+    Several(PartRows),
+}
+
+/// A line, with the names of its buses and its zones.
+#[derive(Drop)]
 pub(crate) struct LineRow {
     pub(crate) name: Name,
     pub(crate) from: Name,
     pub(crate) to: Name,
-    pub(crate) zone: Name,
+    pub(crate) course: CourseRow,
     pub(crate) resistance: u32,
-    pub(crate) north: i32,
-    pub(crate) east: i32,
     pub(crate) blocked: bool,
+}
+
+/// A third winding, with the name of its bus.
+#[derive(Clone, Copy)]
+pub(crate) struct ThirdRow {
+    pub(crate) bus: Name,
+    pub(crate) volts: u32,
+    pub(crate) resistance: u32,
 }
 
 /// What a transformer's kind has of its own, with the names of its buses.
@@ -45,6 +63,7 @@ pub(crate) enum KindRow {
         low_volts: u32,
         high_resistance: u32,
         low_resistance: u32,
+        third: Option<ThirdRow>,
     },
     Auto {
         high: Name,
@@ -52,6 +71,11 @@ pub(crate) enum KindRow {
         low_volts: u32,
         series_resistance: u32,
         common_resistance: u32,
+        third: Option<ThirdRow>,
+    },
+    Reactor {
+        high: Name,
+        high_resistance: u32,
     },
     DeltaDelta,
 }
@@ -65,10 +89,10 @@ pub(crate) struct TransformerRow {
     pub(crate) neutral: Option<Neutral>,
 }
 
-/// A row of the zones.
-#[tactic(auto, unfolding(crate::specs::Pass::zone_row))]
-pub(crate) fn zone_row(row: u32, value: &Value) -> Result<Zone, CaseRefusal>
-    ensures { AnswersExactly (λ z. z) result (zone_row row (view value.now)) }
+/// A row of the zones by its latitude and its earth.
+#[tactic(auto, unfolding(crate::specs::Pass::earth_zone_row))]
+fn earth_zone_row(row: u32, value: &Value) -> Result<Zone, CaseRefusal>
+    ensures { AnswersExactly (λ z. z) result (earth_zone_row row (view value.now)) }
 {
     let required = [Field::Name, Field::Latitude, Field::Beta];
     let table = row_table(Part::Zone, &required, &[], row, value)?;
@@ -77,9 +101,38 @@ pub(crate) fn zone_row(row: u32, value: &Value) -> Result<Zone, CaseRefusal>
     let beta = natural_at(Part::Zone, row, Field::Beta, 1, 150, table)?;
     Ok(Zone {
         name,
-        latitude: latitude as u16,
-        beta: beta as u8,
+        scaling: Scaling::Earth {
+            latitude: latitude as u16,
+            beta: beta as u8,
+        },
     })
+}
+
+/// A row of the zones by its scale.
+#[tactic(auto, unfolding(crate::specs::Pass::scaled_zone_row))]
+fn scaled_zone_row(row: u32, value: &Value) -> Result<Zone, CaseRefusal>
+    ensures { AnswersExactly (λ z. z) result (scaled_zone_row row (view value.now)) }
+{
+    let required = [Field::Name, Field::Scale];
+    let table = row_table(Part::Zone, &required, &[], row, value)?;
+    let name = name_at(Part::Zone, row, Field::Name, table)?;
+    let scale = natural_at(Part::Zone, row, Field::Scale, 1, 1500, table)?;
+    Ok(Zone {
+        name,
+        scaling: Scaling::Factor(scale as u16),
+    })
+}
+
+/// A row of the zones.
+#[tactic(auto, unfolding(crate::specs::Pass::zone_row))]
+pub(crate) fn zone_row(format: Format, row: u32, value: &Value) -> Result<Zone, CaseRefusal>
+    ensures { AnswersExactly (λ z. z) result (zone_row format row (view value.now)) }
+{
+    if format.is_third() && has_in(value, Field::Scale) {
+        scaled_zone_row(row, value)
+    } else {
+        earth_zone_row(row, value)
+    }
 }
 
 /// A row of the substations.
@@ -111,10 +164,10 @@ pub(crate) fn bus_row(row: u32, value: &Value) -> Result<BusRow, CaseRefusal>
     Ok(BusRow { name, substation })
 }
 
-/// A row of the lines.
-#[tactic(auto, unfolding(crate::specs::Pass::line_row))]
-pub(crate) fn line_row(row: u32, value: &Value) -> Result<LineRow, CaseRefusal>
-    ensures { AnswersExactly (λ l. l) result (line_row row (view value.now)) }
+/// A row of the lines through one zone.
+#[tactic(auto, unfolding(crate::specs::Pass::plain_line_row))]
+fn plain_line_row(row: u32, value: &Value) -> Result<LineRow, CaseRefusal>
+    ensures { AnswersExactly (λ l. l) result (plain_line_row row (view value.now)) }
 {
     let required = [
         Field::Name,
@@ -138,10 +191,58 @@ pub(crate) fn line_row(row: u32, value: &Value) -> Result<LineRow, CaseRefusal>
         name,
         from,
         to,
-        zone,
+        course: CourseRow::One(PartRow { zone, north, east }),
         resistance,
-        north,
-        east,
         blocked: blocked.unwrap_or(false),
     })
+}
+
+/// A row of the lines in parts.
+#[tactic(auto, unfolding(crate::specs::Pass::parted_line_row))]
+fn parted_line_row(
+    alloc: Global,
+    row: u32,
+    value: &Value,
+) -> Result<LineRow, ReadFault<CaseRefusal>>
+    ensures { AnswersRead (λ l. l) result (parted_line_row row (view value.now)) }
+{
+    let required = [
+        Field::Name,
+        Field::From,
+        Field::To,
+        Field::Resistance,
+        Field::Part,
+    ];
+    let table = row_table(Part::Line, &required, &[Field::Blocked], row, value)?;
+    let name = name_at(Part::Line, row, Field::Name, table)?;
+    let from = name_at(Part::Line, row, Field::From, table)?;
+    let to = name_at(Part::Line, row, Field::To, table)?;
+    let resistance = ohm_at(Part::Line, row, Field::Resistance, table)?;
+    let blocked = optional_flag_at(Part::Line, row, Field::Blocked, table)?;
+    let parts = parts_at(alloc, row, table)?;
+    Ok(LineRow {
+        name,
+        from,
+        to,
+        course: CourseRow::Several(parts),
+        resistance,
+        blocked: blocked.unwrap_or(false),
+    })
+}
+
+/// A row of the lines.
+#[tactic(auto, unfolding(crate::specs::Pass::line_row))]
+pub(crate) fn line_row(
+    alloc: Global,
+    format: Format,
+    row: u32,
+    value: &Value,
+) -> Result<LineRow, ReadFault<CaseRefusal>>
+    ensures { AnswersRead (λ l. l) result (line_row format row (view value.now)) }
+{
+    if format.is_third() && has_in(value, Field::Part) {
+        parted_line_row(alloc, row, value)
+    } else {
+        Ok(plain_line_row(row, value)?)
+    }
 }

@@ -7,13 +7,14 @@ ghost use Rattle.gic_case_reader.specs.declared.refusal.CaseRefusal.TheVariants.
 ghost use Rattle.gic_case_reader.specs.declared.refusal.Part.TheVariants as parts;
 ghost use Rattle.gic_case_reader.specs.declared.field.Field.TheVariants as fields;
 ghost use Rattle.gic_case_reader.specs.Keys.{fits};
-ghost use Rattle.gic_case_reader.specs.Transformers.{kind_word, read_kind, fields_of, has_neutral, others_of};
-ghost use Rattle.gic_case_reader.specs.Pass.{required, table_with, delta_wye_row, wye_wye_row, auto_row, kind_row, transformer_row};
+ghost use Rattle.gic_case_reader.specs.Transformers.{in_third_format, kind_word, read_kind, fields_of, has_neutral, others_of};
+ghost use Rattle.gic_case_reader.specs.Pass.{required, table_with, delta_wye_row, third_row, third_if, wye_wye_row, auto_row, reactor_row, kind_row, transformer_row};
 
 use crate::field::Field;
+use crate::format::Format;
 use crate::keys::{at_key, fits, has};
 use crate::refusal::{CaseRefusal, Part};
-use crate::row::{KindRow, TransformerRow};
+use crate::row::{KindRow, ThirdRow, TransformerRow};
 use crate::value::{name_at, ohm_at, optional_neutral_at, volts_at};
 use toml::{Table, Value};
 
@@ -26,20 +27,33 @@ pub(crate) enum KindWord {
     DeltaWye,
     WyeWye,
     Auto,
+    WyeWyeWye,
+    AutoWye,
+    Reactor,
     DeltaDelta,
 }
 
 impl KindWord {
+    /// The kind, where the format has those that only the third has.
+    fn in_third_format(self, format: Format) -> Option<KindWord>
+        ensures { result ≡ in_third_format format self }
+    {
+        if format.is_third() { Some(self) } else { None }
+    }
+
     /// The kind that a word tells.
     #[tactic(auto, unfolding(crate::specs::Transformers::kind_word))]
-    fn read(text: &str) -> Option<KindWord>
-        ensures { result ≡ kind_word text.now }
+    fn read(format: Format, text: &str) -> Option<KindWord>
+        ensures { result ≡ kind_word format text.now }
     {
         match text {
             "delta-wye" => Some(KindWord::DeltaWye),
             "wye-wye" => Some(KindWord::WyeWye),
             "auto" => Some(KindWord::Auto),
             "delta-delta" => Some(KindWord::DeltaDelta),
+            "wye-wye-wye" => KindWord::WyeWyeWye.in_third_format(format),
+            "auto-wye" => KindWord::AutoWye.in_third_format(format),
+            "reactor" => KindWord::Reactor.in_third_format(format),
             _ => None,
         }
     }
@@ -49,7 +63,7 @@ impl KindWord {
         ensures { result.now ≡ fields_of self }
     {
         match self {
-            KindWord::DeltaWye => &[
+            KindWord::DeltaWye | KindWord::Reactor => &[
                 Field::Kind,
                 Field::Name,
                 Field::HighVolts,
@@ -76,6 +90,32 @@ impl KindWord {
                 Field::SeriesResistance,
                 Field::CommonResistance,
             ],
+            KindWord::WyeWyeWye => &[
+                Field::Kind,
+                Field::Name,
+                Field::HighVolts,
+                Field::High,
+                Field::Low,
+                Field::LowVolts,
+                Field::HighResistance,
+                Field::LowResistance,
+                Field::Third,
+                Field::ThirdVolts,
+                Field::ThirdResistance,
+            ],
+            KindWord::AutoWye => &[
+                Field::Kind,
+                Field::Name,
+                Field::HighVolts,
+                Field::High,
+                Field::Low,
+                Field::LowVolts,
+                Field::SeriesResistance,
+                Field::CommonResistance,
+                Field::Third,
+                Field::ThirdVolts,
+                Field::ThirdResistance,
+            ],
             KindWord::DeltaDelta => &[Field::Kind, Field::Name, Field::HighVolts],
         }
     }
@@ -87,11 +127,11 @@ impl KindWord {
         !matches!(self, KindWord::DeltaDelta)
     }
 
-    /// The fields that it may have: its neutral device, where the case's format has such devices.
-    fn others(self, devices: bool) -> &'static [Field]
-        ensures { result.now ≡ others_of devices self }
+    /// The fields that it may have: its neutral device, where the format has such devices.
+    fn others(self, format: Format) -> &'static [Field]
+        ensures { result.now ≡ others_of format self }
     {
-        if self.has_neutral() && devices {
+        if self.has_neutral() && format.has_devices() {
             &[Field::Neutral]
         } else {
             &[]
@@ -111,16 +151,16 @@ fn kinded_table(row: u32, value: &Value) -> Result<&Table, CaseRefusal>
 }
 
 /// The kind that a value is, where it is the word of one.
-fn read_kind(value: &Value) -> Option<KindWord>
-    ensures { result ≡ read_kind (view value.now) }
+fn read_kind(format: Format, value: &Value) -> Option<KindWord>
+    ensures { result ≡ read_kind format (view value.now) }
 {
-    KindWord::read(value.as_str()?)
+    KindWord::read(format, value.as_str()?)
 }
 
 /// The kind of a row.
 #[tactic(auto, unfolding(crate::specs::Pass::required))]
-fn kind_at(row: u32, table: &Table) -> Result<KindWord, CaseRefusal>
-    ensures { AnswersExactly (λ k. k) result (required read_kind parts.Transformer row fields.Kind (table_view table.now)) }
+fn kind_at(format: Format, row: u32, table: &Table) -> Result<KindWord, CaseRefusal>
+    ensures { AnswersExactly (λ k. k) result (required (read_kind format) parts.Transformer row fields.Kind (table_view table.now)) }
 {
     let refusal = CaseRefusal::Value {
         list: LIST,
@@ -128,16 +168,16 @@ fn kind_at(row: u32, table: &Table) -> Result<KindWord, CaseRefusal>
         field: Field::Kind,
     };
     match at_key(table, Field::Kind.key()) {
-        Some(value) => read_kind(value).ok_or(refusal),
+        Some(value) => read_kind(format, value).ok_or(refusal),
         None => Err(refusal),
     }
 }
 
 /// Whether a row has the keys of its kind.
-fn kind_keys(devices: bool, kind: KindWord, row: u32, table: &Table) -> Result<(), CaseRefusal>
-    ensures { AnswersExactly (λ u. u) result (test (fits (fields_of kind) (others_of devices kind) (table_view table.now)) (Key parts.Transformer row)) }
+fn kind_keys(format: Format, kind: KindWord, row: u32, table: &Table) -> Result<(), CaseRefusal>
+    ensures { AnswersExactly (λ u. u) result (test (fits (fields_of kind) (others_of format kind) (table_view table.now)) (Key parts.Transformer row)) }
 {
-    if fits(kind.fields(), kind.others(devices), table) {
+    if fits(kind.fields(), kind.others(format), table) {
         Ok(())
     } else {
         Err(CaseRefusal::Key { list: LIST, row })
@@ -157,41 +197,84 @@ fn delta_wye_row(row: u32, table: &Table) -> Result<KindRow, CaseRefusal>
     })
 }
 
-/// What a wye-wye unit has of its own.
+/// A third winding.
+#[tactic(auto, unfolding(crate::specs::Pass::third_row))]
+fn third_row(row: u32, table: &Table) -> Result<ThirdRow, CaseRefusal>
+    ensures { AnswersExactly (λ t. t) result (third_row row (table_view table.now)) }
+{
+    let bus = name_at(LIST, row, Field::Third, table)?;
+    let volts = volts_at(LIST, row, Field::ThirdVolts, table)?;
+    let resistance = ohm_at(LIST, row, Field::ThirdResistance, table)?;
+    Ok(ThirdRow {
+        bus,
+        volts,
+        resistance,
+    })
+}
+
+/// The third winding of a unit that has one.
+fn third_if(with_third: bool, row: u32, table: &Table) -> Result<Option<ThirdRow>, CaseRefusal>
+    ensures { AnswersExactly (λ t. t) result (third_if with_third row (table_view table.now)) }
+{
+    if with_third {
+        Ok(Some(third_row(row, table)?))
+    } else {
+        Ok(None)
+    }
+}
+
+/// What a wye-wye unit has of its own, with a third winding or without.
 #[tactic(auto, unfolding(crate::specs::Pass::wye_wye_row))]
-fn wye_wye_row(row: u32, table: &Table) -> Result<KindRow, CaseRefusal>
-    ensures { AnswersExactly (λ k. k) result (wye_wye_row row (table_view table.now)) }
+fn wye_wye_row(with_third: bool, row: u32, table: &Table) -> Result<KindRow, CaseRefusal>
+    ensures { AnswersExactly (λ k. k) result (wye_wye_row with_third row (table_view table.now)) }
 {
     let high = name_at(LIST, row, Field::High, table)?;
     let low = name_at(LIST, row, Field::Low, table)?;
     let low_volts = volts_at(LIST, row, Field::LowVolts, table)?;
     let high_resistance = ohm_at(LIST, row, Field::HighResistance, table)?;
     let low_resistance = ohm_at(LIST, row, Field::LowResistance, table)?;
+    let third = third_if(with_third, row, table)?;
     Ok(KindRow::WyeWye {
         high,
         low,
         low_volts,
         high_resistance,
         low_resistance,
+        third,
     })
 }
 
-/// What an autotransformer has of its own.
+/// What an autotransformer has of its own, with a third winding or without.
 #[tactic(auto, unfolding(crate::specs::Pass::auto_row))]
-fn auto_row(row: u32, table: &Table) -> Result<KindRow, CaseRefusal>
-    ensures { AnswersExactly (λ k. k) result (auto_row row (table_view table.now)) }
+fn auto_row(with_third: bool, row: u32, table: &Table) -> Result<KindRow, CaseRefusal>
+    ensures { AnswersExactly (λ k. k) result (auto_row with_third row (table_view table.now)) }
 {
     let high = name_at(LIST, row, Field::High, table)?;
     let low = name_at(LIST, row, Field::Low, table)?;
     let low_volts = volts_at(LIST, row, Field::LowVolts, table)?;
     let series_resistance = ohm_at(LIST, row, Field::SeriesResistance, table)?;
     let common_resistance = ohm_at(LIST, row, Field::CommonResistance, table)?;
+    let third = third_if(with_third, row, table)?;
     Ok(KindRow::Auto {
         high,
         low,
         low_volts,
         series_resistance,
         common_resistance,
+        third,
+    })
+}
+
+/// What a reactor has of its own.
+#[tactic(auto, unfolding(crate::specs::Pass::reactor_row))]
+fn reactor_row(row: u32, table: &Table) -> Result<KindRow, CaseRefusal>
+    ensures { AnswersExactly (λ k. k) result (reactor_row row (table_view table.now)) }
+{
+    let high = name_at(LIST, row, Field::High, table)?;
+    let high_resistance = ohm_at(LIST, row, Field::HighResistance, table)?;
+    Ok(KindRow::Reactor {
+        high,
+        high_resistance,
     })
 }
 
@@ -202,24 +285,27 @@ fn kind_row(kind: KindWord, row: u32, table: &Table) -> Result<KindRow, CaseRefu
 {
     match kind {
         KindWord::DeltaWye => delta_wye_row(row, table),
-        KindWord::WyeWye => wye_wye_row(row, table),
-        KindWord::Auto => auto_row(row, table),
+        KindWord::WyeWye => wye_wye_row(false, row, table),
+        KindWord::Auto => auto_row(false, row, table),
+        KindWord::WyeWyeWye => wye_wye_row(true, row, table),
+        KindWord::AutoWye => auto_row(true, row, table),
+        KindWord::Reactor => reactor_row(row, table),
         KindWord::DeltaDelta => Ok(KindRow::DeltaDelta),
     }
 }
 
-/// A row of the transformers, of a case whose format has neutral devices or hasn't.
+/// A row of the transformers, in a case of a format.
 #[tactic(auto, unfolding(crate::specs::Pass::transformer_row))]
 pub(crate) fn transformer_row(
-    devices: bool,
+    format: Format,
     row: u32,
     value: &Value,
 ) -> Result<TransformerRow, CaseRefusal>
-    ensures { AnswersExactly (λ t. t) result (transformer_row devices row (view value.now)) }
+    ensures { AnswersExactly (λ t. t) result (transformer_row format row (view value.now)) }
 {
     let table = kinded_table(row, value)?;
-    let word = kind_at(row, table)?;
-    kind_keys(devices, word, row, table)?;
+    let word = kind_at(format, row, table)?;
+    kind_keys(format, word, row, table)?;
     let name = name_at(LIST, row, Field::Name, table)?;
     let high_volts = volts_at(LIST, row, Field::HighVolts, table)?;
     let kind = kind_row(word, row, table)?;

@@ -29,7 +29,7 @@ fn natural_within(low: u32, high: u32, value: &Value) -> Option<u32>
 }
 
 /// The metres that a value is, where it is a number of at most 1000000 to either side.
-fn metres_within(value: &Value) -> Option<i32>
+pub(crate) fn metres_within(value: &Value) -> Option<i32>
     ensures { result ≡ metres_within (view value.now) }
 {
     let number = value.as_integer()?;
@@ -41,7 +41,7 @@ fn metres_within(value: &Value) -> Option<i32>
 }
 
 /// The name that a value is, where it is one.
-fn read_name(value: &Value) -> Option<Name>
+pub(crate) fn read_name(value: &Value) -> Option<Name>
     ensures { result ≡ read_name (view value.now) }
 {
     match value.as_str() {
@@ -63,7 +63,7 @@ fn read_neutral(value: &Value) -> Option<Neutral>
 }
 
 /// The refusal of a row for the value of a field.
-fn refused(list: Part, row: u32, at: Field) -> CaseRefusal
+pub(crate) fn refused(list: Part, row: u32, at: Field) -> CaseRefusal
     ensures { result ≡ refusals.Value list row at }
 {
     CaseRefusal::Value {

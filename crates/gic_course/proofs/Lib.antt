@@ -5,6 +5,5 @@ pub mod Walked
 pub mod RightSoFar
 pub mod Told
 pub mod KeptReady
-pub mod FieldVolts
 pub mod SuperposedSteps
 pub mod Absolutes

@@ -77,17 +77,20 @@ ceil_small z d m h k =
     let up = abs-neg_ℤ q in
     omega (arith, up, down)
 
--- the quotient of a sum of two numbers that are within 2^112 each
-sum_within : (a b : ℤ) (d : ℕ) → 0 < d → unsigned_abs a ≤ 2 ^ 112 → unsigned_abs b ≤ 2 ^ 112 → unsigned_abs (a +ℤ b) ≤ d * 2 ^ 113
-sum_within a b d some h k =
-    let sum : unsigned_abs (a +ℤ b) ≤ 2 ^ 113 = omega (arith, ints) in
-    omega arith
+-- the quotient of a sum of three numbers that are within 2^112 each, by 2 or more
+sum_within : (a b e : ℤ) (d : ℕ) → 2 ≤ d → unsigned_abs a ≤ 2 ^ 112 → unsigned_abs b ≤ 2 ^ 112 → unsigned_abs e ≤ 2 ^ 112 → unsigned_abs ((a +ℤ b) +ℤ e) ≤ d * 2 ^ 113
+sum_within a b e d two h k l =
+    let sum : unsigned_abs ((a +ℤ b) +ℤ e) ≤ 3 * 2 ^ 112 = omega (arith, ints, h, k, l) in
+    omega (arith, two, sum)
 
-pub quotient_within : (a b a' b' lo hi : ℤ) (d : ℕ) → 0 < d → IsWithin (2 ^ 112) a a' → IsWithin (2 ^ 112) b b' → lo ≡ floor_div (a +ℤ b) (pos d) → hi ≡ ceil_div (a' +ℤ b') (pos d) → IsWithin (2 ^ 113) lo hi
-quotient_within a b a' b' lo hi d some first second low high = record {
-  low = subst (λ (w : ℤ). unsigned_abs w ≤ 2 ^ 113) (sym low) (floor_small (a +ℤ b) d (2 ^ 113) some (sum_within a b d some first.low second.low));
-  high = subst (λ (w : ℤ). unsigned_abs w ≤ 2 ^ 113) (sym high) (ceil_small (a' +ℤ b') d (2 ^ 113) some (sum_within a' b' d some first.high second.high));
-}
+pub quotient_within : (a b e a' b' e' lo hi : ℤ) (d : ℕ) → 2 ≤ d → IsWithin (2 ^ 112) a a' → IsWithin (2 ^ 112) b b' → IsWithin (2 ^ 112) e e' →
+    lo ≡ floor_div ((a +ℤ b) +ℤ e) (pos d) → hi ≡ ceil_div ((a' +ℤ b') +ℤ e') (pos d) → IsWithin (2 ^ 113) lo hi
+quotient_within a b e a' b' e' lo hi d two first second third low high =
+    let some : 0 < d = omega (arith, two) in
+    record {
+      low = subst (λ (w : ℤ). unsigned_abs w ≤ 2 ^ 113) (sym low) (floor_small ((a +ℤ b) +ℤ e) d (2 ^ 113) some (sum_within a b e d two first.low second.low third.low));
+      high = subst (λ (w : ℤ). unsigned_abs w ≤ 2 ^ 113) (sym high) (ceil_small ((a' +ℤ b') +ℤ e') d (2 ^ 113) some (sum_within a' b' e' d two first.high second.high third.high));
+    }
 
 product_small : (n r : ℕ) (z : ℤ) → n ≤ 3000000 → 1000 ≤ r → unsigned_abs z ≤ 2 ^ 98 → unsigned_abs (pos n *ℤ z) ≤ r * 2 ^ 36 * 2 ^ 80
 product_small n r z h k small =

@@ -5,3 +5,4 @@ pub mod Weighings
 pub mod Widths
 pub mod Filled
 pub mod Lines
+pub mod WithoutEffect

@@ -5,6 +5,7 @@ use Rattle.std.proofs.lemmas.List.Elements.{All-from_recursion}
 use Rattle.std.specs.List.{All, AllByRecursion, enumerate_from}
 use Rattle.gic_base.proofs.Each.{all_joined, anything}
 use Rattle.gic_case.specs.declared.item.Line.{Line}
+use Rattle.gic_case.specs.declared.item.Third.{Third}
 use Rattle.gic_case.specs.declared.item.Kind.{Kind}
 use Rattle.gic_case.specs.declared.item.Kind.TheVariants as kinds
 use Rattle.gic_case.specs.declared.item.Neutral.{Neutral}
@@ -12,7 +13,7 @@ use Rattle.gic_case.specs.declared.item.Neutral.TheVariants as devices
 use Rattle.gic_case.specs.Lists.{Lists, grid_of, neutrals_of}
 use Rattle.gic_induce.specs.LineVolts.{IsLineWithin}
 use Rattle.gic_model.specs.declared.parts.Element.{Element}
-use Rattle.gic_winding.specs.ElementList.{earthing_of, line_of, windings_of, resistor_of, elements_of}
+use Rattle.gic_winding.specs.ElementList.{earthing_of, line_of, third_of, windings_of, resistor_of, elements_of}
 use Rattle.gic_winding.proofs.Parts.{earthing_part, line_part, winding_part, resistor_part}
 use Rattle.gic_winding.proofs.Within.{all_of_parts, IsPlaced, all_placed}
 
@@ -30,10 +31,15 @@ line_lines c first_bus place l inside = elim (cases_Bool l.blocked) [
   | inr runs ↦ rw runs (inside, tt)
 ]
 
+third_lines : (c : Lists) (first_bus place neutral : ℕ) (third : Option Third) → AllByRecursion (OfLine c) (third_of first_bus place neutral third)
+third_lines c first_bus place neutral None = tt
+third_lines c first_bus place neutral (Some t) = (tt, tt)
+
 winding_lines : (c : Lists) (first_bus place neutral : ℕ) (kind : Kind) → AllByRecursion (OfLine c) (windings_of first_bus place neutral kind)
 winding_lines c first_bus place neutral (kinds.DeltaWye high high_resistance) = (tt, tt)
-winding_lines c first_bus place neutral (kinds.WyeWye high low low_volts high_resistance low_resistance) = (tt, (tt, tt))
-winding_lines c first_bus place neutral (kinds.Auto high low low_volts series_resistance common_resistance) = (tt, (tt, tt))
+winding_lines c first_bus place neutral (kinds.WyeWye high low low_volts high_resistance low_resistance third) = (tt, (tt, third_lines c first_bus place neutral third))
+winding_lines c first_bus place neutral (kinds.Auto high low low_volts series_resistance common_resistance third) = (tt, (tt, third_lines c first_bus place neutral third))
+winding_lines c first_bus place neutral (kinds.Reactor high high_resistance) = (tt, tt)
 winding_lines c first_bus place neutral kinds.DeltaDelta = tt
 
 resistor_lines : (c : Lists) (place neutral grid : ℕ) (device : Option Neutral) → AllByRecursion (OfLine c) (resistor_of place neutral grid device)

@@ -1,15 +1,18 @@
 -- The windings of a transformer, as its weights name them.
-use Rattle.std.proofs.Common.{◌≡◌, ℕ, ◌+◌, ◌*◌, ◌≤◌, ◌<◌, List, [], ◌∷◌, ◌++◌, map, Option, Some, None, All, IsFalse, ℤ, pos, ◌+ℤ◌, ◌*ℤ◌, arith, refl, ap, ap₂, subst, ◌∙◌}
+use Rattle.std.proofs.Common.{◌≡◌, ℕ, ◌*◌, ◌≤◌, ◌<◌, List, [], ◌∷◌, ◌++◌, map, Option, Some, None, IfSome, All, IsTrue, ℤ, pos, ◌+ℤ◌, ◌*ℤ◌, arith, refl, ap, ap₂, subst, inl, inr, ◌∙◌}
+use Rattle.std.proofs.lemmas.Bool.{cases_Bool}
 use Rattle.std.proofs.lemmas.Int.{ints}
 use Rattle.std.proofs.lemmas.List.Elements.{recursion_from_All}
 use Rattle.std.specs.List.{AllByRecursion}
 use Rattle.std.specs.Option.{option_to_list}
+use lib.IntN.{*ℤ_comm, *ℤ-zero}
 use Rattle.gic_base.specs.declared.id.ElementId.{ElementId}
 use Rattle.gic_case.specs.declared.item.Kind.{Kind}
 use Rattle.gic_case.specs.declared.item.Kind.TheVariants as kinds
+use Rattle.gic_case.specs.declared.item.Third.{Third}
 use Rattle.gic_case.specs.declared.item.Transformer.{Transformer}
-use Rattle.gic_case.specs.Lists.{Lists}
-use Rattle.gic_case.specs.Sound.{IsSoundKind}
+use Rattle.gic_case.specs.Lists.{Lists, has_effect}
+use Rattle.gic_case.specs.Sound.{IsSoundKind, IsSoundThird}
 use Rattle.gic_fixed.specs.Encloses.{Encloses}
 use Rattle.gic_fixed.specs.Rounding.{floor_div, ceil_div}
 use Rattle.gic_fixed.specs.Ends.{Ends, zero_ends, IsAtMostWide}
@@ -20,10 +23,11 @@ use Rattle.gic_model.specs.declared.parts.Role.TheVariants as role
 use Rattle.gic_model.specs.Solution.{Solution, IsSolution}
 use Rattle.gic_model.specs.Standing.{is_standing}
 use Rattle.gic_model.specs.Sums.{Placed, sum_of}
-use Rattle.gic_winding.specs.Weights.{low_volts_of, weight_of}
+use Rattle.gic_winding.specs.declared.weights.Weights.{Weights}
+use Rattle.gic_winding.specs.Weights.{low_volts_of, third_volts, third_volts_of, weight_of}
 use Rattle.gic_effective.specs.Holds.{HoldsSolution}
 use Rattle.gic_effective.specs.Shown.{AreSharp, IsShownWinding}
-use Rattle.gic_effective.specs.WeightedPair.{weighted, weight_in}
+use Rattle.gic_effective.specs.WeightedSum.{weighted, weighted_sum, weight_in, total_weight}
 use Rattle.gic_effective.proofs.Currents.{Encloses-same}
 use Rattle.gic_effective.proofs.Widths.{same_width}
 
@@ -32,13 +36,28 @@ abbrev pub current_in : Solution → Option (ElementId × ℕ) → ℤ
 current_in s None = pos 0
 current_in s (Some winding) = s.current winding.0.0
 
--- two windings in one list add up as they do one by one
-pub both_summed : (s : Solution) (a b : Option (ElementId × ℕ)) →
-    weighted a (current_in s a) +ℤ weighted b (current_in s b) ≡ sum_of (λ w. pos w.1 *ℤ s.current w.0.0) (option_to_list a ++ option_to_list b)
-both_summed s None None = refl
-both_summed s None (Some y) = omega (arith, linear)
-both_summed s (Some x) None = refl
-both_summed s (Some x) (Some y) = omega (arith, linear)
+-- a winding in front of a list adds its current
+abbrev current_of : Solution → ElementId × ℕ → ℤ
+current_of s w = pos w.1 *ℤ s.current w.0.0
+
+in_front : (s : Solution) (winding : Option (ElementId × ℕ)) (rest : List (ElementId × ℕ))
+    → weighted winding (current_in s winding) +ℤ sum_of (current_of s) rest ≡ sum_of (current_of s) (option_to_list winding ++ rest)
+in_front s None rest = omega (arith, linear)
+in_front s (Some w) rest = refl
+
+alone : (s : Solution) (winding : Option (ElementId × ℕ)) → weighted winding (current_in s winding) ≡ sum_of (current_of s) (option_to_list winding)
+alone s None = refl
+alone s (Some w) = omega (arith, linear)
+
+-- so three windings in one list add up as they do one by one
+pub all_summed : (s : Solution) (w : Weights) →
+    weighted_sum w (current_in s w.first) (current_in s w.second) (current_in s w.third) ≡
+    sum_of (λ v. pos v.1 *ℤ s.current v.0.0) (option_to_list w.first ++ (option_to_list w.second ++ option_to_list w.third))
+all_summed s w =
+    let first = in_front s w.first (option_to_list w.second ++ option_to_list w.third) in
+    let second = in_front s w.second (option_to_list w.third) in
+    let third = alone s w.third in
+    omega (arith, linear, first, second, third)
 
 module _ (standing : List Placed) (volts : ℕ → ℤ) (potentials : List Ends) where
   pub winding_holds : (winding : Option (ElementId × ℕ)) (lo hi : ℤ) (s : Solution) → IsShownWinding standing volts potentials winding lo hi → IsSolution standing volts s → HoldsSolution standing potentials s →
@@ -56,42 +75,46 @@ module _ (standing : List Placed) (volts : ℕ → ℤ) (potentials : List Ends)
 abbrev pub weighed : Transformer → Placed → ElementId × ℕ
 weighed t p = (record { 0 = p.0 }, weight_of t p.1.role)
 
--- the winding, if there is one, doesn't stand
-abbrev IsOut : List Placed → Option (ElementId × ℕ) → Type 0
-IsOut standing None = Unit {0}
-IsOut standing (Some winding) = IsFalse (is_standing standing winding.0.0)
+-- the winding, if there is one, has no weight where it stands
+abbrev pub HasNone : List Placed → ElementId × ℕ → Type 0
+HasNone standing w = IsTrue (is_standing standing w.0.0) → w.1 ≡ 0
 
-both_out : (standing : List Placed) (a b : Option (ElementId × ℕ)) → AllByRecursion (λ w. IsFalse (is_standing standing w.0.0)) (option_to_list a ++ option_to_list b) → IsOut standing a × IsOut standing b
-both_out standing None None h = (tt, tt)
-both_out standing None (Some y) h = (tt, h.0)
-both_out standing (Some x) None h = (h.0, tt)
-both_out standing (Some x) (Some y) h = (h.0, h.1.0)
+front_of_all : {X : Type 0} (P : X → Type 0) (a : Option X) (rest : List X) → AllByRecursion P (option_to_list a ++ rest) → IfSome a P × AllByRecursion P rest
+front_of_all P None rest h = (tt, h)
+front_of_all P (Some x) rest h = h
 
-each_out : (t : Transformer) (standing : List Placed) (ps : List Placed) → AllByRecursion (λ p. IsFalse (is_standing standing p.0)) ps → AllByRecursion (λ w. IsFalse (is_standing standing w.0.0)) (map (weighed t) ps)
-each_out t standing [] h = tt
-each_out t standing (p ∷ ps) h = (h.0, each_out t standing ps h.1)
+last_of_all : {X : Type 0} (P : X → Type 0) (a : Option X) → AllByRecursion P (option_to_list a) → IfSome a P
+last_of_all P None h = tt
+last_of_all P (Some x) h = h.0
 
-weighted_nought : (winding : Option (ElementId × ℕ)) (z : ℤ) → z ≡ pos 0 → weighted winding z ≡ pos 0
-weighted_nought None z e = refl
-weighted_nought (Some w) z e = ap (λ (y : ℤ). pos w.1 *ℤ y) e ∙ omega (arith, linear)
+no_weight : (n : ℕ) (z : ℤ) → n ≡ 0 → pos n *ℤ z ≡ pos 0
+no_weight n z e = ap (λ (m : ℕ). pos m *ℤ z) e ∙ *ℤ_comm (pos 0) z ∙ *ℤ-zero z
+
+no_current : (n : ℕ) (z : ℤ) → z ≡ pos 0 → pos n *ℤ z ≡ pos 0
+no_current n z e = ap (λ (y : ℤ). pos n *ℤ y) e ∙ omega (arith, linear)
 
 module _ (standing : List Placed) (volts : ℕ → ℤ) (potentials : List Ends) where
-  winding_nought : (winding : Option (ElementId × ℕ)) (lo hi : ℤ) → IsShownWinding standing volts potentials winding lo hi → IsOut standing winding → (lo ≡ pos 0) × (hi ≡ pos 0)
-  winding_nought None lo hi shown out = shown
-  winding_nought (Some w) lo hi shown out = shown.nought out
+  weighted_nought : (winding : Option (ElementId × ℕ)) (lo hi : ℤ) → IsShownWinding standing volts potentials winding lo hi → IfSome winding (HasNone standing)
+      → (weighted winding lo ≡ pos 0) × (weighted winding hi ≡ pos 0)
+  weighted_nought None lo hi shown none = (refl, refl)
+  weighted_nought (Some w) lo hi shown none = elim (cases_Bool (is_standing standing w.0.0)) [
+    | inl stands ↦ (no_weight w.1 lo (none stands), no_weight w.1 hi (none stands))
+    | inr out ↦ (no_current w.1 lo (shown.nought out).0, no_current w.1 hi (shown.nought out).1)
+  ]
 
-  -- where no winding stands, the weighted sums of the ends are 0
-  pub sums_nought : (t : Transformer) (ps : List Placed) (a b : Option (ElementId × ℕ)) (lo hi lo' hi' : ℤ)
-      → map (weighed t) ps ≡ option_to_list a ++ option_to_list b → IsShownWinding standing volts potentials a lo hi → IsShownWinding standing volts potentials b lo' hi'
-      → All (λ p. IsFalse (is_standing standing p.0)) ps → (weighted a lo +ℤ weighted b lo' ≡ pos 0) × (weighted a hi +ℤ weighted b hi' ≡ pos 0)
-  sums_nought t ps a b lo hi lo' hi' is one other none =
-      let each = subst (AllByRecursion (λ w. IsFalse (is_standing standing w.0.0))) is (each_out t standing ps (recursion_from_All _ ps none)) in
-      let both = both_out standing a b each in
-      let first = winding_nought a lo hi one both.0 in
-      let second = winding_nought b lo' hi' other both.1 in (
-        ap₂ (λ (x y : ℤ). x +ℤ y) (weighted_nought a lo first.0) (weighted_nought b lo' second.0),
-        ap₂ (λ (x y : ℤ). x +ℤ y) (weighted_nought a hi first.1) (weighted_nought b hi' second.1),
-      )
+  -- where no winding that stands has a weight, the weighted sums of the ends are 0
+  pub sums_nought : (ws : List (ElementId × ℕ)) (w : Weights) (lo hi lo' hi' lo'' hi'' : ℤ)
+      → ws ≡ option_to_list w.first ++ (option_to_list w.second ++ option_to_list w.third)
+      → IsShownWinding standing volts potentials w.first lo hi → IsShownWinding standing volts potentials w.second lo' hi' → IsShownWinding standing volts potentials w.third lo'' hi''
+      → All (HasNone standing) ws → (weighted_sum w lo lo' lo'' ≡ pos 0) × (weighted_sum w hi hi' hi'' ≡ pos 0)
+  sums_nought ws w lo hi lo' hi' lo'' hi'' is one other last none =
+      let all = subst (AllByRecursion (HasNone standing)) is (recursion_from_All (HasNone standing) ws none) in
+      let front = front_of_all (HasNone standing) w.first _ all in
+      let behind = front_of_all (HasNone standing) w.second _ front.1 in
+      let first = weighted_nought w.first lo hi one front.0 in
+      let second = weighted_nought w.second lo' hi' other behind.0 in
+      let third = weighted_nought w.third lo'' hi'' last (last_of_all (HasNone standing) w.third behind.1) in
+      (omega (arith, linear, first.0, second.0, third.0), omega (arith, linear, first.1, second.1, third.1))
 
 -- and so are their quotients
 abbrev pub ends_by : ℤ → ℤ → Ends
@@ -103,34 +126,52 @@ quotients_nought a b lo hi d some low high e f =
     let most = high ∙ ap (λ (z : ℤ). ceil_div z (pos d)) f ∙ ceil_is (pos 0) d (pos 0) some (omega (arith, linear)) (omega (arith, linear)) in
     ap₂ ends_by least most
 
--- the low voltage is not above the high one
-pub low_at_most : (c : Lists) (volts : ℕ) (kind : Kind) → IsSoundKind c volts kind → low_volts_of kind ≤ volts
-low_at_most c volts (kinds.DeltaWye high high_resistance) h = omega arith
-low_at_most c volts (kinds.WyeWye high low low_volts high_resistance low_resistance) h = h.0.order
-low_at_most c volts (kinds.Auto high low low_volts series_resistance common_resistance) h = h.0.order
-low_at_most c volts kinds.DeltaDelta h = omega arith
+-- no side's voltage is above the high one
+abbrev pub AreAtMost : (volts : ℕ) → Kind → Type 0
+AreAtMost volts kind = (low_volts_of kind ≤ volts) × (third_volts_of kind ≤ volts)
 
--- so no weight is above it
-weight_most : (t : Transformer) → low_volts_of t.kind ≤ t.high_volts → (r : Role) → weight_of t r ≤ t.high_volts
-weight_most t h role.High = omega arith
-weight_most t h role.Low = h
+third_at_most : (c : Lists) (high low volts : ℕ) (third : Option Third) → IfSome third (IsSoundThird c high low volts) → third_volts third ≤ volts
+third_at_most c high low volts None h = omega arith
+third_at_most c high low volts (Some t) h = h.order
+
+-- so it is where the kind is sound
+pub sides_at_most : (c : Lists) (volts : ℕ) (kind : Kind) → IsSoundKind c volts kind → AreAtMost volts kind
+sides_at_most c volts (kinds.DeltaWye high high_resistance) h = (omega arith, omega arith)
+sides_at_most c volts (kinds.WyeWye high low low_volts high_resistance low_resistance third) h = (h.0.order, third_at_most c high low volts third h.2)
+sides_at_most c volts (kinds.Auto high low low_volts series_resistance common_resistance third) h = (h.0.order, third_at_most c high low volts third h.2)
+sides_at_most c volts (kinds.Reactor high high_resistance) h = (omega arith, omega arith)
+sides_at_most c volts kinds.DeltaDelta h = (omega arith, omega arith)
+
+-- then no weight is above it
+pub weight_most : (t : Transformer) → AreAtMost t.high_volts t.kind → (r : Role) → weight_of t r ≤ t.high_volts
+weight_most t h role.High = elim (cases_Bool (has_effect t.kind)) [
+  | inl has ↦ rw has (omega arith)
+  | inr none ↦ rw none (omega arith)
+]
+weight_most t h role.Low = h.0
 weight_most t h role.Series = omega arith
-weight_most t h role.Common = h
+weight_most t h role.Common = h.0
+weight_most t h role.Third = h.1
 weight_most t h role.Ground = omega arith
 weight_most t h role.Line = omega arith
 weight_most t h role.Neutral = omega arith
 
-each_most : (t : Transformer) → low_volts_of t.kind ≤ t.high_volts → (ps : List Placed) → AllByRecursion (λ w. w.1 ≤ t.high_volts) (map (weighed t) ps)
+each_most : (t : Transformer) → AreAtMost t.high_volts t.kind → (ps : List Placed) → AllByRecursion (λ w. w.1 ≤ t.high_volts) (map (weighed t) ps)
 each_most t h [] = tt
 each_most t h (p ∷ ps) = (weight_most t h p.1.role, each_most t h ps)
 
-both_most : (a b : Option (ElementId × ℕ)) (volts : ℕ) → AllByRecursion (λ w. w.1 ≤ volts) (option_to_list a ++ option_to_list b) → weight_in a + weight_in b ≤ 2 * volts
-both_most None None volts h = omega arith
-both_most None (Some y) volts h = let one = h.0 in omega arith
-both_most (Some x) None volts h = let one = h.0 in omega arith
-both_most (Some x) (Some y) volts h = let one = h.0 in let other = h.1.0 in omega arith
+one_most : (a : Option (ElementId × ℕ)) (volts : ℕ) → IfSome a (λ w. w.1 ≤ volts) → weight_in a ≤ volts
+one_most None volts h = omega arith
+one_most (Some w) volts h = h
 
--- two weights are together at most twice the high voltage
-pub weights_most : (t : Transformer) (ps : List Placed) (a b : Option (ElementId × ℕ)) → low_volts_of t.kind ≤ t.high_volts →
-    map (weighed t) ps ≡ option_to_list a ++ option_to_list b → weight_in a + weight_in b ≤ 2 * t.high_volts
-weights_most t ps a b h is = both_most a b t.high_volts (subst (λ ws. AllByRecursion (λ w. w.1 ≤ t.high_volts) ws) is (each_most t h ps))
+-- and three weights are together at most three times the high voltage
+pub weights_most : (t : Transformer) (ps : List Placed) (w : Weights) → AreAtMost t.high_volts t.kind →
+    map (weighed t) ps ≡ option_to_list w.first ++ (option_to_list w.second ++ option_to_list w.third) → total_weight w ≤ 3 * t.high_volts
+weights_most t ps w h is =
+    let all = subst (AllByRecursion (λ v. v.1 ≤ t.high_volts)) is (each_most t h ps) in
+    let front = front_of_all (λ v. v.1 ≤ t.high_volts) w.first _ all in
+    let behind = front_of_all (λ v. v.1 ≤ t.high_volts) w.second _ front.1 in
+    let first = one_most w.first t.high_volts front.0 in
+    let second = one_most w.second t.high_volts behind.0 in
+    let third = one_most w.third t.high_volts (last_of_all (λ v. v.1 ≤ t.high_volts) w.third behind.1) in
+    omega (arith, first, second, third)

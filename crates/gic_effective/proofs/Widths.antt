@@ -13,7 +13,8 @@ use Rattle.gic_model.specs.Sums.{Placed}
 use Rattle.gic_base.specs.declared.id.ElementId.{ElementId}
 use Rattle.gic_effective.specs.Ohm.{current_low, current_high, least_nano, most_nano}
 use Rattle.gic_fixed.specs.Ends.{IsAtMostWide}
-use Rattle.gic_effective.specs.WeightedPair.{weighted, weight_in}
+use Rattle.gic_winding.specs.declared.weights.Weights.{Weights}
+use Rattle.gic_effective.specs.WeightedSum.{weighted, weighted_sum, weight_in, total_weight}
 
 -- an interval is at most as wide as its outward quotient, times the divisor
 pub inner_width : (lo hi : ℤ) (d k : ℕ) → 0 < d → IsAtMostWide k (floor_div lo (pos d)) (ceil_div hi (pos d)) → IsAtMostWide (d * k) lo hi
@@ -53,28 +54,33 @@ part_width (Some x) lo hi w h = times_width lo hi x.1 w h
 sum_width : (lo hi lo' hi' : ℤ) (a b : ℕ) → IsAtMostWide a lo hi → IsAtMostWide b lo' hi' → IsAtMostWide (a + b) (lo +ℤ lo') (hi +ℤ hi')
 sum_width lo hi lo' hi' a b h k = omega (arith, linear)
 
--- a weighted pair, divided outward, is one wider than the weights make it
-pair_width : (first second : Option (ElementId × ℕ)) (lo hi lo' hi' : ℤ) (w d k : ℕ) → 0 < d → weight_in first * w + weight_in second * w ≤ d * k →
-    IsAtMostWide w lo hi → IsAtMostWide w lo' hi' →
-    IsAtMostWide (k + 1) (floor_div (weighted first lo +ℤ weighted second lo') (pos d)) (ceil_div (weighted first hi +ℤ weighted second hi') (pos d))
-pair_width first second lo hi lo' hi' w d k some most one other =
-    let low = weighted first lo +ℤ weighted second lo' in
-    let high = weighted first hi +ℤ weighted second hi' in
-    let parts = weight_in first * w + weight_in second * w in
-    let both : IsAtMostWide parts low high =
-    sum_width (weighted first lo) (weighted first hi) (weighted second lo') (weighted second hi') (weight_in first * w) (weight_in second * w) (part_width first lo hi w one) (part_width second lo' hi' w other) in
-    outward_width low high d k some (wider low high parts (d * k) most both)
+-- a weighted sum, divided outward, is one wider than the weights make it
+weights_width : (w : Weights) (lo hi lo' hi' lo'' hi'' : ℤ) (m d k : ℕ) → 0 < d → total_weight w * m ≤ d * k →
+    IsAtMostWide m lo hi → IsAtMostWide m lo' hi' → IsAtMostWide m lo'' hi'' →
+    IsAtMostWide (k + 1) (floor_div (weighted_sum w lo lo' lo'') (pos d)) (ceil_div (weighted_sum w hi hi' hi'') (pos d))
+weights_width w lo hi lo' hi' lo'' hi'' m d k some most one other last =
+    let low = weighted_sum w lo lo' lo'' in
+    let high = weighted_sum w hi hi' hi'' in
+    let parts = weight_in w.first * m + weight_in w.second * m + weight_in w.third * m in
+    let both =
+    sum_width (weighted w.first lo) (weighted w.first hi) (weighted w.second lo') (weighted w.second hi') (weight_in w.first * m) (weight_in w.second * m)
+    (part_width w.first lo hi m one) (part_width w.second lo' hi' m other) in
+    let all : IsAtMostWide parts low high =
+    sum_width (weighted w.first lo +ℤ weighted w.second lo') (weighted w.first hi +ℤ weighted w.second hi') (weighted w.third lo'') (weighted w.third hi'')
+    (weight_in w.first * m + weight_in w.second * m) (weight_in w.third * m) both (part_width w.third lo'' hi'' m last) in
+    outward_width low high d k some (wider low high parts (d * k) (omega (arith, most)) all)
 
 -- weights of three times the voltage make it as wide as the currents
-enough : (first second volts width : ℕ) → first + second ≤ 3 * volts → first * (1000000 * width) + second * (1000000 * width) ≤ 3000000 * volts * width
-enough first second volts width sum = let most = mul-le-mul_left (1000000 * width) sum in omega arith
+enough : (weight volts width : ℕ) → weight ≤ 3 * volts → weight * (1000000 * width) ≤ 3000000 * volts * width
+enough weight volts width sum = let most = mul-le-mul_left (1000000 * width) sum in omega arith
 
-pub effective_width : (first second : Option (ElementId × ℕ)) (volts : ℕ) (lo hi lo' hi' : ℤ) (width : ℕ) → 1 ≤ volts → weight_in first + weight_in second ≤ 3 * volts →
+pub effective_width : (w : Weights) (volts : ℕ) (lo hi lo' hi' lo'' hi'' : ℤ) (width : ℕ) → 1 ≤ volts → total_weight w ≤ 3 * volts →
     IsAtMostWide width (floor_div lo (pos 1000000)) (ceil_div hi (pos 1000000)) → IsAtMostWide width (floor_div lo' (pos 1000000)) (ceil_div hi' (pos 1000000)) →
-    IsAtMostWide (width + 1) (floor_div (weighted first lo +ℤ weighted second lo') (pos (3000000 * volts))) (ceil_div (weighted first hi +ℤ weighted second hi') (pos (3000000 * volts)))
-effective_width first second volts lo hi lo' hi' width some sum one other =
-    pair_width first second lo hi lo' hi' (1000000 * width) (3000000 * volts) width (omega (arith, some)) (enough (weight_in first) (weight_in second) volts width sum)
-    (inner_width lo hi 1000000 width (omega arith) one) (inner_width lo' hi' 1000000 width (omega arith) other)
+    IsAtMostWide width (floor_div lo'' (pos 1000000)) (ceil_div hi'' (pos 1000000)) →
+    IsAtMostWide (width + 1) (floor_div (weighted_sum w lo lo' lo'') (pos (3000000 * volts))) (ceil_div (weighted_sum w hi hi' hi'') (pos (3000000 * volts)))
+effective_width w volts lo hi lo' hi' lo'' hi'' width some sum one other last =
+    weights_width w lo hi lo' hi' lo'' hi'' (1000000 * width) (3000000 * volts) width (omega (arith, some)) (enough (total_weight w) volts width sum)
+    (inner_width lo hi 1000000 width (omega arith) one) (inner_width lo' hi' 1000000 width (omega arith) other) (inner_width lo'' hi'' 1000000 width (omega arith) last)
 
 -- from potentials at most 2^32 grains wide a current in nanoamperes is at most 400 wide
 drive_tight : (push flo fhi tlo thi : ℤ) → IsAtMostWide (2 ^ 32) flo fhi → IsAtMostWide (2 ^ 32) tlo thi → IsAtMostWide (2 ^ 33) (flo -ℤ thi +ℤ push) (fhi -ℤ tlo +ℤ push)
@@ -106,11 +112,11 @@ potential_tight lo hi h =
     wider (floor_div lo (pos (2 ^ 36))) (ceil_div hi (pos (2 ^ 36))) 2 400 (omega arith) (outward_width lo hi (2 ^ 36) 1 (omega arith) (wider lo hi (2 ^ 32) (2 ^ 36 * 1) (omega arith) h))
 
 -- an effective current in nanoamperes is at most one wider than the currents of its windings
-pub effective_tight : (first second : Option (ElementId × ℕ)) (volts : ℕ) (lo hi lo' hi' : ℤ) → 1 ≤ volts → weight_in first + weight_in second ≤ 3 * volts →
-    IsAtMostWide 400 lo hi → IsAtMostWide 400 lo' hi' →
-    IsAtMostWide 401 (floor_div (weighted first lo +ℤ weighted second lo') (pos (3 * volts))) (ceil_div (weighted first hi +ℤ weighted second hi') (pos (3 * volts)))
-effective_tight first second volts lo hi lo' hi' some sum one other =
-    pair_width first second lo hi lo' hi' 400 (3 * volts) 400 (omega (arith, some)) (omega (arith, sum)) one other
+pub effective_tight : (w : Weights) (volts : ℕ) (lo hi lo' hi' lo'' hi'' : ℤ) → 1 ≤ volts → total_weight w ≤ 3 * volts →
+    IsAtMostWide 400 lo hi → IsAtMostWide 400 lo' hi' → IsAtMostWide 400 lo'' hi'' →
+    IsAtMostWide 401 (floor_div (weighted_sum w lo lo' lo'') (pos (3 * volts))) (ceil_div (weighted_sum w hi hi' hi'') (pos (3 * volts)))
+effective_tight w volts lo hi lo' hi' lo'' hi'' some sum one other last =
+    weights_width w lo hi lo' hi' lo'' hi'' 400 (3 * volts) 400 (omega (arith, some)) (omega (arith, sum)) one other last
 
 -- an interval with equal ends
 pub same_width : (lo hi lo' hi' : ℤ) (w : ℕ) → lo ≡ lo' → hi ≡ hi' → IsAtMostWide w lo' hi' → IsAtMostWide w lo hi

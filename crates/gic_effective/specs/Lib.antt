@@ -2,9 +2,10 @@ pub mod ViewLengths
 pub mod Ohm
 pub mod Weighted
 pub mod Threshold
-pub mod WeightedPair
+pub mod WeightedSum
 pub mod Narrow
 pub mod Holds
 pub mod RightView
 pub mod Shown
 pub mod LineItems
+pub mod WithoutEffect

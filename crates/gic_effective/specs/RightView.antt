@@ -8,7 +8,7 @@ use Rattle.gic_model.specs.Solution.{Solution, IsSolution}
 use Rattle.gic_model.specs.Sums.{Placed}
 use Rattle.gic_view.specs.View.{View, node_at, element_at, effective_at}
 use Rattle.gic_winding.specs.ElementList.{elements_of}
-use Rattle.gic_winding.specs.Weights.{windings_at}
+use Rattle.gic_winding.specs.Weights.{weighted_windings}
 use Rattle.gic_effective.specs.ViewLengths.{HasViewLengths}
 use Rattle.gic_effective.specs.Weighted.{effective_numerator, effective_denominator}
 
@@ -24,15 +24,15 @@ IsRightElement standing volts place None = IsFalse (is_standing standing place)
 IsRightElement standing volts place (Some ends) =
     IsTrue (is_standing standing place) × ((s : Solution) → IsSolution standing volts s → Encloses ends.low ends.high (s.current place) (1000000 * s.denominator))
 
--- none of the transformer's windings stands
-abbrev pub HasNoStandingWinding : Lists → List Placed → ℕ → Type 0
-HasNoStandingWinding case standing t = All (λ winding. IsFalse (is_standing standing winding.0)) (windings_at (elements_of case) t)
+-- none of the transformer's windings that stand has a weight
+abbrev pub HasNoEffect : Lists → List Placed → ℕ → Type 0
+HasNoEffect case standing t = All (λ winding. IsTrue (is_standing standing winding.0.0) → winding.1 ≡ 0) (weighted_windings case t)
 
--- one that holds the transformer's signed effective current in mA per phase in every solution, and 0 alone where none of its windings stands
+-- one that holds the transformer's signed effective current in mA per phase in every solution, and 0 alone where no winding that stands has a weight
 pub record IsRightEffective (case : Lists) (standing : List Placed) (volts : ℕ → ℤ) (t : ℕ) (ends : Ends) : Type 0 where
   pub holds : (s : Solution) → IsSolution standing volts s →
       Encloses ends.low ends.high (effective_numerator case s t) (effective_denominator case t s)
-  pub nought : HasNoStandingWinding case standing t → ends ≡ zero_ends
+  pub nought : HasNoEffect case standing t → ends ≡ zero_ends
 
 -- the view has a place for each node, element and transformer of the case, and what stands there is right for these standing elements and voltages
 pub record IsRightView (case : Lists) (standing : List Placed) (volts : ℕ → ℤ) (view : View) : Type 0 where

@@ -10,6 +10,7 @@ ghost use Rattle.gic_model.specs.Sharp.{IsSharp};
 ghost use Rattle.gic_model.specs.Voltages.{number_at};
 ghost use Rattle.gic_net.specs.Net.{standing, element_of};
 ghost use Rattle.gic_enclose.specs.Ends.{low_at, high_at};
+ghost use Rattle.gic_enclose.specs.Certain.{AreTight};
 ghost use Rattle.gic_effective.specs.Holds.{AreOfNetwork, HoldsSolution};
 ghost use Rattle.gic_effective.specs.Ohm.{least_nano, most_nano};
 ghost use Rattle.gic_fixed.specs.Ends.{IsAtMostWide};
@@ -80,7 +81,7 @@ pub fn tight_current_na(
     ensures holds { (s : Solution) → IsSolution (standing net.now) (number_at volts.now) s → HoldsSolution (standing net.now) potentials.now s →
         Encloses result.lo result.hi (s.current element.0) s.denominator }
     ensures small { IsWithin (2 ^ 80) result.lo result.hi }
-    ensures tight { ((k : ℕ) → IsAtMostWide (2 ^ 32) (low_at potentials.now k) (high_at potentials.now k)) → IsAtMostWide 400 result.lo result.hi }
+    ensures tight { AreTight potentials.now → IsAtMostWide 400 result.lo result.hi }
 {
     // Brings that the element is within its limits.
     let _row = net.element(element);

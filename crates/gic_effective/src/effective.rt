@@ -2,7 +2,7 @@
 ghost use Rattle.std.specs.Prelude.{◌≡◌, ℕ, ◌+◌, ◌*◌, ◌^◌, ◌≤◌, ℤ, pos};
 ghost use Rattle.gic_fixed.specs.Rounding.{floor_div, ceil_div};
 ghost use Rattle.gic_fixed.specs.Encloses.{Encloses, IsWithin};
-ghost use Rattle.gic_effective.specs.WeightedPair.{weighted, weighted_sum, weight_in};
+ghost use Rattle.gic_effective.specs.WeightedSum.{weighted, weighted_sum, total_weight};
 ghost use Rattle.gic_fixed.specs.Ends.{IsAtMostWide};
 
 use gic_base::ElementId;
@@ -22,56 +22,76 @@ fn part(winding: Option<(ElementId, u32)>, current: Interval) -> Interval
     }
 }
 
-/// The signed effective current of a transformer in milliamperes per phase, from the currents of its two windings in
+/// The signed effective current of a transformer in milliamperes per phase, from the currents of its three windings in
 /// nanoamperes of all three phases: their weighted sum over three times the voltage of the high side, rounded outward
 /// once. A winding that is `None` isn't used. No end that is given is beyond 2^80 either way, and `high_volts` is at least
 /// 1; no end of the result is beyond 2^113.
-pub fn signed_effective(weights: &Weights, first: Interval, second: Interval) -> Interval
+pub fn signed_effective(
+    weights: &Weights,
+    first: Interval,
+    second: Interval,
+    third: Interval,
+) -> Interval
     requires volts { 1 ≤ weights.now.high_volts }
     requires first { IsWithin (2 ^ 80) first.lo first.hi }
     requires second { IsWithin (2 ^ 80) second.lo second.hi }
-    ensures low { result.lo ≡ floor_div (weighted_sum weights.now first.lo second.lo) (pos (3000000 * weights.now.high_volts)) }
-    ensures high { result.hi ≡ ceil_div (weighted_sum weights.now first.hi second.hi) (pos (3000000 * weights.now.high_volts)) }
-    ensures holds { (one other : ℤ) (denominator : ℕ) →
+    requires third { IsWithin (2 ^ 80) third.lo third.hi }
+    ensures low { result.lo ≡ floor_div (weighted_sum weights.now first.lo second.lo third.lo) (pos (3000000 * weights.now.high_volts)) }
+    ensures high { result.hi ≡ ceil_div (weighted_sum weights.now first.hi second.hi third.hi) (pos (3000000 * weights.now.high_volts)) }
+    ensures holds { (one other last : ℤ) (denominator : ℕ) →
         Encloses first.lo first.hi one denominator →
         Encloses second.lo second.hi other denominator →
-        Encloses result.lo result.hi (weighted_sum weights.now one other) (3000000 * weights.now.high_volts * denominator) }
+        Encloses third.lo third.hi last denominator →
+        Encloses result.lo result.hi (weighted_sum weights.now one other last) (3000000 * weights.now.high_volts * denominator) }
     ensures small { IsWithin (2 ^ 113) result.lo result.hi }
 
     // From currents at most so many milliamperes wide it is at most one wider, where the weights add up to no more than
     // three times the voltage of the high side.
     ensures narrow { (width : ℕ) →
-        weight_in weights.now.first + weight_in weights.now.second ≤ 3 * weights.now.high_volts →
+        total_weight weights.now ≤ 3 * weights.now.high_volts →
         IsAtMostWide width (floor_div first.lo (pos 1000000)) (ceil_div first.hi (pos 1000000)) →
         IsAtMostWide width (floor_div second.lo (pos 1000000)) (ceil_div second.hi (pos 1000000)) →
+        IsAtMostWide width (floor_div third.lo (pos 1000000)) (ceil_div third.hi (pos 1000000)) →
         IsAtMostWide (width + 1) result.lo result.hi }
 {
     part(weights.first, first)
         .add(part(weights.second, second))
+        .add(part(weights.third, third))
         .div_out(3_000_000 * weights.high_volts as i128)
 }
 
 /// The same in nanoamperes per phase.
-pub fn effective_na(weights: &Weights, first: Interval, second: Interval) -> Interval
+pub fn effective_na(
+    weights: &Weights,
+    first: Interval,
+    second: Interval,
+    third: Interval,
+) -> Interval
     requires volts { 1 ≤ weights.now.high_volts }
     requires first { IsWithin (2 ^ 80) first.lo first.hi }
     requires second { IsWithin (2 ^ 80) second.lo second.hi }
-    ensures low { result.lo ≡ floor_div (weighted_sum weights.now first.lo second.lo) (pos (3 * weights.now.high_volts)) }
-    ensures high { result.hi ≡ ceil_div (weighted_sum weights.now first.hi second.hi) (pos (3 * weights.now.high_volts)) }
-    ensures holds { (one other : ℤ) (denominator : ℕ) →
+    requires third { IsWithin (2 ^ 80) third.lo third.hi }
+    ensures low { result.lo ≡ floor_div (weighted_sum weights.now first.lo second.lo third.lo) (pos (3 * weights.now.high_volts)) }
+    ensures high { result.hi ≡ ceil_div (weighted_sum weights.now first.hi second.hi third.hi) (pos (3 * weights.now.high_volts)) }
+    ensures holds { (one other last : ℤ) (denominator : ℕ) →
         Encloses first.lo first.hi one denominator →
         Encloses second.lo second.hi other denominator →
-        Encloses result.lo result.hi (weighted_sum weights.now one other) (3 * weights.now.high_volts * denominator) }
+        Encloses third.lo third.hi last denominator →
+        Encloses result.lo result.hi (weighted_sum weights.now one other last) (3 * weights.now.high_volts * denominator) }
 
     // Where the weights add up to no more than three times the voltage of the high side, no end is beyond those of the
     // currents' bound, and from currents at most 400 nanoamperes wide it is at most one wider.
-    ensures small { weight_in weights.now.first + weight_in weights.now.second ≤ 3 * weights.now.high_volts → IsWithin (2 ^ 80) result.lo result.hi }
-    ensures tight { weight_in weights.now.first + weight_in weights.now.second ≤ 3 * weights.now.high_volts →
+    ensures small { total_weight weights.now ≤ 3 * weights.now.high_volts → IsWithin (2 ^ 80) result.lo result.hi }
+    ensures tight { total_weight weights.now ≤ 3 * weights.now.high_volts →
         IsAtMostWide 400 first.lo first.hi →
         IsAtMostWide 400 second.lo second.hi →
+        IsAtMostWide 400 third.lo third.hi →
         IsAtMostWide 401 result.lo result.hi }
 {
     let one = part(weights.first, first);
     let other = part(weights.second, second);
-    one.add(other).div_out(3 * weights.high_volts as i128)
+    let last = part(weights.third, third);
+    one.add(other)
+        .add(last)
+        .div_out(3 * weights.high_volts as i128)
 }

@@ -5,7 +5,8 @@ ghost use Rattle.gic_fixed.specs.Encloses.{Encloses, IsWithin};
 ghost use Rattle.gic_fixed.specs.Ends.{IsAtMostWide};
 ghost use Rattle.gic_model.specs.Sharp.{millivolt};
 ghost use Rattle.gic_model.specs.Solution.{Solution};
-ghost use Rattle.gic_enclose.specs.Ends.{low_at, high_at};
+ghost use Rattle.gic_enclose.specs.Ends.{low_at, high_at, potential_ends};
+ghost use Rattle.gic_enclose.specs.Certain.{IsTight};
 ghost use Rattle.gic_effective.specs.Holds.{HoldsAt};
 
 use gic_base::NodeId;
@@ -34,7 +35,7 @@ pub fn potential_nv(potentials: &Potentials, node: NodeId) -> Interval
     ensures small { IsWithin (2 ^ 80) result.lo result.hi }
 
     // Where the interval is at most 2^32 grains wide, the potential in nanovolts is at most 400 wide.
-    ensures tight { IsAtMostWide (2 ^ 32) (low_at potentials.now node.0) (high_at potentials.now node.0) → IsAtMostWide 400 result.lo result.hi }
+    ensures tight { IsTight (potential_ends potentials.now node.0) → IsAtMostWide 400 result.lo result.hi }
 {
     potentials.get(node).div_out(GRAINS)
 }

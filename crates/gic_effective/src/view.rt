@@ -113,7 +113,8 @@ fn effective_interval(
     let weights = effective_weights(case, net.list(), transformer);
     let first = winding_current(net, volts, potentials, weights.first);
     let second = winding_current(net, volts, potentials, weights.second);
-    signed_effective(&weights, first, second)
+    let third = winding_current(net, volts, potentials, weights.third);
+    signed_effective(&weights, first, second, third)
 }
 
 fn fill_nodes(net: &Net, potentials: &Potentials, out: &mut StepView)

@@ -23,3 +23,7 @@ IsNarrow ends = IsAtMostWide (2 ^ 43) ends.low ends.high
 -- at most 2^32 grains wide, a sixteenth of a nanovolt
 abbrev pub IsTight : Ends → Type 0
 IsTight ends = IsAtMostWide (2 ^ 32) ends.low ends.high
+
+-- so is the interval of each node
+abbrev pub AreTight : List Ends → Type 0
+AreTight potentials = (k : ℕ) → IsTight (potential_ends potentials k)

@@ -10,7 +10,7 @@ ghost use Rattle.gic_bound.specs.Entries.{IsBoundWithin};
 ghost use Rattle.gic_enclose.specs.Ends.{potential_ends, low_at, high_at};
 ghost use Rattle.gic_fixed.specs.Ends.{ends_of};
 ghost use Rattle.gic_enclose.specs.Together.{BelongTogether};
-ghost use Rattle.gic_enclose.specs.Certain.{AreCertain, IsCertainAt, IsNarrow, IsTight};
+ghost use Rattle.gic_enclose.specs.Certain.{AreCertain, AreTight, IsCertainAt, IsNarrow, IsTight};
 
 use crate::laws::potential_bound_law;
 use crate::potentials::Potentials;
@@ -109,7 +109,7 @@ pub fn enclose(net: &Net, volts: &Volts, solver: &Solver, bound: &BoundVector, o
         IsNarrow (potential_ends out.new k) }
 
     // Where they are settled, none is wider than 2^32 grains, a sixteenth of a nanovolt.
-    ensures tight { IsSettled (standing net.now) (number_at volts.now) (number_at solver.now) → (k : ℕ) → IsTight (potential_ends out.new k) }
+    ensures tight { IsSettled (standing net.now) (number_at volts.now) (number_at solver.now) → AreTight out.new }
 
     // And where a guess is within 2^95 then, it is the middle of its interval.
     ensures middle { IsSettledWithin (standing net.now) (number_at volts.now) (number_at solver.now) (2 ^ 29) → (k : ℕ) →

@@ -10,11 +10,12 @@ fn effective_wye_wye(rt: HostRuntime) {
     let weights = Weights {
         first: Some((ElementId(0), 345_000)),
         second: Some((ElementId(1), 138_000)),
+        third: None,
         high_volts: 345_000,
     };
     let high = Interval::point(30_000_000_000);
     let low = Interval::point(-60_000_000_000);
-    let effective = signed_effective(&weights, high, low);
+    let effective = signed_effective(&weights, high, low, Interval::point(0));
     assert_eq!(rt; (effective.lo, effective.hi), (2_000, 2_000));
 }
 
@@ -24,10 +25,43 @@ fn effective_auto(rt: HostRuntime) {
     let weights = Weights {
         first: Some((ElementId(0), 155_000)),
         second: Some((ElementId(1), 345_000)),
+        third: None,
         high_volts: 500_000,
     };
     let series = Interval::point(100_000_000_000);
     let common = Interval::point(40_000_000_000);
-    let effective = signed_effective(&weights, series, common);
+    let effective = signed_effective(&weights, series, common, Interval::point(0));
     assert_eq!(rt; (effective.lo, effective.hi), (19_533, 19_534));
+}
+
+/// 30 A in the high winding, -60 A in the low one and 15 A in the third one of a wye-wye-wye unit of 345/138/20 kV:
+/// 2370000/1035000 A.
+#[test]
+fn effective_three_windings(rt: HostRuntime) {
+    let weights = Weights {
+        first: Some((ElementId(0), 345_000)),
+        second: Some((ElementId(1), 138_000)),
+        third: Some((ElementId(2), 20_000)),
+        high_volts: 345_000,
+    };
+    let high = Interval::point(30_000_000_000);
+    let low = Interval::point(-60_000_000_000);
+    let third = Interval::point(15_000_000_000);
+    let effective = signed_effective(&weights, high, low, third);
+    assert_eq!(rt; (effective.lo, effective.hi), (2_289, 2_290));
+}
+
+/// 30 A in the winding of a reactor, which weighs nothing.
+#[test]
+fn effective_reactor(rt: HostRuntime) {
+    let weights = Weights {
+        first: Some((ElementId(0), 0)),
+        second: None,
+        third: None,
+        high_volts: 345_000,
+    };
+    let high = Interval::point(30_000_000_000);
+    let none = Interval::point(0);
+    let effective = signed_effective(&weights, high, none, none);
+    assert_eq!(rt; (effective.lo, effective.hi), (0, 0));
 }

@@ -5,7 +5,7 @@ use Rattle.gic_fixed.proofs.Divisions.{positive_product}
 use Rattle.gic_fixed.proofs.Enclosures.{Encloses-abs}
 use Rattle.gic_fixed.specs.Encloses.{EnclosesAbsolute}
 use Rattle.gic_fixed.specs.Rounding.{least_abs, greatest_abs}
-use Rattle.gic_case.specs.Lists.{Lists}
+use Rattle.gic_case.specs.Lists.{Lists, has_effect}
 use Rattle.gic_model.specs.Solution.{Solution, IsSolution}
 use Rattle.gic_model.specs.Sums.{Placed}
 use Rattle.gic_view.specs.View.{View, effective_at}
@@ -16,7 +16,6 @@ use Rattle.gic_effective.specs.Weighted.{effective_numerator, effective_denomina
 use Rattle.gic_screen.specs.Verdict.{verdict_of}
 use Rattle.gic_screen.specs.declared.criterion.Verdict.TheVariants.{Below}
 use Rattle.gic_screen.specs.VerdictLaws.{BelowIsUnder, ReachesIsAtLeast, UndecidedIsAcross}
-use Rattle.gic_report.specs.VerdictText.{earthed_high}
 use Rattle.gic_report.proofs.Absolutes.{absolute_narrow}
 use Rattle.gic_field.specs.Follows.{AreTrueVerdicts, AreRightAbsolutes}
 
@@ -48,15 +47,15 @@ true_verdicts case standing volts threshold view below reaches undecided right =
     record {
       below = λ t within verdict s solves.
           let high_volts = (transformer_at case t).high_volts in
-          let earthed = earthed_high (transformer_at case t).kind in
+          let earthed = has_effect (transformer_at case t).kind in
           below (lo t) (hi t) (effective_numerator case s t) (effective_denominator case t s) threshold high_volts earthed
           (some_denominator high_volts s.denominator (rated (lo t) (hi t) threshold high_volts earthed verdict) solves.denominator_above_0)
           verdict (held t within s solves).below_hi;
       reaches = λ t within verdict s solves.
-          reaches (lo t) (hi t) (effective_numerator case s t) (effective_denominator case t s) threshold (transformer_at case t).high_volts (earthed_high (transformer_at case t).kind)
+          reaches (lo t) (hi t) (effective_numerator case s t) (effective_denominator case t s) threshold (transformer_at case t).high_volts (has_effect (transformer_at case t).kind)
           verdict (held t within s solves).above_lo;
       undecided = λ t within verdict.
-          undecided (lo t) (hi t) threshold (transformer_at case t).high_volts (earthed_high (transformer_at case t).kind) verdict;
+          undecided (lo t) (hi t) threshold (transformer_at case t).high_volts (has_effect (transformer_at case t).kind) verdict;
     }
 
 pub right_absolutes : (case : Lists) (standing : List Placed) (volts : ℕ → ℤ) (width : ℕ) (view : View)

@@ -13,6 +13,7 @@ use Rattle.gic_findings.specs.Spans.{span_of}
 use Rattle.gic_findings.specs.Places.{IsNearPosition, carried}
 use Rattle.gic_findings.specs.Closures.{position_of_bus, gap_at, told_at_line, places_after, closures_from, AreLaidOut}
 use Rattle.gic_findings.proofs.LaidOut.{laid_after, near_at}
+use Rattle.gic_findings.proofs.PartsAdded.{north_span, east_span}
 
 -- the place of a bus lies near
 pub place_near : (c : Lists) → IsSound c → (places : List Position) (bus : ℕ) → length places ≡ length c.substations → AreLaidOut places → bus < length c.buses → (p : Position) → p ≡ position_of_bus c.buses places bus → IsNearPosition p
@@ -28,7 +29,7 @@ laid_line c sound places l count h line = elim (cases_eq (position_of_bus c.buse
       let from_in : substation_at c.buses l.from < length places = omega (arith, substation_within c sound l.from line.from_within, count) in
       let to_in : substation_at c.buses l.to < length places = omega (arith, substation_within c sound l.to line.to_within, count) in
       rw (ne_eqb (position_of_bus c.buses places l.from).group (position_of_bus c.buses places l.to).group apart)
-      (laid_after places (substation_at c.buses l.from) (substation_at c.buses l.to) from_in to_in (span_of l) apart h line.north_within line.east_within)
+      (laid_after places (substation_at c.buses l.from) (substation_at c.buses l.to) from_in to_in (span_of l) apart h (north_span c l line) (east_span c l line))
 ]
 
 pub length_line : (buses : List Bus) (places : List Position) (l : Line) → length (places_after buses places l) ≡ length places

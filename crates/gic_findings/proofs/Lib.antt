@@ -13,3 +13,4 @@ pub mod Counting
 pub mod PartSizesBy
 pub mod SidesWithin
 pub mod WrittenBack
+pub mod PartsAdded

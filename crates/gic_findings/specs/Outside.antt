@@ -10,8 +10,9 @@ use Rattle.gic_findings.specs.declared.outside.TheConstants.{MOST_NOT_ASSESSED}
 -- a delta-delta unit above 200 kV
 abbrev pub is_outside : Kind → (high_volts : ℕ) → Bool
 is_outside (kinds.DeltaWye high high_resistance) high_volts = false
-is_outside (kinds.WyeWye high low low_volts high_resistance low_resistance) high_volts = false
-is_outside (kinds.Auto high low low_volts series_resistance common_resistance) high_volts = false
+is_outside (kinds.WyeWye high low low_volts high_resistance low_resistance third) high_volts = false
+is_outside (kinds.Auto high low low_volts series_resistance common_resistance third) high_volts = false
+is_outside (kinds.Reactor high high_resistance) high_volts = false
 is_outside kinds.DeltaDelta high_volts = nat_lt MOST_NOT_ASSESSED high_volts
 
 abbrev pub outside_told : Transformer → List Finding

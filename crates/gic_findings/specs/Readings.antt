@@ -1,8 +1,11 @@
 -- Values that are usual hardly anywhere: what is measured of each row, in the order of its fields, and which of it is told.
 use Rattle.std.specs.Prelude.{ℕ, ◌*◌, ◌/◌, nat_le, List, [], ◌∷◌, ◌++◌, flat_map, if◌then◌else◌, Option, Some, None}
+use Rattle.gic_scale.specs.declared.scaling.Scaling.{Scaling}
+use Rattle.gic_scale.specs.declared.scaling.Scaling.TheVariants as scalings
 use Rattle.gic_scale.specs.ZoneView.{ZoneView}
 use Rattle.gic_case.specs.declared.item.Substation.{Substation}
 use Rattle.gic_case.specs.declared.item.Line.{Line}
+use Rattle.gic_case.specs.declared.item.Third.{Third}
 use Rattle.gic_case.specs.declared.item.Kind.{Kind}
 use Rattle.gic_case.specs.declared.item.Kind.TheVariants as kinds
 use Rattle.gic_case.specs.declared.item.Neutral.{Neutral}
@@ -22,8 +25,13 @@ use Rattle.gic_findings.specs.Usual.{is_unusual}
 abbrev pub Reading : Type 0
 Reading = Quantity × ℕ
 
+-- a zone that is given by one number has no value here
+abbrev pub scaling_readings : Scaling → List Reading
+scaling_readings (scalings.Earth latitude beta) = (values.Latitude, latitude) ∷ (values.Beta, beta) ∷ []
+scaling_readings (scalings.Factor thousandths) = []
+
 abbrev pub zone_readings : ZoneView → List Reading
-zone_readings z = (values.Latitude, z.latitude) ∷ (values.Beta, z.beta) ∷ []
+zone_readings z = scaling_readings z.scaling
 
 -- an earthing that isn't there has no value
 abbrev pub earthing_readings : Option ℕ → List Reading
@@ -44,11 +52,25 @@ kilometre_readings l = if nat_le 1000 (length_of (span_of l)) then (values.PerKi
 abbrev pub line_readings : Line → List Reading
 line_readings l = (values.Resistance, l.resistance) ∷ (span_readings l ++ kilometre_readings l)
 
+-- the high voltage of a unit of the kind, which a reactor isn't asked
+abbrev pub volts_readings : Kind → (high_volts : ℕ) → List Reading
+volts_readings (kinds.DeltaWye high high_resistance) high_volts = (values.HighVolts, high_volts) ∷ []
+volts_readings (kinds.WyeWye high low low_volts high_resistance low_resistance third) high_volts = (values.HighVolts, high_volts) ∷ []
+volts_readings (kinds.Auto high low low_volts series_resistance common_resistance third) high_volts = (values.HighVolts, high_volts) ∷ []
+volts_readings (kinds.Reactor high high_resistance) high_volts = []
+volts_readings kinds.DeltaDelta high_volts = (values.HighVolts, high_volts) ∷ []
+
+-- a third winding
+abbrev pub third_readings : Option Third → List Reading
+third_readings None = []
+third_readings (Some t) = (values.ThirdResistance, t.resistance) ∷ []
+
 -- the windings that a unit of the kind has
 abbrev pub winding_readings : Kind → List Reading
 winding_readings (kinds.DeltaWye high high_resistance) = (values.HighResistance, high_resistance) ∷ []
-winding_readings (kinds.WyeWye high low low_volts high_resistance low_resistance) = (values.HighResistance, high_resistance) ∷ (values.LowResistance, low_resistance) ∷ []
-winding_readings (kinds.Auto high low low_volts series_resistance common_resistance) = (values.SeriesResistance, series_resistance) ∷ (values.CommonResistance, common_resistance) ∷ []
+winding_readings (kinds.WyeWye high low low_volts high_resistance low_resistance third) = (values.HighResistance, high_resistance) ∷ (values.LowResistance, low_resistance) ∷ third_readings third
+winding_readings (kinds.Auto high low low_volts series_resistance common_resistance third) = (values.SeriesResistance, series_resistance) ∷ (values.CommonResistance, common_resistance) ∷ third_readings third
+winding_readings (kinds.Reactor high high_resistance) = (values.HighResistance, high_resistance) ∷ []
 winding_readings kinds.DeltaDelta = []
 
 -- a resistor in the neutral
@@ -58,7 +80,7 @@ neutral_readings (Some (devices.Resistor ohm)) = (values.Neutral, ohm) ∷ []
 neutral_readings (Some devices.Blocked) = []
 
 abbrev pub transformer_readings : Transformer → List Reading
-transformer_readings t = (values.HighVolts, t.high_volts) ∷ (winding_readings t.kind ++ neutral_readings t.neutral)
+transformer_readings t = volts_readings t.kind t.high_volts ++ (winding_readings t.kind ++ neutral_readings t.neutral)
 
 -- a reading of a row of this name is told where it is unusual
 abbrev pub value_told : CaseList → List ℕ → Reading → List Finding

@@ -20,4 +20,5 @@ is_unusual values.HighResistance number = is_off 10000 5000000 number
 is_unusual values.LowResistance number = is_off 10000 5000000 number
 is_unusual values.SeriesResistance number = is_off 10000 5000000 number
 is_unusual values.CommonResistance number = is_off 10000 5000000 number
+is_unusual values.ThirdResistance number = is_off 10000 5000000 number
 is_unusual values.Neutral number = nat_lt 100000000 number

@@ -1,25 +1,43 @@
 -- Cases worked by hand.
-use Rattle.std.specs.Prelude.{ℕ, List, [], ◌∷◌, Some, None, true, false, codes, pos, neg_ℤ}
+use Rattle.std.specs.Prelude.{ℕ, ℤ, Bool, List, [], ◌∷◌, Some, None, true, false, codes, pos, neg_ℤ}
+use Rattle.gic_scale.specs.declared.scaling.Scaling.TheVariants.{Earth, Factor}
 use Rattle.gic_scale.specs.ZoneView.{ZoneView}
+use Rattle.gic_case.specs.declared.part.LinePart.{LinePart}
+use Rattle.gic_case.specs.declared.course.Course.{Course}
+use Rattle.gic_case.specs.declared.course.Course.TheVariants.{One, Several}
 use Rattle.gic_case.specs.declared.item.Bus.{Bus}
+use Rattle.gic_case.specs.declared.item.Line.{Line}
+use Rattle.gic_case.specs.declared.item.Third.{Third}
+use Rattle.gic_case.specs.declared.item.Kind.{Kind}
 use Rattle.gic_case.specs.declared.item.Kind.TheVariants as kinds
 use Rattle.gic_case.specs.declared.item.Transformer.{Transformer}
 use Rattle.gic_case.specs.Lists.{Lists, substation_with}
 use Rattle.gic_findings.specs.declared.finding.CaseList.TheVariants as lists
-use Rattle.gic_findings.specs.declared.finding.Side.TheVariants.{High}
+use Rattle.gic_findings.specs.declared.finding.Side.TheVariants as sides
 use Rattle.gic_findings.specs.declared.finding.Finding.{Finding}
 use Rattle.gic_findings.specs.declared.finding.Finding.TheVariants as findings
 use Rattle.gic_findings.specs.declared.measured.Quantity.TheVariants as values
 
 abbrev pub zone : List ℕ → (latitude beta : ℕ) → ZoneView
-zone name latitude beta = record { name = name; latitude = latitude; beta = beta }
+zone name latitude beta = record { name = name; scaling = Earth latitude beta }
 
 abbrev pub bus : List ℕ → (substation : ℕ) → Bus
 bus name substation = record { name = name; substation = substation }
 
+-- a part in the first zone
+abbrev pub part : (north east : ℤ) → LinePart
+part north east = record { zone = 0; north = north; east = east }
+
+abbrev pub line : List ℕ → (from to : ℕ) → Course → (blocked : Bool) → Line
+line name from to course blocked = record { name = name; from = from; to = to; course = course; resistance = 3000000; blocked = blocked }
+
+-- a unit without a neutral device
+abbrev pub unit_of : List ℕ → (high_volts : ℕ) → Kind → Transformer
+unit_of name high_volts kind = record { name = name; high_volts = high_volts; kind = kind; neutral = None }
+
 -- a delta-wye unit
 abbrev pub unit : List ℕ → (high_volts high high_resistance : ℕ) → Transformer
-unit name high_volts high high_resistance = record { name = name; high_volts = high_volts; kind = kinds.DeltaWye high high_resistance; neutral = None }
+unit name high_volts high high_resistance = unit_of name high_volts (kinds.DeltaWye high high_resistance)
 
 -- two substations, of which the second has no ground, and a line of 90 metres
 abbrev pub ungrounded_case : Lists
@@ -27,7 +45,7 @@ ungrounded_case = record {
   zones = zone (codes "Z") 60 100 ∷ [];
   substations = substation_with (codes "A") (Some 1000000) ∷ substation_with (codes "B") None ∷ [];
   buses = bus (codes "a") 0 ∷ bus (codes "b") 1 ∷ [];
-  lines = record { name = codes "L"; from = 0; to = 1; zone = 0; resistance = 3000000; north = pos 90; east = pos 0; blocked = false } ∷ [];
+  lines = line (codes "L") 0 1 (One (part (pos 90) (pos 0))) false ∷ [];
   transformers = unit (codes "TA") 345000 0 300000 ∷ unit (codes "TB") 34500 1 3000 ∷ [];
 }
 
@@ -46,9 +64,9 @@ turned_case = record {
   substations = substation_with (codes "A") (Some 400000) ∷ substation_with (codes "B") (Some 400000) ∷ substation_with (codes "C") (Some 400000) ∷ [];
   buses = bus (codes "a") 0 ∷ bus (codes "b") 1 ∷ bus (codes "c") 2 ∷ [];
   lines =
-      record { name = codes "AB"; from = 0; to = 1; zone = 0; resistance = 3000000; north = pos 100000; east = pos 0; blocked = false } ∷
-      record { name = codes "CB"; from = 2; to = 1; zone = 0; resistance = 3000000; north = pos 0; east = pos 200000; blocked = false } ∷
-      record { name = codes "CA"; from = 2; to = 0; zone = 0; resistance = 3000000; north = neg_ℤ (pos 100000); east = neg_ℤ (pos 200000); blocked = true } ∷ [];
+      line (codes "AB") 0 1 (One (part (pos 100000) (pos 0))) false ∷
+      line (codes "CB") 2 1 (One (part (pos 0) (pos 200000))) false ∷
+      line (codes "CA") 2 0 (One (part (neg_ℤ (pos 100000)) (neg_ℤ (pos 200000)))) true ∷ [];
   transformers = [];
 }
 
@@ -82,4 +100,32 @@ levels_case = record {
 }
 
 abbrev pub levels_findings : List Finding
-levels_findings = findings.Volts (codes "T3") High 310499 345000 ∷ findings.Volts (codes "T5") High 383334 345000 ∷ []
+levels_findings = findings.Volts (codes "T3") sides.High 310499 345000 ∷ findings.Volts (codes "T5") sides.High 383334 345000 ∷ []
+
+-- a third winding
+abbrev pub third : (bus volts resistance : ℕ) → Third
+third bus volts resistance = record { bus = bus; volts = volts; resistance = resistance }
+
+-- a zone by its scale, a line in two parts and one beside it, and two units with third windings at the bus of a reactor
+abbrev pub third_case : Lists
+third_case = record {
+  zones = record { name = codes "Z"; scaling = Factor 1000 } ∷ [];
+  substations = substation_with (codes "A") (Some 200000) ∷ substation_with (codes "B") None ∷ [];
+  buses = bus (codes "a") 0 ∷ bus (codes "b") 0 ∷ bus (codes "c") 0 ∷ bus (codes "d") 1 ∷ [];
+  lines =
+      line (codes "L") 0 3 (Several (part (pos 60000) (pos 30) ∷ part (neg_ℤ (pos 59950)) (neg_ℤ (pos 10)) ∷ [])) false ∷
+      line (codes "M") 0 3 (One (part (pos 5000) (pos 0))) false ∷ [];
+  transformers =
+      unit_of (codes "T") 345000 (kinds.Auto 0 1 138000 300000 200000 (Some (third 2 20000 9999))) ∷
+      unit_of (codes "R") 5000 (kinds.Reactor 2 400000) ∷
+      unit_of (codes "U") 345000 (kinds.WyeWye 0 1 138000 300000 200000 (Some (third 2 22223 300000))) ∷ [];
+}
+
+-- the parts of L lead 50 metres to the north and 20 to the east together; M leads there too, 5 km to the north; nine times the third voltage of U is above ten times that of T
+abbrev pub third_findings : List Finding
+third_findings =
+    findings.Closure (codes "M") (pos 4950) (neg_ℤ (pos 20)) ∷
+    findings.Value lists.Line (codes "L") values.Span 70 ∷
+    findings.Value lists.Transformer (codes "T") values.ThirdResistance 9999 ∷
+    findings.Volts (codes "R") sides.High 5000 20000 ∷
+    findings.Volts (codes "U") sides.Third 22223 20000 ∷ []

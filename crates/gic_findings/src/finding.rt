@@ -16,6 +16,7 @@ pub enum CaseList {
 pub enum Side {
     High,
     Low,
+    Third,
 }
 
 /// What is found in a case.

@@ -4,7 +4,7 @@ ghost use Rattle.gic_winding.specs.ElementList.{elements_of};
 ghost use Rattle.gic_findings.specs.Findings.{findings_with};
 ghost use Rattle.gic_findings.specs.Laws.{PartsAreOne, FindingsAreOne};
 ghost use Rattle.gic_findings.specs.PartSizes.{sizes_of};
-ghost use Rattle.gic_findings.specs.Worked.{ungrounded_case, ungrounded_findings, turned_case, turned_findings, parted_case, parted_findings, levels_case, levels_findings};
+ghost use Rattle.gic_findings.specs.Worked.{ungrounded_case, ungrounded_findings, turned_case, turned_findings, parted_case, parted_findings, levels_case, levels_findings, third_case, third_findings};
 
 /// The sizes of the parts of a network are those that are counted.
 pub fn parts_law()
@@ -23,4 +23,5 @@ pub fn worked_cases_law()
     ensures turned { findings_with turned_case (sizes_of (elements_of turned_case)) ≡ turned_findings }
     ensures parted { findings_with parted_case (sizes_of (elements_of parted_case)) ≡ parted_findings }
     ensures levels { findings_with levels_case (sizes_of (elements_of levels_case)) ≡ levels_findings }
+    ensures third { findings_with third_case (sizes_of (elements_of third_case)) ≡ third_findings }
 {}

@@ -21,6 +21,7 @@ pub enum Quantity {
     LowResistance,
     SeriesResistance,
     CommonResistance,
+    ThirdResistance,
     /// Of a resistor in a neutral, in micro-ohm.
     Neutral,
 }
@@ -44,7 +45,8 @@ impl Quantity {
             Quantity::HighResistance
             | Quantity::LowResistance
             | Quantity::SeriesResistance
-            | Quantity::CommonResistance => number < 10000 || number > 5000000,
+            | Quantity::CommonResistance
+            | Quantity::ThirdResistance => number < 10000 || number > 5000000,
             Quantity::Neutral => number > 100000000,
         }
     }

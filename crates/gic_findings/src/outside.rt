@@ -14,7 +14,8 @@ fn is_outside(transformer: &Transformer) -> bool
     ensures { result ≡ is_outside transformer.now.kind transformer.now.high_volts }
 {
     match transformer.kind {
-        Kind::DeltaWye { .. } | Kind::WyeWye { .. } | Kind::Auto { .. } => false,
+        Kind::DeltaWye { .. } | Kind::WyeWye { .. } | Kind::Auto { .. } | Kind::Reactor { .. } =>
+            false,
         Kind::DeltaDelta => transformer.high_volts > MOST_NOT_ASSESSED,
     }
 }

@@ -1,14 +1,15 @@
 //! The values of the rows of a case.
-ghost use Rattle.std.specs.Prelude.{◌≡◌, ◌++◌, flat_map, OnOk};
+ghost use Rattle.std.specs.Prelude.{◌≡◌, ◌++◌, flat_map, All, OnOk};
 ghost use Rattle.gic_findings.specs.declared.finding.CaseList.TheVariants as lists;
-ghost use Rattle.gic_findings.specs.Readings.{value_told, values_told, span_readings, kilometre_readings, winding_readings, neutral_readings, zone_told, substation_told, line_told, transformer_told, values_of};
+ghost use Rattle.gic_findings.specs.Readings.{value_told, values_told, span_readings, kilometre_readings, volts_readings, third_readings, winding_readings, neutral_readings, zone_told, substation_told, line_told, transformer_told, values_of};
+ghost use Rattle.gic_findings.specs.Spans.{IsShort};
 
 use crate::finding::{CaseList, Finding};
 use crate::measured::Quantity;
 use crate::span::span_of;
 use gic_base::{Name, OutOfMemory};
-use gic_case::{Case, Kind, Line, Neutral, Substation, Transformer};
-use gic_scale::Zone;
+use gic_case::{Case, Kind, Line, Neutral, Substation, Third, Transformer};
+use gic_scale::{Scaling, Zone};
 
 /// Adds what is told of a value of a row.
 fn push_value(
@@ -31,20 +32,25 @@ fn push_value(
     Ok(())
 }
 
-/// Adds what is told of the values of a zone.
+/// Adds what is told of the values of a zone, which has none where it is given by one number.
 fn push_zone(findings: &mut Vec<Finding>, zone: &Zone) -> Result<(), OutOfMemory>
     ensures { OnOk result (findings.new.items ≡ findings.old.items ++ zone_told zone.now) }
 {
-    let latitude = u64::from(zone.latitude);
-    let beta = u64::from(zone.beta);
-    push_value(
-        findings,
-        CaseList::Zone,
-        zone.name,
-        Quantity::Latitude,
-        latitude,
-    )?;
-    push_value(findings, CaseList::Zone, zone.name, Quantity::Beta, beta)
+    match zone.scaling {
+        Scaling::Earth { latitude, beta } => {
+            let latitude = u64::from(latitude);
+            let beta = u64::from(beta);
+            push_value(
+                findings,
+                CaseList::Zone,
+                zone.name,
+                Quantity::Latitude,
+                latitude,
+            )?;
+            push_value(findings, CaseList::Zone, zone.name, Quantity::Beta, beta)
+        }
+        Scaling::Factor(_) => Ok(()),
+    }
 }
 
 /// Adds what is told of the values of a substation.
@@ -65,6 +71,7 @@ fn push_substation(findings: &mut Vec<Finding>, substation: &Substation) -> Resu
 
 /// Adds what is told of how long a line is, which a blocked line isn't asked.
 fn push_span(findings: &mut Vec<Finding>, line: &Line) -> Result<(), OutOfMemory>
+    requires { IsShort line.now }
     ensures { OnOk result (findings.new.items ≡ findings.old.items ++ values_told lists.Line line.now.name (span_readings line.now)) }
 {
     if line.blocked {
@@ -76,6 +83,7 @@ fn push_span(findings: &mut Vec<Finding>, line: &Line) -> Result<(), OutOfMemory
 
 /// Adds what is told of the resistance of a line for a kilometre.
 fn push_kilometre(findings: &mut Vec<Finding>, line: &Line) -> Result<(), OutOfMemory>
+    requires { IsShort line.now }
     ensures { OnOk result (findings.new.items ≡ findings.old.items ++ values_told lists.Line line.now.name (kilometre_readings line.now)) }
 {
     let length = span_of(line).length();
@@ -94,6 +102,7 @@ fn push_kilometre(findings: &mut Vec<Finding>, line: &Line) -> Result<(), OutOfM
 
 /// Adds what is told of the values of a line.
 fn push_line(findings: &mut Vec<Finding>, line: &Line) -> Result<(), OutOfMemory>
+    requires { IsShort line.now }
     ensures { OnOk result (findings.new.items ≡ findings.old.items ++ line_told line.now) }
 {
     let resistance = u64::from(line.resistance);
@@ -126,6 +135,42 @@ fn push_ohm(
     )
 }
 
+/// Adds what is told of the high voltage of a transformer, which a reactor isn't asked.
+fn push_high_volts(
+    findings: &mut Vec<Finding>,
+    transformer: &Transformer,
+) -> Result<(), OutOfMemory>
+    ensures { OnOk result (findings.new.items ≡
+        findings.old.items ++ values_told lists.Transformer transformer.now.name (volts_readings transformer.now.kind transformer.now.high_volts)) }
+{
+    match transformer.kind {
+        Kind::DeltaWye { .. } | Kind::WyeWye { .. } | Kind::Auto { .. } | Kind::DeltaDelta => {
+            push_value(
+                findings,
+                CaseList::Transformer,
+                transformer.name,
+                Quantity::HighVolts,
+                u64::from(transformer.high_volts),
+            )
+        }
+        Kind::Reactor { .. } => Ok(()),
+    }
+}
+
+/// Adds what is told of a third winding, if there is one.
+fn push_third(
+    findings: &mut Vec<Finding>,
+    name: Name,
+    third: Option<Third>,
+) -> Result<(), OutOfMemory>
+    ensures { OnOk result (findings.new.items ≡ findings.old.items ++ values_told lists.Transformer name (third_readings third)) }
+{
+    let Some(third) = third else {
+        return Ok(());
+    };
+    push_ohm(findings, name, Quantity::ThirdResistance, third.resistance)
+}
+
 /// Adds what is told of the windings of a transformer.
 fn push_windings(findings: &mut Vec<Finding>, name: Name, kind: &Kind) -> Result<(), OutOfMemory>
     ensures { OnOk result (findings.new.items ≡ findings.old.items ++ values_told lists.Transformer name (winding_readings kind.now)) }
@@ -134,18 +179,25 @@ fn push_windings(findings: &mut Vec<Finding>, name: Name, kind: &Kind) -> Result
         Kind::DeltaWye {
             high_resistance,
             ..
+        }
+        | Kind::Reactor {
+            high_resistance,
+            ..
         } => push_ohm(findings, name, Quantity::HighResistance, high_resistance),
         Kind::WyeWye {
             high_resistance,
             low_resistance,
+            third,
             ..
         } => {
             push_ohm(findings, name, Quantity::HighResistance, high_resistance)?;
-            push_ohm(findings, name, Quantity::LowResistance, low_resistance)
+            push_ohm(findings, name, Quantity::LowResistance, low_resistance)?;
+            push_third(findings, name, third)
         }
         Kind::Auto {
             series_resistance,
             common_resistance,
+            third,
             ..
         } => {
             push_ohm(
@@ -159,7 +211,8 @@ fn push_windings(findings: &mut Vec<Finding>, name: Name, kind: &Kind) -> Result
                 name,
                 Quantity::CommonResistance,
                 common_resistance,
-            )
+            )?;
+            push_third(findings, name, third)
         }
         Kind::DeltaDelta => Ok(()),
     }
@@ -187,7 +240,7 @@ fn push_transformer(
     ensures { OnOk result (findings.new.items ≡ findings.old.items ++ transformer_told transformer.now) }
 {
     let name = transformer.name;
-    push_ohm(findings, name, Quantity::HighVolts, transformer.high_volts)?;
+    push_high_volts(findings, transformer)?;
     push_windings(findings, name, &transformer.kind)?;
     push_neutral(findings, name, transformer.neutral)
 }
@@ -214,6 +267,7 @@ fn push_substations(
 }
 
 fn push_lines(findings: &mut Vec<Finding>, lines: &[Line]) -> Result<(), OutOfMemory>
+    requires { All IsShort lines.now }
     ensures { OnOk result (findings.new.items ≡ findings.old.items ++ flat_map line_told lines.now) }
 {
     for line in lines {

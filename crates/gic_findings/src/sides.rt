@@ -1,10 +1,10 @@
 //! The rated voltages of the sides of transformers, compared at each bus.
 ghost use Rattle.std.specs.Prelude.{◌≡◌, ◌<◌, ◌++◌, length, flat_map, All, replicate, None, IfOk, OnOk};
-ghost use Rattle.gic_findings.specs.Sides.{rated, rated_sides_of, differs, volts_told, measures_with, volts_from, unfit_volts};
+ghost use Rattle.gic_findings.specs.Sides.{rated, rated_sides_of, differs, third_side, volts_told, measures_with, volts_from, unfit_volts};
 
 use crate::finding::{Finding, Side};
 use gic_base::{Name, OutOfMemory};
-use gic_case::{Case, Kind, Transformer};
+use gic_case::{Case, Kind, Third, Transformer};
 use std::alloc::Global;
 
 /// A side of the transformer of this name: the place of its bus, and its rated voltage in V.
@@ -28,32 +28,50 @@ fn rated(transformer: &Transformer, side: Side, bus: u16, volts: u32) -> RatedSi
     }
 }
 
+/// Adds the third side of a transformer, if it has one.
+fn push_third(
+    sides: &mut Vec<RatedSide>,
+    transformer: &Transformer,
+    third: Option<Third>,
+) -> Result<(), OutOfMemory>
+    ensures { OnOk result (sides.new.items ≡ sides.old.items ++ third_side transformer.now.name third) }
+{
+    if let Some(third) = third {
+        sides.push(rated(transformer, Side::Third, third.bus, third.volts))?;
+    }
+    Ok(())
+}
+
 /// Adds the sides of a transformer that have a bus. What looks at sides reads them here alone.
 fn push_sides(sides: &mut Vec<RatedSide>, transformer: &Transformer) -> Result<(), OutOfMemory>
     ensures { OnOk result (sides.new.items ≡ sides.old.items ++ rated_sides_of transformer.now) }
 {
     let volts = transformer.high_volts;
     match transformer.kind {
-        Kind::DeltaWye { high, .. } => {
+        Kind::DeltaWye { high, .. } | Kind::Reactor { high, .. } => {
             sides.push(rated(transformer, Side::High, high, volts))?;
         }
         Kind::WyeWye {
             high,
             low,
             low_volts,
+            third,
             ..
         } => {
             sides.push(rated(transformer, Side::High, high, volts))?;
             sides.push(rated(transformer, Side::Low, low, low_volts))?;
+            push_third(sides, transformer, third)?;
         }
         Kind::Auto {
             high,
             low,
             low_volts,
+            third,
             ..
         } => {
             sides.push(rated(transformer, Side::High, high, volts))?;
             sides.push(rated(transformer, Side::Low, low, low_volts))?;
+            push_third(sides, transformer, third)?;
         }
         Kind::DeltaDelta => {}
     }

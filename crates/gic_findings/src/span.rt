@@ -1,8 +1,8 @@
 //! The spans of lines.
-ghost use Rattle.std.specs.Prelude.{◌≡◌};
-ghost use Rattle.gic_findings.specs.Spans.{span_of};
+ghost use Rattle.std.specs.Prelude.{◌≡◌, ◌≤◌, ◌+◌, unsigned_abs};
+ghost use Rattle.gic_findings.specs.Spans.{span_of, span_with, IsShort};
 
-use gic_case::Line;
+use gic_case::{Line, LinePart};
 
 /// How far a line leads to the north and to the east, in metres.
 #[derive(Clone, Copy, Debug)]
@@ -11,14 +11,28 @@ pub(crate) struct Span {
     pub(crate) east: i32,
 }
 
-/// The span of a line. What looks at spans reads them here alone.
-pub(crate) fn span_of(line: &Line) -> Span
-    ensures { result ≡ span_of line.now }
+/// The span and one part more.
+fn span_with(span: &Span, part: &LinePart) -> Span
+    requires north { unsigned_abs span.now.north + unsigned_abs part.now.north ≤ 1000000 }
+    requires east { unsigned_abs span.now.east + unsigned_abs part.now.east ≤ 1000000 }
+    ensures { result ≡ span_with span.now part.now }
 {
     Span {
-        north: line.north,
-        east: line.east,
+        north: span.north + part.north,
+        east: span.east + part.east,
     }
+}
+
+/// The span of a line: that of all its parts. What looks at spans reads them here alone.
+pub(crate) fn span_of(line: &Line) -> Span
+    requires { IsShort line.now }
+    ensures { result ≡ span_of line.now }
+{
+    let mut span = Span { north: 0, east: 0 };
+    for part in line.course.parts() {
+        span = span_with(&span, part);
+    }
+    span
 }
 
 impl Span {

@@ -1,1 +1,3 @@
 pub mod Linear
+pub mod Parts
+pub mod FieldVolts

@@ -2,34 +2,37 @@
 use Rattle.std.proofs.Common.{◌≡◌, ℕ, zero, suc, List, [], ◌∷◌, map, ℤ, pos, ◌+ℤ◌, ◌*ℤ◌, ◌⊎◌, inl, inr, ⊎_elim, arith, refl, ap, ap₂, sym, ◌∙◌}
 use lib.IntN.{*ℤ-zero}
 use Rattle.std.proofs.lemmas.List.{get_or_past}
+use Rattle.gic_fixed.specs.Sums.{sum_of}
 use Rattle.gic_fixed.proofs.Integers.{linear, *ℤ-+ℤ, *ℤ_assoc, +ℤ-*ℤ}
 use Rattle.gic_scale.specs.ZoneView.{ZoneView, factor_of}
 use Rattle.gic_case.specs.Lists.{Lists}
 use Rattle.gic_case.specs.declared.item.Line.{Line}
+use Rattle.gic_case.specs.declared.part.LinePart.{LinePart}
+use Rattle.gic_case.specs.Courses.{parts_of}
 use Rattle.gic_model.specs.Voltages.{number_at}
 use Rattle.gic_model.specs.declared.parts.Element.{Element}
 use Rattle.gic_model.specs.declared.parts.Item.{Item}
 use Rattle.gic_model.specs.declared.parts.Item.TheVariants as items
 use Rattle.gic_induce.specs.Fields.{field_at}
-use Rattle.gic_induce.specs.Voltage.{line_nanovolts}
-use Rattle.gic_induce.specs.LineVolts.{zone_among, line_volts, volts_of_item, volts_of}
+use Rattle.gic_induce.specs.Voltage.{part_nanovolts}
+use Rattle.gic_induce.specs.LineVolts.{zone_among, part_volts, line_volts, volts_of_item, volts_of}
 use Rattle.gic_induce.specs.Linear.{AreCombined}
 
--- a voltage is that of the sum of two fields, and of a field times a number
-module _ (line : Line) (zone : ZoneView) where
-  of_times : (a n e : ℤ) → line_nanovolts line zone (a *ℤ n) (a *ℤ e) ≡ a *ℤ line_nanovolts line zone n e
+-- the voltage of a part is that of the sum of two fields, and of a field times a number
+module _ (part : LinePart) (zone : ZoneView) where
+  of_times : (a n e : ℤ) → part_nanovolts part zone (a *ℤ n) (a *ℤ e) ≡ a *ℤ part_nanovolts part zone n e
   of_times a n e =
       let f = pos (factor_of zone) in
-      ap (λ z. z *ℤ f) (ap₂ (λ y z. y +ℤ z) (*ℤ_assoc a n line.north) (*ℤ_assoc a e line.east) ∙ sym (*ℤ-+ℤ a (n *ℤ line.north) (e *ℤ line.east))) ∙
-      *ℤ_assoc a (n *ℤ line.north +ℤ e *ℤ line.east) f
+      ap (λ z. z *ℤ f) (ap₂ (λ y z. y +ℤ z) (*ℤ_assoc a n part.north) (*ℤ_assoc a e part.east) ∙ sym (*ℤ-+ℤ a (n *ℤ part.north) (e *ℤ part.east))) ∙
+      *ℤ_assoc a (n *ℤ part.north +ℤ e *ℤ part.east) f
 
-  of_sum : (n m e d : ℤ) → line_nanovolts line zone (n +ℤ m) (e +ℤ d) ≡ line_nanovolts line zone n e +ℤ line_nanovolts line zone m d
+  of_sum : (n m e d : ℤ) → part_nanovolts part zone (n +ℤ m) (e +ℤ d) ≡ part_nanovolts part zone n e +ℤ part_nanovolts part zone m d
   of_sum n m e d =
       let f = pos (factor_of zone) in
-      let north = +ℤ-*ℤ n m line.north in
-      let east = +ℤ-*ℤ e d line.east in
-      let inner : (n +ℤ m) *ℤ line.north +ℤ (e +ℤ d) *ℤ line.east ≡ (n *ℤ line.north +ℤ e *ℤ line.east) +ℤ (m *ℤ line.north +ℤ d *ℤ line.east) = omega (arith, linear) in
-      ap (λ z. z *ℤ f) inner ∙ +ℤ-*ℤ (n *ℤ line.north +ℤ e *ℤ line.east) (m *ℤ line.north +ℤ d *ℤ line.east) f
+      let north = +ℤ-*ℤ n m part.north in
+      let east = +ℤ-*ℤ e d part.east in
+      let inner : (n +ℤ m) *ℤ part.north +ℤ (e +ℤ d) *ℤ part.east ≡ (n *ℤ part.north +ℤ e *ℤ part.east) +ℤ (m *ℤ part.north +ℤ d *ℤ part.east) = omega (arith, linear) in
+      ap (λ z. z *ℤ f) inner ∙ +ℤ-*ℤ (n *ℤ part.north +ℤ e *ℤ part.east) (m *ℤ part.north +ℤ d *ℤ part.east) f
 
 -- an item of a list at a place, or none, for every function of it at once
 at_any : {X : Type 0} (xs : List X) (i : ℕ) → ((f : X → ℤ) → number_at (map f xs) i ≡ pos 0) ⊎ ((x : X) × ((f : X → ℤ) → number_at (map f xs) i ≡ f x))
@@ -54,17 +57,35 @@ all_linear a c d f g h each xs i =
     (λ one. ap (λ z. a *ℤ z) (one.1 h) ∙ each one.0 ∙ sym (ap₂ (λ y z. c *ℤ y +ℤ d *ℤ z) (one.1 f) (one.1 g)))
     (at_any xs i)
 
+-- so are their sums
+sums_linear : {X : Type 0} (a c d : ℤ) (f g h : X → ℤ) → ((x : X) → a *ℤ h x ≡ c *ℤ f x +ℤ d *ℤ g x) → (xs : List X) →
+    a *ℤ sum_of h xs ≡ c *ℤ sum_of f xs +ℤ d *ℤ sum_of g xs
+sums_linear a c d f g h each [] = no_sum a c d
+sums_linear a c d f g h each (x ∷ xs) =
+    let here = each x in
+    let rest = sums_linear a c d f g h each xs in
+    let whole = *ℤ-+ℤ a (h x) (sum_of h xs) in
+    let one = *ℤ-+ℤ c (f x) (sum_of f xs) in
+    let other = *ℤ-+ℤ d (g x) (sum_of g xs) in
+    omega (arith, linear)
+
+-- so the voltages of parts, and those of lines
+part_volts_linear : (zones : List ZoneView) (a c d : ℤ) (f g h : List (ℤ × ℤ)) → AreCombined a c d f g h → (part : LinePart) →
+    a *ℤ part_volts zones h part ≡ c *ℤ part_volts zones f part +ℤ d *ℤ part_volts zones g part
+part_volts_linear zones a c d f g h combined part =
+    let zone = zone_among zones part.zone in
+    let x = field_at f part.zone in
+    let y = field_at g part.zone in
+    let z = field_at h part.zone in
+    sym (of_times part zone a z.0 z.1) ∙
+    ap₂ (λ n e. part_nanovolts part zone n e) (combined.north part.zone) (combined.east part.zone) ∙
+    of_sum part zone (c *ℤ x.0) (d *ℤ y.0) (c *ℤ x.1) (d *ℤ y.1) ∙
+    ap₂ (λ u v. u +ℤ v) (of_times part zone c x.0 x.1) (of_times part zone d y.0 y.1)
+
 line_volts_linear : (zones : List ZoneView) (a c d : ℤ) (f g h : List (ℤ × ℤ)) → AreCombined a c d f g h → (line : Line) →
     a *ℤ line_volts zones h line ≡ c *ℤ line_volts zones f line +ℤ d *ℤ line_volts zones g line
 line_volts_linear zones a c d f g h combined line =
-    let zone = zone_among zones line.zone in
-    let x = field_at f line.zone in
-    let y = field_at g line.zone in
-    let z = field_at h line.zone in
-    sym (of_times line zone a z.0 z.1) ∙
-    ap₂ (λ n e. line_nanovolts line zone n e) (combined.north line.zone) (combined.east line.zone) ∙
-    of_sum line zone (c *ℤ x.0) (d *ℤ y.0) (c *ℤ x.1) (d *ℤ y.1) ∙
-    ap₂ (λ u v. u +ℤ v) (of_times line zone c x.0 x.1) (of_times line zone d y.0 y.1)
+    sums_linear a c d (part_volts zones f) (part_volts zones g) (part_volts zones h) (part_volts_linear zones a c d f g h combined) (parts_of line.course)
 
 pub item_volts_linear : (case : Lists) (a c d : ℤ) (f g h : List (ℤ × ℤ)) → AreCombined a c d f g h → (item : Item) →
     a *ℤ volts_of_item case h item ≡ c *ℤ volts_of_item case f item +ℤ d *ℤ volts_of_item case g item

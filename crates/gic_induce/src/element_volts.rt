@@ -6,12 +6,12 @@ ghost use Rattle.gic_model.specs.Limits.{most_volts};
 ghost use Rattle.gic_induce.specs.LineVolts.{all_line_volts, volts_of_item, volts_of, IsLineWithin};
 
 use crate::fields::Fields;
-use crate::voltage::volts_in_zone;
+use crate::voltage::line_volts;
 use gic_base::ElementId;
 use gic_case::Case;
 use gic_model::{Element, Item, Volts};
 
-/// The voltage of the line at a place of the case, in the field of its zone.
+/// The voltage of the line at a place of the case, in the fields of its zones.
 fn volts_of_line(case: &Case, fields: &Fields, place: u16) -> i64
     requires place { place < length case.now.lines }
     requires zones { length fields.now ≡ length case.now.zones }
@@ -19,8 +19,7 @@ fn volts_of_line(case: &Case, fields: &Fields, place: u16) -> i64
     ensures limit { unsigned_abs result ≤ most_volts }
 {
     let line = &case.lines()[place as usize];
-    let (north, east) = fields.get(line.zone);
-    volts_in_zone(case.zones(), line, north, east)
+    line_volts(case.zones(), fields, line)
 }
 
 /// The voltage of an element of this item.
@@ -36,9 +35,9 @@ fn volts_of_item(case: &Case, fields: &Fields, item: Item) -> i64
     }
 }
 
-/// Leaves in `out` the voltage of each element in nanovolts, each within ±6·10^13: for a line's element the voltage that
-/// the field of the line's zone induces in it, and 0 for every other. The elements are those of the case, `fields` has its
-/// zones, and `out` has one number for each element.
+/// Leaves in `out` the voltage of each element in nanovolts, each within ±6·10^13: for a line's element the voltage
+/// that the fields of the line's zones induce in it, and 0 for every other. The elements are those of the case, `fields`
+/// has its zones, and `out` has one number for each element.
 pub fn fill_volts(case: &Case, elements: &[Element], fields: &Fields, out: &mut Volts)
     requires lines { All (λ e. IsLineWithin case.now e.item) elements.now }
     requires few { length elements.now ≤ MOST_ELEMENTS }

@@ -33,6 +33,16 @@ impl Fields {
         Ok(Fields { list })
     }
 
+    /// One field in each of so many zones. Both parts are in mV/km.
+    pub fn uniform(alloc: Global, zones: u16, north: i32, east: i32) -> Result<Fields, OutOfMemory>
+        requires north { IsFieldWithin north }
+        requires east { IsFieldWithin east }
+        ensures { IfOk result (λ fields. fields ≡ replicate zones (north, east)) }
+    {
+        let list = vec![in alloc; (north, east); zones as usize]?;
+        Ok(Fields { list })
+    }
+
     /// How many zones there are.
     pub fn zones(&self) -> u16
         ensures { result ≡ length self.now }

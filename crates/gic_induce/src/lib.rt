@@ -8,4 +8,4 @@ mod voltage;
 
 pub use element_volts::fill_volts;
 pub use fields::Fields;
-pub use voltage::{line_nanovolts, volts_in_zone};
+pub use voltage::{line_volts, part_nanovolts};

@@ -1,10 +1,12 @@
 //! The voltage of one line.
-ghost use Rattle.std.specs.Prelude.{◌≡◌, ◌<◌, ◌≤◌, length, ◌*ℤ◌, ◌+ℤ◌, pos, unsigned_abs};
+ghost use Rattle.std.specs.Prelude.{◌≡◌, ◌<◌, ◌≤◌, ◌+◌, ◌*◌, length, All, ◌*ℤ◌, ◌+ℤ◌, pos, unsigned_abs};
+ghost use Rattle.gic_case.specs.Courses.{parts_of, north_way, east_way};
 ghost use Rattle.gic_model.specs.Limits.{most_volts};
-ghost use Rattle.gic_induce.specs.LineVolts.{zone_among};
-ghost use Rattle.gic_induce.specs.Voltage.{line_nanovolts, IsFieldWithin, IsSpanWithin};
+ghost use Rattle.gic_induce.specs.LineVolts.{part_volts, line_volts};
+ghost use Rattle.gic_induce.specs.Voltage.{part_nanovolts, IsFieldWithin, IsSpanWithin};
 
-use gic_case::Line;
+use crate::fields::Fields;
+use gic_case::{Line, LinePart};
 use gic_scale::Zone;
 
 /// A part of the field, in mV/km, over the same part of the span, in metres: in microvolts.
@@ -32,39 +34,55 @@ fn scaled(microvolts: i64, factor: u16) -> i64
     requires microvolts { unsigned_abs microvolts ≤ 40000000000 }
     requires factor { factor ≤ 1500 }
     ensures value { result ≡ microvolts *ℤ pos factor }
-    ensures small { unsigned_abs result ≤ 60000000000000 }
 {
     microvolts * i64::from(factor)
 }
 
-/// The voltage of a line in nanovolts, in the field (north, east) of its zone in mV/km:
-/// `(north·E_n + east·E_e)·alpha·beta`, with the line's spans in metres, alpha in tenths and beta in hundredths. It is
-/// exact, and within ±6·10^13. It drives current from the line's `from` bus to its `to` bus.
-pub fn line_nanovolts(line: &Line, zone: &Zone, north: i32, east: i32) -> i64
+/// The voltage of a part of a line in nanovolts, in the field (north, east) of its zone in mV/km:
+/// `(north·E_n + east·E_e)·factor`, with the part's spans in metres and the zone's factor in thousandths. It is exact,
+/// and within ±30000000 for each metre to the north and to the east.
+pub fn part_nanovolts(part: &LinePart, zone: &Zone, north: i32, east: i32) -> i64
     requires north { IsFieldWithin north }
     requires east { IsFieldWithin east }
-    requires span_north { IsSpanWithin line.now.north }
-    requires span_east { IsSpanWithin line.now.east }
-    ensures value { result ≡ line_nanovolts line.now zone.now north east }
-    ensures small { unsigned_abs result ≤ most_volts }
+    requires span_north { IsSpanWithin part.now.north }
+    requires span_east { IsSpanWithin part.now.east }
+    ensures value { result ≡ part_nanovolts part.now zone.now north east }
+    ensures small { unsigned_abs result ≤ 30000000 * (unsigned_abs part.now.north + unsigned_abs part.now.east) }
 {
     scaled(
-        sum(along(north, line.north), along(east, line.east)),
+        sum(along(north, part.north), along(east, part.east)),
         zone.factor(),
     )
 }
 
-/// The voltage of a line in nanovolts, in this field of its zone, in mV/km. The zone stands among the zones at the
-/// line's place for it.
-pub fn volts_in_zone(zones: &[Zone], line: &Line, north: i32, east: i32) -> i64
-    requires zone { line.now.zone < length zones.now }
-    requires north { IsFieldWithin north }
-    requires east { IsFieldWithin east }
-    requires span_north { IsSpanWithin line.now.north }
-    requires span_east { IsSpanWithin line.now.east }
-    ensures value { result ≡ line_nanovolts line.now (zone_among zones.now line.now.zone) north east }
+/// The same in the field of the part's zone, which is one of these.
+fn volts_of_part(zones: &[Zone], fields: &Fields, part: &LinePart) -> i64
+    requires zones { length fields.now ≡ length zones.now }
+    requires zone { part.now.zone < length zones.now }
+    requires span_north { IsSpanWithin part.now.north }
+    requires span_east { IsSpanWithin part.now.east }
+    ensures value { result ≡ part_volts zones.now fields.now part.now }
+    ensures small { unsigned_abs result ≤ 30000000 * (unsigned_abs part.now.north + unsigned_abs part.now.east) }
+{
+    let zone = &zones[part.zone as usize];
+    let (north, east) = fields.get(part.zone);
+    part_nanovolts(part, zone, north, east)
+}
+
+/// The voltage of a line in nanovolts: that of all its parts together, each in the field of its zone. It is exact, and
+/// within ±6·10^13. It drives current from the line's `from` bus to its `to` bus. The parts' zones stand among `zones`
+/// at their places, and `fields` has as many zones.
+pub fn line_volts(zones: &[Zone], fields: &Fields, line: &Line) -> i64
+    requires zones { length fields.now ≡ length zones.now }
+    requires places { All (λ p. p.zone < length zones.now) (parts_of line.now.course) }
+    requires north { north_way (parts_of line.now.course) ≤ 1000000 }
+    requires east { east_way (parts_of line.now.course) ≤ 1000000 }
+    ensures value { result ≡ line_volts zones.now fields.now line.now }
     ensures limit { unsigned_abs result ≤ most_volts }
 {
-    let zone = &zones[line.zone as usize];
-    line_nanovolts(line, zone, north, east)
+    let mut nanovolts: i64 = 0;
+    for part in line.course.parts() {
+        nanovolts += volts_of_part(zones, fields, part);
+    }
+    nanovolts
 }

@@ -1,25 +1,26 @@
 -- The items of the elements of a case, and the names of the nodes at which they end.
 use Rattle.std.proofs.Common.{◌≡◌, ◌∙◌, ℕ, ◌+◌, ◌<◌, ◌≤◌, Bool, true, false, Option, Some, None, [], ◌∷◌, ◌++◌, length, map, get_or, refl, sym, ap, subst, arith, inl, inr}
-use Rattle.std.specs.Prelude.{◌==◌, if◌then◌else◌, is_some, Contains, IsTrue, ⊤}
+use Rattle.std.specs.Prelude.{◌==◌, if◌then◌else◌, is_some, Contains, IfSome, IsTrue, ⊤}
 use Rattle.std.specs.List.{AllByRecursion}
 use Rattle.std.proofs.lemmas.Bool.{eqb-true, or_cases}
 use Rattle.std.proofs.lemmas.List.{get_or-map, length-map}
 use Rattle.gic_base.proofs.Each.{all_joined}
 use Rattle.gic_case.specs.declared.item.Line.{Line}
+use Rattle.gic_case.specs.declared.item.Third.{Third}
 use Rattle.gic_case.specs.declared.item.Kind.{Kind}
 use Rattle.gic_case.specs.declared.item.Kind.TheVariants as kinds
 use Rattle.gic_case.specs.declared.item.Neutral.{Neutral}
 use Rattle.gic_case.specs.declared.item.Neutral.TheVariants as devices
 use Rattle.gic_case.specs.declared.item.Transformer.{Transformer}
 use Rattle.gic_case.specs.Lists.{Lists, grid_of, neutrals_of, node_names, has_windings}
-use Rattle.gic_case.specs.Sound.{IsSound, IsSoundKind, IsSoundLine, IsSoundTransformer}
+use Rattle.gic_case.specs.Sound.{IsSound, IsSoundThird, IsSoundKind, IsSoundLine, IsSoundTransformer}
 use Rattle.gic_model.specs.declared.parts.End.{End}
 use Rattle.gic_model.specs.declared.parts.End.TheVariants.{Node, Earth}
 use Rattle.gic_model.specs.declared.parts.Item.{Item}
 use Rattle.gic_model.specs.declared.parts.Item.TheVariants as item
 use Rattle.gic_model.specs.declared.parts.Element.{Element}
 use Rattle.gic_model.specs.Network.{ends_at, is_node}
-use Rattle.gic_winding.specs.ElementList.{elements_of, element_list, earthing_of, earthings_of, line, line_of, lines_of, windings_of, all_windings_of, resistor_of, resistors_of, item_name}
+use Rattle.gic_winding.specs.ElementList.{elements_of, element_list, earthing_of, earthings_of, line, line_of, lines_of, third_of, windings_of, all_windings_of, resistor_of, resistors_of, item_name}
 use Rattle.gic_list.specs.ListText.{node_name}
 use Rattle.gic_report.specs.Items.{HasPlace}
 use Rattle.gic_report.proofs.ListParts.{all_at, all_numbered}
@@ -77,23 +78,38 @@ record IsUnit (c : Lists) (n : ℕ) (p : ℕ × Transformer) : Type 0 where
   sound : IsSound c → IsSoundTransformer c p.1
   named : IsSound c → IsNamedNeutral (first_neutral c) (node_names c) p
 
+-- a third winding, from its bus to the transformer's neutral
+third_by : (c : Lists) (n neutral high low volts : ℕ) (third : Option Third) → n < length c.transformers → (IsSound c → IfSome third (IsSoundThird c high low volts))
+    → (IsSound c → IsNodeBy c (item.Transformer n) neutral) → AllByRecursion (IsElementOf c) (third_of (length c.substations) n neutral third)
+third_by c n neutral high low volts None h sides by = tt
+third_by c n neutral high low volts (Some t) h sides by =
+    (record { item_of = h; from_by = λ sound past. absurd (omega (arith, (sides sound).bus_within, past)); to_by = λ sound. by sound }, tt)
+
 -- an element of the transformer from one of its buses to its neutral
 windings_by : (c : Lists) (n neutral volts : ℕ) (kind : Kind) → n < length c.transformers → (IsSound c → IsSoundKind c volts kind)
     → (IsSound c → has_windings kind ≡ true → IsNodeBy c (item.Transformer n) neutral) → AllByRecursion (IsElementOf c) (windings_of (length c.substations) n neutral kind)
 windings_by c n neutral volts (kinds.DeltaWye high ohm) h sides by =
     (record { item_of = h; from_by = λ sound past. absurd (omega (arith, (sides sound).0, past)); to_by = λ sound. by sound refl }, tt)
-windings_by c n neutral volts (kinds.WyeWye high low low_volts ohm low_ohm) h sides by = (
+windings_by c n neutral volts (kinds.WyeWye high low low_volts ohm low_ohm third) h sides by = (
   record { item_of = h; from_by = λ sound past. absurd (omega (arith, (sides sound).0.high_within, past)); to_by = λ sound. by sound refl },
-  (record { item_of = h; from_by = λ sound past. absurd (omega (arith, (sides sound).0.low_within, past)); to_by = λ sound. by sound refl }, tt),
+  (
+    record { item_of = h; from_by = λ sound past. absurd (omega (arith, (sides sound).0.low_within, past)); to_by = λ sound. by sound refl },
+    third_by c n neutral high low volts third h (λ sound. (sides sound).2) (λ sound. by sound refl),
+  ),
 )
-windings_by c n neutral volts (kinds.Auto high low low_volts ohm low_ohm) h sides by = (
+windings_by c n neutral volts (kinds.Auto high low low_volts ohm low_ohm third) h sides by = (
   record {
     item_of = h;
     from_by = λ sound past. absurd (omega (arith, (sides sound).0.high_within, past));
     to_by = λ sound past. absurd (omega (arith, (sides sound).0.low_within, past));
   },
-  (record { item_of = h; from_by = λ sound past. absurd (omega (arith, (sides sound).0.low_within, past)); to_by = λ sound. by sound refl }, tt),
+  (
+    record { item_of = h; from_by = λ sound past. absurd (omega (arith, (sides sound).0.low_within, past)); to_by = λ sound. by sound refl },
+    third_by c n neutral high low volts third h (λ sound. (sides sound).2) (λ sound. by sound refl),
+  ),
 )
+windings_by c n neutral volts (kinds.Reactor high ohm) h sides by =
+    (record { item_of = h; from_by = λ sound past. absurd (omega (arith, (sides sound).0, past)); to_by = λ sound. by sound refl }, tt)
 windings_by c n neutral volts kinds.DeltaDelta h sides by = tt
 
 -- a neutral resistor runs from the transformer's own neutral to its grid

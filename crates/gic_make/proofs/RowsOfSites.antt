@@ -2,6 +2,9 @@
 use Rattle.std.proofs.Common.{ℕ, ◌+◌, ◌<◌, ◌≤◌, min, unsigned_abs, List, length, refl, arith}
 use Rattle.std.proofs.Math.Nat.{mod-lt}
 use Rattle.std.proofs.lemmas.Int.{ints}
+use Rattle.std.proofs.lemmas.List.Elements.{All-from_recursion}
+use Rattle.gic_case.specs.declared.part.LinePart.{LinePart}
+use Rattle.gic_case.specs.Courses.{parts_of}
 use Rattle.gic_case.specs.Lists.{Lists}
 use Rattle.gic_case.specs.Sound.{IsSoundSubstation, IsSoundLine, IsSoundTransformer}
 use Rattle.gic_make.specs.Generator.{draw}
@@ -41,10 +44,11 @@ line_sound c states i behind within some =
     record {
       from_within = omega arith;
       to_within = within;
-      zone_within = some;
+      zones_within = All-from_recursion (λ (p : LinePart). p.zone < length c.zones) (parts_of (made_line states i).course) (some, tt);
+      few_parts = tt;
       ends_differ = λ same. omega arith;
       resistance_least = omega arith;
       resistance_most = omega arith;
-      north_within = span_small _ (draw_small states (first_draw i + 4) 2001 (omega arith));
-      east_within = span_small _ (draw_small states (first_draw i + 5) 2001 (omega arith));
+      north_within = let way = span_small _ (draw_small states (first_draw i + 4) 2001 (omega arith)) in omega (arith, way);
+      east_within = let way = span_small _ (draw_small states (first_draw i + 5) 2001 (omega arith)) in omega (arith, way);
     }

@@ -112,6 +112,7 @@ substation_siemens role.High = pos 30
 substation_siemens role.Low = pos 0
 substation_siemens role.Series = pos 0
 substation_siemens role.Common = pos 0
+substation_siemens role.Third = pos 0
 substation_siemens role.Neutral = pos 0
 
 substation_bounded : (states : List ℕ) (size : ℕ) → AllByRecursion (IsBounded is_earthing 32 substation_siemens) (drawn_elements states size)
@@ -132,6 +133,7 @@ bus_siemens role.High = negsuc 29
 bus_siemens role.Low = pos 0
 bus_siemens role.Series = pos 0
 bus_siemens role.Common = pos 0
+bus_siemens role.Third = pos 0
 bus_siemens role.Neutral = pos 0
 
 bus_bounded : (states : List ℕ) (size : ℕ) → AllByRecursion (IsBounded (runs_to_substation size) 6 bus_siemens) (drawn_elements states size)

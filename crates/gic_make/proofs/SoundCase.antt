@@ -73,7 +73,7 @@ drawn_sound states size least most =
       few_buses = omega arith;
       few_lines = omega arith;
       few_transformers = omega arith;
-      zones_sound = All-from_recursion IsZone (made_zone ∷ []) (record { latitude_most = omega arith; beta_least = omega arith; beta_most = omega arith }, tt);
+      zones_sound = All-from_recursion IsZone (made_zone ∷ []) ((omega arith, omega arith, omega arith), tt);
       substations_sound = All-from_recursion IsSoundSubstation _ (each_site IsSoundSubstation (made_substation states) 0 size (λ i low high. substation_sound states i));
       buses_within = All-from_recursion (λ (b : Bus). b.substation < length c.substations) _ (each_site (λ (b : Bus). b.substation < length c.substations) made_bus 0 size (λ i low high. omega arith));
       lines_sound = All-from_recursion (IsSoundLine c) _ (each_site (IsSoundLine c) (made_line states) 1 (size - 1) (λ i low high. line_sound c states i low (omega arith) (omega arith)));

@@ -1,8 +1,10 @@
 -- The case that the generator makes: so many sites, each a substation with its bus and its transformer, and from the second on with a line from the bus of one of the eight sites before. A substation, a bus, a line and a transformer are named by a letter and the number of their site, from 0.
 use Rattle.std.specs.Prelude.{ℕ, ◌+◌, ◌-◌, ◌*◌, min, ℤ, pos, ◌-ℤ◌, ◌*ℤ◌, false, Some, None, List, [], ◌∷◌, map, decimal}
 use Rattle.std.specs.List.{range_with_len}
+use Rattle.gic_scale.specs.declared.scaling.Scaling.TheVariants.{Earth}
 use Rattle.gic_scale.specs.ZoneView.{ZoneView}
 use Rattle.gic_case.specs.declared.item.Substation.{Substation}
+use Rattle.gic_case.specs.declared.course.Course.TheVariants.{One}
 use Rattle.gic_case.specs.declared.item.Bus.{Bus}
 use Rattle.gic_case.specs.declared.item.Line.{Line}
 use Rattle.gic_case.specs.declared.item.Kind.TheVariants.{DeltaWye}
@@ -20,7 +22,7 @@ numbered letter number = letter ∷ decimal number
 
 -- the one zone, `Z`
 abbrev pub made_zone : ZoneView
-made_zone = record { name = 90 ∷ []; latitude = 6000; beta = 100 }
+made_zone = record { name = 90 ∷ []; scaling = Earth 6000 100 }
 
 -- substation `S` of a site, whose ground is the site's first draw
 abbrev pub made_substation : (states : List ℕ) → (site : ℕ) → Substation
@@ -43,16 +45,14 @@ made_transformer states site = record {
 abbrev pub span : (drawn : ℕ) → ℤ
 span drawn = pos 100 *ℤ (pos drawn -ℤ pos 1000)
 
--- line `L` of a site, to its bus. Its next four draws are how far before the last site it comes from, at most eight sites before its own, its resistance, and its span to the north and to the east
+-- line `L` of a site, to its bus, in the one zone. Its next four draws are how far before the last site it comes from, at most eight sites before its own, its resistance, and its span to the north and to the east
 abbrev pub made_line : (states : List ℕ) → (site : ℕ) → Line
 made_line states site = record {
   name = numbered 76 site;
   from = site - 1 - draw states (first_draw site + 2) (min site 8);
   to = site;
-  zone = 0;
+  course = One (record { zone = 0; north = span (draw states (first_draw site + 4) 2001); east = span (draw states (first_draw site + 5) 2001) });
   resistance = 1000000 + 1000 * draw states (first_draw site + 3) 4000;
-  north = span (draw states (first_draw site + 4) 2001);
-  east = span (draw states (first_draw site + 5) 2001);
   blocked = false;
 }
 

@@ -16,8 +16,9 @@ grounds_of case = map (λ s. unwrap_or s.ground 0) case.substations
 -- the resistance of a high winding, 0 for none
 abbrev pub resistance_of : Kind → ℕ
 resistance_of (kinds.DeltaWye high high_resistance) = high_resistance
-resistance_of (kinds.WyeWye high low low_volts high_resistance low_resistance) = high_resistance
-resistance_of (kinds.Auto high low low_volts series_resistance common_resistance) = 0
+resistance_of (kinds.WyeWye high low low_volts high_resistance low_resistance third) = high_resistance
+resistance_of (kinds.Auto high low low_volts series_resistance common_resistance third) = 0
+resistance_of (kinds.Reactor high high_resistance) = high_resistance
 resistance_of kinds.DeltaDelta = 0
 
 -- the resistance of the first transformer's high winding

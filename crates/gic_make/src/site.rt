@@ -6,8 +6,8 @@ ghost use Rattle.gic_make.specs.Made.{first_draw, numbered, span, made_zone, mad
 
 use crate::generator::draw;
 use gic_base::Name;
-use gic_case::{Bus, Kind, Line, Substation, Transformer};
-use gic_scale::Zone;
+use gic_case::{Bus, Course, Kind, Line, LinePart, Substation, Transformer};
+use gic_scale::{Scaling, Zone};
 
 /// The draws of a site after the first: two for its substation and its transformer, and four for its line.
 const DRAWS_OF_A_SITE: usize = 6;
@@ -68,8 +68,10 @@ pub fn zone() -> Zone
 {
     Zone {
         name: name_of(b"Z"),
-        latitude: 6000,
-        beta: 100,
+        scaling: Scaling::Earth {
+            latitude: 6000,
+            beta: 100,
+        },
     }
 }
 
@@ -130,10 +132,12 @@ pub fn line(states: &[u32], site: u16) -> Line
         name: numbered(b'L', site),
         from: site - 1 - back,
         to: site,
-        zone: 0,
+        course: Course::One(LinePart {
+            zone: 0,
+            north: span(states, first + NORTH),
+            east: span(states, first + EAST),
+        }),
         resistance: 1_000_000 + 1000 * draw(states, first + RESISTANCE, 4000),
-        north: span(states, first + NORTH),
-        east: span(states, first + EAST),
         blocked: false,
     }
 }

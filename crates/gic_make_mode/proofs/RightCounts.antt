@@ -4,14 +4,14 @@ use Rattle.std.specs.Prelude.{nat_lt, nat_le}
 use Rattle.std.proofs.lemmas.Bool.{and_parts, and_from, cases_lt}
 use Rattle.std.proofs.lemmas.Bool.Decides.{nat_tests}
 use Rattle.std.proofs.lemmas.Int.{ints}
-use Rattle.gic_case.specs.Lists.{Lists}
+use Rattle.gic_case.specs.Lists.{Lists, has_effect}
 use Rattle.gic_case.specs.Sound.{IsSound}
 use Rattle.gic_fixed.specs.Encloses.{EnclosesAbsolute}
 use Rattle.gic_fixed.proofs.Enclosures.{Encloses-abs}
 use Rattle.gic_model.specs.Solution.{Solution, IsSolution}
 use Rattle.gic_model.specs.Sums.{Placed}
 use Rattle.gic_effective.specs.Weighted.{effective_numerator, effective_denominator}
-use Rattle.gic_report.specs.VerdictText.{earthed_high, is_judged, verdict_at}
+use Rattle.gic_report.specs.VerdictText.{is_judged, verdict_at}
 use Rattle.gic_view.specs.Absolute.{absolute_ends}
 use Rattle.gic_report.proofs.Absolutes.{absolute_narrow}
 use Rattle.gic_report.proofs.CountedVerdicts.{total_at, is_below, is_reaching, is_undecided, is_outside, is_below_so, is_reaching_so, is_undecided_so, below_step, reaches_step, undecided_step, outside_step, count_le, counted_at}
@@ -53,7 +53,7 @@ module _ (below_law : BelowIsUnder) (reaches_law : ReachesIsAtLeast) (case : Lis
   high_volts t = (transformer_at case t).high_volts
 
   abbrev earthed : ℕ → Bool
-  earthed t = earthed_high (transformer_at case t).kind
+  earthed t = has_effect (transformer_at case t).kind
 
   narrow : (t : ℕ) → t < length case.transformers → (hi t -ℤ lo t) ≤ℤ pos WIDTH
   narrow t within = absolute_narrow (effective_at view t).low (effective_at view t).high WIDTH (solved.narrow.effective t within)

@@ -38,6 +38,8 @@ pub enum Role {
     Series,
     /// An autotransformer's winding from the low bus to the neutral.
     Common,
+    /// The winding from the third bus to the neutral.
+    Third,
     /// The resistor in a transformer's neutral.
     Neutral,
 }
@@ -49,7 +51,7 @@ pub enum Item {
     Ground(u16),
     /// The line at this place.
     Line(u16),
-    /// The windings of the transformer at this place, both together.
+    /// The windings of the transformer at this place, all together.
     Transformer(u16),
     /// The neutral resistor of the transformer at this place.
     Neutral(u16),

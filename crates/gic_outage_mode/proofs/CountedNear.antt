@@ -5,7 +5,7 @@ use Rattle.std.proofs.lemmas.Bool.{and_from}
 use Rattle.std.proofs.lemmas.Bool.Decides.{nat_tests}
 use Rattle.std.proofs.lemmas.Grind.{common_steps}
 use Rattle.std.proofs.lemmas.Int.{ints}
-use Rattle.gic_case.specs.Lists.{Lists}
+use Rattle.gic_case.specs.Lists.{Lists, has_effect}
 use Rattle.gic_case.specs.Sound.{IsSound}
 use Rattle.gic_effective.specs.Weighted.{effective_numerator, effective_denominator}
 use Rattle.gic_fixed.specs.Ends.{Ends}
@@ -13,7 +13,7 @@ use Rattle.gic_model.specs.Solution.{Solution}
 use Rattle.gic_model.specs.Sums.{Placed}
 use Rattle.gic_report.specs.declared.counts.Counts.{Counts}
 use Rattle.gic_report.specs.Counts.{counts_of, transformers_with}
-use Rattle.gic_report.specs.VerdictText.{earthed_high, is_judged}
+use Rattle.gic_report.specs.VerdictText.{is_judged}
 use Rattle.gic_report.proofs.CountedVerdicts.{is_undecided, is_undecided_so, undecided_step, count_le, counted_at}
 use Rattle.gic_screen.specs.declared.criterion.Verdict.{Verdict}
 use Rattle.gic_screen.specs.declared.criterion.Verdict.TheVariants.{Undecided}
@@ -58,7 +58,7 @@ module _ (case : Lists) (standing : List Placed) (north east : ℕ → ℤ) (thr
   undecided_is_near t within undecided =
       let w = worst_at worsts t in
       let high_volts = (transformer_at case t).high_volts in
-      let earthed = earthed_high (transformer_at case t).kind in
+      let earthed = has_effect (transformer_at case t).kind in
       let n = effective_numerator case one t in
       let d = effective_denominator case t one in
       let m = effective_numerator case other t in

@@ -8,7 +8,7 @@ use Rattle.gic_effective.specs.Narrow.{IsNoWider}
 use Rattle.gic_effective.specs.Weighted.{effective_numerator, effective_denominator}
 use Rattle.gic_fixed.specs.Ends.{Ends}
 use Rattle.gic_model.specs.declared.parts.Item.{Item}
-use Rattle.gic_report.specs.VerdictText.{earthed_high}
+use Rattle.gic_case.specs.Lists.{has_effect}
 use Rattle.gic_screen.specs.declared.criterion.Verdict.TheVariants.{Below, Reaches}
 use Rattle.gic_screen.specs.Verdict.{verdict_of}
 use Rattle.gic_screen.specs.VerdictLaws.{UndecidedIsAcross, WorstBelowIsUnder, WorstReachesIsAtLeast}
@@ -86,7 +86,7 @@ module _ (across : UndecidedIsAcross) (under : WorstBelowIsUnder) (at_least : Wo
         let own = shows inputs outages are_right t within item solved in
         let row = transformer_at inputs.case t in
         (true_here item t own.w within own.right).below
-        (below_too e.low e.high own.w.low own.w.high (threshold_asked inputs) row.high_volts (earthed_high row.kind) own.right.in_order (are.most own.place own.w own.shown) said)
+        (below_too e.low e.high own.w.low own.w.high (threshold_asked inputs) row.high_volts (has_effect row.kind) own.right.in_order (are.most own.place own.w own.shown) said)
 
     at_least_once : (t : ℕ) (e : Ends) → t < length inputs.case.transformers → AreGreatest (worsts_of outages t) e → worst_verdict_at inputs.case (threshold_asked inputs) t e ≡ Reaches → IsWorstAtLeastOnce inputs (threshold_asked inputs) t
     at_least_once t e within are said =
@@ -95,14 +95,14 @@ module _ (across : UndecidedIsAcross) (under : WorstBelowIsUnder) (at_least : Wo
         record {
           item = own.item;
           solved = own.solved;
-          at_least = (true_here own.item t are.shown within own.right).reaches (reaches_too e.low e.high are.shown.low are.shown.high (threshold_asked inputs) row.high_volts (earthed_high row.kind) (omega (arith, ints, are.begins)) said);
+          at_least = (true_here own.item t are.shown within own.right).reaches (reaches_too e.low e.high are.shown.low are.shown.high (threshold_asked inputs) row.high_volts (has_effect row.kind) (omega (arith, ints, are.begins)) said);
         }
 
     true_over : (t : ℕ) (e : Ends) → t < length inputs.case.transformers → AreGreatest (worsts_of outages t) e → IsTrueOverOutages inputs (threshold_asked inputs) t e
     true_over t e within are = record {
       below = under_all t e within are;
       reaches = at_least_once t e within are;
-      undecided = λ said. across e.low e.high (threshold_asked inputs) (transformer_at inputs.case t).high_volts (earthed_high (transformer_at inputs.case t).kind) said;
+      undecided = λ said. across e.low e.high (threshold_asked inputs) (transformer_at inputs.case t).high_volts (has_effect (transformer_at inputs.case t).kind) said;
     }
 
 -- the clauses of the law

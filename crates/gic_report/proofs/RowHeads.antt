@@ -5,6 +5,7 @@ use Rattle.std.proofs.lemmas.List.Elements.{filter-append}
 use Rattle.std.specs.Prelude.{if◌then◌else◌}
 use Rattle.std.specs.List.{enumerate_from, filter, flat_map}
 use Rattle.gic_case.specs.declared.item.Line.{Line}
+use Rattle.gic_case.specs.declared.item.Third.{Third}
 use Rattle.gic_case.specs.declared.item.Kind.{Kind}
 use Rattle.gic_case.specs.declared.item.Kind.TheVariants as kinds
 use Rattle.gic_case.specs.declared.item.Neutral.{Neutral}
@@ -14,10 +15,10 @@ use Rattle.gic_case.specs.Lists.{Lists, grid_of, neutrals_of}
 use Rattle.gic_model.specs.declared.parts.Element.{Element}
 use Rattle.gic_model.specs.declared.parts.Item.TheVariants as item
 use Rattle.gic_model.specs.declared.parts.Role.TheVariants as role
-use Rattle.gic_winding.specs.ElementList.{all_windings_of, earthing_of, earthings_of, elements_of, item_name, line, line_of, lines_of, resistor_of, resistors_of, windings_of}
+use Rattle.gic_winding.specs.ElementList.{all_windings_of, earthing_of, earthings_of, elements_of, item_name, line, line_of, lines_of, resistor_of, resistors_of, third_of, windings_of}
 use Rattle.gic_report.specs.SharedLines.{Words}
 use Rattle.gic_report.specs.declared.rows.ItemRow.{ItemRow}
-use Rattle.gic_report.specs.ItemText.{all_ground_rows, all_line_rows, all_neutral_rows, all_winding_rows, ground_rows, line_row, named_as, neutral_rows, item_row_words, item_rows_of, winding_rows}
+use Rattle.gic_report.specs.ItemText.{all_ground_rows, all_line_rows, all_neutral_rows, all_winding_rows, ground_rows, line_row, named_as, neutral_rows, item_row_words, item_rows_of, third_rows, winding_rows}
 use Rattle.gic_report.specs.Places.{element_words}
 use Rattle.gic_report.proofs.ListParts.{drop_first}
 use Rattle.gic_report.proofs.NeutralNames.{transformers_of_neutrals}
@@ -56,10 +57,15 @@ module _ (c : Lists) where
       elim l.blocked as (λ b. map said (if b then [] else (line n (first + l.from) (first + l.to) l.resistance ∷ [])) ≡ map item_row_words (if not b then line_row l ∷ [] else []))
       [ true ↦ refl | false ↦ ap (λ w. named_as role.Line w ∷ []) e ]
 
+  third_named : (first n neutral : ℕ) (name : List ℕ) (third : Option Third) → item_name c (item.Transformer n) ≡ name → map said (third_of first n neutral third) ≡ heads (third_rows name third)
+  third_named first n neutral name None e = refl
+  third_named first n neutral name (Some t) e = ap (λ w. named_as role.Third w ∷ []) e
+
   winding_named : (first n neutral : ℕ) (name : List ℕ) (kind : Kind) → item_name c (item.Transformer n) ≡ name → map said (windings_of first n neutral kind) ≡ heads (winding_rows name kind)
   winding_named first n neutral name (kinds.DeltaWye high ohm) e = ap (λ w. named_as role.High w ∷ []) e
-  winding_named first n neutral name (kinds.WyeWye high low low_volts ohm low_ohm) e = ap (λ w. named_as role.High w ∷ named_as role.Low w ∷ []) e
-  winding_named first n neutral name (kinds.Auto high low low_volts ohm low_ohm) e = ap (λ w. named_as role.Series w ∷ named_as role.Common w ∷ []) e
+  winding_named first n neutral name (kinds.WyeWye high low low_volts ohm low_ohm third) e = ap₂ (λ w ws. named_as role.High w ∷ named_as role.Low w ∷ ws) e (third_named first n neutral name third e)
+  winding_named first n neutral name (kinds.Auto high low low_volts ohm low_ohm third) e = ap₂ (λ w ws. named_as role.Series w ∷ named_as role.Common w ∷ ws) e (third_named first n neutral name third e)
+  winding_named first n neutral name (kinds.Reactor high ohm) e = ap (λ w. named_as role.High w ∷ []) e
   winding_named first n neutral name kinds.DeltaDelta e = refl
 
   neutral_named : (n neutral grid : ℕ) (name : List ℕ) (device : Option Neutral) → item_name c (item.Neutral n) ≡ name → map said (resistor_of n neutral grid device) ≡ heads (neutral_rows name device)

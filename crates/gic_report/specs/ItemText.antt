@@ -7,6 +7,7 @@ use Rattle.gic_model.specs.declared.parts.Role.{Role}
 use Rattle.gic_model.specs.declared.parts.Role.TheVariants as role
 use Rattle.gic_case.specs.declared.item.Substation.{Substation}
 use Rattle.gic_case.specs.declared.item.Line.{Line}
+use Rattle.gic_case.specs.declared.item.Third.{Third}
 use Rattle.gic_case.specs.declared.item.Kind.{Kind}
 use Rattle.gic_case.specs.declared.item.Kind.TheVariants as kinds
 use Rattle.gic_case.specs.declared.item.Neutral.{Neutral}
@@ -36,6 +37,7 @@ named_as role.High name = codes "winding" ∷ name ∷ role_word role.High ∷ [
 named_as role.Low name = codes "winding" ∷ name ∷ role_word role.Low ∷ []
 named_as role.Series name = codes "winding" ∷ name ∷ role_word role.Series ∷ []
 named_as role.Common name = codes "winding" ∷ name ∷ role_word role.Common ∷ []
+named_as role.Third name = codes "winding" ∷ name ∷ role_word role.Third ∷ []
 
 abbrev pub item_row_words : ItemRow → Words
 item_row_words row = named_as row.role row.name
@@ -71,11 +73,17 @@ ground_rows name (Some ohm) = item_row_of role.Ground name false ∷ []
 abbrev pub line_row : Line → ItemRow
 line_row l = item_row_of role.Line l.name l.blocked
 
+-- a third winding
+abbrev pub third_rows : List ℕ → Option Third → List ItemRow
+third_rows name None = []
+third_rows name (Some t) = item_row_of role.Third name false ∷ []
+
 -- the windings of a transformer
 abbrev pub winding_rows : List ℕ → Kind → List ItemRow
 winding_rows name (kinds.DeltaWye high high_resistance) = item_row_of role.High name false ∷ []
-winding_rows name (kinds.WyeWye high low low_volts high_resistance low_resistance) = item_row_of role.High name false ∷ item_row_of role.Low name false ∷ []
-winding_rows name (kinds.Auto high low low_volts series_resistance common_resistance) = item_row_of role.Series name false ∷ item_row_of role.Common name false ∷ []
+winding_rows name (kinds.WyeWye high low low_volts high_resistance low_resistance third) = item_row_of role.High name false ∷ item_row_of role.Low name false ∷ third_rows name third
+winding_rows name (kinds.Auto high low low_volts series_resistance common_resistance third) = item_row_of role.Series name false ∷ item_row_of role.Common name false ∷ third_rows name third
+winding_rows name (kinds.Reactor high high_resistance) = item_row_of role.High name false ∷ []
 winding_rows name kinds.DeltaDelta = []
 
 -- a neutral device, which is a resistor or blocked

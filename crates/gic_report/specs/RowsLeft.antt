@@ -9,4 +9,4 @@ use Rattle.gic_report.specs.ItemText.{all_ground_rows, all_line_rows, all_neutra
 abbrev pub rows_left : ItemRows → List ItemRow
 rows_left r =
     all_ground_rows r.grounds.now ++
-    (all_line_rows r.lines.now ++ ((option_to_list r.second ++ all_winding_rows r.windings.now) ++ all_neutral_rows r.neutrals.now))
+    (all_line_rows r.lines.now ++ ((option_to_list r.second ++ (option_to_list r.third ++ all_winding_rows r.windings.now)) ++ all_neutral_rows r.neutrals.now))

@@ -4,9 +4,8 @@ use Rattle.std.specs.Fmt.{signed_decimal}
 use Rattle.gic_view.specs.View.{View, effective_at}
 use Rattle.gic_view.specs.Absolute.{absolute_ends}
 use Rattle.gic_fixed.specs.Ends.{Ends}
-use Rattle.gic_case.specs.declared.item.Kind.{Kind}
 use Rattle.gic_case.specs.declared.item.Transformer.{Transformer}
-use Rattle.gic_case.specs.Lists.{Lists, has_windings}
+use Rattle.gic_case.specs.Lists.{Lists, has_effect}
 use Rattle.gic_winding.specs.Weights.{transformer_at}
 use Rattle.gic_screen.specs.declared.criterion.Verdict.{Verdict}
 use Rattle.gic_screen.specs.declared.criterion.Verdict.TheVariants.{Below, Reaches, Undecided, Outside}
@@ -14,13 +13,9 @@ use Rattle.gic_screen.specs.Verdict.{is_assessed, verdict_of}
 use Rattle.gic_report.specs.SharedLines.{Words}
 use Rattle.gic_report.specs.ItemText.{per_transformer}
 
--- the high side has a winding to the neutral or to one that leads there, as NERC TPL-007 asks, whatever neutral device there is: only a delta-delta unit has none
-abbrev pub earthed_high : Kind → Bool
-earthed_high kind = has_windings kind
-
--- the transformer at a place of the case is assessed: its verdict isn't outside
+-- the transformer at a place of the case is assessed, as NERC TPL-007 asks, whatever neutral device there is: its verdict isn't outside
 abbrev pub is_judged : Lists → (t : ℕ) → Bool
-is_judged case t = is_assessed (transformer_at case t).high_volts (earthed_high (transformer_at case t).kind)
+is_judged case t = is_assessed (transformer_at case t).high_volts (has_effect (transformer_at case t).kind)
 
 -- the interval lies across a threshold in mA: it begins under it, and doesn't end under it
 abbrev pub IsAcross : (threshold : ℕ) → Ends → Type 0
@@ -28,7 +23,7 @@ IsAcross threshold ends = (ends.low <ℤ pos threshold) × (pos threshold ≤ℤ
 
 -- the verdict on a transformer whose absolute current is in this interval, against a threshold in mA
 abbrev pub verdict_in : (threshold : ℕ) → Transformer → Ends → Verdict
-verdict_in threshold t e = verdict_of e.low e.high threshold t.high_volts (earthed_high t.kind)
+verdict_in threshold t e = verdict_of e.low e.high threshold t.high_volts (has_effect t.kind)
 
 -- the same of one whose signed effective current is in it
 abbrev pub verdict_on : (threshold : ℕ) → Transformer → Ends → Verdict

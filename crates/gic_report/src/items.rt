@@ -82,7 +82,7 @@ fn add_row_words(row: &ItemRow, line: &mut LineBuilder)
             line.word(b"neutral");
             line.word(name);
         }
-        Role::High | Role::Low | Role::Series | Role::Common => {
+        Role::High | Role::Low | Role::Series | Role::Common | Role::Third => {
             line.word(b"winding");
             line.word(name);
             line.word(role_word(row.role).as_bytes());

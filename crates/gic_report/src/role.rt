@@ -16,6 +16,7 @@ pub fn role_word(role: Role) -> &'static str
         Role::Low => "low",
         Role::Series => "series",
         Role::Common => "common",
+        Role::Third => "third",
         Role::Neutral => "neutral",
     }
 }

@@ -2,12 +2,12 @@
 ghost use Rattle.std.specs.Prelude.{◌≡◌, [], ◌∷◌, ◌++◌, MatchOption};
 ghost use Rattle.std.specs.Option.{option_to_list};
 ghost use Rattle.std.specs.Iterator.{YieldsFirst, item_count};
-ghost use Rattle.gic_report.specs.ItemText.{ground_rows, line_row, winding_rows, neutral_rows};
+ghost use Rattle.gic_report.specs.ItemText.{ground_rows, line_row, third_rows, winding_rows, neutral_rows};
 ghost use Rattle.gic_report.specs.ItemText.{all_ground_rows, all_winding_rows, all_neutral_rows, item_rows_of};
 ghost use Rattle.gic_report.specs.RowsLeft.{rows_left};
 
 use gic_base::Name;
-use gic_case::{Case, Kind, Line, Neutral, Substation, Transformer};
+use gic_case::{Case, Kind, Line, Neutral, Substation, Third, Transformer};
 use gic_model::Role;
 
 /// A row of the items of a case: what stands in it, the name of its substation, line or transformer, and whether it is
@@ -43,6 +43,8 @@ pub struct ItemRows<'a> {
     lines: &'a [Line],
     /// The second winding of a transformer whose first one was the last row.
     second: Option<ItemRow>,
+    /// The third winding of a transformer whose first or second one was the last row.
+    third: Option<ItemRow>,
     windings: &'a [Transformer],
     neutrals: &'a [Transformer],
 }
@@ -56,6 +58,7 @@ impl<'a> ItemRows<'a> {
             grounds: case.substations(),
             lines: case.lines(),
             second: None,
+            third: None,
             windings: case.transformers(),
             neutrals: case.transformers(),
         }
@@ -83,22 +86,38 @@ fn line_row(line: &Line) -> ItemRow
     }
 }
 
-/// The rows of a transformer's windings, if it has any: of the first one, and of the second one if there is one.
-fn winding_rows(transformer: &Transformer) -> Option<(ItemRow, Option<ItemRow>)>
+/// The row of a third winding, if there is one.
+fn third_row(name: Name, third: Option<Third>) -> Option<ItemRow>
+    ensures { third_rows name third ≡ option_to_list result }
+{
+    match third {
+        Some(_) => Some(ItemRow::new(Role::Third, name)),
+        None => None,
+    }
+}
+
+/// The rows of a transformer's windings, if it has any: of the first one, and of the second and the third one if there are
+/// such.
+fn winding_rows(transformer: &Transformer) -> Option<(ItemRow, Option<ItemRow>, Option<ItemRow>)>
     ensures { MatchOption result
         (winding_rows transformer.now.name transformer.now.kind ≡ [])
-        (λ p. winding_rows transformer.now.name transformer.now.kind ≡ p.0 ∷ option_to_list p.1) }
+        (λ p. winding_rows transformer.now.name transformer.now.kind
+        ≡ p.0 ∷ (option_to_list p.1 ++ option_to_list p.2)) }
 {
     let name = transformer.name;
     match transformer.kind {
-        Kind::DeltaWye { .. } => Some((ItemRow::new(Role::High, name), None)),
-        Kind::WyeWye { .. } => {
-            let low = ItemRow::new(Role::Low, name);
-            Some((ItemRow::new(Role::High, name), Some(low)))
+        Kind::DeltaWye { .. } | Kind::Reactor { .. } => {
+            Some((ItemRow::new(Role::High, name), None, None))
         }
-        Kind::Auto { .. } => {
+        Kind::WyeWye { third, .. } => {
+            let low = ItemRow::new(Role::Low, name);
+            let third = third_row(name, third);
+            Some((ItemRow::new(Role::High, name), Some(low), third))
+        }
+        Kind::Auto { third, .. } => {
             let common = ItemRow::new(Role::Common, name);
-            Some((ItemRow::new(Role::Series, name), Some(common)))
+            let third = third_row(name, third);
+            Some((ItemRow::new(Role::Series, name), Some(common), third))
         }
         Kind::DeltaDelta => None,
     }
@@ -135,16 +154,19 @@ fn next_ground(substations: &[Substation]) -> Option<(ItemRow, &[Substation])>
     None
 }
 
-/// The first row of these windings, the one of the same transformer behind it, and the transformers behind that.
-fn next_windings(transformers: &[Transformer]) -> Option<(ItemRow, Option<ItemRow>, &[Transformer])>
+/// The first row of these windings, those of the same transformer behind it, and the transformers behind that.
+fn next_windings(
+    transformers: &[Transformer],
+) -> Option<(ItemRow, Option<ItemRow>, Option<ItemRow>, &[Transformer])>
     ensures { MatchOption result
         (all_winding_rows transformers.now ≡ [])
-        (λ p. all_winding_rows transformers.now ≡ p.0 ∷ (option_to_list p.1 ++ all_winding_rows p.2.now)) }
+        (λ p. all_winding_rows transformers.now
+        ≡ p.0 ∷ (option_to_list p.1 ++ (option_to_list p.2 ++ all_winding_rows p.3.now))) }
 {
     let mut left = transformers;
     while let Some((transformer, others)) = left.split_first() {
-        if let Some((first, second)) = winding_rows(transformer) {
-            return Some((first, second, others));
+        if let Some((first, second, third)) = winding_rows(transformer) {
+            return Some((first, second, third, others));
         }
         left = others;
     }
@@ -187,8 +209,13 @@ impl Iterator for ItemRows<'_> {
             self.second = None;
             return Some(row);
         }
-        if let Some((first, second, others)) = next_windings(self.windings) {
+        if let Some(row) = self.third {
+            self.third = None;
+            return Some(row);
+        }
+        if let Some((first, second, third, others)) = next_windings(self.windings) {
             self.second = second;
+            self.third = third;
             self.windings = others;
             return Some(first);
         }

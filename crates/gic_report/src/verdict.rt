@@ -6,7 +6,8 @@ ghost use Rattle.gic_base.specs.Pieces.{AppendsPart};
 ghost use Rattle.gic_fixed.specs.Ends.{ends_of};
 ghost use Rattle.gic_text.specs.Lines.{with_word, line_text, lines_text};
 ghost use Rattle.gic_view.specs.Absolute.{HasAbsolute};
-ghost use Rattle.gic_report.specs.VerdictText.{earthed_high, verdict_in, verdict_word, judged_line};
+ghost use Rattle.gic_report.specs.VerdictText.{verdict_in, verdict_word, judged_line};
+ghost use Rattle.gic_case.specs.Lists.{has_effect};
 ghost use Rattle.gic_report.specs.VerdictText.{absolute_line, absolute_lines, transformer_line, transformer_lines};
 
 use crate::cells::EffectiveCells;
@@ -18,13 +19,13 @@ use gic_screen::{Verdict, verdict};
 use gic_text::LineBuilder;
 use gic_view::StepView;
 
-/// Whether the high side of a unit is earthed through its winding, as NERC TPL-007 asks of one that is assessed.
-fn earthed_high(kind: Kind) -> bool
-    ensures { result ≡ earthed_high kind }
+/// Whether the core of a unit of a kind has an effective current here: not that of a reactor, nor of a delta-delta unit.
+fn has_effect(kind: Kind) -> bool
+    ensures { result ≡ has_effect kind }
 {
     match kind {
         Kind::DeltaWye { .. } | Kind::WyeWye { .. } | Kind::Auto { .. } => true,
-        Kind::DeltaDelta => false,
+        Kind::Reactor { .. } | Kind::DeltaDelta => false,
     }
 }
 
@@ -33,8 +34,8 @@ fn earthed_high(kind: Kind) -> bool
 pub fn verdict_in(transformer: &Transformer, current: Interval, threshold: u32) -> Verdict
     ensures { result ≡ verdict_in threshold transformer.now (ends_of current) }
 {
-    let is_earthed = earthed_high(transformer.kind);
-    verdict(current, threshold, transformer.high_volts, is_earthed)
+    let has_effect = has_effect(transformer.kind);
+    verdict(current, threshold, transformer.high_volts, has_effect)
 }
 
 /// How the report names a verdict.

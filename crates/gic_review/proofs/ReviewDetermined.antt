@@ -12,7 +12,7 @@ use Rattle.gic_findings.specs.declared.finding.Finding.TheVariants.{Ungrounded, 
 use Rattle.gic_findings.specs.declared.finding.CaseList.{CaseList}
 use Rattle.gic_findings.specs.declared.finding.CaseList.TheVariants as lists
 use Rattle.gic_findings.specs.declared.finding.Side.{Side}
-use Rattle.gic_findings.specs.declared.finding.Side.TheVariants.{High, Low}
+use Rattle.gic_findings.specs.declared.finding.Side.TheVariants.{High, Low, Third}
 use Rattle.gic_findings.specs.declared.measured.Quantity.{Quantity}
 use Rattle.gic_findings.specs.declared.measured.Quantity.TheVariants as values
 use Rattle.gic_report.specs.SharedLines.{Words, word_line}
@@ -44,11 +44,15 @@ same_list : (l m : CaseList) → list_word l ≡ list_word m → l ≡ m
 same_list l m e = sym (list_read l) ∙ ap (λ (w : List ℕ). list_of (tag w)) e ∙ list_read m
 
 abbrev side_of : ℕ → Side
-side_of n = if n == tag (codes "high_volts") then High else Low
+side_of n =
+    if n == tag (codes "high_volts") then High
+    else if n == tag (codes "low_volts") then Low
+    else Third
 
 side_read : (s : Side) → side_of (tag (side_word s)) ≡ s
 side_read High = refl
 side_read Low = refl
+side_read Third = refl
 
 same_side : (s t : Side) → side_word s ≡ side_word t → s ≡ t
 same_side s t e = sym (side_read s) ∙ ap (λ (w : List ℕ). side_of (tag w)) e ∙ side_read t
@@ -66,6 +70,7 @@ quantity_of n =
     else if n == tag (codes "low_resistance") then values.LowResistance
     else if n == tag (codes "series_resistance") then values.SeriesResistance
     else if n == tag (codes "common_resistance") then values.CommonResistance
+    else if n == tag (codes "third_resistance") then values.ThirdResistance
     else values.Neutral
 
 field_read : (m : Quantity) → quantity_of (tag (field_word m)) ≡ m
@@ -80,6 +85,7 @@ field_read values.HighResistance = refl
 field_read values.LowResistance = refl
 field_read values.SeriesResistance = refl
 field_read values.CommonResistance = refl
+field_read values.ThirdResistance = refl
 field_read values.Neutral = refl
 
 same_field : (m n : Quantity) → field_word m ≡ field_word n → m ≡ n
@@ -94,6 +100,7 @@ list_is_word lists.Transformer = word_from_test (codes "transformer") refl
 side_is_word : (s : Side) → IsWord (side_word s)
 side_is_word High = word_from_test (codes "high_volts") refl
 side_is_word Low = word_from_test (codes "low_volts") refl
+side_is_word Third = word_from_test (codes "third_volts") refl
 
 field_is_word : (m : Quantity) → IsWord (field_word m)
 field_is_word values.Latitude = word_from_test (codes "latitude") refl
@@ -107,6 +114,7 @@ field_is_word values.HighResistance = word_from_test (codes "high_resistance") r
 field_is_word values.LowResistance = word_from_test (codes "low_resistance") refl
 field_is_word values.SeriesResistance = word_from_test (codes "series_resistance") refl
 field_is_word values.CommonResistance = word_from_test (codes "common_resistance") refl
+field_is_word values.ThirdResistance = word_from_test (codes "third_resistance") refl
 field_is_word values.Neutral = word_from_test (codes "neutral") refl
 
 number_is_word : (n : ℕ) → n < 2 ^ 64 → IsWord (decimal n)

@@ -6,7 +6,7 @@ use Rattle.gic_findings.specs.declared.finding.Finding.TheVariants.{Ungrounded, 
 use Rattle.gic_findings.specs.declared.finding.CaseList.{CaseList}
 use Rattle.gic_findings.specs.declared.finding.CaseList.TheVariants as lists
 use Rattle.gic_findings.specs.declared.finding.Side.{Side}
-use Rattle.gic_findings.specs.declared.finding.Side.TheVariants.{High, Low}
+use Rattle.gic_findings.specs.declared.finding.Side.TheVariants.{High, Low, Third}
 use Rattle.gic_findings.specs.declared.measured.Quantity.{Quantity}
 use Rattle.gic_findings.specs.declared.measured.Quantity.TheVariants as values
 use Rattle.gic_report.specs.SharedLines.{Words}
@@ -31,12 +31,14 @@ field_word values.HighResistance = codes "high_resistance"
 field_word values.LowResistance = codes "low_resistance"
 field_word values.SeriesResistance = codes "series_resistance"
 field_word values.CommonResistance = codes "common_resistance"
+field_word values.ThirdResistance = codes "third_resistance"
 field_word values.Neutral = codes "neutral"
 
 -- the rated voltage of a side goes by the key of a case
 abbrev pub side_word : Side → List ℕ
 side_word High = codes "high_volts"
 side_word Low = codes "low_volts"
+side_word Third = codes "third_volts"
 
 -- the line of a finding
 unfoldable pub finding_line : Finding → Words

@@ -34,6 +34,7 @@ pub(crate) fn field_word(measured: Quantity) -> &'static str
         Quantity::LowResistance => "low_resistance",
         Quantity::SeriesResistance => "series_resistance",
         Quantity::CommonResistance => "common_resistance",
+        Quantity::ThirdResistance => "third_resistance",
         Quantity::Neutral => "neutral",
     }
 }
@@ -46,5 +47,6 @@ pub(crate) fn side_word(side: Side) -> &'static str
     match side {
         Side::High => "high_volts",
         Side::Low => "low_volts",
+        Side::Third => "third_volts",
     }
 }

@@ -1,8 +1,10 @@
-//! How strong a field is at a geomagnetic latitude and over an earth, as the zones of a case give it.
+//! How strong a field is in a zone of a case: at a geomagnetic latitude and over an earth, or by one number.
 #![tactic(auto)]
 
 mod alpha;
+mod scaling;
 mod zone;
 
 pub use alpha::alpha_tenths;
+pub use scaling::Scaling;
 pub use zone::Zone;

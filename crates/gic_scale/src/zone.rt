@@ -3,29 +3,27 @@ ghost use Rattle.std.specs.Prelude.{◌≡◌, ◌*◌, ◌≤◌};
 ghost use Rattle.gic_scale.specs.Alpha.{alpha_of};
 
 use crate::alpha::alpha_tenths;
+use crate::scaling::Scaling;
 use gic_base::Name;
 use std::marker::Model;
 
-/// A part of the network in which the field is uniform. Its latitude is geomagnetic, in hundredths of a degree from 0 to
-/// 9000; beta is the scaling for the conductivity of the earth, in hundredths from 1 to 150.
+/// A part of the network in which the field is uniform, with how strong it is there.
 #[derive(Clone, Copy)]
 pub struct Zone {
     pub name: Name,
-    pub latitude: u16,
-    pub beta: u8,
+    pub scaling: Scaling,
 }
 
 impl Model for Zone {
-    ghost use Rattle.std.specs.Prelude.{◌≤◌};
     ghost use Rattle.gic_scale.specs.ZoneView.{ZoneView, IsZone};
 
     ghost Value = { ZoneView };
 
-    ghost view = { λ z. record { name = z.name; latitude = z.latitude; beta = z.beta } };
+    ghost view = { λ z. record { name = z.name; scaling = z.scaling } };
 
-    ghost invariant = { λ z. IsZone (record { name = z.name; latitude = z.latitude; beta = z.beta }) };
+    ghost invariant = { λ z. IsZone (record { name = z.name; scaling = z.scaling }) };
 
-    ghost inverse = { λ z. record { name = z.name; latitude = z.latitude; beta = z.beta } };
+    ghost inverse = { λ z. record { name = z.name; scaling = z.scaling } };
 }
 
 impl Zone {
@@ -38,6 +36,11 @@ impl Zone {
         ensures most { result ≤ 1500 }
         ensures zone { IsZone self.now }
     {
-        u16::from(alpha_tenths(self.latitude)) * u16::from(self.beta)
+        match self.scaling {
+            Scaling::Earth { latitude, beta } => {
+                u16::from(alpha_tenths(latitude)) * u16::from(beta)
+            }
+            Scaling::Factor(thousandths) => thousandths,
+        }
     }
 }

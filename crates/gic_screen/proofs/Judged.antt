@@ -10,11 +10,11 @@ use Rattle.gic_screen.specs.Worst.{EnclosesWorst}
 use Rattle.gic_fixed.proofs.Divisions.{positive_product}
 use Rattle.gic_screen.proofs.Squares.{square-le, square-times}
 
-pub below_under : (lo hi : ℤ) (threshold high_volts : ℕ) (earthed_high : Bool) → verdict_of lo hi threshold high_volts earthed_high ≡ Below → hi <ℤ pos threshold
-below_under lo hi threshold high_volts earthed_high h = grind (arith, common_steps)
+pub below_under : (lo hi : ℤ) (threshold high_volts : ℕ) (has_effect : Bool) → verdict_of lo hi threshold high_volts has_effect ≡ Below → hi <ℤ pos threshold
+below_under lo hi threshold high_volts has_effect h = grind (arith, common_steps)
 
-pub reaches_at_least : (lo hi : ℤ) (threshold high_volts : ℕ) (earthed_high : Bool) → verdict_of lo hi threshold high_volts earthed_high ≡ Reaches → pos threshold ≤ℤ lo
-reaches_at_least lo hi threshold high_volts earthed_high h = grind (arith, common_steps)
+pub reaches_at_least : (lo hi : ℤ) (threshold high_volts : ℕ) (has_effect : Bool) → verdict_of lo hi threshold high_volts has_effect ≡ Reaches → pos threshold ≤ℤ lo
+reaches_at_least lo hi threshold high_volts has_effect h = grind (arith, common_steps)
 
 -- what isn't above an end under the threshold is under the threshold
 pub under_end : (hi : ℤ) (n d threshold : ℕ) → 0 < d → hi <ℤ pos threshold → pos n ≤ℤ (hi *ℤ pos d) → n < threshold * d

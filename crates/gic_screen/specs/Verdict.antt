@@ -3,9 +3,9 @@ use Rattle.std.specs.Prelude.{ℕ, Bool, ◌&&◌, if◌then◌else◌, nat_lt, 
 use Rattle.gic_screen.specs.declared.criterion.Verdict.{Verdict}
 use Rattle.gic_screen.specs.declared.criterion.Verdict.TheVariants.{Below, Reaches, Undecided, Outside}
 
--- a transformer is assessed, as in NERC TPL-007, if its high side is earthed through its winding and has more than 200 kV
-abbrev pub is_assessed : (high_volts : ℕ) → (earthed_high : Bool) → Bool
-is_assessed high_volts earthed_high = nat_lt 200000 high_volts && earthed_high
+-- a transformer is assessed, as in NERC TPL-007, if its high side has more than 200 kV and its core an effective current, so that the high side is earthed through a winding
+abbrev pub is_assessed : (high_volts : ℕ) → (has_effect : Bool) → Bool
+is_assessed high_volts has_effect = nat_lt 200000 high_volts && has_effect
 
 -- the verdict of an assessed transformer whose current is from lo to hi
 abbrev pub verdict_within : (lo hi : ℤ) → (threshold : ℕ) → Verdict
@@ -14,6 +14,6 @@ verdict_within lo hi threshold =
     else (if int_lt hi (pos threshold) then Below else Undecided)
 
 -- the verdict of a transformer whose current is from lo to hi
-abbrev pub verdict_of : (lo hi : ℤ) → (threshold high_volts : ℕ) → (earthed_high : Bool) → Verdict
-verdict_of lo hi threshold high_volts earthed_high =
-    if is_assessed high_volts earthed_high then verdict_within lo hi threshold else Outside
+abbrev pub verdict_of : (lo hi : ℤ) → (threshold high_volts : ℕ) → (has_effect : Bool) → Verdict
+verdict_of lo hi threshold high_volts has_effect =
+    if is_assessed high_volts has_effect then verdict_within lo hi threshold else Outside

@@ -1,7 +1,7 @@
 -- The verdict on a right worst interval is true.
 use Rattle.std.proofs.Common.{◌≡◌, ℕ, ◌*◌, ◌<◌, Bool, List, ℤ, arith}
 use Rattle.std.proofs.lemmas.Grind.{common_steps}
-use Rattle.gic_case.specs.Lists.{Lists}
+use Rattle.gic_case.specs.Lists.{Lists, has_effect}
 use Rattle.gic_fixed.proofs.Divisions.{positive_product}
 use Rattle.gic_fixed.specs.Ends.{Ends}
 use Rattle.gic_model.specs.Sums.{Placed}
@@ -9,7 +9,6 @@ use Rattle.gic_winding.specs.Weights.{transformer_at}
 use Rattle.gic_screen.specs.Verdict.{verdict_of}
 use Rattle.gic_screen.specs.VerdictLaws.{UndecidedIsAcross, WorstBelowIsUnder, WorstReachesIsAtLeast}
 use Rattle.gic_screen.specs.declared.criterion.Verdict.TheVariants.{Below}
-use Rattle.gic_report.specs.VerdictText.{earthed_high}
 use Rattle.gic_screening.specs.RightRows.{IsRightWorst, IsTrueVerdict}
 
 -- a transformer that a verdict calls below is assessed, so its high voltage and its denominators are above 0
@@ -23,7 +22,7 @@ pub verdict_true : UndecidedIsAcross → WorstBelowIsUnder → WorstReachesIsAtL
     → IsRightWorst case standing north east width t worst → IsTrueVerdict case standing north east threshold t worst
 verdict_true across under at_least case standing north east threshold width t worst right =
     let high_volts = (transformer_at case t).high_volts in
-    let earthed = earthed_high (transformer_at case t).kind in
+    let earthed = has_effect (transformer_at case t).kind in
     record {
       below = λ said one other solves.
           let some = rated worst.low worst.high threshold high_volts earthed said in

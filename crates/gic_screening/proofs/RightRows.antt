@@ -1,7 +1,7 @@
 -- Rows of two solved views are right, and the verdicts on right worst intervals are true.
 use Rattle.std.proofs.Common.{◌≡◌, ℕ, ◌*◌, ◌<◌, ◌≤◌, List, length, ℤ, pos, arith, sym, subst, subst₂}
 use Rattle.std.proofs.lemmas.Int.{ints}
-use Rattle.gic_case.specs.Lists.{Lists}
+use Rattle.gic_case.specs.Lists.{Lists, has_effect}
 use Rattle.gic_case.specs.Sound.{IsSound}
 use Rattle.gic_fixed.specs.Ends.{Ends, IsAtMostWide}
 use Rattle.gic_induce.specs.Voltage.{IsFieldWithin}
@@ -15,7 +15,6 @@ use Rattle.gic_screen.specs.declared.event.Event.TheVariants.{Benchmark, Supplem
 use Rattle.gic_screen.specs.Event.{field_of}
 use Rattle.gic_screen.specs.VerdictLaws.{UndecidedIsAcross, WorstBelowIsUnder, WorstReachesIsAtLeast}
 use Rattle.gic_screen.specs.Worst.{IsWorstOf}
-use Rattle.gic_report.specs.VerdictText.{earthed_high}
 use Rattle.gic_uniform.specs.Solving.{IsSolvedView}
 use Rattle.gic_uniform.proofs.Denominators.{some_denominator}
 use Rattle.gic_screening.specs.Rows.{Row, screen_row_at, IsRowOf}
@@ -75,7 +74,7 @@ pub verdict_true : UndecidedIsAcross → WorstBelowIsUnder → WorstReachesIsAtL
     → IsSound case → t < length case.transformers → IsRightWorst case standing north east width t worst → IsTrueVerdict case standing north east threshold t worst
 verdict_true across under at_least case standing north east threshold width t worst sound inside right =
     let high_volts = (transformer_at case t).high_volts in
-    let earthed = earthed_high (transformer_at case t).kind in
+    let earthed = has_effect (transformer_at case t).kind in
     record {
       below = λ said one other solves.
           under worst.low worst.high (effective_numerator case one t) (effective_denominator case t one) (effective_numerator case other t) (effective_denominator case t other) threshold high_volts earthed

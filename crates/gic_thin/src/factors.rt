@@ -39,7 +39,7 @@ ghost use Rattle.std.specs.Prelude.{ℕ, ◌≡◌, ◌<◌, ◌≤◌, IfOk, le
 ghost use Rattle.gic_thin.specs.Inside.{AreArmsInside, AreStepsInside, AreEntriesInside};
 
 impl Factors {
-    /// For a network of this many nodes and elements, with room for [`ENTRIES_PER_ELEMENT`] and for
+    /// For a network of this many nodes and elements: room for [`ENTRIES_PER_ELEMENT`] entries for each element, and for
     /// [`LEAST_ENTRIES`] at least, but for no more than `MOST_AT_A_NODE` at each node.
     pub(crate) fn new(alloc: Global, nodes: u16, elements: u16) -> Result<Factors, OutOfMemory>
         ensures { IfOk result (λ factors. factors ≡ nodes) }

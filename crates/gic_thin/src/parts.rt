@@ -1,6 +1,7 @@
 //! The parts that lists are made of.
 ghost use Rattle.std.specs.Prelude.{◌^◌, ◌≤◌, ◌<◌};
 
+use gic_base::limits::MOST_ELEMENTS_BEFORE_FORMAT_3;
 use gic_model::End;
 
 /// The halves that an element makes: those of one link.
@@ -12,9 +13,9 @@ pub const MOST_HALVES: usize = HALVES_PER_ELEMENT * u16::MAX as usize;
 /// The entries of the factors for which there is room, for each element: what is left out makes a correction rougher.
 pub const ENTRIES_PER_ELEMENT: usize = 4;
 
-/// The entries for which there is room all the same in a smaller network: those for 19968 elements, the most of a case of
-/// format 1 or 2.
-pub const LEAST_ENTRIES: usize = ENTRIES_PER_ELEMENT * 19968;
+/// The entries for which there is room all the same in a smaller network: those for the most elements of a case of format 1
+/// or 2.
+pub const LEAST_ENTRIES: usize = ENTRIES_PER_ELEMENT * MOST_ELEMENTS_BEFORE_FORMAT_3;
 
 /// The entries of the factors, at most.
 pub const MOST_ENTRIES: usize = ENTRIES_PER_ELEMENT * u16::MAX as usize;

@@ -24,11 +24,11 @@ use Rattle.gic_model.proofs.Ends.{IsLiveEnd, end_own, from_own, ends_live}
 use Rattle.gic_model.proofs.Members.{both, by_any}
 use Rattle.gic_winding.specs.ElementList.{elements_of}
 use Rattle.gic_winding.specs.Order.{weighted_from}
-use Rattle.gic_winding.specs.Weights.{low_volts_of, transformer_at, no_transformer, weighted_windings, windings_at}
+use Rattle.gic_winding.specs.Weights.{transformer_at, no_transformer, weighted_windings, windings_at}
 use Rattle.gic_winding.proofs.Around.{front_of}
 use Rattle.gic_winding.proofs.Weighted.{weighted_there}
 use Rattle.gic_effective.specs.Weighted.{effective_numerator}
-use Rattle.gic_effective.proofs.Weighings.{weighed, weights_most}
+use Rattle.gic_effective.proofs.Weighings.{AreAtMost, weighed, weight_most}
 
 -- the greatest potential of a network that is earthed within `MOST_WALK`, in nanovolts, and the greatest current, in nanoamperes
 abbrev pub most_potential : ℕ
@@ -93,29 +93,31 @@ module _ (nodes : ℕ) (standing : List Placed) (within : AllByRecursion (λ p. 
 
 -- ---- effective currents
 
--- a transformer has two windings at most
-weighted_few : (t : Transformer) (first : ℕ) (kind : Kind) → t.kind ≡ kind → length (weighted_from t first) ≤ 2
+-- a transformer has three windings at most
+weighted_few : (t : Transformer) (first : ℕ) (kind : Kind) → t.kind ≡ kind → length (weighted_from t first) ≤ 3
 weighted_few t first (kinds.DeltaWye high high_resistance) is = rw is (omega arith)
-weighted_few t first (kinds.WyeWye high low low_volts high_resistance low_resistance) is = rw is (omega arith)
-weighted_few t first (kinds.Auto high low low_volts series_resistance common_resistance) is = rw is (omega arith)
+weighted_few t first (kinds.WyeWye high low low_volts high_resistance low_resistance None) is = rw is (omega arith)
+weighted_few t first (kinds.WyeWye high low low_volts high_resistance low_resistance (Some third)) is = rw is (omega arith)
+weighted_few t first (kinds.Auto high low low_volts series_resistance common_resistance None) is = rw is (omega arith)
+weighted_few t first (kinds.Auto high low low_volts series_resistance common_resistance (Some third)) is = rw is (omega arith)
+weighted_few t first (kinds.Reactor high high_resistance) is = rw is (omega arith)
 weighted_few t first kinds.DeltaDelta is = rw is (omega arith)
 
-each_weight : (t : Transformer) (s : Solution) (m : ℕ) → low_volts_of t.kind ≤ t.high_volts → ((place : ℕ) → unsigned_abs (s.current place) ≤ m)
-    → (ps : List Placed) → AllByRecursion (λ (w : ElementId × ℕ). unsigned_abs (pos w.1 *ℤ s.current w.0.0) ≤ 2 * t.high_volts * m) (map (weighed t) ps)
+each_weight : (t : Transformer) (s : Solution) (m : ℕ) → AreAtMost t.high_volts t.kind → ((place : ℕ) → unsigned_abs (s.current place) ≤ m)
+    → (ps : List Placed) → AllByRecursion (λ (w : ElementId × ℕ). unsigned_abs (pos w.1 *ℤ s.current w.0.0) ≤ t.high_volts * m) (map (weighed t) ps)
 each_weight t s m order few [] = tt
 each_weight t s m order few (p ∷ ps) =
-    let weight = weights_most t (p ∷ []) (Some (weighed t p)) None order refl in
     let product : unsigned_abs (pos (weighed t p).1 *ℤ s.current p.0) ≡ (weighed t p).1 * unsigned_abs (s.current p.0) = unsigned_abs-mul (pos (weighed t p).1) (s.current p.0) in
-    let most : (weighed t p).1 * unsigned_abs (s.current p.0) ≤ 2 * t.high_volts * m = mul-le-mul (omega (arith, weight)) (few p.0) in
+    let most : (weighed t p).1 * unsigned_abs (s.current p.0) ≤ t.high_volts * m = mul-le-mul (weight_most t order p.1.role) (few p.0) in
     (omega (arith, product, most), each_weight t s m order few ps)
 
 -- the effective numerator of a transformer
-pub numerator_few : (case : Lists) (t : ℕ) (s : Solution) (m : ℕ) → t < length case.transformers → low_volts_of (transformer_at case t).kind ≤ (transformer_at case t).high_volts
-    → ((place : ℕ) → unsigned_abs (s.current place) ≤ m) → unsigned_abs (effective_numerator case s t) ≤ 4 * ((transformer_at case t).high_volts * m)
+pub numerator_few : (case : Lists) (t : ℕ) (s : Solution) (m : ℕ) → t < length case.transformers → AreAtMost (transformer_at case t).high_volts (transformer_at case t).kind
+    → ((place : ℕ) → unsigned_abs (s.current place) ≤ m) → unsigned_abs (effective_numerator case s t) ≤ 3 * ((transformer_at case t).high_volts * m)
 numerator_few case t s m inside order few =
     let row = transformer_at case t in
-    let sum = unsigned_abs-sum_of (λ (w : ElementId × ℕ). pos w.1 *ℤ s.current w.0.0) (2 * row.high_volts * m) (weighted_windings case t) (each_weight row s m order few (windings_at (elements_of case) t)) in
+    let sum = unsigned_abs-sum_of (λ (w : ElementId × ℕ). pos w.1 *ℤ s.current w.0.0) (row.high_volts * m) (weighted_windings case t) (each_weight row s m order few (windings_at (elements_of case) t)) in
     let there = ap length (weighted_there case t row inside (get_or_default case.transformers t no_transformer row inside)) in
-    let count : length (weighted_windings case t) ≤ 2 = omega (arith, there, weighted_few row (length (front_of case t)) row.kind refl) in
-    let most : 2 * row.high_volts * m * length (weighted_windings case t) ≤ 2 * row.high_volts * m * 2 = mul-le-mul_left (2 * row.high_volts * m) count in
+    let count : length (weighted_windings case t) ≤ 3 = omega (arith, there, weighted_few row (length (front_of case t)) row.kind refl) in
+    let most : row.high_volts * m * length (weighted_windings case t) ≤ row.high_volts * m * 3 = mul-le-mul_left (row.high_volts * m) count in
     omega (arith, sum, most)

@@ -1,9 +1,8 @@
 //! One field for all zones of a case.
 ghost use Rattle.std.specs.Prelude.{◌≡◌, IfOk};
-ghost use Rattle.gic_induce.specs.LineVolts.{volts_of};
+ghost use Rattle.gic_induce.specs.LineVolts.{uniform_field, volts_of};
 ghost use Rattle.gic_induce.specs.Voltage.{IsFieldWithin};
 ghost use Rattle.gic_winding.specs.ElementList.{elements_of};
-ghost use Rattle.gic_uniform.specs.Uniform.{uniform_field};
 
 use gic_base::OutOfMemory;
 use gic_case::Case;
@@ -11,20 +10,6 @@ use gic_effective::laws::line_items_law;
 use gic_induce::{Fields, fill_volts};
 use gic_model::{Elements, Volts};
 use std::alloc::Global;
-
-/// One field for all zones of a case, in mV/km.
-fn uniform_field(alloc: Global, case: &Case, north: i32, east: i32) -> Result<Fields, OutOfMemory>
-    requires north { IsFieldWithin north }
-    requires east { IsFieldWithin east }
-    ensures { IfOk result (λ fields. fields ≡ uniform_field case.now north east) }
-{
-    let zones = case.zones().len() as u16;
-    let mut fields = Fields::new(alloc, zones)?;
-    for zone in 0..zones {
-        fields.set(zone, north, east);
-    }
-    Ok(fields)
-}
 
 /// The voltages in nanovolts of the elements of a case in one field for all zones, which is given in mV/km, to the
 /// north and to the east.
@@ -41,7 +26,8 @@ pub fn uniform_volts(
     ensures { IfOk result (λ volts. volts ≡ volts_of case.now (uniform_field case.now north east) (elements_of case.now).list) }
 {
     line_items_law();
-    let fields = uniform_field(alloc, case, north, east)?;
+    let zones = case.zones().len() as u16;
+    let fields = Fields::uniform(alloc, zones, north, east)?;
     let mut volts = Volts::new(alloc, elements)?;
     fill_volts(case, elements.list(), &fields, &mut volts);
     Ok(volts)

@@ -1,8 +1,7 @@
 -- What the mode prints.
-use Rattle.std.specs.Prelude.{◌≡◌, ℕ, ℤ, List, map}
+use Rattle.std.specs.Prelude.{◌≡◌, ℕ, ℤ, List}
 use Rattle.gic_case.specs.Lists.{Lists}
-use Rattle.gic_induce.specs.LineVolts.{zone_among}
-use Rattle.gic_induce.specs.Voltage.{line_nanovolts}
+use Rattle.gic_induce.specs.LineVolts.{all_line_volts, uniform_field}
 use Rattle.gic_text.specs.Lines.{lines_text}
 use Rattle.gic_volts.specs.VoltsText.{volts_report}
 use Rattle.gic_question.specs.declared.asked.Question.{Question}
@@ -10,7 +9,7 @@ use Rattle.gic_inputs.specs.declared.inputs.Inputs.{Inputs}
 
 -- the voltage of each line in nanovolts, blocked ones too, in one field for all zones
 abbrev pub line_volts : Lists → ℤ → ℤ → List ℤ
-line_volts case north east = map (λ l. line_nanovolts l (zone_among case.zones l.zone) north east) case.lines
+line_volts case north east = all_line_volts case (uniform_field case north east)
 
 -- the text of the report
 abbrev pub volts_text : Lists → Question → List ℕ

@@ -1,26 +1,39 @@
 //! The voltages of the lines of a case.
-ghost use Rattle.std.specs.Prelude.{◌≡◌, IfOk};
+ghost use Rattle.std.specs.Prelude.{◌≡◌, length, IfOk};
+ghost use Rattle.gic_induce.specs.LineVolts.{all_line_volts};
 ghost use Rattle.gic_question.specs.Ranges.{IsWithinRanges};
 ghost use Rattle.gic_volts.specs.RightVolts.{line_volts};
 
+use gic_base::OutOfMemory;
 use gic_case::Case;
-use gic_induce::volts_in_zone;
+use gic_induce::Fields;
 use gic_question::Question;
 use std::alloc::{AllocError, Global};
+
+/// The voltage of each line in these fields of the zones, in nanovolts.
+fn all_line_volts(alloc: Global, case: &Case, fields: &Fields) -> Result<Vec<i64>, AllocError>
+    requires { length fields.now ≡ length case.now.zones }
+    ensures { IfOk result (λ lines. lines.items ≡ all_line_volts case.now fields.now) }
+{
+    let zones = case.zones();
+    let mut volts = Vec::new(alloc);
+    for line in case.lines() {
+        volts.push(gic_induce::line_volts(zones, fields, line))?;
+    }
+    Ok(volts)
+}
 
 /// The voltage of each line in the field that is asked for, in nanovolts.
 pub(crate) fn line_volts(
     alloc: Global,
     case: &Case,
     question: &Question,
-) -> Result<Vec<i64>, AllocError>
+) -> Result<Vec<i64>, OutOfMemory>
     requires { IsWithinRanges question.now }
     ensures { IfOk result (λ lines. lines.items ≡ line_volts case.now question.now.north question.now.east) }
 {
-    let zones = case.zones();
-    let mut volts = Vec::new(alloc);
-    for line in case.lines() {
-        volts.push(volts_in_zone(zones, line, question.north, question.east))?;
-    }
+    let zones = case.zones().len() as u16;
+    let fields = Fields::uniform(alloc, zones, question.north, question.east)?;
+    let volts = all_line_volts(alloc, case, &fields)?;
     Ok(volts)
 }

@@ -8,6 +8,7 @@ use Rattle.std.proofs.lemmas.List.FromFn.{length-enumerate_from, get_or-enumerat
 use Rattle.std.specs.List.{AllByRecursion, enumerate_from}
 use Rattle.gic_base.proofs.Each.{all_joined, anything}
 use Rattle.gic_case.specs.declared.item.Line.{Line}
+use Rattle.gic_case.specs.declared.item.Third.{Third}
 use Rattle.gic_case.specs.declared.item.Kind.{Kind}
 use Rattle.gic_case.specs.declared.item.Kind.TheVariants as kinds
 use Rattle.gic_case.specs.declared.item.Neutral.{Neutral}
@@ -18,7 +19,7 @@ use Rattle.gic_model.specs.declared.parts.Item.TheVariants as item
 use Rattle.gic_model.specs.declared.parts.Role.{Role}
 use Rattle.gic_model.specs.declared.parts.Element.{Element}
 use Rattle.gic_model.specs.Standing.{is_item}
-use Rattle.gic_winding.specs.ElementList.{earthing_of, line_of, winding, windings_of, resistor_of, earthings_of, lines_of, all_windings_of, resistors_of, element_list}
+use Rattle.gic_winding.specs.ElementList.{earthing_of, line_of, winding, third_of, windings_of, resistor_of, earthings_of, lines_of, all_windings_of, resistors_of, element_list}
 use Rattle.gic_winding.specs.Order.{comes_before}
 use Rattle.gic_case.proofs.NeutralNodes.{length-neutrals_of}
 use Rattle.gic_winding.proofs.Parts.{earthing_part, line_part, winding_part, resistor_part}
@@ -74,10 +75,15 @@ resistor_after t place neutral grid (Some (devices.Resistor ohm)) =
 resistor_after t place neutral grid (Some devices.Blocked) = tt
 
 -- what holds of each winding of a transformer
+of_third : (P : Element → Type 0) (first_bus place neutral : ℕ) (third : Option Third) → ((r : Role) (from to ohm : ℕ) → P (winding place r from to ohm)) → AllByRecursion P (third_of first_bus place neutral third)
+of_third P first_bus place neutral None h = tt
+of_third P first_bus place neutral (Some t) h = (h _ _ _ _, tt)
+
 of_windings : (P : Element → Type 0) (first_bus place neutral : ℕ) (kind : Kind) → ((r : Role) (from to ohm : ℕ) → P (winding place r from to ohm)) → AllByRecursion P (windings_of first_bus place neutral kind)
 of_windings P first_bus place neutral (kinds.DeltaWye high high_resistance) h = (h _ _ _ _, tt)
-of_windings P first_bus place neutral (kinds.WyeWye high low low_volts high_resistance low_resistance) h = (h _ _ _ _, (h _ _ _ _, tt))
-of_windings P first_bus place neutral (kinds.Auto high low low_volts series_resistance common_resistance) h = (h _ _ _ _, (h _ _ _ _, tt))
+of_windings P first_bus place neutral (kinds.WyeWye high low low_volts high_resistance low_resistance third) h = (h _ _ _ _, (h _ _ _ _, of_third P first_bus place neutral third h))
+of_windings P first_bus place neutral (kinds.Auto high low low_volts series_resistance common_resistance third) h = (h _ _ _ _, (h _ _ _ _, of_third P first_bus place neutral third h))
+of_windings P first_bus place neutral (kinds.Reactor high high_resistance) h = (h _ _ _ _, tt)
 of_windings P first_bus place neutral kinds.DeltaDelta h = tt
 
 -- places before and after

@@ -72,10 +72,15 @@ line_many first_bus k place l =
 
 windings_many : (first_bus k place neutral : ℕ) (kind : Kind) → AreAsManyAt k (windings_of first_bus place neutral kind) (winding_ends first_bus neutral kind)
 windings_many first_bus k place neutral (kinds.DeltaWye high high_resistance) two = omega (arith, both_count (first_bus + high) neutral k two.0)
-windings_many first_bus k place neutral (kinds.WyeWye high low low_volts high_resistance low_resistance) two =
+windings_many first_bus k place neutral (kinds.WyeWye high low low_volts high_resistance low_resistance None) two =
     omega (arith, both_count (first_bus + high) neutral k two.0, both_count (first_bus + low) neutral k two.1.0)
-windings_many first_bus k place neutral (kinds.Auto high low low_volts series_resistance common_resistance) two =
+windings_many first_bus k place neutral (kinds.WyeWye high low low_volts high_resistance low_resistance (Some t)) two =
+    omega (arith, both_count (first_bus + high) neutral k two.0, both_count (first_bus + low) neutral k two.1.0, both_count (first_bus + t.bus) neutral k two.1.1.0)
+windings_many first_bus k place neutral (kinds.Auto high low low_volts series_resistance common_resistance None) two =
     omega (arith, both_count (first_bus + high) (first_bus + low) k two.0, both_count (first_bus + low) neutral k two.1.0)
+windings_many first_bus k place neutral (kinds.Auto high low low_volts series_resistance common_resistance (Some t)) two =
+    omega (arith, both_count (first_bus + high) (first_bus + low) k two.0, both_count (first_bus + low) neutral k two.1.0, both_count (first_bus + t.bus) neutral k two.1.1.0)
+windings_many first_bus k place neutral (kinds.Reactor high high_resistance) two = omega (arith, both_count (first_bus + high) neutral k two.0)
 windings_many first_bus k place neutral kinds.DeltaDelta two = omega arith
 
 resistor_many : (k place neutral grid : ℕ) (device : Option Neutral) → AreAsManyAt k (resistor_of place neutral grid device) (device_ends neutral grid device)

@@ -21,8 +21,9 @@ substation_within c sound place within =
 -- so the ground grid of a transformer that has windings is a substation
 pub grid_within : (c : Lists) → IsSound c → (volts : ℕ) (kind : Kind) → IsSoundKind c volts kind → has_windings kind ≡ true → grid_of c.buses kind < length c.substations
 grid_within c sound volts (kinds.DeltaWye high high_resistance) h has = substation_within c sound high h.0
-grid_within c sound volts (kinds.WyeWye high low low_volts high_resistance low_resistance) h has = substation_within c sound high h.0.high_within
-grid_within c sound volts (kinds.Auto high low low_volts series_resistance common_resistance) h has = substation_within c sound high h.0.high_within
+grid_within c sound volts (kinds.WyeWye high low low_volts high_resistance low_resistance third) h has = substation_within c sound high h.0.high_within
+grid_within c sound volts (kinds.Auto high low low_volts series_resistance common_resistance third) h has = substation_within c sound high h.0.high_within
+grid_within c sound volts (kinds.Reactor high high_resistance) h has = substation_within c sound high h.0
 grid_within c sound volts kinds.DeltaDelta h has = absurd (cc has)
 
 -- the neutral of a transformer that has windings is a substation, or comes after the buses; the latter where it has a neutral device

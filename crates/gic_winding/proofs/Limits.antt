@@ -59,11 +59,14 @@ line_single first_bus i l =
       | inr runs ↦ rw runs (omega arith)
     ]
 
-windings_double : (first_bus i neutral : ℕ) (kind : Kind) → length (windings_of first_bus i neutral kind) ≤ 2
-windings_double first_bus i neutral (kinds.DeltaWye high high_resistance) = omega arith
-windings_double first_bus i neutral (kinds.WyeWye high low low_volts high_resistance low_resistance) = omega arith
-windings_double first_bus i neutral (kinds.Auto high low low_volts series_resistance common_resistance) = omega arith
-windings_double first_bus i neutral kinds.DeltaDelta = omega arith
+windings_triple : (first_bus i neutral : ℕ) (kind : Kind) → length (windings_of first_bus i neutral kind) ≤ 3
+windings_triple first_bus i neutral (kinds.DeltaWye high high_resistance) = omega arith
+windings_triple first_bus i neutral (kinds.WyeWye high low low_volts high_resistance low_resistance None) = omega arith
+windings_triple first_bus i neutral (kinds.WyeWye high low low_volts high_resistance low_resistance (Some t)) = omega arith
+windings_triple first_bus i neutral (kinds.Auto high low low_volts series_resistance common_resistance None) = omega arith
+windings_triple first_bus i neutral (kinds.Auto high low low_volts series_resistance common_resistance (Some t)) = omega arith
+windings_triple first_bus i neutral (kinds.Reactor high high_resistance) = omega arith
+windings_triple first_bus i neutral kinds.DeltaDelta = omega arith
 
 resistor_single : (i neutral grid : ℕ) (device : Option Neutral) → length (resistor_of i neutral grid device) ≤ 1
 resistor_single i neutral grid None = omega arith
@@ -75,7 +78,7 @@ few_elements c sound =
     let first_bus = length c.substations in
     let earthings = length_of_parts 1 earthing_part (λ i s. earthing_single i s.ground) 0 c.substations in
     let lines = length_of_parts 1 (line_part c) (λ i l. line_single first_bus i l) 0 c.lines in
-    let windings = length_of_parts 2 (winding_part c) (λ i p. windings_double first_bus i p.0 p.1.kind) 0 (neutrals_of c) in
+    let windings = length_of_parts 3 (winding_part c) (λ i p. windings_triple first_bus i p.0 p.1.kind) 0 (neutrals_of c) in
     let resistors = length_of_parts 1 (resistor_part c) (λ i p. resistor_single i p.0 (grid_of c.buses p.1.kind) p.1.neutral) 0 (neutrals_of c) in
     simp length-append (omega (arith, length-neutrals_of c, sound.few_substations, sound.few_lines, sound.few_transformers))
 

@@ -15,7 +15,7 @@ use Rattle.gic_winding.specs.ElementList.{windings_of, elements_of}
 use Rattle.gic_winding.specs.declared.weights.Weights.{Weights}
 use Rattle.std.specs.Prelude.{slice_get}
 use Rattle.gic_winding.specs.Weights.{weight_of, windings_at, weighted_windings, transformer_at, no_transformer}
-use Rattle.gic_winding.specs.WeightPair.{weights_of}
+use Rattle.gic_winding.specs.WeightParts.{weights_of}
 use Rattle.gic_winding.specs.Order.{comes_before, roles_of, weighted_from}
 use Rattle.gic_winding.proofs.Neutrals.{transformer_of}
 use Rattle.gic_winding.proofs.Parts.{winding_part}
@@ -56,14 +56,20 @@ weighed weight place r = (record { 0 = place }, weight r)
 by_roles : (weight : Role → ℕ) (first_bus place neutral n : ℕ) (kind : Kind)
     → map (λ p. weighed weight p.0 p.1.role) (enumerate_from n (windings_of first_bus place neutral kind)) ≡ map (λ p. weighed weight p.0 p.1) (enumerate_from n (roles_of kind))
 by_roles weight first_bus place neutral n (kinds.DeltaWye high high_resistance) = refl
-by_roles weight first_bus place neutral n (kinds.WyeWye high low low_volts high_resistance low_resistance) = refl
-by_roles weight first_bus place neutral n (kinds.Auto high low low_volts series_resistance common_resistance) = refl
+by_roles weight first_bus place neutral n (kinds.WyeWye high low low_volts high_resistance low_resistance None) = refl
+by_roles weight first_bus place neutral n (kinds.WyeWye high low low_volts high_resistance low_resistance (Some t)) = refl
+by_roles weight first_bus place neutral n (kinds.Auto high low low_volts series_resistance common_resistance None) = refl
+by_roles weight first_bus place neutral n (kinds.Auto high low low_volts series_resistance common_resistance (Some t)) = refl
+by_roles weight first_bus place neutral n (kinds.Reactor high high_resistance) = refl
 by_roles weight first_bus place neutral n kinds.DeltaDelta = refl
 
 length-windings_of : (first_bus place neutral : ℕ) (kind : Kind) → length (windings_of first_bus place neutral kind) ≡ length (roles_of kind)
 length-windings_of first_bus place neutral (kinds.DeltaWye high high_resistance) = refl
-length-windings_of first_bus place neutral (kinds.WyeWye high low low_volts high_resistance low_resistance) = refl
-length-windings_of first_bus place neutral (kinds.Auto high low low_volts series_resistance common_resistance) = refl
+length-windings_of first_bus place neutral (kinds.WyeWye high low low_volts high_resistance low_resistance None) = refl
+length-windings_of first_bus place neutral (kinds.WyeWye high low low_volts high_resistance low_resistance (Some t)) = refl
+length-windings_of first_bus place neutral (kinds.Auto high low low_volts series_resistance common_resistance None) = refl
+length-windings_of first_bus place neutral (kinds.Auto high low low_volts series_resistance common_resistance (Some t)) = refl
+length-windings_of first_bus place neutral (kinds.Reactor high high_resistance) = refl
 length-windings_of first_bus place neutral kinds.DeltaDelta = refl
 
 pub weighted_there : (c : Lists) (t : ℕ) (row : Transformer) → t < length c.transformers → row ≡ get_or c.transformers t row → weighted_windings c t ≡ weighted_from row (length (front_of c t))
@@ -110,19 +116,21 @@ is_there c network t first row inside is found at =
       row_at = get_or_default c.transformers t no_transformer row inside ∙ sym at;
     }
 
-abbrev the_weights : Option (ElementId × ℕ) → Option (ElementId × ℕ) → ℕ → Weights
-the_weights a b v = record { first = a; second = b; high_volts = v }
+abbrev the_weights : Option (ElementId × ℕ) → Option (ElementId × ℕ) → Option (ElementId × ℕ) → ℕ → Weights
+the_weights a b e v = record { first = a; second = b; third = e; high_volts = v }
 
-weights_are : (a x b y : Option (ElementId × ℕ)) (v w : ℕ) → a ≡ x → b ≡ y → v ≡ w → the_weights a b v ≡ the_weights x y w
-weights_are a x b y v w first second volts = cc
+weights_are : (a x b y e z : Option (ElementId × ℕ)) (v w : ℕ) → a ≡ x → b ≡ y → e ≡ z → v ≡ w → the_weights a b e v ≡ the_weights x y z w
+weights_are a x b y e z v w first second third volts = cc
 
 pub value_there : (c : Lists) (network : Network) (t first : ℕ) (row : Transformer) (w : Weights) → IsThere c network t first row → w.first ≡ slice_get (weighted_from row first) 0
-    → w.second ≡ slice_get (weighted_from row first) 1 → w.high_volts ≡ row.high_volts → w ≡ weights_of c t
-value_there c network t first row w there one other volts =
+    → w.second ≡ slice_get (weighted_from row first) 1 → w.third ≡ slice_get (weighted_from row first) 2 → w.high_volts ≡ row.high_volts → w ≡ weights_of c t
+value_there c network t first row w there one other last volts =
     let first_is = one ∙ ap (λ ws. slice_get ws 0) (sym there.windings) in
     let second_is = other ∙ ap (λ ws. slice_get ws 1) (sym there.windings) in
+    let third_is = last ∙ ap (λ ws. slice_get ws 2) (sym there.windings) in
     let volts_is = volts ∙ ap (λ (r : Transformer). r.high_volts) (sym there.row_at) in
-    weights_are w.first (slice_get (weighted_windings c t) 0) w.second (slice_get (weighted_windings c t) 1) w.high_volts (transformer_at c t).high_volts first_is second_is volts_is
+    weights_are w.first (slice_get (weighted_windings c t) 0) w.second (slice_get (weighted_windings c t) 1) w.third (slice_get (weighted_windings c t) 2) w.high_volts (transformer_at c t).high_volts
+    first_is second_is third_is volts_is
 
 -- a place below one bound is below a greater one
 pub inside_by : (w : Option (ElementId × ℕ)) (low high : ℕ) → low ≤ high → IfSome w (λ x. x.0.0 < low) → IfSome w (λ x. x.0.0 < high)

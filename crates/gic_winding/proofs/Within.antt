@@ -6,15 +6,16 @@ use Rattle.std.specs.Prelude.{◌==◌, IfSome}
 use Rattle.std.specs.List.{AllByRecursion, enumerate_from}
 use Rattle.gic_base.proofs.Each.{all_joined}
 use Rattle.gic_case.specs.declared.item.Line.{Line}
+use Rattle.gic_case.specs.declared.item.Third.{Third}
 use Rattle.gic_case.specs.declared.item.Kind.{Kind}
 use Rattle.gic_case.specs.declared.item.Kind.TheVariants as kinds
 use Rattle.gic_case.specs.declared.item.Neutral.{Neutral}
 use Rattle.gic_case.specs.declared.item.Neutral.TheVariants as devices
 use Rattle.gic_case.specs.Lists.{Lists, has_windings}
-use Rattle.gic_case.specs.Sound.{IsSoundLine, IsSoundKind, IsSoundDevice, IsResistance}
+use Rattle.gic_case.specs.Sound.{IsSoundLine, IsSoundThird, IsSoundKind, IsSoundDevice, IsResistance}
 use Rattle.gic_model.specs.declared.parts.Role.{Role}
 use Rattle.gic_model.specs.Limits.{IsElementWithin}
-use Rattle.gic_winding.specs.ElementList.{earthing_of, line_of, winding, windings_of, resistor_of}
+use Rattle.gic_winding.specs.ElementList.{earthing_of, line_of, winding, third_of, windings_of, resistor_of}
 
 -- what holds of each part holds of the whole
 pub all_of_parts : {X A : Type 0} (Q : X → Type 0) (P : A → Type 0) (part : X → List A) → ((x : X) → Q x → AllByRecursion P (part x)) → (xs : List X) → AllByRecursion Q xs → AllByRecursion P (flat_map part xs)
@@ -81,19 +82,33 @@ not_neutral : (c : Lists) (bus neutral : ℕ) → bus < length c.buses → (neut
 not_neutral c bus neutral inside (inl grid) same = omega arith
 not_neutral c bus neutral inside (inr own) same = omega arith
 
+third_within : (c : Lists) (nodes place neutral high low volts : ℕ) (third : Option Third) → length c.substations + length c.buses ≤ nodes → IfSome third (IsSoundThird c high low volts)
+    → neutral < nodes → (neutral < length c.substations) ⊎ (length c.substations + length c.buses ≤ neutral) → AllByRecursion (IsElementWithin nodes) (third_of (length c.substations) place neutral third)
+third_within c nodes place neutral high low volts None buses h inside no_bus = tt
+third_within c nodes place neutral high low volts (Some t) buses h inside no_bus =
+    (winding_within nodes place _ _ _ _ (omega (arith, h.bus_within)) inside (not_neutral c t.bus neutral h.bus_within no_bus) h.ohm, tt)
+
 pub windings_within : (c : Lists) (nodes place neutral volts : ℕ) (kind : Kind) → length c.substations + length c.buses ≤ nodes → IsSoundKind c volts kind
     → (has_windings kind ≡ true → neutral < nodes) → (has_windings kind ≡ true → (neutral < length c.substations) ⊎ (length c.substations + length c.buses ≤ neutral))
     → AllByRecursion (IsElementWithin nodes) (windings_of (length c.substations) place neutral kind)
 windings_within c nodes place neutral volts (kinds.DeltaWye high high_resistance) buses h inside no_bus =
     (winding_within nodes place _ _ _ _ (omega (arith, h.0)) (inside refl) (not_neutral c high neutral h.0 (no_bus refl)) h.1, tt)
-windings_within c nodes place neutral volts (kinds.WyeWye high low low_volts high_resistance low_resistance) buses h inside no_bus = (
+windings_within c nodes place neutral volts (kinds.WyeWye high low low_volts high_resistance low_resistance third) buses h inside no_bus = (
   winding_within nodes place _ _ _ _ (omega (arith, h.0.high_within)) (inside refl) (not_neutral c high neutral h.0.high_within (no_bus refl)) h.1.0,
-  (winding_within nodes place _ _ _ _ (omega (arith, h.0.low_within)) (inside refl) (not_neutral c low neutral h.0.low_within (no_bus refl)) h.1.1, tt),
+  (
+    winding_within nodes place _ _ _ _ (omega (arith, h.0.low_within)) (inside refl) (not_neutral c low neutral h.0.low_within (no_bus refl)) h.1.1,
+    third_within c nodes place neutral high low volts third buses h.2 (inside refl) (no_bus refl),
+  ),
 )
-windings_within c nodes place neutral volts (kinds.Auto high low low_volts series_resistance common_resistance) buses h inside no_bus = (
+windings_within c nodes place neutral volts (kinds.Auto high low low_volts series_resistance common_resistance third) buses h inside no_bus = (
   winding_within nodes place _ _ _ _ (omega (arith, h.0.high_within)) (omega (arith, h.0.low_within)) (λ same. h.0.ends_differ (omega (arith, same))) h.1.0,
-  (winding_within nodes place _ _ _ _ (omega (arith, h.0.low_within)) (inside refl) (not_neutral c low neutral h.0.low_within (no_bus refl)) h.1.1, tt),
+  (
+    winding_within nodes place _ _ _ _ (omega (arith, h.0.low_within)) (inside refl) (not_neutral c low neutral h.0.low_within (no_bus refl)) h.1.1,
+    third_within c nodes place neutral high low volts third buses h.2 (inside refl) (no_bus refl),
+  ),
 )
+windings_within c nodes place neutral volts (kinds.Reactor high high_resistance) buses h inside no_bus =
+    (winding_within nodes place _ _ _ _ (omega (arith, h.0)) (inside refl) (not_neutral c high neutral h.0 (no_bus refl)) h.1, tt)
 windings_within c nodes place neutral volts kinds.DeltaDelta buses h inside no_bus = tt
 
 pub resistor_within : (nodes place neutral grid : ℕ) (device : Option Neutral) → (is_some device ≡ true → grid < neutral) → (is_some device ≡ true → neutral < nodes) → IfSome device IsSoundDevice

@@ -3,6 +3,7 @@ use Rattle.std.specs.Prelude.{ℕ, ◌+◌, List, [], ◌∷◌, ◌++◌, lengt
 use Rattle.std.specs.List.{enumerate_from}
 use Rattle.gic_base.specs.declared.id.NodeId.{NodeId}
 use Rattle.gic_case.specs.declared.item.Line.{Line}
+use Rattle.gic_case.specs.declared.item.Third.{Third}
 use Rattle.gic_case.specs.declared.item.Kind.{Kind}
 use Rattle.gic_case.specs.declared.item.Kind.TheVariants as kinds
 use Rattle.gic_case.specs.declared.item.Neutral.{Neutral}
@@ -45,16 +46,23 @@ earthing_of place (Some ohm) = earthing place ohm ∷ []
 abbrev pub line_of : (first_bus place : ℕ) → Line → List Element
 line_of first_bus place l = if l.blocked then [] else (line place (first_bus + l.from) (first_bus + l.to) l.resistance ∷ [])
 
--- high and low windings run to the neutral, a series winding to the low bus, and the common one from there to the neutral
+-- a third winding runs from its bus to the neutral
+abbrev pub third_of : (first_bus place neutral : ℕ) → Option Third → List Element
+third_of first_bus place neutral None = []
+third_of first_bus place neutral (Some t) = winding place role.Third (first_bus + t.bus) neutral t.resistance ∷ []
+
+-- high and low windings run to the neutral, a series winding to the low bus, and the common one from there to the neutral; a third winding comes behind the other two
 abbrev pub windings_of : (first_bus place neutral : ℕ) → Kind → List Element
 windings_of first_bus place neutral (kinds.DeltaWye high high_resistance) =
     winding place role.High (first_bus + high) neutral high_resistance ∷ []
-windings_of first_bus place neutral (kinds.WyeWye high low low_volts high_resistance low_resistance) =
+windings_of first_bus place neutral (kinds.WyeWye high low low_volts high_resistance low_resistance third) =
     winding place role.High (first_bus + high) neutral high_resistance ∷
-    winding place role.Low (first_bus + low) neutral low_resistance ∷ []
-windings_of first_bus place neutral (kinds.Auto high low low_volts series_resistance common_resistance) =
+    winding place role.Low (first_bus + low) neutral low_resistance ∷ third_of first_bus place neutral third
+windings_of first_bus place neutral (kinds.Auto high low low_volts series_resistance common_resistance third) =
     winding place role.Series (first_bus + high) (first_bus + low) series_resistance ∷
-    winding place role.Common (first_bus + low) neutral common_resistance ∷ []
+    winding place role.Common (first_bus + low) neutral common_resistance ∷ third_of first_bus place neutral third
+windings_of first_bus place neutral (kinds.Reactor high high_resistance) =
+    winding place role.High (first_bus + high) neutral high_resistance ∷ []
 windings_of first_bus place neutral kinds.DeltaDelta = []
 
 -- a neutral resistor runs from the neutral to the ground grid; a blocking device gives no element

@@ -1,7 +1,7 @@
 pub mod ElementList
 pub mod InForce
 pub mod Weights
-pub mod WeightPair
+pub mod WeightParts
 pub mod Order
 pub mod Terminals
 pub mod Degrees

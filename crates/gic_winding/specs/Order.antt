@@ -1,7 +1,8 @@
 -- Where the windings of a transformer are in the element list.
-use Rattle.std.specs.Prelude.{ℕ, Bool, true, false, nat_lt, List, [], ◌∷◌, map}
+use Rattle.std.specs.Prelude.{ℕ, Bool, true, false, nat_lt, List, [], ◌∷◌, map, Option, Some, None}
 use Rattle.std.specs.List.{enumerate_from}
 use Rattle.gic_base.specs.declared.id.ElementId.{ElementId}
+use Rattle.gic_case.specs.declared.item.Third.{Third}
 use Rattle.gic_case.specs.declared.item.Kind.{Kind}
 use Rattle.gic_case.specs.declared.item.Kind.TheVariants as kinds
 use Rattle.gic_case.specs.declared.item.Transformer.{Transformer}
@@ -18,11 +19,17 @@ comes_before (item.Line place) transformer = true
 comes_before (item.Transformer place) transformer = nat_lt place transformer
 comes_before (item.Neutral place) transformer = false
 
+-- the role of a third winding, if there is one
+abbrev pub third_roles : Option Third → List Role
+third_roles None = []
+third_roles (Some t) = role.Third ∷ []
+
 -- the roles of the windings of a unit of this kind, in their order
 abbrev pub roles_of : Kind → List Role
 roles_of (kinds.DeltaWye high high_resistance) = role.High ∷ []
-roles_of (kinds.WyeWye high low low_volts high_resistance low_resistance) = role.High ∷ role.Low ∷ []
-roles_of (kinds.Auto high low low_volts series_resistance common_resistance) = role.Series ∷ role.Common ∷ []
+roles_of (kinds.WyeWye high low low_volts high_resistance low_resistance third) = role.High ∷ role.Low ∷ third_roles third
+roles_of (kinds.Auto high low low_volts series_resistance common_resistance third) = role.Series ∷ role.Common ∷ third_roles third
+roles_of (kinds.Reactor high high_resistance) = role.High ∷ []
 roles_of kinds.DeltaDelta = []
 
 -- the windings of a transformer with their weights, where the first of them has this place

@@ -1,11 +1,12 @@
 -- The windings of a transformer, with their weights in its effective current.
-use Rattle.std.specs.Prelude.{ℕ, ◌-◌, List, [], map, slice_index_or, None}
+use Rattle.std.specs.Prelude.{ℕ, ◌-◌, List, [], map, slice_index_or, Option, Some, None, if◌then◌else◌}
 use Rattle.std.specs.List.{filter, enumerate_from}
 use Rattle.gic_base.specs.declared.id.ElementId.{ElementId}
+use Rattle.gic_case.specs.declared.item.Third.{Third}
 use Rattle.gic_case.specs.declared.item.Kind.{Kind}
 use Rattle.gic_case.specs.declared.item.Kind.TheVariants as kinds
 use Rattle.gic_case.specs.declared.item.Transformer.{Transformer}
-use Rattle.gic_case.specs.Lists.{Lists}
+use Rattle.gic_case.specs.Lists.{Lists, has_effect}
 use Rattle.gic_model.specs.declared.parts.Item.TheVariants as item
 use Rattle.gic_model.specs.declared.parts.Role.{Role}
 use Rattle.gic_model.specs.declared.parts.Role.TheVariants as role
@@ -17,16 +18,31 @@ use Rattle.gic_winding.specs.ElementList.{elements_of}
 -- the voltage of the low side, where a winding of it is in the network
 abbrev pub low_volts_of : Kind → ℕ
 low_volts_of (kinds.DeltaWye high high_resistance) = 0
-low_volts_of (kinds.WyeWye high low low_volts high_resistance low_resistance) = low_volts
-low_volts_of (kinds.Auto high low low_volts series_resistance common_resistance) = low_volts
+low_volts_of (kinds.WyeWye high low low_volts high_resistance low_resistance third) = low_volts
+low_volts_of (kinds.Auto high low low_volts series_resistance common_resistance third) = low_volts
+low_volts_of (kinds.Reactor high high_resistance) = 0
 low_volts_of kinds.DeltaDelta = 0
 
--- the weight of a winding by its role: the voltage of the high side for a high winding, of the low side for a low or a common one, and their difference for a series one, in V; 0 for what is no winding. No accepted case has a low voltage above the high one
+-- the voltage of a third winding, if there is one
+abbrev pub third_volts : Option Third → ℕ
+third_volts None = 0
+third_volts (Some t) = t.volts
+
+-- the voltage of the third side, where a winding of it is in the network
+abbrev pub third_volts_of : Kind → ℕ
+third_volts_of (kinds.DeltaWye high high_resistance) = 0
+third_volts_of (kinds.WyeWye high low low_volts high_resistance low_resistance third) = third_volts third
+third_volts_of (kinds.Auto high low low_volts series_resistance common_resistance third) = third_volts third
+third_volts_of (kinds.Reactor high high_resistance) = 0
+third_volts_of kinds.DeltaDelta = 0
+
+-- the weight of a winding by its role, in V: for a high winding the voltage of the high side, where the core has an effective current here; for a low or a common one that of the low side; for a series one the difference of the two; for a third one that of the third side; else 0. No accepted case has a low voltage above the high one
 abbrev pub weight_of : Transformer → Role → ℕ
-weight_of t role.High = t.high_volts
+weight_of t role.High = if has_effect t.kind then t.high_volts else 0
 weight_of t role.Low = low_volts_of t.kind
 weight_of t role.Series = t.high_volts - low_volts_of t.kind
 weight_of t role.Common = low_volts_of t.kind
+weight_of t role.Third = third_volts_of t.kind
 weight_of t role.Ground = 0
 weight_of t role.Line = 0
 weight_of t role.Neutral = 0

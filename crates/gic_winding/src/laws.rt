@@ -3,7 +3,8 @@ ghost use Rattle.gic_winding.specs.Degrees.{DegreesCountElements, ElementsAreWit
 ghost use Rattle.gic_winding.specs.Terminals.{WindingsWeighAsTerminals};
 
 /// The weighted currents of an autotransformer's windings are those of its terminals: the high terminal carries the
-/// current of the series winding, and the low one what the common winding carries beyond it.
+/// current of the series winding, and the low one what the common winding carries beyond it. Of a third winding,
+/// which has a terminal of its own, it says nothing.
 pub fn autotransformer_terminal_law()
     ensures { WindingsWeighAsTerminals }
 {}

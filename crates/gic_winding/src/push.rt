@@ -1,12 +1,12 @@
 //! Elements at the end of a list.
-ghost use Rattle.std.specs.Prelude.{◌≡◌, ◌+◌, ◌<◌, ◌++◌, length, OnOk};
+ghost use Rattle.std.specs.Prelude.{◌≡◌, ◌+◌, ◌<◌, ◌++◌, length, IfSome, OnOk};
 ghost use Rattle.gic_case.specs.Sound.{IsSoundLine, IsSoundTransformer};
 ghost use Rattle.gic_case.specs.Lists.{grid_of};
-ghost use Rattle.gic_winding.specs.ElementList.{node, earthing_of, line_of, windings_of, resistor_of};
+ghost use Rattle.gic_winding.specs.ElementList.{node, earthing_of, line_of, third_of, windings_of, resistor_of};
 
 use crate::element::{earthing, line, resistor, winding};
 use gic_base::{NodeId, OutOfMemory};
-use gic_case::{Case, Kind, Line, Neutral, Transformer, ground_grid};
+use gic_case::{Case, Kind, Line, Neutral, Third, Transformer, ground_grid};
 use gic_model::{Element, Role};
 
 /// The node of the bus at a place.
@@ -75,6 +75,7 @@ pub fn push_windings(
             low,
             high_resistance,
             low_resistance,
+            third,
             ..
         } => {
             let high = bus_node(case, high);
@@ -83,12 +84,14 @@ pub fn push_windings(
             let second = winding(place, Role::Low, low, neutral, low_resistance);
             list.push(first)?;
             list.push(second)?;
+            push_third(list, case, place, neutral, third)?;
         }
         Kind::Auto {
             high,
             low,
             series_resistance,
             common_resistance,
+            third,
             ..
         } => {
             let high = bus_node(case, high);
@@ -97,8 +100,35 @@ pub fn push_windings(
             let second = winding(place, Role::Common, low, neutral, common_resistance);
             list.push(first)?;
             list.push(second)?;
+            push_third(list, case, place, neutral, third)?;
+        }
+        Kind::Reactor {
+            high,
+            high_resistance,
+        } => {
+            let high = bus_node(case, high);
+            let reactor = winding(place, Role::High, high, neutral, high_resistance);
+            list.push(reactor)?;
         }
         Kind::DeltaDelta => {}
+    }
+    Ok(())
+}
+
+/// The third winding of a transformer, if it has one.
+fn push_third(
+    list: &mut Vec<Element>,
+    case: &Case,
+    place: u16,
+    neutral: NodeId,
+    third: Option<Third>,
+) -> Result<(), OutOfMemory>
+    requires { IfSome third (λ t. t.bus < length case.now.buses) }
+    ensures { OnOk result (list.new.items ≡ list.old.items ++ third_of (length case.now.substations) place neutral.0 third) }
+{
+    if let Some(third) = third {
+        let bus = bus_node(case, third.bus);
+        list.push(winding(place, Role::Third, bus, neutral, third.resistance))?;
     }
     Ok(())
 }

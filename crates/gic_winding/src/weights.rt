@@ -9,5 +9,6 @@ use gic_base::ElementId;
 pub struct Weights {
     pub first: Option<(ElementId, u32)>,
     pub second: Option<(ElementId, u32)>,
+    pub third: Option<(ElementId, u32)>,
     pub high_volts: u32,
 }

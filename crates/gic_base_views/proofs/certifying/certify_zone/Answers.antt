@@ -1,8 +1,5 @@
-use Rattle.std.proofs.Common.{◌*◌}
 use Rattle.gic_net.specs.Net.{standing}
-use Rattle.gic_winding.specs.Weights.{transformer_at}
-use Rattle.gic_effective.specs.Weighted.{effective_numerator}
-use Rattle.gic_base_views.proofs.Certified.{for_volts}
+use Rattle.gic_base_views.proofs.Certified.{for_volts, effective_for_volts}
 use Rattle.gic_base_views.proofs.certifying.certify_zone.Goals as goal
 
 pub returns-clause-certified : goal.returns-clause-certified
@@ -14,6 +11,5 @@ returns-clause-certified c =
     record {
       nodes = λ k live. for_volts s (λ s. s.potential k) 1 _ _ _ _ _ north east (c.write_nodes.ensures.certified k live);
       elements = λ place is. for_volts s (λ s. s.current place) 1 _ _ _ _ _ north east (c.write_elements.ensures.certified place is);
-      effective = λ t less. for_volts s (λ s. effective_numerator case s t) (3 * (transformer_at case t).high_volts) _ _ _ _ _ north east (c.write_effective.ensures.certified t less).certified;
-      nought = λ t less none. (c.write_effective.ensures.certified t less).nought none;
+      effective = λ t less. effective_for_volts case s t _ _ _ _ _ north east (c.write_effective.ensures.certified t less);
     }

@@ -3,7 +3,7 @@ use Rattle.gic_model.specs.Voltages.{number_at}
 use Rattle.gic_net.specs.Net.{standing}
 use Rattle.gic_superpose.specs.Pairs.{zone_of}
 use Rattle.gic_superpose.specs.Superposed.{ZoneEnds}
-use Rattle.gic_base_views.specs.BaseFields.{IsCertifiedEffective}
+use Rattle.gic_base_views.specs.BaseRows.{IsCertifiedEffective}
 use Rattle.gic_base_views.proofs.Written.{IsWritten, next_written, others_stay}
 use Rattle.gic_base_views.proofs.writing.write_effective.Goals as goal
 

@@ -3,7 +3,7 @@ use Rattle.gic_model.specs.Voltages.{number_at}
 use Rattle.gic_net.specs.Net.{standing}
 use Rattle.gic_superpose.specs.Superposed.{zone_at}
 use Rattle.gic_superpose.specs.Rows.{row_at, AreRowsOf}
-use Rattle.gic_base_views.specs.BaseFields.{IsCertifiedEffective}
+use Rattle.gic_base_views.specs.BaseRows.{IsCertifiedEffective}
 use Rattle.gic_base_views.specs.Table.{OthersStay}
 use Rattle.gic_base_views.proofs.writing.write_effective.Given as goal
 

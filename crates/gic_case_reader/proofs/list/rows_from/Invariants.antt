@@ -8,5 +8,5 @@ use Rattle.gic_case_reader.proofs.list.rows_from.Given as goal
 abbrev pub invariant-loop-i : goal.invariant-loop-i
 invariant-loop-i g l = record {
   many : vec_len l.rows ≡ l.i;
-  rest : with_front l.rows.items (rows_from (g.R.Row.reads l.devices) (l.i + 1) (items_view (drop l.i l.values))) ≡ rows_from (g.R.Row.reads l.devices) 1 (items_view l.values);
+  rest : with_front l.rows.items (rows_from (g.R.Row.reads l.format) (l.i + 1) (items_view (drop l.i l.values))) ≡ rows_from (g.R.Row.reads l.format) 1 (items_view l.values);
 }

@@ -1,6 +1,6 @@
 use Rattle.gic_winding.specs.ElementList.{elements_of}
 use Rattle.gic_base_views.specs.Table.{base_rows_of}
-use Rattle.gic_course.proofs.FieldVolts.{field_volts}
+use Rattle.gic_induce.proofs.FieldVolts.{field_volts}
 use Rattle.gic_course.proofs.SuperposedSteps.{fields_given, right_and_narrow}
 use Rattle.gic_course.proofs.Told.{have_absolutes}
 use Rattle.gic_course.proofs.showing.show_superposed.Goals as goal

@@ -1,38 +1,46 @@
-use Rattle.std.proofs.Common.{◌≡◌, ◌*◌, ◌≤◌, ◌^◌, ℤ, pos, ◌+ℤ◌, unsigned_abs, arith, rules, sym, subst}
+use Rattle.std.proofs.Common.{◌≡◌, ◌*◌, ◌≤◌, ◌^◌, ℤ, pos, unsigned_abs, arith, rules, sym, subst}
 use Rattle.gic_fixed.specs.Rounding.{floor_div, ceil_div}
-use Rattle.gic_effective.specs.WeightedPair.{weighted}
+use Rattle.gic_effective.specs.WeightedSum.{weighted_sum}
 use Rattle.gic_effective.proofs.Currents.{Encloses-same, floor_small, ceil_small}
-use Rattle.gic_effective.proofs.Weights.{effective_nano_holds, sum_small}
+use Rattle.gic_effective.proofs.Weights.{sum_holds, sum_small}
 use Rattle.gic_effective.proofs.Widths.{effective_tight, same_width}
 use Rattle.gic_effective.proofs.effective.effective_na.Goals as goal
 
 low : (c : goal.After-div_out) → let w = c.args.weights.now in
-    c.div_out.result.lo ≡ floor_div (weighted w.first c.args.first.lo +ℤ weighted w.second c.args.second.lo) (pos (3 * w.high_volts))
+    c.div_out.result.lo ≡ floor_div (weighted_sum w c.args.first.lo c.args.second.lo c.args.third.lo) (pos (3 * w.high_volts))
 low c = search rules
 
 high : (c : goal.After-div_out) → let w = c.args.weights.now in
-    c.div_out.result.hi ≡ ceil_div (weighted w.first c.args.first.hi +ℤ weighted w.second c.args.second.hi) (pos (3 * w.high_volts))
+    c.div_out.result.hi ≡ ceil_div (weighted_sum w c.args.first.hi c.args.second.hi c.args.third.hi) (pos (3 * w.high_volts))
 high c = search rules
 
+pub returns-clause-low : goal.returns-clause-low
+returns-clause-low c = low c
+
+pub returns-clause-high : goal.returns-clause-high
+returns-clause-high c = high c
+
 pub returns-clause-holds : goal.returns-clause-holds
-returns-clause-holds c one other d e f =
+returns-clause-holds c one other last d e f g =
     let w = c.args.weights.now in
-    Encloses-same _ _ _ _ _ _ (low c) (high c) (effective_nano_holds w.first w.second w.high_volts c.args.first.lo c.args.first.hi c.args.second.lo c.args.second.hi one other d c.requires.volts e f)
+    Encloses-same _ _ _ _ _ _ (low c) (high c)
+    (sum_holds w (3 * w.high_volts) c.args.first.lo c.args.first.hi c.args.second.lo c.args.second.hi c.args.third.lo c.args.third.hi one other last d (omega (arith, c.requires.volts)) e f g)
 
 pub returns-clause-small : goal.returns-clause-small
 returns-clause-small c sum =
     let w = c.args.weights.now in
     let first = c.requires.first in
     let second = c.requires.second in
+    let third = c.requires.third in
     record {
       low = subst (λ (z : ℤ). unsigned_abs z ≤ 2 ^ 80) (sym (low c)) (floor_small _ (3 * w.high_volts) (2 ^ 80) (omega (arith, c.requires.volts))
-          (sum_small w.first w.second w.high_volts c.args.first.lo c.args.second.lo sum first.low second.low));
+          (sum_small w w.high_volts c.args.first.lo c.args.second.lo c.args.third.lo sum first.low second.low third.low));
       high = subst (λ (z : ℤ). unsigned_abs z ≤ 2 ^ 80) (sym (high c)) (ceil_small _ (3 * w.high_volts) (2 ^ 80) (omega (arith, c.requires.volts))
-          (sum_small w.first w.second w.high_volts c.args.first.hi c.args.second.hi sum first.high second.high));
+          (sum_small w w.high_volts c.args.first.hi c.args.second.hi c.args.third.hi sum first.high second.high third.high));
     }
 
 pub returns-clause-tight : goal.returns-clause-tight
-returns-clause-tight c sum one other =
+returns-clause-tight c sum one other last =
     let w = c.args.weights.now in
     same_width c.div_out.result.lo c.div_out.result.hi _ _ 401 (low c) (high c)
-    (effective_tight w.first w.second w.high_volts c.args.first.lo c.args.first.hi c.args.second.lo c.args.second.hi c.requires.volts sum one other)
+    (effective_tight w w.high_volts c.args.first.lo c.args.first.hi c.args.second.lo c.args.second.hi c.args.third.lo c.args.third.hi c.requires.volts sum one other last)

@@ -3,7 +3,7 @@ use Rattle.std.specs.Int.{w128, int_min, int_max}
 use Rattle.std.proofs.lemmas.Int.{to_z_pos, unsigned_abs-mul}
 use Rattle.std.proofs.Math.Nat.{mul-le-mul}
 use Rattle.gic_fixed.proofs.Enclosures.{scale_low, scale_high}
-use Rattle.gic_effective.specs.WeightedPair.{weighted}
+use Rattle.gic_effective.specs.WeightedSum.{weighted}
 use Rattle.gic_effective.proofs.effective.part.Goals as goal
 
 low_of : (lo hi : ℤ) (n : ℕ) → n ≤ 2 ^ 32 → lo ≤ℤ hi → int_min (lo *ℤ to_z w128 n) (hi *ℤ to_z w128 n) ≡ pos n *ℤ lo

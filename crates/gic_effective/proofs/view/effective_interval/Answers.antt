@@ -9,10 +9,10 @@ use Rattle.gic_model.specs.Voltages.{number_at}
 use Rattle.gic_net.specs.Net.{standing}
 use Rattle.gic_winding.specs.ElementList.{elements_of}
 use Rattle.gic_winding.specs.declared.weights.Weights.{Weights}
-use Rattle.gic_winding.specs.Weights.{low_volts_of, transformer_at, no_transformer, windings_at}
-use Rattle.gic_effective.specs.WeightedPair.{weighted_sum}
+use Rattle.gic_winding.specs.Weights.{transformer_at, no_transformer, windings_at, weighted_windings}
+use Rattle.gic_effective.specs.WeightedSum.{weighted_sum}
 use Rattle.gic_effective.specs.Weighted.{effective_numerator}
-use Rattle.gic_effective.proofs.Weighings.{current_in, both_summed, winding_holds, winding_narrow, low_at_most, weights_most, sums_nought, quotients_nought}
+use Rattle.gic_effective.proofs.Weighings.{AreAtMost, current_in, all_summed, winding_holds, winding_narrow, sides_at_most, weights_most, sums_nought, quotients_nought}
 use Rattle.gic_effective.proofs.view.effective_interval.Goals as goal
 
 row_is : (c : goal.After-signed_effective) → transformer_at c.args.case.now c.args.transformer ≡ c.index-transformers-transformer.result
@@ -21,11 +21,11 @@ row_is c =
     let at = c.index-transformers-transformer.is ∙ ap (λ ts. get_or ts c.args.transformer row) c.transformers.ensures.value in
     get_or_default c.args.case.now.transformers c.args.transformer no_transformer row c.requires.place ∙ sym at
 
-order : (c : goal.After-signed_effective) → low_volts_of (transformer_at c.args.case.now c.args.transformer).kind ≤ (transformer_at c.args.case.now c.args.transformer).high_volts
+order : (c : goal.After-signed_effective) → AreAtMost (transformer_at c.args.case.now c.args.transformer).high_volts (transformer_at c.args.case.now c.args.transformer).kind
 order c =
     let row = c.index-transformers-transformer.result in
     let sound : IsSoundTransformer c.args.case.now row = search rules in
-    subst (λ (t : Transformer). low_volts_of t.kind ≤ t.high_volts) (sym (row_is c)) (low_at_most c.args.case.now row.high_volts row.kind sound.kind_sound)
+    subst (λ (t : Transformer). AreAtMost t.high_volts t.kind) (sym (row_is c)) (sides_at_most c.args.case.now row.high_volts row.kind sound.kind_sound)
 
 volts_are : (c : goal.After-signed_effective) → c.effective_weights-weights.result.high_volts ≡ (transformer_at c.args.case.now c.args.transformer).high_volts
 volts_are c = ap (λ (w : Weights). w.high_volts) c.effective_weights-weights.ensures.value
@@ -36,11 +36,9 @@ rated c =
     let sound : IsSoundTransformer c.args.case.now row = search rules in
     omega (arith, volts_are c, ap (λ (t : Transformer). t.high_volts) (row_is c), sound.rated.0)
 
-sum_is : (c : goal.After-signed_effective) → (s : Solution) →
-    weighted_sum c.effective_weights-weights.result (current_in s c.effective_weights-weights.result.first) (current_in s c.effective_weights-weights.result.second) ≡ effective_numerator c.args.case.now s c.args.transformer
-sum_is c s =
-    let w = c.effective_weights-weights.result in
-    both_summed s w.first w.second ∙ sym (ap (sum_of (λ w. pos w.1 *ℤ s.current w.0.0)) c.effective_weights-weights.ensures.all)
+sum_is : (c : goal.After-signed_effective) → (s : Solution) → let w = c.effective_weights-weights.result in
+    weighted_sum w (current_in s w.first) (current_in s w.second) (current_in s w.third) ≡ effective_numerator c.args.case.now s c.args.transformer
+sum_is c s = all_summed s c.effective_weights-weights.result ∙ sym (ap (sum_of (λ w. pos w.1 *ℤ s.current w.0.0)) c.effective_weights-weights.ensures.all)
 
 pub returns : goal.returns
 returns c =
@@ -50,6 +48,7 @@ returns c =
     let w = c.effective_weights-weights.result in
     let one = c.winding_current-first in
     let other = c.winding_current-second in
+    let last = c.winding_current-third in
     let result = c.signed_effective.result in
     let some : 0 < 3000000 * w.high_volts = omega (arith, rated c) in
     record {
@@ -57,17 +56,19 @@ returns c =
         holds = λ s solves.
             let first = winding_holds stand volts xs w.first one.result.lo one.result.hi s one.ensures.shown solves (holds s solves) in
             let second = winding_holds stand volts xs w.second other.result.lo other.result.hi s other.ensures.shown solves (holds s solves) in
-            let exact = c.signed_effective.ensures.holds (current_in s w.first) (current_in s w.second) s.denominator first second in
+            let third = winding_holds stand volts xs w.third last.result.lo last.result.hi s last.ensures.shown solves (holds s solves) in
+            let exact = c.signed_effective.ensures.holds (current_in s w.first) (current_in s w.second) (current_in s w.third) s.denominator first second third in
             subst₂ (λ (n : ℤ) (v : ℕ). Encloses result.lo result.hi n (3000000 * v * s.denominator)) (sum_is c s) (volts_are c) exact;
         nought = λ none.
-            let sums = sums_nought stand volts xs (transformer_at c.args.case.now c.args.transformer) (windings_at (elements_of c.args.case.now) c.args.transformer) w.first w.second
-            one.result.lo one.result.hi other.result.lo other.result.hi c.effective_weights-weights.ensures.all one.ensures.shown other.ensures.shown none in
+            let sums = sums_nought stand volts xs (weighted_windings c.args.case.now c.args.transformer) w one.result.lo one.result.hi other.result.lo other.result.hi last.result.lo last.result.hi
+            c.effective_weights-weights.ensures.all one.ensures.shown other.ensures.shown last.ensures.shown none in
             quotients_nought _ _ result.lo result.hi (3000000 * w.high_volts) some c.signed_effective.ensures.low c.signed_effective.ensures.high sums.0 sums.1;
       };
       narrow = λ width sharp.
-          let most = weights_most (transformer_at c.args.case.now c.args.transformer) (windings_at (elements_of c.args.case.now) c.args.transformer) w.first w.second (order c) c.effective_weights-weights.ensures.all in
+          let most = weights_most (transformer_at c.args.case.now c.args.transformer) (windings_at (elements_of c.args.case.now) c.args.transformer) w (order c) c.effective_weights-weights.ensures.all in
           c.signed_effective.ensures.narrow width (omega (arith, most, volts_are c))
           (winding_narrow stand volts xs w.first one.result.lo one.result.hi width one.ensures.shown sharp)
-          (winding_narrow stand volts xs w.second other.result.lo other.result.hi width other.ensures.shown sharp);
+          (winding_narrow stand volts xs w.second other.result.lo other.result.hi width other.ensures.shown sharp)
+          (winding_narrow stand volts xs w.third last.result.lo last.result.hi width last.ensures.shown sharp);
       small = c.signed_effective.ensures.small;
     }

@@ -17,3 +17,7 @@ returns-clause-parted c = refl
 pub returns-clause-levels : goal.returns-clause-levels
 unfolding elements_of
 returns-clause-levels c = refl
+
+pub returns-clause-third : goal.returns-clause-third
+unfolding elements_of
+returns-clause-third c = refl

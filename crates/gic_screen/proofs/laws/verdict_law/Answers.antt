@@ -3,5 +3,5 @@ use Rattle.gic_screen.proofs.Judged.{below_under, under_end}
 use Rattle.gic_screen.proofs.laws.verdict_law.Goals as goal
 
 pub returns-clause-below : goal.returns-clause-below
-returns-clause-below c lo hi n d threshold high_volts earthed_high some below h =
-    under_end hi (unsigned_abs n) d threshold some (below_under lo hi threshold high_volts earthed_high below) h
+returns-clause-below c lo hi n d threshold high_volts has_effect some below h =
+    under_end hi (unsigned_abs n) d threshold some (below_under lo hi threshold high_volts has_effect below) h

@@ -1,9 +1,7 @@
-use Rattle.std.proofs.Common.{◌≡◌, List, All, ap, sym, subst, ◌∙◌}
+use Rattle.std.proofs.Common.{◌≡◌, List, All, rules, ap, sym, subst, ◌∙◌}
 use Rattle.gic_model.specs.declared.parts.Element.{Element}
 use Rattle.gic_model.specs.Network.{Network}
-use Rattle.gic_induce.specs.LineVolts.{volts_of, IsLineWithin}
-use Rattle.gic_uniform.specs.Uniform.{uniform_field}
-use Rattle.gic_uniform.proofs.UniformFields.{same_field}
+use Rattle.gic_induce.specs.LineVolts.{uniform_field, volts_of, IsLineWithin}
 use Rattle.gic_uniform.proofs.uniform.uniform_volts.Goals as goal
 
 pub fill_volts-requires-clause-lines : goal.fill_volts-requires-clause-lines
@@ -14,8 +12,7 @@ fill_volts-requires-clause-lines c =
 pub returns : goal.returns
 returns c =
     let case = c.args.case.now in
-    let fields : c.in_ok-fields.fields ≡ uniform_field case c.args.north c.args.east =
-    c.in_ok-fields.ensures ∙ same_field case c.args.north c.args.east c.requires.north c.requires.east in
+    let fields : c.in_ok-fields.fields ≡ uniform_field case c.args.north c.args.east = search (rules, c.in_ok-fields.ensures, c.zones.ensures.value) in
     c.fill_volts.ensures
     ∙ ap (λ (l : List Element). volts_of case c.in_ok-fields.fields l) c.list.ensures.value
     ∙ ap (λ f. volts_of case f c.args.elements.now.list) fields

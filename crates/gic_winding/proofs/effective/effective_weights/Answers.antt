@@ -21,7 +21,7 @@ there c = is_there c.args.case.now (elements_of c.args.case.now) c.args.transfor
 pub returns-clause-value : goal.returns-clause-value
 returns-clause-value c =
     value_there c.args.case.now (elements_of c.args.case.now) c.args.transformer c.first_winding.result c.index-transformers-transformer.result c.weights_from.result (there c)
-    c.weights_from.ensures.first c.weights_from.ensures.second c.weights_from.ensures.high_volts
+    c.weights_from.ensures.first c.weights_from.ensures.second c.weights_from.ensures.third c.weights_from.ensures.high_volts
 
 pub returns-clause-all : goal.returns-clause-all
 returns-clause-all c = (there c).windings ∙ c.weights_from.ensures.all
@@ -31,3 +31,6 @@ returns-clause-first_inside c = inside_by c.weights_from.result.first _ _ (omega
 
 pub returns-clause-second_inside : goal.returns-clause-second_inside
 returns-clause-second_inside c = inside_by c.weights_from.result.second _ _ (omega (arith, (there c).fit, ap length c.requires.elements)) c.weights_from.ensures.second_inside
+
+pub returns-clause-third_inside : goal.returns-clause-third_inside
+returns-clause-third_inside c = inside_by c.weights_from.result.third _ _ (omega (arith, (there c).fit, ap length c.requires.elements)) c.weights_from.ensures.third_inside

@@ -1,24 +1,31 @@
 -- Fields within their limits induce voltages within theirs.
-use Rattle.std.proofs.Common.{◌≡◌, ℕ, ◌+◌, ◌*◌, ◌<◌, ◌≤◌, List, [], ◌∷◌, length, ℤ, pos, ◌+ℤ◌, ◌*ℤ◌, unsigned_abs, Option, Some, None, arith, refl, sym, subst, inl, inr}
+use Rattle.std.proofs.Common.{◌≡◌, ℕ, ◌+◌, ◌*◌, ◌<◌, ◌≤◌, List, [], ◌∷◌, length, ℤ, pos, unsigned_abs, Option, Some, None, arith, refl, sym, subst, inl, inr}
 use Rattle.std.specs.Prelude.{All}
+use Rattle.std.specs.List.{AllByRecursion}
 use Rattle.std.proofs.Math.Nat.{mul-le-mul}
 use Rattle.std.proofs.lemmas.Bool.{cases_lt}
-use Rattle.std.proofs.lemmas.Int.{ints, unsigned_abs-mul}
+use Rattle.std.proofs.lemmas.Int.{ints}
 use Rattle.std.proofs.lemmas.List.{get_or_past}
-use Rattle.std.proofs.lemmas.List.Elements.{All-get_or, All-map, All-nil, All-cons, All-weaker}
+use Rattle.std.proofs.lemmas.List.Sums.{sum_by-cons}
+use Rattle.std.proofs.lemmas.List.Elements.{All-get_or, All-map, All-nil, All-cons, All-weaker, recursion_from_All}
+use Rattle.gic_fixed.specs.Sums.{sum_of}
 use Rattle.gic_case.specs.Lists.{Lists}
+use Rattle.gic_case.specs.Courses.{parts_of, north_way, east_way}
 use Rattle.gic_case.specs.Sound.{IsSound, IsSoundLine}
 use Rattle.gic_case.specs.declared.item.Line.{Line}
+use Rattle.gic_case.specs.declared.part.LinePart.{LinePart}
 use Rattle.gic_induce.specs.Fields.{IsField, no_field, field_at}
-use Rattle.gic_induce.specs.LineVolts.{no_zone, zone_among, line_volts, all_line_volts, volts_of_item, volts_of}
-use Rattle.gic_induce.specs.Voltage.{line_nanovolts}
+use Rattle.gic_induce.specs.LineVolts.{no_zone, zone_among, part_volts, line_volts, all_line_volts, volts_of_item, volts_of}
+use Rattle.gic_induce.proofs.Parts.{part_few}
 use Rattle.gic_model.specs.declared.parts.Element.{Element}
 use Rattle.gic_model.specs.declared.parts.Item.{Item}
 use Rattle.gic_model.specs.declared.parts.Item.TheVariants as items
 use Rattle.gic_model.specs.Limits.{AreVolts, most_volts}
 use Rattle.gic_model.specs.Voltages.{number_at}
 use Rattle.gic_scale.specs.Alpha.{latitude_row, tenths_or_ten, alpha_of}
-use Rattle.gic_scale.specs.ZoneView.{ZoneView, IsZone, factor_of}
+use Rattle.gic_scale.specs.declared.scaling.Scaling.{Scaling}
+use Rattle.gic_scale.specs.declared.scaling.Scaling.TheVariants as scalings
+use Rattle.gic_scale.specs.ZoneView.{ZoneView, IsScaling, IsZone, factor_by, factor_of}
 use Rattle.gic_scale.proofs.Table.{row_tenths}
 
 -- a number of a list whose numbers are all within this
@@ -29,12 +36,6 @@ numbers_few m zs all place =
       | inr past ↦ subst (λ z. unsigned_abs z ≤ m) (sym (get_or_past zs place (pos 0) past)) (omega arith)
     ]
 
-product_few : (z w : ℤ) (m n : ℕ) → unsigned_abs z ≤ m → unsigned_abs w ≤ n → unsigned_abs (z *ℤ w) ≤ m * n
-product_few z w m n few less = omega (arith, unsigned_abs-mul z w, mul-le-mul few less)
-
-sum_few : (z w : ℤ) (m n : ℕ) → unsigned_abs z ≤ m → unsigned_abs w ≤ n → unsigned_abs (z +ℤ w) ≤ m + n
-sum_few z w m n few less = omega (arith, ints, few, less)
-
 alpha_few : (latitude : ℕ) → alpha_of latitude ≤ 10
 alpha_few latitude =
     elim (latitude_row latitude) as (λ (o : Option (ℕ × ℕ)). latitude_row latitude ≡ o → tenths_or_ten o ≤ 10) [
@@ -43,21 +44,31 @@ alpha_few latitude =
     ] refl
 
 factor_few : (zone : ZoneView) → IsZone zone → factor_of zone ≤ 1500
-factor_few zone kept = mul-le-mul (alpha_few zone.latitude) kept.beta_most
+factor_few zone kept = by_scaling zone.scaling kept
+  where
+    by_scaling : (scaling : Scaling) → IsScaling scaling → factor_by scaling ≤ 1500
+    by_scaling (scalings.Earth latitude beta) h = mul-le-mul (alpha_few latitude) h.2
+    by_scaling (scalings.Factor thousandths) h = h.1
 
-line_few : (line : Line) (zone : ZoneView) (field : ℤ × ℤ) → unsigned_abs line.north ≤ 1000000 → unsigned_abs line.east ≤ 1000000 → IsZone zone → IsField field →
-    unsigned_abs (line_nanovolts line zone field.0 field.1) ≤ most_volts
-line_few line zone field north east kept within =
-    product_few (field.0 *ℤ line.north +ℤ field.1 *ℤ line.east) (pos (factor_of zone)) 40000000000 1500
-    (sum_few (field.0 *ℤ line.north) (field.1 *ℤ line.east) 20000000000 20000000000 (product_few field.0 line.north 20000 1000000 within.0 north) (product_few field.1 line.east 20000 1000000 within.1 east))
-    (factor_few zone kept)
+-- the parts of a line, in fields of the zones
+module _ (zones : List ZoneView) (fields : List (ℤ × ℤ)) (kept : All IsZone zones) (same : length fields ≡ length zones) (within : All IsField fields) where
+  of_parts : (parts : List LinePart) → AllByRecursion (λ (p : LinePart). p.zone < length zones) parts →
+      unsigned_abs (sum_of (part_volts zones fields) parts) ≤ 30000000 * (north_way parts + east_way parts)
+  of_parts [] all = omega arith
+  of_parts (part ∷ parts) all =
+      let zone = All-get_or IsZone zones part.zone no_zone all.0 kept in
+      let field = All-get_or IsField fields part.zone no_field (subst (λ n. part.zone < n) (sym same) all.0) within in
+      let here = part_few part (zone_among zones part.zone) (field_at fields part.zone).0 (field_at fields part.zone).1 field.0 field.1 (factor_few (zone_among zones part.zone) zone) in
+      let rest = of_parts parts all.1 in
+      let north = sum_by-cons (λ (p : LinePart). unsigned_abs p.north) part parts in
+      let east = sum_by-cons (λ (p : LinePart). unsigned_abs p.east) part parts in
+      omega (arith, ints, here, rest, north, east)
 
 module _ (case : Lists) (fields : List (ℤ × ℤ)) (sound : IsSound case) (zones : length fields ≡ length case.zones) (within : All IsField fields) where
   of_line : (line : Line) → IsSoundLine case line → unsigned_abs (line_volts case.zones fields line) ≤ most_volts
   of_line line kept =
-      line_few line (zone_among case.zones line.zone) (field_at fields line.zone) kept.north_within kept.east_within
-      (All-get_or IsZone case.zones line.zone no_zone kept.zone_within sound.zones_sound)
-      (All-get_or IsField fields line.zone no_field (subst (λ n. line.zone < n) (sym zones) kept.zone_within) within)
+      let parts = of_parts case.zones fields sound.zones_sound zones within (parts_of line.course) (recursion_from_All (λ (p : LinePart). p.zone < length case.zones) (parts_of line.course) kept.zones_within) in
+      omega (arith, parts, kept.north_within, kept.east_within)
 
   of_item : (item : Item) → unsigned_abs (volts_of_item case fields item) ≤ most_volts
   of_item (items.Line place) =

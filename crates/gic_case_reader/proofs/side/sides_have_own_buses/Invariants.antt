@@ -1,7 +1,7 @@
 use Rattle.std.proofs.Common.{◌≡◌, ◌+◌, drop}
 use Rattle.gic_base.specs.Refusals.{settle}
 use Rattle.gic_case_reader.specs.OneByOne.{breaks_same_sides_from}
-use Rattle.gic_case_reader.proofs.side.transformers_have_two_buses.Given as goal
+use Rattle.gic_case_reader.proofs.side.sides_have_own_buses.Given as goal
 
 -- the transformers that are left decide
 abbrev pub invariant-loop-i : goal.invariant-loop-i
