@@ -1,7 +1,7 @@
 #!/usr/bin/env python3
 """Sets `recheck` of the program beside the independent checker, over certificates that pass and others that don't.
 
-    python3 bench/certificates.py PROGRAM [NETWORKS] [MUTATED] [SEED] [--oracle=OTHER] [--jobs=N] [--format-3]
+    python3 bench/certificates.py PROGRAM [NETWORKS] [MUTATED] [SEED] [--oracle=OTHER] [--jobs=N]
 
 PROGRAM is the built program. Its answers to `recheck` are compared with those of `independent/recheck.py` byte for
 byte: status, standard output and fault line. The certificates are
@@ -14,9 +14,8 @@ byte: status, standard output and fault line. The certificates are
 - the certificate of each network beside a case or switchings that were changed, MUTATED times too (`CASE_CHANGES` and
   `SWITCHING_CHANGES`): with a byte order mark, with names twice, with rows that switchings can't have.
 
-Two differences are counted by themselves and are none of those below, since independent/README.md names them: both refuse
-the case, and one of them says that it is no TOML; and the program refuses format 3. With --format-3 the program reads it,
-and half of the networks are of that format.
+One difference is counted by itself and is none of those below, since independent/README.md names it: both refuse the
+case, and one of them says that it is no TOML.
 
 With --oracle a second program is asked too, with the same words, and has to answer the same. A name that ends in `.py`
 is run by Python. N networks are looked at side by side, one a processor where no N is given.
@@ -73,15 +72,6 @@ def is_named(one: Answer, other: Answer) -> bool:
     return one.status == other.status == 5 and (one.is_no_toml() or other.is_no_toml())
 
 
-def refuses_format_3(answer: Answer, folder: str, words: list[str]) -> bool:
-    """Whether the program refuses a case of format 3, which the checker reads."""
-    if random_cases.WITH_FORMAT_3 or answer.told != b"gicstudy: case: value in case row 0 field format\n":
-        return False
-    name = next(word for word in words if word.startswith("--case=")).removeprefix("--case=")
-    with open(os.path.join(folder, name), "rb") as case:
-        return re.search(rb"^format *= *3\s*$", case.read(), re.MULTILINE) is not None
-
-
 class Setting(NamedTuple):
     """What is compared with the checker, and over how much."""
 
@@ -109,7 +99,7 @@ class Tally:
         self.kinds[checked.kind()] += 1
         for program in programs:
             answer = of_program(program, folder, ["recheck", *words])
-            if answer != checked and (is_named(answer, checked) or refuses_format_3(answer, folder, words)):
+            if answer != checked and is_named(answer, checked):
                 self.named += 1
             elif answer != checked:
                 kept = "" if self.differing else shutil.copytree(folder, tempfile.mkdtemp(), dirs_exist_ok=True)
@@ -338,8 +328,8 @@ KEY = re.compile(rb"^[a-z_]+(?= = )", re.MULTILINE)
 VALUE = re.compile(rb"(?<== )[^\n]+")
 CELL = re.compile(rb"[^,\n]+")
 ODD_VALUES = [
-    *(b"0", b"1", b"-1", b"3", b"999", b"1000", b"1000000000", b"1000000001", b"1_000", b"0x7d0", b"9" * 20),
-    *(b"3.5", b"true", b"false", b'"blocked"', b'"Blocked"', b'"auto"', b'"delta-delta"', b'""', b'"a b"'),
+    *(b"0", b"1", b"-1", b"3", b"4", b"999", b"1000", b"1000000000", b"1000000001", b"1_000", b"0x7d0", b"9" * 20),
+    *(b"3.5", b"true", b"false", b'"blocked"', b'"Blocked"', b'"auto"', b'"delta-delta"', b'"reactor"', b'""', b'"a b"'),
     *(b'"' + b"n" * 33 + b'"', b"9" * 5000, b"[]", b"{}", b"[" * 40 + b"]" * 40, b"[" * 3000 + b"]" * 3000),
     b"1979-05-27",
 ]

@@ -1,7 +1,8 @@
 #!/usr/bin/env python3
-"""Writes a case of format 3 that looks like a network, at its limits or at a share of them.
+"""Writes a case of format 3 that looks like a network, at its limits or at a share of them, or a storm for its zones.
 
     python3 bench/interconnection.py [--share=SHARE] [--seed=SEED] > case.toml
+    python3 bench/interconnection.py --storm=STEPS [--seed=SEED] > storm.csv
 
 SHARE is a number above 0 and up to 1, as 1 or 1/4; it is 1 where it is not given, and SEED is 7. At a share of 1 there
 are 4096 substations, 12288 buses, 24576 lines and 8192 transformers, and at another one so many in proportion, at least
@@ -9,6 +10,9 @@ are 4096 substations, 12288 buses, 24576 lines and 8192 transformers, and at ano
 apart at each share; 208 zones lie on it as a grid. Substations have buses of up to four voltages, and lines lead to near
 ones of the same voltage, in a part for each zone that they cross. Transformers are of all seven kinds, some over neutral
 devices. Each node is well earthed. The numbers belong to no real network; the same text comes of the same words.
+
+STEPS is a number from 1 to 20000. The storm has at each of so many times a row for all zones, and one for each of the
+first zones, as many as 20000 rows allow.
 """
 
 import argparse
@@ -24,6 +28,7 @@ STATIONS, BUSES_EACH, LINES_EACH, UNITS_EACH = 4096, 3, 6, 2
 LEAST_STATIONS, MOST_PARTS = 8, 16
 WIDTH, HEIGHT = 1600000, 1300000  # of the plane at a share of 1, in metres
 COLUMNS, ROWS = 16, 13  # of the grid of zones
+MOST_STEPS, MOST_FIELD = 20000, 3000  # the rows of a storm, which are the most steps; mV/km
 
 
 class Level(NamedTuple):
@@ -275,6 +280,15 @@ def network(share: Fraction, seed: int) -> dict[str, list[Row]]:
     return made.lists
 
 
+def storm(steps: int, seed: int) -> str:
+    """A storm with fields by chance for all zones, and for the first ones by themselves."""
+    draw = random.Random(seed)
+    zones = ["*", *(f"zone-{row}-{column}" for row in range(ROWS) for column in range(COLUMNS))][: MOST_STEPS // steps]
+    rows = [f"{10 * step},{zone}" for step in range(steps) for zone in zones]
+    fields = [f"{row},{draw.randint(-MOST_FIELD, MOST_FIELD)},{draw.randint(-MOST_FIELD, MOST_FIELD)}" for row in rows]
+    return "\n".join(["time,zone,north,east", *fields, ""])
+
+
 def share_of(word: str) -> Fraction:
     """The share that a word is."""
     try:
@@ -286,13 +300,22 @@ def share_of(word: str) -> Fraction:
     return share
 
 
+def steps_of(word: str) -> int:
+    """The steps that a word is."""
+    if not 1 <= int(word) <= MOST_STEPS:
+        raise ValueError(word)
+    return int(word)
+
+
 def main() -> None:
     parser = argparse.ArgumentParser(description=__doc__, formatter_class=argparse.RawDescriptionHelpFormatter)
     parser.add_argument("--share", metavar="SHARE", type=share_of, default=Fraction(1))
     parser.add_argument("--seed", type=int, default=7)
+    parser.add_argument("--storm", metavar="STEPS", type=steps_of)
     given = parser.parse_args()
     try:
-        sys.stdout.write(case_text(3, network(given.share, given.seed)))
+        made = storm(given.storm, given.seed) if given.storm else case_text(3, network(given.share, given.seed))
+        sys.stdout.write(made)
     except BrokenPipeError:
         sys.exit("interconnection.py: nobody reads what it writes")
 

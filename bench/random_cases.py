@@ -1,17 +1,17 @@
 #!/usr/bin/env python3
 """Writes folders of random networks, one network a folder, to be checked by a solver of another make.
 
-    python3 bench/random_cases.py DIR [COUNT] [SEED] [NODES] [--mode=MODE] [--limits] [--format-3]
+    python3 bench/random_cases.py DIR [COUNT] [SEED] [NODES] [--mode=MODE] [--limits]
 
 Each folder of DIR has the case `p`, often a list of switchings `s`, and the file `words` with the words of one run of
 MODE (`field` where it is not given, or `screen`, or `outage`, or `review`, or `study` or `series` with a storm `t`
 besides), one word a line.
 COUNT networks are written (100), the same ones for the same SEED (1), each of at most NODES nodes (200).
-Transformers are of all four kinds, with and without neutral resistors and blocking devices; some lines are blocked, some
+Transformers are of all kinds, with and without neutral resistors and blocking devices; some lines are blocked, some
 substations have no ground, and some networks are not earthed, or not well enough to be solved: then the answer is a
-refusal. Three networks in four are made so that each bus has a way to earth before anything is switched. With --limits
-all resistances are near one of the two ends of their range. With --format-3 half of the networks are of format 3: zones by
-their scale, lines in parts, third windings and reactors.
+refusal. Three networks in four are made so that each bus has a way to earth before anything is switched. Half of the
+networks are of format 3, with zones by their scale, lines in parts, third windings and reactors. With --limits all
+resistances are near one of the two ends of their range.
 """
 
 import os
@@ -20,7 +20,6 @@ import re
 import sys
 
 AT_LIMITS = "--limits" in sys.argv
-WITH_FORMAT_3 = "--format-3" in sys.argv
 MODES = ["field", "screen", "outage", "study", "series", "review"]
 OVER_STORMS = ["study", "series"]
 KINDS = ["delta-wye", "wye-wye", "auto", "delta-delta"]
@@ -119,7 +118,7 @@ def network(draw, nodes):
     """The text of a case, and the names that switchings can have: of items, and of transformers with a resistor."""
     earthed = draw.random() < 0.75
     zones = [f"Z{place}" for place in range(draw.randint(1, 5))]
-    is_third = WITH_FORMAT_3 and draw.random() < 0.5
+    is_third = draw.random() < 0.5
     tables, items, resistors = [f"format = {3 if is_third else 2}"], [], []
     for zone in zones:
         tables.append("\n".join(["[[zone]]", f'name = "{zone}"', *zone_rows(draw, is_third)]))

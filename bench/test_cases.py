@@ -9,14 +9,12 @@ from __future__ import annotations
 import collections
 import contextlib
 import io
-import os
 import sys
 import tempfile
 import tomllib
 import unittest
 from fractions import Fraction
 from pathlib import Path
-from unittest import mock
 
 HERE = Path(__file__).resolve().parent
 sys.path[:0] = [str(HERE), str(HERE.parent / "trials" / "referee"), str(HERE / "baselines")]
@@ -52,8 +50,7 @@ transformer = [
 
 def read(text: str) -> referee.Case:
     """The case that the text is, by the referee's reader."""
-    with mock.patch.dict(os.environ, {referee.WITH_FORMAT_3: "1"}):
-        return referee.read_case(text.encode())
+    return referee.read_case(text.encode())
 
 
 def most_ends(case: referee.Case) -> int:
@@ -100,6 +97,14 @@ class Interconnection(unittest.TestCase):
         self.assertEqual(again, self.text)
         self.assertNotEqual(other, self.text)
 
+    def test_a_storm_has_the_most_rows_and_the_zones_of_the_case(self) -> None:
+        for steps in (100, 20000):
+            heads, *rows = [line.split(",") for line in interconnection.storm(steps, 7).splitlines()]
+            self.assertEqual((heads, len(rows)), (["time", "zone", "north", "east"], 20000))
+            self.assertEqual(len({row[0] for row in rows}), steps)
+            zones = {zone["name"] for zone in interconnection.network(Fraction(1, 128), 7)["zone"]}
+            self.assertTrue({row[1] for row in rows} <= {"*", *zones})
+
     def test_a_share_above_1_is_refused(self) -> None:
         for word in ("0", "2", "-1", "x"):
             self.assertRaises(ValueError, interconnection.share_of, word)
@@ -130,11 +135,10 @@ class Limits(unittest.TestCase):
 class RandomCases(unittest.TestCase):
     def test_cases_of_format_3_are_accepted(self) -> None:
         draw, formats = random_cases.random.Random(1), set()
-        with mock.patch.object(random_cases, "WITH_FORMAT_3", True):
-            for _ in range(40):
-                text, _, _ = random_cases.network(draw, 40)
-                formats.add(tomllib.loads(text)["format"])
-                read(text)
+        for _ in range(40):
+            text, _, _ = random_cases.network(draw, 40)
+            formats.add(tomllib.loads(text)["format"])
+            read(text)
         self.assertEqual(formats, {2, 3})
 
 

@@ -134,7 +134,7 @@ def check_parts(parts: list[Any], where: str) -> None:
 
 
 def check_names(case: Case) -> None:
-    """No two rows have one name, references have rows, and the two sides of a row fit together."""
+    """No two rows have one name, references have rows, and the sides of a row fit together."""
     names = {kind: {row["name"] for row in rows} for kind, rows in case.items()}
     times = Counter(row["name"] for rows in case.values() for row in rows)
     station_of = {bus["name"]: bus["substation"] for bus in case["bus"]}

@@ -2,15 +2,15 @@
 """Runs each mode at the limits of its inputs and at half of them, and prints a table of time and memory.
 
     python3 trials/limits.py PROGRAM [--minutes M] [--seed S] [--jobs N] [--only WORD] [--run-seconds N]
-        [--limit-steps N] [--format-3]
+        [--limit-steps N]
 
 The rows: the network at every limit (7680 nodes, 19968 elements, 256 zones) in every mode, with names as they come and
 of 32 bytes in every place (`outage` over a quarter of it, since it screens a network once for each of its items);
 storms of 20000 steps and 4096 switchings with an epoch each, and over the network at every limit storms of so many
 steps as --limit-steps says (1000), and so many epochs that change nothing; there too a storm of 4096 steps with an epoch
 each, that change nothing or each an earthing, beside the same storm without switchings; networks just within 4096 and
-just past it; files of 16777216 bytes of each kind and of one byte more; and files of that size that are hostile. With
---format-3 also the network at every limit of format 3 in every mode, and cases at each of these limits and one beyond it.
+just past it; files of 16777216 bytes of each kind and of one byte more; files of that size that are hostile; and the
+network at every limit of format 3 in every mode, with cases at each of these limits and one beyond it.
 
 Times are of the processor, in seconds; memory is the peak, in MiB. Beside each is the same at half the size, and what
 the one is of the other: where the work grows with the size it is 2, and more only where the row says so. In rows that are
@@ -411,7 +411,7 @@ def main():
     command, faults, clock = shared.command_of(given.program), shared.Faults(), shared.Clock(given.minutes)
     heads = ("run", "status", "size", "time", "at half", "ratio", "memory", "at half", "ratio")
     print("| " + " | ".join(heads) + " |\n|" + "---|" * len(heads), flush=True)
-    every = [*rows(command, given.limit_steps), *(rows_3(command) if given.format_3 else [])]
+    every = [*rows(command, given.limit_steps), *rows_3(command)]
     chosen = [row for row in every if given.only in row.name]
     run = 0
     with shared.scratch() as top:

@@ -22,6 +22,10 @@ PIECES = {
         "format = 1\n", "format = 2\n", "format = 3\n", "kind", '"delta-wye"', '"auto"', '"wye-wye"', '"delta-delta"',
         '"blocked"', "blocked = true\n", "neutral = 5000\n", 'neutral = "blocked"\n', "zone = []\n", "x = {}\n", "name",
         "high", "low", "ground", "# c\n", "{ name = 1, }", "[1, 2, ]", "[,]", "{,}", "a = 1 b = 2", "key\n=\n1",
+        "scale", "scale = 1000\n", "scale = 1501\n", "part", "part = []\n", "[[line.part]]\n", "[line.part]\n", "third",
+        "third_volts = 2000\n", "third_resistance = 5000\n", '"wye-wye-wye"', '"auto-wye"', '"reactor"',
+        'part = [{ zone = "Z0", north = 1, east = 1 }, { zone = "Z0", north = -1, east = 1000000 }]\n',
+        ', { zone = "Z0", north = 1000000, east = 0 }', 'zone = "Z0"\nnorth = 1\neast = 1\n',
     ],
     "storm": [
         ",", ",,", '"', '""', '"""', "\n", "\r", "\r\n", "\n\n", " ", "\t", ";", "*", "\0", "\ufeff", "é",
@@ -37,13 +41,6 @@ PIECES = {
         "dead", "end", "end\n", "cert X dead\n", "-", "+", "--", ",", " \n", "\n ", "nodes 1 north 0 east 0\n",
     ],
 }
-# What a case of format 3 has besides.
-PIECES_3 = [
-    "scale", "scale = 1000\n", "scale = 1501\n", "part", "part = []\n", "[[line.part]]\n", "[line.part]\n", "third",
-    "third_volts = 2000\n", "third_resistance = 5000\n", '"wye-wye-wye"', '"auto-wye"', '"reactor"',
-    'part = [{ zone = "Z0", north = 1, east = 1 }, { zone = "Z0", north = -1, east = 1000000 }]\n',
-    ', { zone = "Z0", north = 1000000, east = 0 }', 'zone = "Z0"\nnorth = 1\neast = 1\n',
-]
 WORD = re.compile(rb"[A-Za-z0-9_.+-]+")
 NUMBER = re.compile(rb"[+-]?[0-9]+")
 MOST_CHANGES = 4

@@ -82,8 +82,6 @@ def keep(faults, reader, told, content):
 def main():
     given = shared.arguments(__doc__, 20, [("runs", 100000)])
     command, faults, clock = shared.command_of(given.program), shared.Faults(), shared.Clock(given.minutes)
-    if given.format_3:
-        mutate.PIECES["case"] += mutate.PIECES_3
     batches = -(-given.runs // BATCH)
     items = ((reader, given.seed * batches + place) for place in range(batches) for reader in READERS)
     work = functools.partial(batch, command, clock)

@@ -16,8 +16,6 @@ HERE = os.path.dirname(os.path.abspath(__file__))
 TOP = os.path.join(HERE, "..")
 sys.dont_write_bytecode = True
 sys.path[:0] = [HERE, os.path.join(HERE, "referee"), os.path.join(TOP, "bench")]
-import random_cases  # noqa: E402
-from case import WITH_FORMAT_3  # noqa: E402
 from words import MODES  # noqa: E402
 
 MEMORY = "/dev/shm"
@@ -75,7 +73,7 @@ class Faults:
 
 
 def arguments(description, minutes, extra=(), has_program=True):
-    """The words of a trial: PROGRAM, --minutes, --seed, --jobs, --format-3, and `extra` options with their defaults."""
+    """The words of a trial: PROGRAM, --minutes, --seed, --jobs, and `extra` options with their defaults."""
     parser = argparse.ArgumentParser(
         description=description, formatter_class=argparse.RawDescriptionHelpFormatter, allow_abbrev=False
     )
@@ -84,13 +82,9 @@ def arguments(description, minutes, extra=(), has_program=True):
     parser.add_argument("--minutes", type=float, default=minutes)
     parser.add_argument("--seed", type=int, default=int(time.time()))
     parser.add_argument("--jobs", type=int, default=os.cpu_count())
-    parser.add_argument("--format-3", action="store_true", help="the program reads cases of format 3")
     for name, default in extra:
         parser.add_argument("--" + name, type=type(default), default=default)
     given = parser.parse_args()
-    if given.format_3:
-        os.environ[WITH_FORMAT_3] = "1"
-        random_cases.WITH_FORMAT_3 = True
     print(f"seed {given.seed}, {given.minutes:g} minutes at most, {given.jobs} side by side", flush=True)
     return given
 

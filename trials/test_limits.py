@@ -8,13 +8,12 @@ from __future__ import annotations
 
 import contextlib
 import io
-import os
 import unittest
 from unittest import mock
 
 import limits
 import shared
-from case import WITH_FORMAT_3, read_case
+from case import read_case
 from case_text import case_text
 from words import Refusal
 
@@ -26,14 +25,13 @@ SWITCHED = limits.Row("attack", ["study", "--switch=s"], lambda folder, size: No
 
 class Rows(unittest.TestCase):
     def test_limits_of_format_3_are_met_and_passed(self) -> None:
-        with mock.patch.dict(os.environ, {WITH_FORMAT_3: "1"}):
-            for what, most in limits.EDGES.items():
-                with self.subTest(what):
-                    if most > MOST_READ:
-                        continue
-                    read_case(case_text(3, limits.edge_lists(what, most)).encode())
-                    with self.assertRaises(Refusal):
-                        read_case(case_text(3, limits.edge_lists(what, most + 1)).encode())
+        for what, most in limits.EDGES.items():
+            with self.subTest(what):
+                if most > MOST_READ:
+                    continue
+                read_case(case_text(3, limits.edge_lists(what, most)).encode())
+                with self.assertRaises(Refusal):
+                    read_case(case_text(3, limits.edge_lists(what, most + 1)).encode())
 
     def test_rows_have_names_of_their_own(self) -> None:
         names = [row.name for row in [*limits.rows(COMMAND, 1000), *limits.rows_3(COMMAND)]]

@@ -77,9 +77,9 @@ def effective_currents(case: Case, scale: Callable[[str], float], field: float =
             network.link(row["name"], None, row["ground"] / 1e6)
     for row in case["line"]:
         if not row.get("blocked"):
-            factor = scale(row["zone"]) * field / 1000
-            volts = (row["north"] * factor, row["east"] * factor)
-            network.link(row["from"], row["to"], row["resistance"] / 3e6, volts)
+            parts = [(scale(part["zone"]) * field / 1000, part) for part in row.get("part", [row])]
+            north, east = (sum(factor * part[way] for factor, part in parts) for way in ("north", "east"))
+            network.link(row["from"], row["to"], row["resistance"] / 3e6, (north, east))
     windings: dict[str, list[tuple[int, float]]] = {}  # of each unit its windings, each with its share
     for row in case["transformer"]:
         windings[row["name"]] = unit_windings(network, row)

@@ -97,20 +97,20 @@ class Written(CaseTest):
         )
 
 
-class Cut(CaseTest):
-    def test_a_cut_line_has_the_currents_of_the_whole_one(self) -> None:
-        """Where both zones have the same alpha and beta, a line that is cut at their border carries what it did."""
+class Parts(CaseTest):
+    def test_a_line_in_parts_has_the_currents_of_the_whole_one(self) -> None:
+        """Where both zones have the same alpha and beta, a line in two parts carries what it did in one zone."""
         self.change("zones", "55.40,0.79", "57.30,0.85")
         self.change("lines", "upland,3.25", ",3.25")
         self.change("lines", ",3.25,,", ",3.25,-110.5,9.3")
         self.texts["polygons"] = POLYGONS
         found = []
-        for words in (["--accept=cut"], []):
-            self.made(*words)
+        for _ in range(2):
+            self.made()
             case = tomllib.loads(self.out.read_text())
-            found.append((len(case["line"]), plain.effective_currents(case, written(case))))
+            found.append((case["format"], plain.effective_currents(case, written(case))))
             self.texts["lines"] = self.texts["lines"].replace(",,3.25", ",upland,3.25")
-        self.assertEqual([many for many, _ in found], [5, 4])
+        self.assertEqual([number for number, _ in found], [3, 2])
         for name, currents in found[0][1].items():
             for here, there in zip(currents, found[1][1][name]):
                 self.assertAlmostEqual(here, there, delta=1e-6, msg=name)

@@ -138,56 +138,56 @@ class Usual(unittest.TestCase):
 
 
 class Rows(CaseTest):
-    def test_a_third_winding_is_a_row_of_its_own(self) -> None:
-        self.texts["buses"] += "N69,North,69\n"
-        self.change("transformers", "YNa0d1,,,", "YNa0yn0,N69,69,0.05")
-        third = (
-            "transformers.csv line 2, third: the third earthed winding of T1 has no key in formats 1 and 2: it is "
-            "written as a delta-wye of its own, and the effective current of T1 lacks it"
-        )
-        self.assertEqual(self.findings(), [f"{third}; leave it out, or give --accept=third:T1"])
-        made = self.made("--accept=third:T1")
-        self.assertEqual(self.told, [f"{third} (accepted)"])
-        self.assertEqual(
-            made["transformer"]["T1_3"],
-            {"name": "T1_3", "kind": "delta-wye", "high_volts": 69000, "high": "N69", "high_resistance": 50000},
-        )
-        self.assertEqual(list(made["transformer"]), ["T1", "T1_3", "T2", "T3", "T4"])
-        first = "# Made by gicdesk case: change the tables, and make it again. Accepted: third:T1."
-        self.assertEqual(self.out.read_text().partition("\n")[0], first)
-
-    def test_a_third_winding_and_a_device_in_the_neutral(self) -> None:
+    def test_a_third_winding_is_one_of_its_unit(self) -> None:
         self.texts["buses"] += "N69,North,69\n"
         self.change("transformers", "0.19,,YNa0d1,,,", "0.19,2,YNa0yn0,N69,69,0.05")
+        unit = self.made()["transformer"]["T1"]
+        third = {"third": "N69", "third_volts": 69000, "third_resistance": 50000}
+        self.assertEqual({key: unit[key] for key in third}, third)
+        self.assertEqual((unit["kind"], unit["neutral"]), ("auto-wye", 2000000))
+        self.assertEqual(self.out.read_text().splitlines()[1], "format = 3")
+
+    def test_a_third_winding_of_a_wye_wye(self) -> None:
+        self.texts["buses"] += "S13,South,13.8\n"
+        self.change("transformers", "YNyn0,,,", "YNyn0yn0,S13,13.8,0.01")
+        self.assertEqual(self.made()["transformer"]["T2"]["kind"], "wye-wye-wye")
+
+    def test_a_third_voltage_above_the_high_one(self) -> None:
+        self.texts["buses"] += "N500,North,500\n"
+        self.change("transformers", "YNa0d1,,,", "YNa0yn0,N500,500,0.05")
         self.assertEqual(
-            self.findings("--accept=third"),
-            [
-                "transformers.csv line 2, neutral: it is 2, and formats 1 and 2 have no key for a device in the neutral "
-                "of a unit with a third earthed winding; leave one of the two out"
-            ],
+            self.findings(), ["transformers.csv line 2, third_kv: it is 500, above high_kv, 345; look at both"]
         )
 
-    def test_a_reactor_is_outside_of_the_assessment(self) -> None:
+    def test_a_reactor(self) -> None:
         self.texts["transformers"] += "R1,reactor,E345,,,,1.2,,,,0.5,YN,,,,line reactor\n"
         self.change("substations", "-99.0,,", "-99.0,0.4,")
         self.assertEqual(
-            self.findings(),
-            [
-                "transformers.csv line 6, kind: a reactor has no key in formats 1 and 2: R1 is written as a delta-wye "
-                "outside of the assessment; leave it out, or give --accept=reactor:R1"
-            ],
-        )
-        self.assertEqual(
-            self.made("--accept=reactor")["transformer"]["R1"],
+            self.made()["transformer"]["R1"],
             {
                 "name": "R1",
-                "kind": "delta-wye",
-                "high_volts": 1000,
+                "kind": "reactor",
+                "high_volts": 345000,
                 "high": "E345",
                 "high_resistance": 1200000,
                 "neutral": 500000,
             },
         )
+        self.assertEqual(self.out.read_text().splitlines()[1], "format = 3")
+
+    def test_a_case_that_format_2_can_say_is_of_it(self) -> None:
+        self.made()
+        self.assertEqual(self.out.read_text().splitlines()[1], "format = 2")
+
+    def test_a_case_with_more_rows_than_format_2_takes(self) -> None:
+        """3584 transformers are of format 2, and one more makes it format 3."""
+        self.parallel("transformers", "T3", "20")
+        row = "T5,delta-wye,S345,,362,,0.23,,,,,YNd1,,,,"
+        self.texts["transformers"] += "".join(f"{row},20\n".replace("T5", f"P{place}") for place in range(178))
+        for name, most, number in (("T5", 3584, 2), ("T6", 3585, 3)):
+            self.texts["transformers"] += f"{row},\n".replace("T5", name)
+            self.assertEqual(len(self.made()["transformer"]), most)
+            self.assertEqual(self.out.read_text().splitlines()[1], f"format = {number}")
 
     def parallel(self, table: str, name: str, many: str) -> None:
         """A column `parallel` at the end of a table, with a cell in one row."""
@@ -259,50 +259,62 @@ class Zones(CaseTest):
         self.texts["polygons"] = POLYGONS
         self.change("lines", "upland,3.25", ",3.25")
 
-    CUT = (
+    TOLD = (
         "lines.csv line 2, zone: it is empty, and the line crosses borders: upland to 44.5 km, coast to 111.2 km; "
-        "it is cut into 2 lines there"
+        "it has 2 parts"
     )
 
-    def test_a_line_across_a_border_is_cut_and_told(self) -> None:
+    def test_a_line_across_a_border_is_in_parts_and_told(self) -> None:
+        made = self.made()
+        self.assertEqual(self.told, [self.TOLD])
+        line = made["line"]["N-S"]
+        self.assertEqual((line["from"], line["to"], line["resistance"]), ("N345", "S345", 3250000))
         self.assertEqual(
-            self.findings(), [f"{self.CUT}; write the one zone that it is to have, or give --accept=cut:N-S"]
+            line["part"],
+            [{"zone": "upland", "north": -44488, "east": 0}, {"zone": "coast", "north": -66733, "east": 0}],
         )
-        made = self.made("--accept=cut:N-S")
-        self.assertEqual(self.told, [f"{self.CUT} (accepted)"])
-        parts = [made["line"][name] for name in ("N-S_1", "N-S_2")]
-        keys = ("from", "to", "zone", "resistance", "north", "east")
+        self.assertFalse({"zone", "north", "east"} & set(line))
+        self.assertEqual(self.out.read_text().splitlines()[1], "format = 3")
+
+    def test_a_line_through_more_zones_than_it_has_parts(self) -> None:
+        """Between upland and coast lie strips of other zones: with 14 of them the line has 16 parts."""
+        for count in (14, 15):
+            borders = [f"{49.05 + 0.9 * place / count:.4f}" for place in range(count + 1)]
+            self.texts["zones"] = TABLES["zones"] + "".join(f"s{place},57.3,0.85,\n" for place in range(count))
+            self.texts["polygons"] = POLYGONS.replace("coast,49.6", "coast,49.05").replace("upland,49.6", "upland,49.95")
+            for place, (south, north) in enumerate(zip(borders, borders[1:])):
+                corners = (f"{south},-101", f"{north},-101", f"{north},-98", f"{south},-98")
+                self.texts["polygons"] += "".join(f"s{place},{corner}\n" for corner in corners)
+            if count == 14:
+                parts = self.made()["line"]["N-S"]["part"]
+                zones = ["upland", *(f"s{place}" for place in reversed(range(14))), "coast"]
+                self.assertEqual([part["zone"] for part in parts], zones)
+                self.out.unlink()
+        words = "it is empty, and the line has 17 parts by the polygons, and not up to 16"
         self.assertEqual(
-            [tuple(part[key] for key in keys) for part in parts],
-            [
-                ("N345", "N-S_bus1", "upland", 1300000, -44488, 0),
-                ("N-S_bus1", "S345", "coast", 1950000, -66733, 0),
-            ],
+            self.findings(), [f"lines.csv line 2, zone: {words}; mend the polygons, or write its zone"]
         )
-        self.assertEqual(made["bus"]["N-S_bus1"], {"name": "N-S_bus1", "substation": "N-S_at1"})
-        self.assertEqual(made["substation"]["N-S_at1"], {"name": "N-S_at1"})
 
     def test_the_parts_of_a_measured_span_add_up(self) -> None:
         self.change("lines", ",3.25,,", ",3.251,-110.5,3.3")
-        made = self.made("--accept=cut")
-        parts = [made["line"][name] for name in ("N-S_1", "N-S_2")]
-        sums = [sum(part[key] for part in parts) for key in ("resistance", "north", "east")]
-        self.assertEqual(sums, [3251000, -110500, 3300])
+        parts = self.made()["line"]["N-S"]["part"]
+        sums = [sum(part[key] for part in parts) for key in ("north", "east")]
+        self.assertEqual(sums, [-110500, 3300])
 
     def test_a_line_within_a_zone_has_it(self) -> None:
         self.change("lines", "S345,,3.25", "S345,upland,3.25")
         self.change("lines", "upland,2.1", ",2.1")
         self.assertEqual(self.made()["line"]["N-E"]["zone"], "upland")
 
-    def test_a_blocked_line_is_not_cut(self) -> None:
+    def test_a_blocked_line_is_in_one_zone(self) -> None:
         self.change("lines", "coast,3.9", ",3.9")
-        lines = self.made("--accept=cut")["line"]
+        lines = self.made()["line"]
         self.assertEqual(lines["S-E"]["zone"], "coast")
 
     def test_a_zone_in_which_the_line_is_not(self) -> None:
         self.change("lines", "upland,2.1", "coast,2.1")
         self.assertEqual(
-            self.findings("--accept=cut"),
+            self.findings(),
             [
                 "lines.csv line 3, zone: it is coast, and by the polygons the line lies in upland; write its zone, or "
                 "leave the cell empty, or give --accept=zone:N-E"
@@ -322,7 +334,7 @@ class Zones(CaseTest):
     def test_polygons_that_are_none(self) -> None:
         self.texts["polygons"] = POLYGONS + "cost,48,-101\ncoast,95,-101\n"
         self.assertEqual(
-            self.findings("--accept=cut"),
+            self.findings(),
             [
                 'polygons.csv line 10, zone: "cost" is none of coast, upland; write one of these',
                 "polygons.csv line 11, latitude: it is 95, and not -90 to 90 degrees",
@@ -330,7 +342,7 @@ class Zones(CaseTest):
         )
         self.texts["polygons"] = "zone,latitude,longitude\nupland,49,-100\n"
         words = "upland has 1 corner; a polygon has 3 or more, a row for each"
-        self.assertIn(f"polygons.csv: {words}", self.findings("--accept=cut"))
+        self.assertIn(f"polygons.csv: {words}", self.findings())
 
     def test_polygons_that_overlap(self) -> None:
         self.texts["polygons"] = POLYGONS.replace("coast,49.6", "coast,49.7")
@@ -343,7 +355,7 @@ class Zones(CaseTest):
         self.change("substations", "North,50.0", "North,49.6")
         self.change("substations", "East,50.0", "East,49.6")
         self.change("lines", "upland,2.1", ",2.1")
-        self.assertEqual(self.made("--accept=cut")["line"]["N-E"]["zone"], "upland")
+        self.assertEqual(self.made()["line"]["N-E"]["zone"], "upland")
 
 
 class Accepting(CaseTest):
@@ -365,7 +377,7 @@ class Accepting(CaseTest):
         self.assertEqual(
             line,
             "--accept=windings:T1: no finding has this name; allowed are alpha, ground, line, winding, neutral, volts, "
-            "vector, span, zone, cut, third, reactor, unused, or one of them with a colon and the name of a row",
+            "vector, span, zone, unused, or one of them with a colon and the name of a row",
         )
 
     def test_a_refusal_cannot_be_accepted(self) -> None:

@@ -157,6 +157,30 @@ CASE = (
         "transformers.csv line 2, low: it is in North, and high in Nort; a unit has its buses in one substation",
     ),
     Mistake(
+        "a third winding at the bus of the high one", "transformers", "0.19,,YNa0d1,,,", "0.19,,YNa0yn0,N345,345,0.05",
+        "transformers.csv line 2, third: it is N345, as high is; write a bus for each side",
+    ),
+    Mistake(
+        "a low winding at the bus of the high one", "transformers", "T2,wye-wye,S345,S138,345,138,",
+        "T2,wye-wye,S345,S345,345,345,",
+        "transformers.csv line 3, low: it is S345, as high is; write a bus for each side",
+    ),
+    Mistake(
+        "a third winding of a delta-wye", "transformers", "2.5,YNd1,,,", "2.5,YNd1,S138,138,0.05",
+        "transformers.csv line 4, third: it is S138, third_kv is 138, third_ohm is 0.05, and a unit of kind delta-wye "
+        "has no use for them; leave them empty, or look at kind: this one uses high, high_kv, high_ohm, neutral",
+    ),
+    Mistake(
+        "a third winding of a reactor", "transformers", "T4,", "R1,reactor,N345,,,,1.2,,,,,,N138,138,0.05,\nT4,",
+        "transformers.csv line 5, third: it is N138, third_kv is 138, third_ohm is 0.05, and a unit of kind reactor "
+        "has no use for them; leave them empty, or look at kind: this one uses high, high_ohm, neutral",
+    ),
+    Mistake(
+        "a kind of the case with a third winding", "transformers", "T1,auto,", "T1,auto-wye,",
+        'transformers.csv line 2, kind: "auto-wye" is none of delta-wye, wye-wye, auto, delta-delta, reactor; write one '
+        "of these; a third earthed winding is auto or wye-wye with third, third_kv and third_ohm",
+    ),
+    Mistake(
         "a zone that isn't there", "lines", "upland,3.25", "uplands,3.25",
         'lines.csv line 2, zone: "uplands" is not in zones.csv; is it upland?',
     ),

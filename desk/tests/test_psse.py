@@ -100,7 +100,7 @@ class PsseTest(DeskTest):
         """The lists of the case that is made, each row by its name."""
         self.shown = self.done(*words).splitlines()
         read = tomllib.loads(self.out.read_text())
-        self.assertEqual(read["format"], 2)
+        self.assertEqual(read["format"], 3 if "--beyond=model" in words else 2)
         return {name: {row["name"]: row for row in read[name]} for name in LISTS}
 
     def told(self, words: list[object], *expected: str) -> None:
@@ -202,13 +202,12 @@ class Small(PsseTest):
         self.assertEqual(
             case["transformer"],
             {
-                "BANK": {"name": "BANK", "kind": "auto", "high_volts": 345000, "high": "1_NORTH_345"}
-                | {"low_volts": 138000, "low": "2_NORTH_138", "series_resistance": 200000, "common_resistance": 100000},
-                "BANK_3": {"name": "BANK_3", "kind": "delta-wye", "high_volts": 13800, "high": "3_NORTH_13"}
-                | {"high_resistance": 50000},
+                "BANK": {"name": "BANK", "kind": "auto-wye", "high_volts": 345000, "high": "1_NORTH_345"}
+                | {"low_volts": 138000, "low": "2_NORTH_138", "series_resistance": 200000, "common_resistance": 100000}
+                | {"third_volts": 13800, "third": "3_NORTH_13", "third_resistance": 50000},
                 "T4-6-1": {"name": "T4-6-1", "kind": "delta-wye", "high_volts": 345000, "high": "4_SOUTH_A"}
                 | {"high_resistance": 300000, "neutral": 2500000},
-                "R7-1": {"name": "R7-1", "kind": "delta-wye", "high_volts": 1000, "high": "7_EAST"}
+                "R7-1": {"name": "R7-1", "kind": "reactor", "high_volts": 345000, "high": "7_EAST"}
                 | {"high_resistance": 1500000},
             },
         )
@@ -285,18 +284,18 @@ class Small(PsseTest):
         for row in (
             ("substation", "EAST_STATION", "EAST STATION", "3", ""),
             ("line", "L1-7-1", "", "1 7", "1"),
-            ("transformer", "BANK_3", "BANK", "1 2 3", "1"),
+            ("transformer", "BANK", "BANK", "1 2 3", "1"),
             ("transformer", "R7-1", "", "7", ""),
             ("bus", "4_SOUTH_A", "SOUTH A", "4 5", ""),
         ):
             self.assertIn(row, rows)
 
     def test_what_has_no_key_is_refused_without_a_choice(self) -> None:
-        ways = "--beyond=leave leaves it out, --beyond=model writes it as docs/MODELLING.md says"
+        ways = "--beyond=leave leaves it out, --beyond=model writes a case of format 3, which has one"
         self.told(
             self.words(),
-            f"net.raw line 25: the third grounded winding of BANK, at the bus 3, has no key in a case; {ways}",
-            f"net.gic line 18: the reactor 7 '1' has no key in a case; {ways}",
+            f"net.raw line 25: the third grounded winding of BANK, at the bus 3, has no key in a case of format 2; {ways}",
+            f"net.gic line 18: the reactor 7 '1' has no key in a case of format 2; {ways}",
         )
 
 

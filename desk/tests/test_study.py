@@ -12,7 +12,6 @@ import hashlib
 import html.parser
 import io
 import math
-import pathlib
 import random
 import re
 import sys
@@ -348,7 +347,8 @@ class Page(StudyTest):
         for words in (
             "1 outage unearthed: TB (at B)",
             "2 outages idle: S, D",
-            "1 unit outside",
+            "1 unit outside, since the high side has 200 kV or less, or nothing is said of the core, as of a delta-delta "
+            "unit or a reactor: D.",
             "1 line with a series capacitor, which pass no direct current: S",
             "no list of events was given",
             "no storm was given",
@@ -356,10 +356,8 @@ class Page(StudyTest):
         ):
             self.assertIn(words, told)
 
-    def test_points_at_borders_are_told_apart_from_what_has_no_end(self) -> None:
-        self.prints("check", CHECK.replace("live 4", "node L_at1 dead\nlive 4"))
+    def test_what_has_no_end_is_told(self) -> None:
         told = self.text_of("left", self.page())
-        self.assertIn("1 point without a ground, where lines are cut at borders: L_at1.", told)
         self.assertIn("1 node at which nothing ends, without a potential: TA.", told)
 
     def test_a_case_that_python_does_not_read_has_no_map(self) -> None:
@@ -465,9 +463,8 @@ class Numbers(unittest.TestCase):
             (Question("value", "L", "line", "perkm", 1200000), "the resistance for each kilometre is 1.2 ohm per km"),
             (Question("value", "A", "substation", "ground", 5000), "the resistance of the ground is 0.005 ohm"),
             (Question("volts", "T", "transformer", "low_volts", 138000, 345000), "low volts is 138 kV at a bus"),
-            (Question("value", "R", "transformer", "high_volts", 1000), "as gicdesk writes it for a reactor: is it one?"),
-            (Question("volts", "R", "transformer", "high_volts", 1000, 345000), "At the bus of R another unit has 345 kV"),
-            (Question("volts", "T", "transformer", "high_volts", 345000, 1000), "and of one high volts is 1 kV, as"),
+            (Question("value", "T", "transformer", "third_resistance", 5000), "third resistance is 0.005 ohm, as few"),
+            (Question("volts", "T", "transformer", "third_volts", 34500, 20000), "third volts is 34.5 kV at a bus"),
             (Question("outside", "D"), "has it no grounded wye?"),
             (Question("new", "X"), "new X"),
         ):
@@ -579,13 +576,6 @@ class Thousand(unittest.TestCase):
         for place, box in enumerate(taken):
             self.assertTrue(box.within(edge))
             self.assertFalse(any(box.meets(other) for other in taken[:place]))
-
-    def test_points_at_borders_have_no_name_on_the_map(self) -> None:
-        places = {"A": (0.0, 0.0), "L_at1": (0.0, 40.0), "B": (0.0, 90.0)}
-        stations = [pictures.Station(name, "none", 0, name, name != "L_at1") for name in places]
-        drawn = pictures.network_map(places, [], stations, 60)
-        self.assertEqual(re.findall(r"<text[^>]*>([A-Z]\w*)</text>", drawn), ["A", "B", "N"])
-        self.assertIn("<title>L_at1</title>", drawn)
 
     def test_a_map_of_one_place(self) -> None:
         one = pictures.Station("A", "below", 0, "A")

@@ -2,7 +2,6 @@
 and *The made case*)."""
 
 import functools
-import os
 import re
 from typing import NamedTuple, Optional
 
@@ -16,8 +15,6 @@ VOLT = ("integer", 1000, 2000000)
 SPAN = ("integer", -1000000, 1000000)
 # How many cases are remembered by their bytes: the runs of a trial come back to the same ones.
 MOST_REMEMBERED = 4
-# This variable of the environment says that the program reads cases of format 3. One that doesn't refuses that number.
-WITH_FORMAT_3 = "REFEREE_FORMAT_3"
 # The lists, in their order, with how many rows each may have in formats 1 and 2, and in format 3.
 LIMITS = {"zone": 256, "substation": 1024, "bus": 3072, "line": 8192, "transformer": 3584}
 LIMITS_3 = {"zone": 256, "substation": 4096, "bus": 12288, "line": 24576, "transformer": 8192}
@@ -318,18 +315,13 @@ def read_row(name, number, row, rules):
     return plain(row)
 
 
-def known_formats():
-    """The formats that the program reads."""
-    return (1, 2, 3) if os.environ.get(WITH_FORMAT_3) else (1, 2)
-
-
 def read_lists(document):
     """The rows of each list, each looked at by itself."""
     allowed = {b"format"} | {name.encode() for name in LIMITS}
     if any(key not in allowed for key in document) or b"format" not in document:
         raise refusal("key in case row 0")
     format_number = document[b"format"]
-    if type(format_number) is not int or format_number not in known_formats():
+    if type(format_number) is not int or format_number not in FORMATS:
         raise refusal("value in case row 0 field format")
     rules, rows = FORMATS[format_number], {}
     for name, most in rules.limits.items():

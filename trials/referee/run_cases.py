@@ -1,19 +1,17 @@
 #!/usr/bin/env python3
 """Runs a program over folders of worked cases, and has each run judged.
 
-    python3 trials/referee/run_cases.py PROGRAM [--cases DIR] [--only GLOB] [--modes MODE,..] [--seconds S] [--jobs N] [--format-3]
+    python3 trials/referee/run_cases.py PROGRAM [--cases DIR] [--only GLOB] [--modes MODE,..] [--seconds S] [--jobs N]
 
 PROGRAM is a program or a Python script. Each run has a scratch folder of its own with copies of the files of one folder
 of DIR, `cases` beside this script where it is not given, and is looked at by the referee: its status, its line and each
 line of its report. With --modes the program has these modes alone: another mode's word is then an unknown mode, and an
-option that no mode of them has an unknown word; cases of other modes are left out. So are those of format 3, but with
---format-3. A run has S seconds (60).
+option that no mode of them has an unknown word; cases of other modes are left out. A run has S seconds (60).
 
 A folder holds the input files and `words`, one word a line. It may have `expect` (the status and then the line),
 `stdout` (the bytes of the output), `gen` (a Python script that makes large inputs in the scratch folder), `then` (the
 words of a second run, which finds the output of the first in `first.out`), `sink` (`out` or `err`: that stream is one
-that is always full), `timeout` (the seconds of this case), `needs` (`format 3`, where the program has to read it) and
-`note`, for readers.
+that is always full), `timeout` (the seconds of this case) and `note`, for readers.
 
 Failing cases are printed. The last line is `N passed, M failed, K left out`, and the exit status is 1 where M is not 0.
 """
@@ -30,12 +28,11 @@ import tempfile
 HERE = os.path.dirname(os.path.abspath(__file__))
 sys.dont_write_bytecode = True
 sys.path.insert(0, HERE)
-from case import WITH_FORMAT_3, known_formats  # noqa: E402
 from judge import run_faults  # noqa: E402
 from outcome import predict  # noqa: E402
 from words import MODES, mode_of, usage_fault  # noqa: E402
 
-SPECIAL = {"words", "then", "expect", "stdout", "gen", "note", "timeout", "sink", "needs"}
+SPECIAL = {"words", "then", "expect", "stdout", "gen", "note", "timeout", "sink"}
 
 
 def read_words_file(folder, name):
@@ -132,8 +129,6 @@ def run_once(folder, scratch, command, built, seconds, is_first):
 def run_case(folder, command, built, seconds):
     """The faults of a case, or None where it is left out."""
     second = read_words_file(folder, "then")
-    if read_text(folder, "needs") and 3 not in known_formats():
-        return None
     if not all(is_run_here(words, built) for words in [read_words_file(folder, "words"), second] if words is not None):
         return None
     seconds, faults, first = max(seconds, float(read_text(folder, "timeout") or 0)), [], None
@@ -161,10 +156,7 @@ def main():
     parser.add_argument("--modes", default=",".join(MODES))
     parser.add_argument("--seconds", type=float, default=60)
     parser.add_argument("--jobs", type=int, default=os.cpu_count())
-    parser.add_argument("--format-3", action="store_true")
     given = parser.parse_args()
-    if given.format_3:
-        os.environ[WITH_FORMAT_3] = "1"
     built = tuple(given.modes.split(","))
     names = [name for name in sorted(os.listdir(given.cases)) if fnmatch.fnmatch(name, given.only)]
     counts = {"passed": 0, "failed": 0, "left out": 0}

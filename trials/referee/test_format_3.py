@@ -6,14 +6,11 @@
 
 from __future__ import annotations
 
-import os
 import tempfile
 import unittest
 from pathlib import Path
-from unittest import mock
 
-import case
-from judge import report_faults, run_faults
+from judge import report_faults
 from outcome import Outcome, predict
 from reference import Report
 from run_cases import fill, read_text, read_words_file
@@ -28,11 +25,6 @@ def folders() -> list[Path]:
 
 
 class WorkedCases(unittest.TestCase):
-    def setUp(self) -> None:
-        is_there = mock.patch.dict(os.environ, {case.WITH_FORMAT_3: "1"})
-        is_there.start()
-        self.addCleanup(is_there.stop)
-
     def outcome_of(self, folder: Path) -> Outcome:
         with tempfile.TemporaryDirectory() as scratch:
             fill(folder, scratch)
@@ -71,15 +63,6 @@ class WorkedCases(unittest.TestCase):
         less = b"\n".join(line for line in lines if not line.startswith(b"element W third "))
         self.assertEqual(len(lines) - 1, less.count(b"\n") + 1)
         self.assertTrue(report_faults(outcome, less))
-
-    def test_the_format_is_refused_where_the_program_does(self) -> None:
-        del os.environ[case.WITH_FORMAT_3]
-        case.read_case.cache_clear()
-        line = "gicstudy: case: value in case row 0 field format"
-        outcome = self.outcome_of(CASES / "format_3_field")
-        self.assertEqual((outcome.status, outcome.line), (5, line))
-        self.assertEqual(run_faults(outcome, 5, b"", line.encode() + b"\n"), [])
-        case.read_case.cache_clear()
 
 
 if __name__ == "__main__":

@@ -73,7 +73,6 @@ class Making:
         self.way, self.number = choices.alpha, read_alpha(choices.alpha)
         self.case, self.names = Case(), Names({name for rows in tables.rows.values() for name in rows})
         self.network = Network()
-        self.made_substations: list[Row] = []  # at borders
 
     def make(self) -> None:
         for table, make in (
@@ -87,7 +86,6 @@ class Making:
         ):
             for at in self.tables.rows[table].values():
                 make(at)
-        self.case.lists["substation"] += self.made_substations
         for table, list_name in zip(COLUMNS, LISTS):
             many, most = len(self.case.lists[list_name]), MOST_ROWS[table]
             if many > most:
@@ -205,15 +203,13 @@ class Making:
         return names
 
     def line(self, at: Record) -> None:
-        line = Line(at, self.copies(at), self.tables, self.network, self.questions, self.names.give_like)
+        line = Line(at, self.copies(at), self.tables, self.network, self.questions)
         self.case.lists["line"] += line.rows()
-        self.case.lists["bus"] += line.made_buses
-        self.made_substations += line.made_substations
         self.network.used.update(line.buses)
 
     def transformer(self, at: Record) -> None:
         for name in self.copies(at):
-            unit = Unit(at, name, self.tables, self.network.kilovolts, self.questions, self.names.give_like)
+            unit = Unit(at, name, self.tables, self.network.kilovolts, self.questions)
             self.case.lists["transformer"] += unit.rows()
             self.network.used.update(unit.buses)
             self.network.earthing.update(unit.earthed)

@@ -2,13 +2,13 @@
 
 import dataclasses
 import math
-from collections.abc import Callable, Sequence
+from collections.abc import Sequence
 from fractions import Fraction
 
 from .alpha import Scale
 from .borders import Stretch
 from .case_tables import BUSES, KILOMETRE, OHM, PER_UNIT, ZONES, Number, Questions, Tables, bare, number_in, whole
-from .cases import Field, Row, span_fields
+from .cases import Field, Part, Row, part_of, span_fields
 from .decimals import MICRO, MILLI, shifted
 from .findings import shown
 from .places import MOST_KM, SHORT_M, SPAN_FROM_MAP_M, Place, span_metres
@@ -16,7 +16,7 @@ from .records import Record
 from .usual import BASE_MVA, short, unusual_line
 
 CAPACITOR = "yes"
-LEAST_MICRO_OHM = 1000  # of a line in a case
+MOST_PARTS = 16  # of a line in a case
 
 Span = tuple[int, int]  # metres to the north and to the east
 
@@ -35,10 +35,9 @@ class Network:
 
 @dataclasses.dataclass(frozen=True)
 class Piece:
-    """A line in a case, or one of the parts that it is cut into: up to a share of its way."""
+    """A line in a case, or one of its parts: up to a share of its way."""
 
     zone: str
-    suffix: str = ""  # of its name
     until: Fraction = Fraction(1)
 
 
@@ -51,16 +50,13 @@ class Line:
     tables: Tables
     network: Network
     questions: Questions
-    give_name: Callable[[str], str]
     buses: set[str] = dataclasses.field(default_factory=set)
-    made_buses: list[Row] = dataclasses.field(default_factory=list)  # at borders
-    made_substations: list[Row] = dataclasses.field(default_factory=list)
 
     def ask(self, kind: str, column: str | None, words: str, ways: str) -> None:
         self.questions.ask(f"{kind}:{self.at.text('name')}", self.at, column, words, ways)
 
     def rows(self) -> list[Row]:
-        """Its rows in the case: one for each name, or for each piece of each."""
+        """Its rows in the case, one for each name."""
         ends = [self.tables.refer(self.at, column, BUSES) for column in ("from", "to")]
         self.buses.update(end.text("name") for end in ends if end is not None)
         kilovolts = self.same_kilovolts()
@@ -79,7 +75,7 @@ class Line:
             return []
         if kilovolts is not None and stations[0] != stations[1]:
             self.ask_usual(ohm, kilovolts, span)
-        return [row for name in self.names for row in self.rows_of(name, pieces, ohm, span)]
+        return [Row(name, self.fields(pieces, ohm, span), self.at.text("note")) for name in self.names]
 
     def ohm(self, kilovolts: Number | None) -> Number | None:
         """The resistance of a phase, written in ohm or per unit; None where it isn't one, which is a finding."""
@@ -165,7 +161,7 @@ class Line:
 
     def pieces(self, places: Sequence[Place], span: Span | None) -> list[Piece]:
         """The line as it is in the case: whole in the zone that is written, or in the only one, or in the one that
-        its way lies in; and else cut at the borders of the zones."""
+        its way lies in; and else in parts, by the borders of the zones."""
         zones = list(self.tables.rows[ZONES])
         borders = self.tables.borders
         way = [] if borders is None else borders.stretches(places[0], places[1])
@@ -185,7 +181,7 @@ class Line:
             return []
         if len(way) == 1 or self.at.text("capacitor"):
             return [Piece(way[0].zones[0])]
-        return self.cut(way, span)
+        return self.in_parts(way, span)
 
     def written(self, way: Sequence[Stretch]) -> list[Piece]:
         """The line in the zone of its cell, through which its way goes where there are polygons."""
@@ -196,54 +192,52 @@ class Line:
             self.ask("zone", "zone", words, "write its zone, or leave the cell empty")
         return [Piece(zone)] if zone else []
 
-    def cut(self, way: Sequence[Stretch], span: Span | None) -> list[Piece]:
-        pieces = [Piece(part.zones[0], f"_{number}", part.until) for number, part in enumerate(way, 1)]
+    def in_parts(self, way: Sequence[Stretch], span: Span | None) -> list[Piece]:
+        pieces = [Piece(part.zones[0], part.until) for part in way]
+        if len(pieces) > MOST_PARTS:
+            words = f"it is empty, and the line has {len(pieces)} parts by the polygons, and not up to {MOST_PARTS}"
+            self.at.wrong("zone", f"{words}; mend the polygons, or write its zone")
+            return []
         length = 0.0 if span is None else math.hypot(*span) / 1000
         parts = ", ".join(f"{piece.zone} to {float(piece.until) * length:.1f} km" for piece in pieces)
-        words = f"it is empty, and the line crosses borders: {parts}; it is cut into {len(pieces)} lines there"
-        self.ask("cut", "zone", words, "write the one zone that it is to have")
+        words = f"it is empty, and the line crosses borders: {parts}; it has {len(pieces)} parts"
+        self.questions.tell(self.at, "zone", words)
         return pieces
 
-    def rows_of(self, name: str, pieces: Sequence[Piece], ohm: Number, span: Span) -> list[Row]:
-        """The rows under a name: one, or one for each piece with a made bus between two of them. Resistance and span
-        are shared out by length, and add up."""
-        rows: list[Row] = []
-        here, share = self.at.text("from"), Fraction(0)
-        for piece in pieces:
-            there = self.at.text("to") if piece is pieces[-1] else self.made_bus(name, len(rows) + 1)
-            micro_ohm, north, east = (
-                round(total * piece.until) - round(total * share) for total in (whole(ohm, OHM), *span)
-            )
-            resistance = f"{bare(self.at.text('ohm'))} ohm per phase"
-            if self.at.text("per_unit"):
-                ohms = shifted(whole(ohm, OHM), MICRO)
-                resistance = f"{ohms} ohm per phase, from {bare(self.at.text('per_unit'))} per unit"
-            if piece.suffix:
-                resistance = f"{shifted(micro_ohm, MICRO)} of {resistance}"
-                if micro_ohm < LEAST_MICRO_OHM:
-                    words = f"its part in {piece.zone} has less than 0.001 ohm; write the one zone of the line"
-                    self.at.wrong("zone", words)
-            fields = [Field("from", here), Field("to", there), Field("zone", piece.zone)]
-            fields += [Field("resistance", micro_ohm, resistance), *self.span_fields(piece.zone, (north, east))]
-            if self.at.text("capacitor"):
-                fields.append(Field("blocked", True, "a series capacitor passes no direct current"))
-            own_name = self.give_name(f"{name}{piece.suffix}") if piece.suffix else name
-            rows.append(Row(own_name, fields, self.at.text("note")))
-            here, share = there, piece.until
-        return rows
+    def fields(self, pieces: Sequence[Piece], ohm: Number, span: Span) -> list[Field]:
+        """What it says in the case. A span is shared out by length among parts, and adds up."""
+        micro_ohm = whole(ohm, OHM)
+        resistance = f"{bare(self.at.text('ohm'))} ohm per phase"
+        if self.at.text("per_unit"):
+            resistance = f"{shifted(micro_ohm, MICRO)} ohm per phase, from {bare(self.at.text('per_unit'))} per unit"
+        fields = [Field("from", self.at.text("from")), Field("to", self.at.text("to"))]
+        if len(pieces) == 1:
+            fields.append(Field("zone", pieces[0].zone))
+        fields.append(Field("resistance", micro_ohm, resistance))
+        self.check_spans(pieces, span)
+        if len(pieces) == 1:
+            fields += span_fields(*span, self.factor(pieces[0].zone))
+        else:
+            fields.append(Field("part", tuple(self.parts(pieces, span))))
+        if self.at.text("capacitor"):
+            fields.append(Field("blocked", True, "a series capacitor passes no direct current"))
+        return fields
 
-    def span_fields(self, zone: str, span: Span) -> list[Field]:
+    def parts(self, pieces: Sequence[Piece], span: Span) -> list[Part]:
+        parts, share = list[Part](), Fraction(0)
+        for piece in pieces:
+            north, east = (round(total * piece.until) - round(total * share) for total in span)
+            parts.append(part_of(piece.zone, north, east, self.factor(piece.zone)))
+            share = piece.until
+        return parts
+
+    def factor(self, zone: str) -> Fraction:
         scale = self.network.scales.get(zone)
-        factor = Fraction(1) if scale is None else scale.factor
+        return Fraction(1) if scale is None else scale.factor
+
+    def check_spans(self, pieces: Sequence[Piece], span: Span) -> None:
+        """Whether a span stays within that of a case with the factors of its zones."""
+        factor = max(self.factor(piece.zone) for piece in pieces)
         if any(abs(metres * factor) > MOST_KM * 1000 for metres in span):
             words = f"its span times {float(factor):.6f} is above {MOST_KM} km"
             self.at.wrong(None, f"{words}; cut it in two, with a substation without a ground between them")
-        return span_fields(*span, factor)
-
-    def made_bus(self, line: str, number: int) -> str:
-        """A bus at a border, in a substation of its own without a ground."""
-        station, bus = self.give_name(f"{line}_at{number}"), self.give_name(f"{line}_bus{number}")
-        note = f"made where {line} crosses a border of zones"
-        self.made_substations.append(Row(station, [], note))
-        self.made_buses.append(Row(bus, [Field("substation", station)], note))
-        return bus

@@ -29,10 +29,10 @@ OPTIONAL = {
     LINES: ["per_unit", "parallel", "note"],
     TRANSFORMERS: ["vector_group", "third", "third_kv", "third_ohm", "parallel", "note"],
 }
-MOST_ROWS = {ZONES: 256, SUBSTATIONS: 1024, BUSES: 3072, LINES: 8192, TRANSFORMERS: 3584}  # of a case
+MOST_ROWS = {ZONES: 256, SUBSTATIONS: 4096, BUSES: 12288, LINES: 24576, TRANSFORMERS: 8192}  # of a case of format 3
 PARALLEL = [str(number) for number in range(1, 21)]  # so many equal ones a row may stand for
 # The kinds of findings that --accept takes away.
-KINDS = "alpha ground line winding neutral volts vector span zone cut third reactor unused".split()
+KINDS = "alpha ground line winding neutral volts vector span zone unused".split()
 
 Number = decimal.Decimal
 
@@ -96,6 +96,9 @@ class Questions:
             self.notes.append(Finding(at.file, f"{words} (accepted)", at.line, column))
         else:
             self.findings.append(Finding(at.file, f"{words}; {ways}, or give --accept={name}", at.line, column))
+
+    def tell(self, at: Record, column: str | None, words: str) -> None:
+        self.notes.append(Finding(at.file, words, at.line, column))
 
     def ask_unusual(self, name: str, at: Record, column: str, found: tuple[str, str] | None) -> None:
         """A finding where a resistance is one that few of its kind have."""

@@ -1,9 +1,9 @@
 """A row of the table of transformers: what it is in a case."""
 
 import dataclasses
-from collections.abc import Callable, Sequence
+from collections.abc import Sequence
 
-from .beyond import REACTOR_WORDS, reactor_row, third_row, third_words
+from .beyond import REACTOR, THREE_SIDED, reactor_row, with_third
 from .case_tables import BUSES, KILOVOLT, OHM, Number, Questions, Tables, bare, number_in, whole
 from .cases import Field, Row
 from .findings import shown
@@ -11,7 +11,6 @@ from .records import Record
 from .usual import NEUTRALS, REACTORS, WINDINGS, short, unusual, usual_at
 from .vectors import GROUPS, OF_REACTORS, is_earthed_below, kinds_of, letters_of
 
-REACTOR = "reactor"  # a shunt reactor, or an earthing transformer
 # What of its windings carries direct current, and so how many buses a unit of a kind has.
 KINDS = {
     "delta-wye": ["high"],
@@ -20,8 +19,8 @@ KINDS = {
     "delta-delta": [],
     REACTOR: ["high"],
 }
-WITH_THIRD = ("wye-wye", "auto")
 THIRD = ("third", "third_kv", "third_ohm")
+THIRD_WAYS = "a third earthed winding is auto or wye-wye with third, third_kv and third_ohm"
 CELLS = ("high", "low", "high_kv", "low_kv", "high_ohm", "low_ohm", "series_ohm", "common_ohm", "neutral", *THIRD)
 RATED_FROM_BUS = Number("0.1")  # a rated voltage is within a tenth of that of its bus
 BLOCKED = "blocked"
@@ -41,7 +40,6 @@ class Unit:
     tables: Tables
     kilovolts: dict[str, Number]  # of the buses
     questions: Questions
-    give_name: Callable[[str], str]
     buses: set[str] = dataclasses.field(default_factory=set)
     earthed: set[str] = dataclasses.field(default_factory=set)  # the substations where its windings are
 
@@ -49,13 +47,14 @@ class Unit:
         self.questions.ask(f"{kind}:{self.at.text('name')}", self.at, column, words, ways)
 
     def rows(self) -> list[Row]:
-        """Its rows in the case: one, and one more for a third winding."""
+        """Its row in the case; none where it isn't one."""
         kind = self.at.text("kind")
         if kind not in KINDS:
-            self.at.wrong("kind", f"{shown(kind)} is none of {', '.join(KINDS)}; write one of these")
+            ways = f"; {THIRD_WAYS}" if kind in THREE_SIDED.values() else ""
+            self.at.wrong("kind", f"{shown(kind)} is none of {', '.join(KINDS)}; write one of these{ways}")
             self.buses.update(self.at.text(column) for column in ("high", "low", "third"))
             return []
-        has_third = kind in WITH_THIRD and any(self.at.text(column) for column in THIRD)
+        has_third = kind in THREE_SIDED and any(self.at.text(column) for column in THIRD)
         ends = ["high", "low"] if len(KINDS[kind]) == 2 else ["high"]
         self.check_cells(kind, ends, has_third)
         self.check_vector(kind, has_third)
@@ -74,8 +73,9 @@ class Unit:
         for winding in KINDS[kind]:
             own = low if winding in ("low", "common") else high
             fields += self.winding(winding, f"{winding}_resistance", self.usual(winding, high, low), own)
-        rows = [Row(self.name, fields + self.neutral(), self.at.text("note"))]
-        return rows + (self.third() if has_third else [])
+        if has_third:
+            fields = with_third(fields, self.third(high))
+        return [Row(self.name, fields + self.neutral(), self.at.text("note"))]
 
     def check_cells(self, kind: str, ends: Sequence[str], has_third: bool) -> None:
         """Whether no cell is filled that the kind has no use for."""
@@ -91,9 +91,6 @@ class Unit:
             them = "it" if len(odd) == 1 else "them"
             words = f"it is {bare(self.at.text(odd[0]))}{others}, and a unit of kind {kind} has no use for {them}"
             self.at.wrong(odd[0], f"{words}; leave {them} empty, or look at kind: this one uses {need}")
-        if has_third and self.at.text("neutral"):
-            words = f"it is {bare(self.at.text('neutral'))}, and formats 1 and 2 have no key for a device in the neutral"
-            self.at.wrong("neutral", f"{words} of a unit with a third earthed winding; leave one of the two out")
 
     def check_vector(self, kind: str, has_third: bool) -> None:
         """Whether the vector group, where one is written, is that of the kind."""
@@ -136,10 +133,17 @@ class Unit:
             if station != stations[first]:
                 words = f"it is in {station}, and {first} in {stations[first]}; a unit has its buses in one substation"
                 self.at.wrong(end, words)
-        names = [row.text("name") for row in found.values()]
-        if len(set(names)) < len(names):
-            self.at.wrong("low" if "low" in found else "third", "it is another side's bus; write a bus for each side")
+        self.check_apart({end: row.text("name") for end, row in found.items()})
         return set(stations.values())
+
+    def check_apart(self, buses: dict[str, str]) -> None:
+        """Whether no side is at the bus of an earlier one; the first that is, is a finding."""
+        sides_at: dict[str, str] = {}
+        for end, bus in buses.items():
+            if bus in sides_at:
+                self.at.wrong(end, f"it is {bus}, as {sides_at[bus]} is; write a bus for each side")
+                return
+            sides_at[bus] = end
 
     def rated(self, column: str, end: str) -> Number | None:
         """The rated voltage of a side in kV, which is near to that of its bus."""
@@ -196,25 +200,21 @@ class Unit:
         self.questions.ask_unusual(f"neutral:{self.at.text('name')}", self.at, "neutral", found)
         return [Field("neutral", whole(ohm, OHM), f"a resistor of {bare(text)} ohm to the ground grid")]
 
-    def third(self) -> list[Row]:
-        """The third earthed winding, which formats 1 and 2 have no key for."""
+    def third(self, high: Number | None) -> list[Field]:
+        """The third earthed winding."""
         kilovolts = self.rated("third_kv", "third")
+        if kilovolts is not None and high is not None and kilovolts > high:
+            self.at.wrong("third_kv", f"it is {short(kilovolts)}, above high_kv, {short(high)}; look at both")
         usual = None if kilovolts is None else usual_at(WINDINGS, kilovolts)
-        resistance = self.winding("third", "high_resistance", usual, kilovolts)
-        words = f"the third earthed winding of {self.name} has no key in formats 1 and 2: it is written as "
-        self.ask("third", "third", words + third_words(self.name), "leave it out")
-        if not resistance:
-            return []
-        side = self.side("third", "high", kilovolts, True)
-        return [third_row(self.give_name(f"{self.name}_3"), self.name, side, resistance[0])]
+        side = self.side("third", "third", kilovolts, True)
+        return [*side, *self.winding("third", "third_resistance", usual, kilovolts)]
 
     def reactor(self) -> list[Row]:
         kilovolts = self.kilovolts.get(self.at.text("high"))
         usual = None if kilovolts is None else usual_at(REACTORS, kilovolts)
         resistance = self.winding("high", "high_resistance", usual, kilovolts)
-        words = f"a reactor has no key in formats 1 and 2: {self.name} is written as {REACTOR_WORDS}"
-        self.ask("reactor", "kind", words, "leave it out")
-        if not resistance:
+        if not resistance or kilovolts is None:
             return []
         note = self.at.text("note") or "a shunt reactor"
-        return [reactor_row(self.name, self.at.text("high"), resistance[0], self.neutral(), note)]
+        volts = whole(kilovolts, KILOVOLT)
+        return [reactor_row(self.name, volts, self.at.text("high"), resistance[0], self.neutral(), note)]

@@ -12,28 +12,58 @@ LISTS = {
     "transformer": "Transformers: what of their windings carries direct current.",
 }
 LONGEST_NAME = 32
+# What a case of format 2 may have; one with more, with other kinds or with lines in parts is of format 3.
+MOST_ROWS_2 = {"zone": 256, "substation": 1024, "bus": 3072, "line": 8192, "transformer": 3584}
+KINDS_2 = ("delta-wye", "wye-wye", "auto", "delta-delta")
+
+
+@dataclasses.dataclass(frozen=True)
+class Part:
+    """A part of a line in one zone, and how far it leads, in metres times a factor."""
+
+    zone: str
+    north: int
+    east: int
+    comment: str
+
+    def __str__(self) -> str:
+        return f'  {{ zone = "{self.zone}", north = {self.north}, east = {self.east} }},  # {self.comment}'
 
 
 @dataclasses.dataclass(frozen=True)
 class Field:
     key: str
-    value: int | str | bool
+    value: int | str | bool | tuple[Part, ...]
     comment: str = ""
 
     def __str__(self) -> str:
+        if isinstance(self.value, tuple):
+            return "\n".join([f"{self.key} = [", *map(str, self.value), "]"])
         shown = f'"{self.value}"' if isinstance(self.value, str) else str(self.value).lower()
         return f"{self.key} = {shown}" + (f"  # {self.comment}" if self.comment else "")
+
+
+def way(metres: int, key: str, opposite: str) -> str:
+    return f"{abs(metres) / 1000:g} km to the {opposite if metres < 0 else key}"
+
+
+def times(factor: Fraction) -> str:
+    return "" if factor == 1 else f", times {float(factor):.6f}"
 
 
 def span_fields(north: int, east: int, factor: Fraction = Fraction(1)) -> list[Field]:
     """The span of a line in metres, each part times the factor of its zone."""
     fields = []
-    times = "" if factor == 1 else f", times {float(factor):.6f}"
     for key, metres, opposite in (("north", north, "south"), ("east", east, "west")):
-        there = opposite if metres < 0 else key
-        comment = f"`to` lies {abs(metres) / 1000:g} km to the {there} of `from`{times}"
+        comment = f"`to` lies {way(metres, key, opposite)} of `from`{times(factor)}"
         fields.append(Field(key, round(metres * factor), comment))
     return fields
+
+
+def part_of(zone: str, north: int, east: int, factor: Fraction = Fraction(1)) -> Part:
+    """A part of a line, its span in metres times the factor of its zone."""
+    comment = f"{way(north, 'north', 'south')}, {way(east, 'east', 'west')}{times(factor)}"
+    return Part(zone, round(north * factor), round(east * factor), comment)
 
 
 @dataclasses.dataclass(frozen=True)
@@ -44,18 +74,18 @@ class Row:
     fields: list[Field]
     note: str = ""
 
-    def value(self, key: str) -> int | str | bool | None:
+    def value(self, key: str) -> int | str | bool | tuple[Part, ...] | None:
         return next((field.value for field in self.fields if field.key == key), None)
 
 
 @dataclasses.dataclass
 class Case:
-    """The rows of a case of format 2, list by list."""
+    """The rows of a case, list by list. It is of format 2 where that can say all of them, and else of format 3."""
 
     lists: dict[str, list[Row]] = dataclasses.field(default_factory=lambda: {name: [] for name in LISTS})
 
     def text(self, origin: str) -> str:
-        lines = [f"# {printable(origin)}", "format = 2"]
+        lines = [f"# {printable(origin)}", f"format = {self.format()}"]
         for name, title in LISTS.items():
             lines += ["", f"# {title}"]
             for row in self.lists[name]:
@@ -63,6 +93,11 @@ class Case:
                 lines += ["", f"[[{name}]]" + (f"  # {note}" if note else ""), f'name = "{row.name}"']
                 lines += [str(field) for field in row.fields]
         return "\n".join(lines) + "\n"
+
+    def format(self) -> int:
+        has_more = any(len(rows) > MOST_ROWS_2[name] for name, rows in self.lists.items())
+        has_other = any(row.value("kind") not in KINDS_2 for row in self.lists["transformer"])
+        return 3 if has_more or has_other or any(row.value("part") for row in self.lists["line"]) else 2
 
 
 def printable(text: str) -> str:

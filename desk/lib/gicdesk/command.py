@@ -186,7 +186,8 @@ def command_words() -> argparse.ArgumentParser:
     four.add_argument("--substations", metavar="FILE", help="a table substation,zone, with more zones than one")
     four.add_argument("--polygons", metavar="FILE", help="a table zone,latitude,longitude of corners, in its place")
     four.add_argument("--lines", metavar="FILE", help="a table bus_i,bus_j,circuit,zone,north_km,east_km")
-    four.add_argument("--beyond", choices=psse_units.CHOICES, help="what becomes of third windings and reactors")
+    told = "whether third windings and reactors are left out or written"
+    four.add_argument("--beyond", choices=psse_units.CHOICES, help=told)
     four.add_argument("--vector", choices=("volts", "buses"), help="in which order the letters of vector groups stand")
     four.add_argument("--out", metavar="CASE", required=True, help="a new file for the case, with its names beside")
     four.add_argument("--force", action="store_true", help="replace what is there already under these names")

@@ -81,7 +81,6 @@ class Station:
     class_: str
     current: float  # the greatest worst current of its units, in milliamperes
     title: str
-    named: bool = True
 
 
 @dataclasses.dataclass(frozen=True)
@@ -250,7 +249,7 @@ def network_map(
     for one in drawn:
         circle = {"cx": one.x, "cy": one.y, "r": one.radius, "class_": f"station {one.station.class_}"}
         pieces.append(tag("circle", tag("title", one.station.title), **circle))
-    named = sorted((one for one in drawn if one.station.named), key=lambda one: -one.station.current)[:most_named]
+    named = sorted(drawn, key=lambda one: -one.station.current)[:most_named]
     taken = [Box(0, to.height - 45, 330, to.height), Box(MAP_WIDTH - 50, 0, MAP_WIDTH, 64), *(one.box for one in named)]
     ground = Ground(Box(2, 2, MAP_WIDTH - 2, to.height - 2), [one.box for one in drawn], lines)
     pieces += labels(named, taken, ground, LABEL)

@@ -5,7 +5,7 @@ import decimal
 import math
 from collections.abc import Sequence
 
-from .beyond import REACTOR_WORDS, reactor_row
+from .beyond import reactor_row
 from .cases import Case, Field, Names, Row, span_fields
 from .decimals import MILLI, shifted
 from .findings import Finding, Refused
@@ -13,7 +13,7 @@ from .places import MOST_KM, SHORT_M, SPAN_FROM_MAP_M, span_metres
 from .polygons import zone_of
 from .psse_gic import Gic, Key, LineData, Reactor, Substation, read_gic
 from .psse_raw import Branch, Raw, Switch, Transformer, read_raw
-from .psse_units import Beyond, Unit, micro_ohm, neutral_field, windings_of
+from .psse_units import Beyond, Unit, micro_ohm, neutral_field, volts, windings_of
 from .records import Record
 from .tables import Table
 from .usual import GROUNDS, REACTORS, unusual, unusual_line, usual_at
@@ -278,9 +278,9 @@ class Making:
         if not windings:
             return
         name = self.names.give(unit.name, f"T{numbers}-{unit.circuit}")
-        making = Unit(unit.record, data.record, name, windings, self.bus, self.names.give_like, self.beyond)
+        making = Unit(unit.record, data.record, name, windings, self.bus, self.beyond)
         for row in making.rows():
-            used = [row.value(end) for end in ("high", "low") if row.value(end) is not None]
+            used = [row.value(end) for end in ("high", "low", "third") if row.value(end) is not None]
             if len(set(used)) < len(used):
                 unit.record.wrong(None, f"{what} has two buses that ties make one; open the tie between them")
             self.add("transformer", row, unit.name, unit.buses, unit.circuit)
@@ -306,16 +306,14 @@ class Making:
         column: str,
         neutral_ohm: decimal.Decimal = decimal.Decimal(0),
     ) -> None:
-        def row() -> Row:
-            given = self.names.give_like(name)
+        given = self.names.give_like(name) if self.beyond.choice == "model" else name
+        if self.beyond.takes(at, what, f"{given}, a reactor"):
             resistance = Field("high_resistance", micro_ohm(at, column, ohm), f"{ohm:f} ohm per phase")
             kilovolts = self.raw.buses[bus].kilovolts
             self.tell_unusual(at, column, unusual(ohm, usual_at(REACTORS, kilovolts), "reactors", kilovolts))
             neutral = [neutral_field(at, "RG", neutral_ohm)] if neutral_ohm != 0 else []
-            return reactor_row(given, self.bus(bus), resistance, neutral)
-
-        for made in self.beyond.say(at, what, REACTOR_WORDS, row):
-            self.add("transformer", made, "", [bus])
+            row = reactor_row(given, volts(at, kilovolts), self.bus(bus), resistance, neutral)
+            self.add("transformer", row, "", [bus])
 
     def records_used(self) -> None:
         """A row of the table of lines that is of no branch is a finding, since it was meant for one. A record of

@@ -1,13 +1,13 @@
 """What a transformer of a power flow is in a case: its kind, its windings, its neutral.
 
-What formats 1 and 2 of a case can't say, a third earthed winding and a shunt reactor, comes to `Beyond` alone.
+What only format 3 of a case can say, a third earthed winding and a shunt reactor, comes to `Beyond` alone.
 """
 
 import dataclasses
 import decimal
 from collections.abc import Callable, Sequence
 
-from .beyond import third_row, third_words
+from .beyond import THREE_SIDED, with_third
 from .cases import Field, Row
 from .findings import Finding, shown
 from .psse_gic import SIDES, Side, Windings
@@ -34,23 +34,21 @@ class Winding:
 
 @dataclasses.dataclass
 class Beyond:
-    """What formats 1 and 2 have no key for: by the user's choice it is left out or written as docs/MODELLING.md says,
-    and told; without a choice it is refused."""
+    """What formats 1 and 2 have no key for: by the user's choice it is left out, or written in format 3, and told;
+    without a choice it is refused."""
 
     choice: str | None
     notes: list[Finding]
 
-    def say(self, at: Record, words: str, written: str, row: Callable[[], Row]) -> list[Row]:
+    def takes(self, at: Record, words: str, written: str) -> bool:
+        """Whether it is written; what becomes of it is told."""
         if self.choice is None:
-            ways = "--beyond=leave leaves it out, --beyond=model writes it as docs/MODELLING.md says"
-            at.wrong(None, f"{words} has no key in a case; {ways}")
-            return []
-        if self.choice == "leave":
-            self.notes.append(Finding(at.file, f"{words} is left out", at.line))
-            return []
-        made = row()
-        self.notes.append(Finding(at.file, f"{words} is {made.name}, {written}", at.line))
-        return [made]
+            ways = "--beyond=leave leaves it out, --beyond=model writes a case of format 3, which has one"
+            at.wrong(None, f"{words} has no key in a case of format 2; {ways}")
+        else:
+            told = "left out" if self.choice == "leave" else f"{written}, in a case of format 3"
+            self.notes.append(Finding(at.file, f"{words} is {told}", at.line))
+        return self.choice == "model"
 
 
 def micro_ohm(at: Record, column: str, ohm: decimal.Decimal, ways: str = "write ohm a phase") -> int:
@@ -146,7 +144,6 @@ class Unit:
     name: str
     windings: list[Winding]
     bus_name: Callable[[int], str]
-    give_name: Callable[[str], str]
     beyond: Beyond
     note: str = ""
 
@@ -183,21 +180,25 @@ class Unit:
         return []
 
     def rows(self) -> list[Row]:
-        """The rows of the case for this unit; more than one where the user has a third winding written as its own."""
+        """The row of the case for this unit; none where it isn't one."""
         lower = [winding for winding in self.windings if winding.letters == "A"]
         if lower:
             return self.auto(lower[0])
         grounded = [winding for winding in self.windings if winding.letters == GROUNDED]
         if len(grounded) > 1:
-            for winding in grounded:
-                if winding.side.blocked:
-                    self.tell(f"the winding at the bus {winding.bus} is blocked: it is left out, and the others stay")
-            grounded = [winding for winding in grounded if not winding.side.blocked]
+            grounded = self.unblocked(grounded)
         if not grounded:
             return [self.listed()]
         if len(grounded) == 1:
             return [self.delta_wye(grounded[0])]
-        return [self.wye_wye(*grounded[:2]), *self.third(grounded[2:])]
+        return [self.wye_wye(*grounded[:2], grounded[2:])]
+
+    def unblocked(self, windings: Sequence[Winding]) -> list[Winding]:
+        """The windings whose neutral is grounded; the others are told."""
+        for winding in windings:
+            if winding.side.blocked:
+                self.tell(f"the winding at the bus {winding.bus} is blocked: it is left out, and the others stay")
+        return [winding for winding in windings if not winding.side.blocked]
 
     def listed(self) -> Row:
         self.tell(f"{self.name} has no grounded winding: it is listed as delta-delta")
@@ -222,16 +223,19 @@ class Unit:
             self.name, [*fields, self.resistance("high_resistance", winding), *self.neutral([winding])], self.note
         )
 
-    def wye_wye(self, high: Winding, low: Winding) -> Row:
-        self.tell_of_high(high)
-        for winding in (high, low):
+    def refuse_resistors(self, windings: Sequence[Winding]) -> None:
+        for winding in windings:
             if winding.side.neutral_ohm != 0:
-                column = f"GRDR{winding.name}"
-                words = "a resistor in one of two neutrals has no key in a case, which joins the two; make it 0"
-                self.data_at.wrong(column, words)
+                words = "a resistor in one of several neutrals has no key in a case, which joins them; make it 0"
+                self.data_at.wrong(f"GRDR{winding.name}", words)
+
+    def wye_wye(self, high: Winding, low: Winding, others: Sequence[Winding]) -> Row:
+        self.tell_of_high(high)
+        self.refuse_resistors((high, low))
         fields = [Field("kind", "wye-wye"), *self.side("high", high), *self.side("low", low)]
         fields += [self.resistance("high_resistance", high), self.resistance("low_resistance", low)]
-        return Row(self.name, fields, self.note)
+        third = self.third("wye-wye", others)
+        return Row(self.name, with_third(fields, third) if third else fields, self.note)
 
     def auto(self, low: Winding) -> list[Row]:
         high = self.windings[0]
@@ -242,22 +246,21 @@ class Unit:
         fields = [Field("kind", "auto"), *self.side("high", high), *self.side("low", low)]
         fields += [self.resistance("series_resistance", high), self.resistance("common_resistance", low)]
         if high.letters == "Y":
-            fields.append(Field("neutral", "blocked", "its neutral is not grounded"))
+            neutral = [Field("neutral", "blocked", "its neutral is not grounded")]
         else:
-            fields += self.neutral([high, low])
+            neutral = self.neutral([high, low])
         others = [winding for winding in self.windings[1:] if winding is not low and winding.letters == GROUNDED]
-        return [Row(self.name, fields, self.note), *self.third(others)]
+        third = self.third("auto", self.unblocked(others))
+        if third and neutral:
+            words = f"the neutral of {self.name} has a device or no ground, and a case joins that of its third winding"
+            self.data_at.wrong(None, f"{words} to it; make it a plain one, or leave the winding out by --beyond=leave")
+        return [Row(self.name, [*(with_third(fields, third) if third else fields), *neutral], self.note)]
 
-    def third(self, windings: Sequence[Winding]) -> list[Row]:
-        """A third grounded winding, which formats 1 and 2 have no key for."""
-        rows = []
+    def third(self, kind: str, windings: Sequence[Winding]) -> list[Field]:
+        """A third grounded winding, where there is one and it is written."""
         for winding in windings:
             words = f"the third grounded winding of {self.name}, at the bus {winding.bus},"
-            rows += self.beyond.say(
-                self.at, words, third_words(self.name), lambda winding=winding: self.third_row(winding)
-            )
-        return rows
-
-    def third_row(self, winding: Winding) -> Row:
-        name, resistance = self.give_name(f"{self.name}_3"), self.resistance("high_resistance", winding)
-        return third_row(name, self.name, self.side("high", winding), resistance, self.neutral([winding]))
+            if self.beyond.takes(self.at, words, f"the third one of a unit of kind {THREE_SIDED[kind]}"):
+                self.refuse_resistors((winding,))
+                return [*self.side("third", winding), self.resistance("third_resistance", winding)]
+        return []

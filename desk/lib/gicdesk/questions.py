@@ -1,6 +1,5 @@
 """The findings of a review as questions to the one who wrote the case."""
 
-from .beyond import REACTOR_VOLTS
 from .reports import Question
 
 UNITS = {
@@ -13,7 +12,6 @@ UNITS = {
     "third_volts": (1000, "kV"),
 }
 OHM = (1_000_000, "ohm")
-REACTOR = "high volts is 1 kV, as gicdesk writes it for a reactor"
 FIELDS = {
     "latitude": "the geomagnetic latitude",
     "perkm": "the resistance for each kilometre",
@@ -56,15 +54,10 @@ def question_text(question: Question) -> str:
                 f"The loop that {question.name} closes stays open by {north} km to the north and {east} km to the "
                 "east: which of its lines has a wrong span?"
             )
-        case "value" if question.field == "high_volts" and question.number == REACTOR_VOLTS:
-            return f"transformer {question.name}: {REACTOR}: is it one?"
         case "value" if question.number is not None:
             what = f"{question.list} {question.name}: {named(question.field)} is"
             return f"{what} {quantity(question.field, question.number)}, as few have it: is it meant?"
         case "volts" if question.number is not None and question.other is not None:
-            if question.field == "high_volts" and REACTOR_VOLTS in (question.number, question.other):
-                other = quantity(question.field, max(question.number, question.other))
-                return f"At the bus of {question.name} another unit has {other}, and of one {REACTOR}: is it one?"
             number, other = (quantity(question.field, volts) for volts in (question.number, question.other))
             return (
                 f"{question.name}: {named(question.field)} is {number} at a bus where another unit has {other}: "

@@ -1,7 +1,5 @@
 """The map of a study's page."""
 
-import re
-
 from . import pictures
 from .counts import plural
 from .markup import Markup, tag
@@ -10,8 +8,6 @@ from .study_words import amperes, made, section, station_of
 
 MOST_NAMED = 60  # stations of the map, where there are no more
 MOST_NAMED_OF_MANY = 30
-# A substation that `gicdesk case` made where a line crosses a border of zones.
-AT_BORDER = re.compile(r"_at[0-9]+$")
 
 KEY = {
     "background:#b3261e": "a unit reaches the threshold",
@@ -43,8 +39,7 @@ def map_stations(study: Study) -> list[pictures.Station]:
         judged = [unit.benchmark.worst.high for unit in here if unit.benchmark.verdict != "outside"]
         told = "; ".join(f"{unit.name} {amperes(unit.benchmark.worst)} A {unit.benchmark.verdict}" for unit in here)
         title = f"{name}: {told or 'no unit'}"
-        named = bool(here) or AT_BORDER.search(name) is None
-        stations.append(pictures.Station(name, station_class(here), max(judged, default=0), title, named))
+        stations.append(pictures.Station(name, station_class(here), max(judged, default=0), title))
     return stations
 
 

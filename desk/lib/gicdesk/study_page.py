@@ -12,7 +12,7 @@ from .outages import Worst
 from .questions import question_text
 from .reports import Screen
 from .study import MUST, Study, UnitFacts
-from .study_map import AT_BORDER, map_section
+from .study_map import map_section
 from .study_storm import losses_section, storm_section
 from .study_style import STYLE
 from .study_units import directions_section, units_section
@@ -197,13 +197,10 @@ def network_items(study: Study) -> list[str]:
     items = []
     outside = [unit.name for unit in study.units if unit.benchmark.verdict == "outside"]
     if outside:
-        why = "since the high side has 200 kV or less or the unit carries nothing here"
+        core = "nothing is said of the core, as of a delta-delta unit or a reactor"
+        why = f"since the high side has 200 kV or less, or {core}"
         items.append(f"{plural(len(outside), 'unit')} outside, {why}: {names_text(outside)}.")
     dead = [name for name, state in study.check.nodes.items() if state == "dead"]
-    cuts = [name for name in dead if AT_BORDER.search(name)]
-    if cuts:
-        dead = [name for name in dead if name not in cuts]
-        items.append(f"{plural(len(cuts), 'point')} without a ground, where lines are cut at borders: {names_text(cuts)}.")
     if dead:
         items.append(f"{plural(len(dead), 'node')} at which nothing ends, without a potential: {names_text(dead)}.")
     blocked = [] if study.network is None else [link.name for link in study.network.links if link.blocked]
