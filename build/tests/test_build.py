@@ -15,6 +15,13 @@ from checkout import Checkout
 PROVED = ["low", "left", "right", "high", "gicstudy"]
 
 
+def setUpModule() -> None:
+    # What runs in the background ignores an interrupt, and behind nohup a hangup; so would the builds started here.
+    for number in (signal.SIGINT, signal.SIGHUP):
+        if signal.getsignal(number) is signal.SIG_IGN:
+            signal.signal(number, signal.SIG_DFL)
+
+
 class Builds(unittest.TestCase):
     def setUp(self) -> None:
         self.at = Checkout()
