@@ -7,7 +7,7 @@ folder=${1:-$(mktemp -d)}
 [ $# -gt 0 ] || trap 'rm -rf "$folder"' EXIT
 git clone -q "$top" "$folder/clone"
 began=$SECONDS
-"$folder/clone/gicstudy" check --case="$top/crates/gicstudy/data/p.toml" >/dev/null
+"$folder/clone/gicstudy" screen --case="$folder/clone/examples/valley.toml" >/dev/null
 echo "from the call to the report: $(((SECONDS - began) / 60)) min $(((SECONDS - began) % 60)) s"
 echo
 python3 -B "$top/build/times.py" "$folder/clone"

@@ -16,7 +16,7 @@ from teller import Teller
 LOG = "build.log"
 TIMES = "build.times"
 # A run of the program that ends with status 0: `rt run` proves it, links it and runs it.
-TRIED = ("check", "--case=data/p.toml")
+TRIED = ("volts", "--case=data/p.toml", "--north=1000")
 # How long the builder sleeps before it looks again at what runs.
 LOOK = 0.1
 

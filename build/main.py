@@ -136,7 +136,7 @@ def make_folders(top: Path, sources: Sources) -> None:
         trial.write_bytes(b"")
         trial.unlink()
     except OSError as error:
-        raise Fault(f"the program has to be built, and {top} can't be written: {error.strerror}") from error
+        raise Fault(f"the program has to be built, and {error.filename} can't be written: {error.strerror}") from error
 
 
 def build(top: Path, teller: Teller, why: str, sources: Sources) -> None:
@@ -145,9 +145,10 @@ def build(top: Path, teller: Teller, why: str, sources: Sources) -> None:
     make_folders(top, sources)
     with ExitStack() as held:
         held.enter_context(locked(top / "crates", teller, "waits for another build of this checkout to end"))
-        for crate in sources.crates:
-            waits = f"waits for rt, which works in crates/{crate.name}, to end"
-            held.enter_context(locked(top / "crates" / crate.name, teller, waits))
+        # (in the order in which rt takes them, so that neither waits for what the other holds)
+        for folder in sorted({os.path.realpath(top / "crates" / it.name) for it in sources.crates}):
+            waits = f"waits for rt, which works in crates/{os.path.basename(folder)}, to end"
+            held.enter_context(locked(Path(folder), teller, waits))
         sources = read_sources(top)
         if reason(top, sources) is None:
             keep(top, sources)
@@ -182,6 +183,13 @@ def become(program: Path, words: list[str]) -> None:
     os.execv(program, [str(program), *words])
 
 
+def words_of(error: OSError) -> str:
+    """What is the matter, in a line. Of a folder that can't be copied it is the first file of it."""
+    if isinstance(error, shutil.Error):
+        return str(error.args[0][0][2])
+    return f"{error.strerror}: {error.filename}" if error.filename else str(error.strerror)
+
+
 def main(words: list[str]) -> int:
     top, teller = Path(__file__).resolve().parent.parent, Teller()
     stop_on_signals()
@@ -202,8 +210,9 @@ def main(words: list[str]) -> int:
         signal.signal(number, signal.SIG_DFL)
         os.kill(os.getpid(), number)
     except OSError as error:
-        space = " (remove what isn't needed, and call it again)" if error.errno == errno.ENOSPC else ""
-        teller.say(f"the build failed: {error.strerror}: {error.filename}{space}")
+        told = words_of(error)
+        space = " (remove what isn't needed, and call it again)" if os.strerror(errno.ENOSPC) in told else ""
+        teller.say(f"the build failed: {told}{space}")
     return 1
 
 

@@ -18,9 +18,14 @@ def sum_of(content: bytes) -> str:
     return hashlib.sha256(content).hexdigest()
 
 
+def is_of_an_editor(name: str) -> bool:
+    """Whether it is a file that an editor keeps beside one that it has open."""
+    return name.startswith((".", "#")) or name.endswith("~")
+
+
 def files_of(place: Path) -> list[Path]:
     """The files below a folder, or the file itself, or none."""
-    walked = [Path(at) / name for at, _, names in os.walk(place) for name in names]
+    walked = [Path(at) / name for at, _, names in os.walk(place) for name in names if not is_of_an_editor(name)]
     return [place] if place.is_file() else sorted(walked)
 
 

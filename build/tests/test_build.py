@@ -1,17 +1,22 @@
 """Whole builds of a small checkout with a toolchain that only looks like one."""
 
+import fcntl
+import importlib
 import os
 import shutil
 import signal
+import subprocess
 import sys
 import time
 import unittest
 from pathlib import Path
+from typing import Any
 
 sys.path.insert(0, str(Path(__file__).resolve().parent))
 
-from checkout import Checkout
+from checkout import TOP, Checkout
 
+BUILT = TOP / "crates/gicstudy/out/gicstudy"
 PROVED = ["low", "left", "right", "high", "gicstudy"]
 
 
@@ -20,6 +25,16 @@ def setUpModule() -> None:
     for number in (signal.SIGINT, signal.SIGHUP):
         if signal.getsignal(number) is signal.SIG_IGN:
             signal.signal(number, signal.SIG_DFL)
+
+
+def is_held(folder: int) -> bool:
+    """Whether another holds the lock of a folder; where none does, none does behind it."""
+    try:
+        fcntl.flock(folder, fcntl.LOCK_EX | fcntl.LOCK_NB)
+    except BlockingIOError:
+        return True
+    fcntl.flock(folder, fcntl.LOCK_UN)
+    return False
 
 
 class Builds(unittest.TestCase):
@@ -246,7 +261,52 @@ class Builds(unittest.TestCase):
         (self.at.top / "crates/low/out").write_text("", encoding="utf-8")
         status, _, said = self.at.call()
         self.assertEqual(status, 1)
-        self.assertIn(f"gicstudy: the program has to be built, and {self.at.top} can't be written: ", said)
+        out = self.at.top / "crates/low/out"
+        self.assertIn(f"gicstudy: the program has to be built, and {out} can't be written: ", said)
+
+    def test_folders_are_locked_in_the_order_of_rt(self) -> None:
+        folders = {name: os.open(self.at.top / "crates" / name, os.O_RDONLY) for name in PROVED}
+        for it in folders.values():
+            self.addCleanup(os.close, it)
+        fcntl.flock(folders["left"], fcntl.LOCK_EX)
+        started = self.at.start()
+        assert started.stderr is not None
+        self.assertEqual(started.stderr.readline(), "gicstudy: waits for rt, which works in crates/left, to end\n")
+        held = [name for name in sorted(PROVED) if name != "left" and is_held(folders[name])]
+        self.assertEqual(held, ["gicstudy", "high"])
+        fcntl.flock(folders["left"], fcntl.LOCK_UN)
+        self.assertEqual(started.communicate(timeout=300)[0], "gicstudy: \n")
+
+    def test_files_of_editors_are_no_sources(self) -> None:
+        self.build()
+        for name in (".lib.rt.swp", "#lib.rt#", "lib.rt~"):
+            (self.at.source("low").parent / name).write_text("kept", encoding="utf-8")
+        (self.at.source("low").parent / ".#lib.rt").symlink_to("nobody@nowhere")
+        self.at.forget()
+        status, _, said = self.at.call()
+        self.assertEqual((status, said, self.at.noted()), (0, "", []))
+
+    def imported(self, name: str) -> Any:
+        """A module of the build."""
+        sys.path.insert(0, str(TOP / "build"))
+        self.addCleanup(sys.path.remove, str(TOP / "build"))
+        return importlib.import_module(name)
+
+    @unittest.skipUnless(BUILT.is_file(), "no program is built")
+    def test_the_run_that_links_the_program_ends_with_status_0(self) -> None:
+        words = [BUILT, *self.imported("builder").TRIED]
+        ran = subprocess.run(words, cwd=TOP / "crates" / "gicstudy", stdin=subprocess.DEVNULL, capture_output=True)
+        self.assertEqual((ran.returncode, ran.stderr), (0, b""))
+
+    def test_what_failed_is_told_in_a_line(self) -> None:
+        main = self.imported("main")
+        full = "No space left on device"
+        for error, told in (
+            (OSError(28, full), full),
+            (OSError(28, full, "a"), f"{full}: a"),
+            (shutil.Error([("a", "b", f"[Errno 28] {full}: 'b'")]), f"[Errno 28] {full}: 'b'"),
+        ):
+            self.assertEqual(main.words_of(error), told)
 
 
 if __name__ == "__main__":
