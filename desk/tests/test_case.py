@@ -247,6 +247,13 @@ class Rows(CaseTest):
         self.change("transformers", "0.19,,YNa0d1", "0.19,blocked,Ya0d1")
         self.assertEqual(self.made()["transformer"]["T1"]["neutral"], "blocked")
 
+    def test_an_autotransformer_that_is_not_earthed_beside_an_earthed_third_winding(self) -> None:
+        self.texts["buses"] += "N69,North,69\n"
+        self.change("transformers", "0.19,,YNa0d1,,,", "0.19,blocked,Ya0yn0,N69,69,0.05")
+        words = '"Ya0yn0" has an earthed third winding and a neutral that isn\'t earthed, and a case joins the two'
+        words += "; it can't be written: leave one of them out"
+        self.assertEqual(self.findings(), [f"transformers.csv line 2, vector_group: {words}"])
+
     def test_a_wye_that_is_earthed_on_the_low_side(self) -> None:
         self.change("transformers", "T3,delta-wye,S345,,362", "T3,delta-wye,S138,,138")
         self.change("transformers", "YNd1", "Dyn1")

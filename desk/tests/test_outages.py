@@ -13,7 +13,7 @@ from unittest import mock
 
 from shared import BUILT, EXAMPLES, FAKE, REPORTS, DeskTest, desk
 
-from gicdesk.outages import worst_of
+from gicdesk.outages import Worst, worst_of
 from gicdesk.progress import Progress
 from gicdesk.reports import ScreenUnit
 from gicdesk.forms import Interval
@@ -119,7 +119,7 @@ class Events(OutagesTest):
             },
         )
         self.assertEqual([units["TA"]["worst_event"], units["TA"]["worst_high_A_per_phase"]], ["one line", "83.335"])
-        self.assertEqual([units["D"]["worst_verdict"], units["D"]["perhaps_as_bad"]], ["outside", "one line; the unit"])
+        self.assertEqual([units["D"]["worst_verdict"], units["D"]["perhaps_as_bad"]], ["outside", ""])
 
     def test_a_table_of_semicolons(self) -> None:
         rows = (HEADS + self.ROWS).replace(",", ";")
@@ -162,7 +162,7 @@ class Events(OutagesTest):
                 "transformer       no event, A          worst, A  verdict  worst event  perhaps as bad",
                 "TA           98.765 to 98.767  83.333 to 83.335  reaches  one line",
                 "TB           98.765 to 98.767  83.333 to 83.335  reaches  one line",
-                "D              0.000 to 0.000    0.000 to 0.000  outside  both lines   one line; the unit",
+                "D              0.000 to 0.000    0.000 to 0.000  outside",
             ],
         )
 
@@ -179,14 +179,14 @@ class Events(OutagesTest):
         tables = self.tables(self.events("swap,K,close\nswap,TA,open\n"), f"--switch={switch}")
         cells = [(row["event"], row["switchings"], row["below"]) for row in tables["events"]]
         self.assertEqual(cells, [("", "", "0"), ("swap", "close K; open TA", "2")])
-        self.assertEqual([row["worst_event"] for row in tables["units"]], ["swap"] * 3)
+        self.assertEqual([row["worst_event"] for row in tables["units"]], ["swap", "swap", ""])
         self.assertIn(f"case case.toml, switchings {switch}, threshold", self.shown)
 
     def test_the_network_without_an_event_need_not_be_solved(self) -> None:
         self.prints("screen", "gicstudy: unearthed: step 1 node B\n")
         units = self.tables(self.events("one line,K,open\n"))["units"]
         cells = [(row["no_event_verdict"], row["worst_event"], row["worst_verdict"]) for row in units]
-        self.assertEqual(cells, [("", "one line", "reaches")] * 2 + [("", "one line", "outside")])
+        self.assertEqual(cells, [("", "one line", "reaches")] * 2 + [("", "", "outside")])
         self.assertIn("no event: unearthed B\n", self.shown)
 
     def test_no_event_that_can_be_solved(self) -> None:
@@ -216,7 +216,7 @@ class Singles(OutagesTest):
             ],
         )
         worst = [(row["worst_event"], row["perhaps_as_bad"], row["worst_high_A_per_phase"]) for row in tables["units"]]
-        self.assertEqual(worst, [("L", "K", "83.335"), ("L", "K", "83.335"), ("L", "K; TA", "0.000")])
+        self.assertEqual(worst, [("L", "K", "83.335"), ("L", "K", "83.335"), ("", "", "0.000")])
         # Of many items only those are shown of which nothing can be said.
         lines = ["6 events: 3 solved, 1 unearthed, 2 idle", "", "event  switchings  ends"]
         lines += ["TB     open TB     unearthed B", ""]
@@ -238,6 +238,9 @@ class Worsts(unittest.TestCase):
         # The exact current of `near` can lie above that of `worst`, and that of `far` can't: it is below 100.
         worst = worst_of([row("far", 0, 99), row("worst", 100, 120), row("near", 90, 100)])
         self.assertEqual((worst.event, worst.unit.worst, worst.perhaps), ("worst", Interval(100, 120), ("near",)))
+        self.assertEqual(worst.perhaps_text, "near")
+        many = Worst("worst", worst.unit, tuple(map(str, range(50))))
+        self.assertTrue(many.perhaps_text.endswith("; 39; and 10 more"))
 
 
 class Refusals(OutagesTest):
@@ -261,6 +264,10 @@ class Refusals(OutagesTest):
             "line 9, item: L is in this event already, by line 8; leave one of the two",
         )
 
+    def test_a_name_that_a_spreadsheet_works_out(self) -> None:
+        (line,) = self.refused(*self.words(self.events("=1+1,K,open\n")))
+        self.assertTrue(line.endswith('line 2, event: "=1+1" is a formula to a spreadsheet; begin it with another letter'), line)
+
     def test_another_table(self) -> None:
         words = "and not event,item,action; write these, with commas or semicolons"
         self.told("event\titem\taction\ne\tK\topen\n", f'line 1: the columns are "event\\x09item\\x09action", {words}')
@@ -278,10 +285,14 @@ class Refusals(OutagesTest):
         self.assertEqual(line, f"{path} line 2: the byte 0xf6 is no UTF-8; save the file as UTF-8")
 
     def test_more_rows_than_switchings_may_have(self) -> None:
-        switch = self.file("switch.csv", "time,item,action\n" + "0,S,open\n" * 4096)
         self.prints("screen+S", screen(BOTH, BOTH))
-        (line,) = self.refused(*self.words(self.events("e,K,open\n"), f"--switch={switch}"))
-        self.assertTrue(line.endswith("line 2: e has 1 rows, with 4096 of --switch more than 4096; take fewer"), line)
+        for rows, words in (
+            (4095, "events.csv line 2: e has 2 rows, with 4095 of --switch more than 4096; take fewer"),
+            (4096, "switch.csv: it has 4096 rows, and none is left for what is taken out; take fewer"),
+        ):
+            switch = self.file("switch.csv", "time,item,action\n" + "0,S,open\n" * rows)
+            (line,) = self.refused(*self.words(self.events("e,K,open\ne,L,open\n"), f"--switch={switch}"))
+            self.assertTrue(line.endswith(words), line)
 
     def test_what_the_program_refuses_is_told_by_the_line_of_the_table(self) -> None:
         # Where the transformers aren't known, a wrong name is found by the program alone.

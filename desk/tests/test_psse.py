@@ -290,6 +290,37 @@ class Small(PsseTest):
         ):
             self.assertIn(row, rows)
 
+    def test_windings_that_are_out(self) -> None:
+        bank = {"name": "BANK", "kind": "auto", "high_volts": 345000, "high": "1_NORTH_345", "low_volts": 138000}
+        bank |= {"low": "2_NORTH_138", "series_resistance": 200000, "common_resistance": 100000}
+        for status, letters, expected in (
+            (3, "YNa0yn0", bank),
+            (3, "YNa0y0", bank),
+            (2, "YNa0yn0", None),
+            (4, "YNa0d1", None),
+        ):
+            raw = RAW.replace("'BANK',1", f"'BANK',{status}")
+            made = self.case([*self.words(raw, GIC.replace("YNa0yn0", letters)), "--beyond=leave", "--force"])
+            self.assertEqual(made["transformer"].get("BANK"), expected, (status, letters))
+            words = "a winding of the autotransformer is out of service, and with it all of it is left out"
+            self.assertEqual(words in "".join(self.shown), expected is None, (status, letters))
+
+    def test_a_resistance_of_0_ends_no_section(self) -> None:
+        made = self.case([*self.words(), "--beyond=leave"])
+        raw = RAW.replace("\n0.001,0.02,100\n", "\n0,0.02,100\n")
+        self.assertEqual(self.case([*self.words(raw), "--beyond=leave", "--force"]), made)
+        raw = RAW.replace("0 / END OF TRANSFORMER DATA, ", "0, END OF TRANSFORMER DATA, ")
+        self.assertEqual(self.case([*self.words(raw), "--beyond=leave", "--force"]), made)
+
+    def test_reactors_of_a_branch_within_a_substation(self) -> None:
+        tie = "1,4,'1 ',3.25,0.0,0.0,0.0,0.0\n4,5,'1 ',0.0,0.0,0.0,1.5,0.0\n"
+        words = self.words(gic=GIC.replace("1,4,'1 ',3.25,0.0,0.0,0.0,0.0\n", tie))
+        reactor = {"name": "L4-5-1_4", "kind": "reactor", "high_volts": 345000, "high": "4_SOUTH_A"}
+        made = self.case([*words, "--beyond=model"])["transformer"]
+        self.assertEqual(made["L4-5-1_4"], reactor | {"high_resistance": 1500000})
+        self.case([*words, "--beyond=leave", "--force"])
+        self.assertIn("the reactor of L4-5-1 at the bus 4 is left out", "".join(self.shown))
+
     def test_what_has_no_key_is_refused_without_a_choice(self) -> None:
         ways = "--beyond=leave leaves it out, --beyond=model writes a case of format 3, which has one"
         self.told(
@@ -415,6 +446,9 @@ class Refusals(PsseTest):
         words = f"these buses and this circuit stand in line 21 already; {one}"
         self.one("5,7,'2 '", "7,5,'1 '", f"net.raw line 22: {words}")
         self.one("1,2,3,'1 ',0.2", "6,4,0,'1 ',0.2", "net.gic line 16: " + words.replace("21", "15"))
+        words = f"these buses and this circuit stand in line 18 already; {one}"
+        self.one("7,'2 ',1.5", "7,'1 ',1.5", f"net.gic line 19: {words}")
+        self.one("7,'2 ',0,0.0", "7,'1 ',0,0.0", f"net.raw line 15: {words.replace('18', '14')}")
         words = f"net.gic line 3, I: the substation 1 stands in line 2 already; {one}"
         lines = self.refused(*self.words(gic=GIC.replace("2,'SOUTH'", "1,'SOUTH'")))
         self.assertTrue(any(line.endswith(words) for line in lines), lines)
@@ -453,7 +487,7 @@ class Refusals(PsseTest):
             f"net.gic line 3: the substation 2 has no zone; {table}",
             f"net.gic line 4: the substation 3 has no zone; {table}",
         )
-        stations = self.file("stations.csv", "substation,zone\n1,north\n2,south\n3,north\n")
+        stations = self.file("stations.csv", "substation,zone\n1,north\n2,south\n3,north\n22,south\n")
         self.told(
             [*words, f"--substations={stations}"],
             "net.raw line 18: its ends are in north and in south; write its zone into the table of --lines",
@@ -462,6 +496,8 @@ class Refusals(PsseTest):
         heads = "bus_i,bus_j,circuit,zone,north_km,east_km\n"
         lines = self.file("lines.csv", f"{heads}4,1,1,north,,\n5,7,1,south,110.5,72\n")
         case = self.case([*words, f"--substations={stations}", f"--lines={lines}"])
+        words = "stations.csv line 5: there is no substation 22 in net.gic: this row is of none"
+        self.assertIn(words, [line.replace(f"{self.folder}/", "") for line in self.shown])
         found = {name: (row["zone"], row["north"], row["east"]) for name, row in case["line"].items()}
         self.assertEqual(
             found,
@@ -514,6 +550,9 @@ class Refusals(PsseTest):
         lines = self.refused(*words)
         more = "it is there already; choose another name, or give --force to replace it"
         self.assertEqual(lines, [f"{self.folder}/case.toml: {more}", f"{self.folder}/case.names.csv: {more}"])
+        for out in (".", "/"):
+            (line,) = self.refused(*words[:-2], f"--out={out}", "--beyond=leave")
+            self.assertEqual(line, f"{out}: it is there already, and no plain file; choose another name")
 
 
 class Polygons(unittest.TestCase):

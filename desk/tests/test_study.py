@@ -243,8 +243,9 @@ class Page(StudyTest):
             datetime.datetime.now().strftime("%B %Y"),
         ):
             self.assertIn(words, asked)
+        self.assertIn("Commit of the program not known", asked)
         if (TOP / ".git").exists():
-            self.assertRegex(asked, "Commit of the program [0-9a-f]{40}")
+            self.assertRegex(str(Program(str(BUILT), is_built_here=True).commit()), "[0-9a-f]{40}(, with changes)?")
 
     def test_findings_are_open_questions(self) -> None:
         self.prints("review", "review\nungrounded B\nclosure K -1500 20\nfindings 2\nend\n")
@@ -257,16 +258,18 @@ class Page(StudyTest):
         # The verdicts of TA and TB in the whole network, of TB in the outages and in the event, and the answer.
         below, perhaps = "60000 60002 below", "74999 75001 undecided"
         whole, out = "in the network as it stands", "with something out, and not before"
+        one, two = (f"{number} of 3 units must be assessed by the benchmark event" for number in (1, 2))
+        more = "1 more by the supplemental event alone: TA"  # which has 120 A in it
         given = self.file("events.csv", f"{HEADS}both,K,open\nboth,L,open\n")
         for number, (first, second, without, event, answer) in enumerate(
             (
-                (BOTH, BOTH, below, NONE, ["2 of 3 units must be assessed", f"2 {whole}: TA TB"]),
-                (BOTH, below, below, NONE, ["1 of 3 units must be assessed", f"1 {whole}: TA"]),
-                (BOTH, perhaps, below, NONE, ["2 of 3 units must be assessed", f"2 {whole}: TA TB"]),
-                (BOTH, below, perhaps, NONE, ["2 of 3 units must be assessed", f"1 {whole}: TA", f"1 {out}: TB"]),
-                (below, below, perhaps, NONE, ["1 of 3 units must be assessed", f"1 {out}: TB"]),
-                (below, below, below, ONE, ["1 of 3 units must be assessed", f"1 {out}: TB"]),
-                (below, below, below, NONE, ["0 of 3 units must be assessed"]),
+                (BOTH, BOTH, below, NONE, [two, f"2 {whole}: TA TB"]),
+                (BOTH, below, below, NONE, [one, f"1 {whole}: TA"]),
+                (BOTH, perhaps, below, NONE, [two, f"2 {whole}: TA TB"]),
+                (BOTH, below, perhaps, NONE, [two, f"1 {whole}: TA", f"1 {out}: TB"]),
+                (below, below, perhaps, NONE, [one, f"1 {out}: TB", more]),
+                (below, below, below, ONE, [one, f"1 {out}: TB", more]),
+                (below, below, below, NONE, ["0 of 3 units must be assessed by the benchmark event", more]),
             )
         ):
             with self.subTest(answer=answer, number=number):
@@ -282,6 +285,7 @@ class Page(StudyTest):
                 told = self.text_of("answer", page)
                 self.assertIn(lead, told)
                 self.assertIn("1 is outside of the assessment", told)
+                self.assertEqual(told.count(", perhaps"), perhaps in (second, without))
 
     def test_the_worst_outage_of_a_unit(self) -> None:
         self.prints("screen+K", screen(ONE, "90000 90002 reaches"))
@@ -318,12 +322,44 @@ class Page(StudyTest):
             self.prints(f"screen+{items}", screen(NONE, NONE))
         page = self.page(f"--switch={self.file('switch.csv', 'time,item,action' + chr(10) + '5,K,open' + chr(10))}")
         self.assertEqual(self.units()["TA"]["worst_high_A_per_phase"], "83.335")
-        self.assertIn("all rows are in force in each report", self.text_of("asked", page))
+        self.assertIn("all rows are in force in each report of the network: 5 s open K", self.text_of("asked", page))
+
+    def test_a_unit_that_is_switched_off_is_told(self) -> None:
+        self.prints("outage", test_outages.OUTAGE.replace("outage TB unearthed B", "outage TB idle"))
+        self.assertIn("1 unit switched off, of which below says nothing: TB.", self.text_of("left", self.page()))
+
+    def test_switchings_that_no_step_sees(self) -> None:
+        rows = [
+            (0, "K", "open", True),
+            (10, "T", "block", True),
+            (30, "K", "close", False),  # at 60 the next row of K is in force
+            (60, "K", "open", True),
+            (60, "T", "open", True),
+            (70, "K", "close", False),
+            (120, "K", "open", True),
+            (121, "L", "open", False),
+        ]
+        seen = storms.seen_rows([row[:3] for row in rows], [5, 60, 120])
+        self.assertEqual(seen, [row[3] for row in rows])
+        switch = self.file("switch.csv", "time,item,action\n60,K,open\n5000,K,close\n")
+        told = self.text_of("storm", self.page(f"--storm={self.file('storm.csv', STORM)}", f"--switch={switch}"))
+        self.assertIn("within the storm: 60 s open K. In force at no step,", told)
+        self.assertIn("or the end of the storm: 5000 s close K.", told)
+
+    def test_a_storm_that_brings_nobody_to_a_threshold(self) -> None:
+        below = "60000 60002 below"
+        self.prints("screen", screen(below, below))
+        self.prints("outage", re.sub(r"(transformer T. worst) .*", rf"\1 {below}", test_outages.OUTAGE))
+        self.prints("study", re.sub(r"(transformer T.) .*", rf"\1 {below}", STORM_REPORT))
+        told = self.text_of("storm", self.page(f"--storm={self.file('storm.csv', STORM)}"))
+        words = "No unit reaches 75.000 A or may, in the benchmark event, with something out or in the storm"
+        self.assertIn(words, told)
 
     def test_a_storm_that_cannot_be_solved_is_told(self) -> None:
         self.prints("study", "gicstudy: unearthed: step 2 node B\n")
         told = self.text_of("storm", self.page(f"--storm={self.file('storm.csv', STORM)}"))
         self.assertIn("gicstudy: unearthed: step 2 node B", told)
+        self.assertIn("the storm has no report", (self.out / "study.html").read_text())
         self.assertFalse((self.out / "reports" / "study.txt").exists())
 
     def test_a_storm_of_other_heads_is_told_what_its_heads_are(self) -> None:
@@ -339,6 +375,10 @@ class Page(StudyTest):
         # 1.2 * 98.767 * 345/500 and 0.5 * 50.001 * 500/250.
         for words in ("1.2 500 345 0.8280 98.767 81.8", "0.5 250 500 1.0000 50.001 50.0", "together: 131.8 Mvar"):
             self.assertIn(words.replace(" ", ""), told.replace(" ", ""))
+        with open(self.out / "losses.csv", newline="") as file:
+            rows = {row["transformer"]: (row["low_Mvar"], row["high_Mvar"]) for row in csv.DictReader(file)}
+        # 0.828 * 98.765 to 98.767, and 50.000 to 50.001, rounded outward.
+        self.assertEqual(rows, {"TA": ("81.777", "81.780"), "TB": ("50.000", "50.001")})
         # At 60 s both series have 98.767 A.
         self.assertIn("to 180.5 Mvar at 60 s", told)
 
@@ -358,11 +398,14 @@ class Page(StudyTest):
 
     def test_what_has_no_end_is_told(self) -> None:
         told = self.text_of("left", self.page())
-        self.assertIn("1 node at which nothing ends, without a potential: TA.", told)
+        self.assertIn("1 node at which nothing that stands ends, without a potential: TA.", told)
 
     def test_a_case_that_python_does_not_read_has_no_map(self) -> None:
         self.case = self.file("case.toml", CASE.replace('name = "D",', 'name = "D",\n'))
-        self.assertIn("there is no map", self.text_of("map", self.page()))
+        page = self.page()
+        self.assertIn("there is no map", self.text_of("map", page))
+        words = "the case is in TOML 1.1, which Python doesn't read, so none is named"
+        self.assertIn(words, self.text_of("left", page))
         given = self.file("factors.csv", "transformer,mvar_per_ampere,at_kv\nTA,1.2,\n")
         self.out = self.folder / "again"
         self.assertIn("it needs the case", self.refused(*self.words(f"--factors={given}"))[0])
@@ -375,9 +418,20 @@ class Refusals(StudyTest):
             study.look_for_changes([given])
         self.assertIn("it has changed while the study ran", refused.exception.lines()[0])
 
+    def test_a_program_that_changes_while_the_study_runs(self) -> None:
+        with mock.patch.object(Program, "checksum", side_effect=["before", "after"]):
+            (line,) = self.refused(*self.words())
+        self.assertEqual(line, f"{FAKE}: {study.CHANGED}")
+
+    def test_switchings_without_room_for_an_outage(self) -> None:
+        rows = "".join("5,K,close\n" for _ in range(4096))
+        (line,) = self.refused(*self.words(f"--switch={self.file('switch.csv', f'time,item,action{chr(10)}{rows}')}"))
+        self.assertIn("it has 4096 rows, and none is left for what is taken out; take fewer", line)
+
     def test_a_network_without_an_answer_is_told_with_the_questions(self) -> None:
         self.prints("review", "review\nungrounded B\nfindings 1\nend\n")
-        self.prints("screen", "gicstudy: unearthed: step 1 node B\n")
+        for mode in ("screen", "check"):
+            self.prints(mode, "gicstudy: unearthed: step 1 node B\n")
         lines = self.refused(*self.words())
         self.assertIn("gicstudy: unearthed: step 1 node B", lines[0])
         self.assertIn("B has no ground", lines[1])
@@ -408,6 +462,18 @@ class Refusals(StudyTest):
         self.prints("study", "gicstudy: switch: item in row 1\n")
         (line,) = self.refused(*self.words(f"--storm={storm}", f"--switch={switch}"))
         self.assertTrue(line.startswith(str(switch)), line)
+
+    def test_a_node_is_no_file(self) -> None:
+        for line, file in (
+            ("gicstudy: cannot read storm", "S"),
+            ("gicstudy: too long: switch", "W"),
+            ("gicstudy: storm: empty", "S"),
+            ("gicstudy: unearthed: step 0 node switch", "C"),
+            ("gicstudy: case: degree at node storm", "C"),
+            ("", "C"),
+        ):
+            request = study.Request(Program("P"), "C", storm="S", switch="W")
+            self.assertEqual(request.file_of(Run(8, b"", line)), file, line)
 
 
 class Numbers(unittest.TestCase):
@@ -450,6 +516,13 @@ class Numbers(unittest.TestCase):
         rows = b"time,zone,north,east\n0,Y,1,2\n0,*,3,4\n0,Z,5,6\n7,Y,8,9\n"
         by_zone = storms.storm_steps(rows, ["Y", "Z"])
         self.assertEqual([step.fields for step in by_zone], [{"Y": (3, 4), "Z": (5, 6)}, {"Y": (8, 9), "Z": (0, 0)}])
+        unread = storms.storm_steps(b"time,zone,north,east\n0,Z,5000,0\n0,*,1000,0\n", ["*"])
+        self.assertEqual([step.strength for step in unread], [1000.0])
+
+    def test_a_byte_order_mark_and_blank_lines_are_no_records(self) -> None:
+        steps = storms.storm_steps(b"\xef\xbb\xbf\r\ntime,north,east\r\n\r\n0,1,2\r\n", ["Y"])
+        self.assertEqual(steps, [storms.StormStep(0, {"Y": (1, 2)})])
+        self.assertEqual(storms.switching_rows(b"\ntime,item,action\n\n60,K,open\n"), [(60, "K", "open")])
 
     def test_factors_are_scaled_by_the_kilovolts(self) -> None:
         for given, at_kv, volts, own in (("1.18", "500", 345000, "0.8142"), ("0.5", "345", 345000, "0.5")):
@@ -471,7 +544,7 @@ class Numbers(unittest.TestCase):
             self.assertIn(words, questions.question_text(question))
 
 
-class Places(unittest.TestCase):
+class Places(DeskTest):
     def of(self, stations: str, links: list[tuple[str, str, int, int]]) -> network.Network:
         lines = [network.Link("L", start, end, (north, east), False) for start, end, north, east in links]
         return network.Network(["Z"], list(stations), lines, {}, {})
@@ -500,6 +573,25 @@ class Places(unittest.TestCase):
         # The line HF-LK of the region has these spans.
         self.assertEqual([round(number) for number in found["Larkspur"]], [-100120, 21172])
         self.assertEqual(findings, [])
+        other = self.places("name;latitude;longitude\nA;51,5;-38\n")
+        self.assertEqual(network.read_places(other, ["A"], []), {"A": (0, 0)})
+
+    def places(self, text: str) -> str:
+        return str(self.file("places.csv", text))
+
+    def test_a_table_of_places_that_is_none(self) -> None:
+        for text, words in (
+            ("name,latitude,longitude\nA,51,20,-38,90\n", "it has 5 cells, and not 3"),
+            ('name,latitude,longitude,note\nA,51,-38,"a\nB,52,-38,b\n', "look at the quotation marks"),
+            ("name,latitude\nA,51\n", "it has no column longitude; allowed are name,latitude,longitude, and any"),
+            ("name,latitude,longitude\nA,1e400,0\n", "it is 1e400, and not -90 to 90 degrees"),
+        ):
+            findings: list[Finding] = []
+            try:
+                network.read_places(self.places(text), ["A", "B"], findings)
+            except Refused as refused:
+                findings += refused.findings
+            self.assertIn(words, "".join(map(str, findings)), text)
 
 
 def made_study(size: int) -> study.Study:

@@ -109,6 +109,9 @@ class Unit:
             self.ask("vector", "vector_group", words, "write kind delta-delta, which lists it")
         elif kind not in (kinds := kinds_of(letters, has_third)):
             self.at.wrong("vector_group", self.vector_words(group, kind, kinds, letters, has_third))
+        elif letters[0] == "Y" and "A" in letters and has_third:
+            words = f"{group} has an earthed third winding and a neutral that isn't earthed, and a case joins the two"
+            self.at.wrong("vector_group", f"{words}; it can't be written: leave one of them out")
         elif letters[0] == "Y" and "A" in letters and self.at.text("neutral") != BLOCKED:
             self.at.wrong("vector_group", f"{group} has no earthed neutral; write blocked as neutral, or YNa..")
 

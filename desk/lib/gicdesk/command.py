@@ -3,7 +3,6 @@
 import argparse
 import contextlib
 import os
-import pathlib
 import sys
 from collections.abc import Sequence
 from typing import Any
@@ -34,8 +33,13 @@ def show(text: str) -> None:
     stream, with a backslash."""
     if sys.stdout is None:
         raise refuse("the output", unwritten("it is closed"))
-    sys.stdout.buffer.write(text.encode(errors="backslashreplace"))
-    sys.stdout.buffer.flush()
+    try:
+        sys.stdout.buffer.write(text.encode(errors="backslashreplace"))
+        sys.stdout.buffer.flush()
+    except OSError:
+        # What is left is written to nowhere, so that Python's own end doesn't fail with it and tell of that.
+        os.dup2(os.open(os.devnull, os.O_WRONLY), sys.stdout.fileno())
+        raise
 
 
 def tell(words: str) -> None:
@@ -112,7 +116,7 @@ def add_study(commands: Any) -> None:
 
 
 def run_psse(options: argparse.Namespace) -> None:
-    names = str(pathlib.Path(options.out).with_suffix(".names.csv"))
+    names = f"{os.path.splitext(options.out)[0]}.names.csv"
     refuse_taken([options.out, names], options.force)
     tables = zones.ZoneFiles(options.zones, options.substations, options.polygons, options.lines)
     made = psse.make_case(options.raw, options.gic, tables, psse.Choices(options.beyond, options.vector))
@@ -207,10 +211,7 @@ def main(arguments: Sequence[str]) -> int:
         for line in refused.lines():
             tell(line)
         return REFUSED
-    except BrokenPipeError:
-        # Nobody reads any more. The system's own message at the end is kept away as well.
-        if sys.stdout is not None:
-            os.dup2(os.open(os.devnull, os.O_WRONLY), sys.stdout.fileno())
+    except BrokenPipeError:  # nobody reads any more
         return REFUSED
     except OSError as error:
         tell(f"{error.filename}: {error.strerror}" if error.filename else f"the output: {unwritten(error.strerror)}")

@@ -13,6 +13,7 @@ from .records import read_table
 HEADS = ["event", "item", "action"]
 ACTIONS = ("open", "close", "block", "unblock")
 LONGEST_EVENT_NAME = 64
+FORMULAS = ("=", "+", "-", "@")  # what a cell begins with that a spreadsheet works out
 MOST_ROWS = 4096  # of a file of switchings
 
 
@@ -61,6 +62,8 @@ def name_fault(name: str) -> str | None:
         return "it is empty; give each event a name"
     if len(name) > LONGEST_EVENT_NAME or not name.isprintable():
         return f"{shown(name)} is no name; allowed are 1 to {LONGEST_EVENT_NAME} printable letters"
+    if name.startswith(FORMULAS):
+        return f"{shown(name)} is a formula to a spreadsheet; begin it with another letter"
     return None
 
 

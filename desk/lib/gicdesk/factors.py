@@ -30,6 +30,15 @@ class Factor:
         amperes = decimal.Decimal(milliamperes) * MILLI
         return self.given * amperes * self.volts * MILLI / self.at_kv
 
+    def mvar_within(self, current: Interval) -> list[decimal.Decimal]:
+        """The same at both ends of a current, rounded outward to thousandths."""
+        ends = []
+        for end, rounding in ((current.low, decimal.ROUND_FLOOR), (current.high, decimal.ROUND_CEILING)):
+            with decimal.localcontext() as context:
+                context.rounding = rounding
+                ends.append(self.mvar(end).quantize(MILLI))
+        return ends
+
     @property
     def own(self) -> decimal.Decimal:
         """The factor of the unit itself, in Mvar an ampere."""

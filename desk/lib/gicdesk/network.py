@@ -4,17 +4,14 @@ The program has taken the case, so its rules hold here.
 """
 
 import collections
-import csv
 import dataclasses
-import io
 import tomllib
 from collections.abc import Iterable
 from typing import Any
 
-from .files import read_text
-from .findings import Finding, refuse, shown
+from .findings import Finding, shown
 from .places import degrees_between
-from .records import Record
+from .records import Record, read_table
 
 PLACE_HEADS = ("name", "latitude", "longitude")
 Place = tuple[float, float]  # metres to the north and to the east
@@ -72,28 +69,15 @@ def degrees_in(at: Record, column: str, most: int) -> float:
     number = at.number(column)
     if abs(number) > most:
         at.wrong(column, f"it is {at.text(column)}, and not -{most} to {most} degrees")
+        return 0.0
     return float(number)
-
-
-def rows_of_places(file: str, findings: list[Finding]) -> list[Record]:
-    """The rows of a table of commas that has the columns of places among others."""
-    head, *rows = list(csv.reader(io.StringIO(read_text(file), newline=""))) or [[]]
-    heads = [cell.strip() for cell in head]
-    if not set(PLACE_HEADS) <= set(heads):
-        words = f"the columns are {shown(','.join(heads))}, without {','.join(PLACE_HEADS)}; write these, with commas"
-        raise refuse(file, words, 1)
-    records = []
-    for line, cells in enumerate(rows, 2):
-        if any(cells):
-            records.append(Record(file, line, [cell.strip() for cell in cells], heads, findings))
-    return records
 
 
 def read_places(file: str, stations: Iterable[str], findings: list[Finding]) -> dict[str, Place]:
     """Where the stations of a table lie, from its first one. Names that the case doesn't have are left out."""
     wanted = set(stations)
     found: dict[str, tuple[float, float]] = {}
-    for at in rows_of_places(file, findings):
+    for at in read_table(file, PLACE_HEADS, findings, None):
         name, degrees = at.text("name"), (degrees_in(at, "latitude", 90), degrees_in(at, "longitude", 360))
         if name in found:
             at.wrong("name", f"{shown(name)} stands in the table already; leave one of the two")

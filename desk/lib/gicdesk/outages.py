@@ -26,6 +26,7 @@ Kind = TypeVar("Kind")
 Step = Callable[[str], None]  # told of each piece of the work as it begins
 
 UNITS, EVENTS, CURRENTS = "units.csv", "events.csv", "currents.csv"
+MOST_PERHAPS = 40  # names in a cell
 
 
 @dataclasses.dataclass(frozen=True)
@@ -42,9 +43,15 @@ class Worst:
     """The event with the greatest high end of a transformer's worst current, and those that may be as bad: their high
     end isn't below the low end of every event."""
 
-    event: str
+    event: str  # empty where no event brings a current
     unit: ScreenUnit
     perhaps: tuple[str, ...]
+
+    @property
+    def perhaps_text(self) -> str:
+        """These events in a cell, as far as there are not too many."""
+        more = [f"and {len(self.perhaps) - MOST_PERHAPS} more"] if len(self.perhaps) > MOST_PERHAPS else []
+        return "; ".join([*self.perhaps[:MOST_PERHAPS], *more])
 
 
 @dataclasses.dataclass(frozen=True)
@@ -82,6 +89,8 @@ class Outages:
 
 def worst_of(rows: Sequence[tuple[str, ScreenUnit]]) -> Worst:
     event, unit = max(rows, key=lambda row: (row[1].worst.high, row[1].worst.low))
+    if unit.worst.high == 0:
+        return Worst("", unit, ())
     least = max(row.worst.low for _, row in rows)
     perhaps = tuple(name for name, row in rows if name != event and row.worst.high >= least)
     return Worst(event, unit, perhaps)
@@ -133,13 +142,19 @@ def whole_result(asked: Asked) -> Result:
     run = asked.run("screen", asked.switch)
     result = screen_result(Event("", ()), run)
     if result is None:
-        file = asked.switch if asked.switch is not None and "switch" in run.line else asked.case
+        file = asked.switch if asked.switch is not None and run.file == "switch" else asked.case
         raise refuse(file, ending(run))
     return result
 
 
 def base_switchings(switch: str | None) -> BaseSwitchings:
-    return BaseSwitchings() if switch is None else BaseSwitchings(read_bytes(switch))
+    """The switchings of --switch, which the program has taken, with room for those of an event behind them."""
+    if switch is None:
+        return BaseSwitchings()
+    base = BaseSwitchings(read_bytes(switch))
+    if len(base.rows) >= MOST_ROWS:
+        raise refuse(switch, f"it has {MOST_ROWS} rows, and none is left for what is taken out; take fewer")
+    return base
 
 
 def known_items(asked: Asked, whole: Result) -> Items:
@@ -295,7 +310,7 @@ def report_text(asked: Asked, outages: Outages, listed: bool) -> str:
                 interval_text(worst.unit.worst),
                 verdict_text(None if before is None else before.verdict, worst.unit.verdict),
                 worst.event,
-                "; ".join(worst.perhaps),
+                worst.perhaps_text,
             )
         )
     if rows:
@@ -320,7 +335,7 @@ def units_table(outages: Outages) -> Table:
         if worst is None:
             cells += ["", "", "", "none", ""]
         else:
-            cells += [worst.event, *ends_or_nothing(worst.unit.worst), worst.unit.verdict, "; ".join(worst.perhaps)]
+            cells += [worst.event, *ends_or_nothing(worst.unit.worst), worst.unit.verdict, worst.perhaps_text]
         rows.append([*cells, *(str(verdicts[name, verdict]) for verdict in ("reaches", "undecided"))])
     return Table(heads, rows)
 

@@ -1,6 +1,7 @@
 """The program `gicstudy`: where it is, and what comes of running it."""
 
 import dataclasses
+import hashlib
 import os
 import pathlib
 import re
@@ -13,6 +14,7 @@ TOP = pathlib.Path(__file__).resolve().parents[3]
 SCRIPT = TOP / "gicstudy"  # builds the program where that is needed
 BUILT = TOP / "crates" / "gicstudy" / "out" / "gicstudy"
 NETWORK_FAULT = re.compile(r"gicstudy: (unearthed|unresolved): step [0-9]+ node (\S+)")
+FILE_FAULT = re.compile(r"gicstudy: (?:cannot read |too long: )?([a-z]+)\b")
 SWITCH_FAULT = re.compile(r"gicstudy: switch: .* in row ([0-9]+)")
 
 
@@ -29,6 +31,12 @@ class Run:
         """Why the network can't be solved, as the word unearthed or unresolved, and a node."""
         found = NETWORK_FAULT.fullmatch(self.line)
         return (found[1], found[2]) if found and self.status in (8, 9) else None
+
+    @property
+    def file(self) -> str | None:
+        """The file that the line speaks of, by its option's name; another word or None where it speaks of none."""
+        found = FILE_FAULT.match(self.line)
+        return found[1] if found else None
 
     @property
     def switch_row(self) -> int | None:
@@ -49,6 +57,7 @@ class Program:
     """The program under the name by which it is run."""
 
     path: str
+    is_built_here: bool = False  # of the sources of this repository, as they are now
 
     def run(self, *words: str) -> Run:
         try:
@@ -65,10 +74,13 @@ class Program:
             raise refuse(" ".join(["gicstudy", *words]), ending(run))
         return run.report
 
+    def checksum(self) -> str:
+        return hashlib.sha256(pathlib.Path(self.path).read_bytes()).hexdigest()
+
     def commit(self) -> str | None:
-        """The commit of this repository where the program is its own, told where files are changed; None where it isn't
-        known."""
-        if not pathlib.Path(self.path).resolve().is_relative_to(TOP) or not (TOP / ".git").exists():
+        """The commit of this repository where the program is built of it, told where files are changed; None where it
+        isn't known."""
+        if not self.is_built_here or not (TOP / ".git").exists():
             return None
         try:
             commit, changes = git("rev-parse", "HEAD"), git("status", "--porcelain", "--untracked-files=no")
@@ -108,4 +120,4 @@ def find_program(given: str | None) -> Program:
     if build.returncode != 0 or not BUILT.exists():
         words = "the program couldn't be built, as told above; or give the path of a built one by --program"
         raise refuse(str(SCRIPT), words)
-    return Program(str(BUILT))
+    return Program(str(BUILT), is_built_here=True)

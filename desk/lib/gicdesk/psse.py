@@ -75,9 +75,9 @@ class Making:
             self.substation(substation)
         for switch in self.raw.switches:
             self.switch(switch)
-        lines = [branch for branch in self.raw.branches if self.in_service(branch) and not self.tie(branch)]
-        for branch in lines:
-            self.line(branch)
+        branches = [(branch, self.tie(branch)) for branch in self.raw.branches if self.in_service(branch)]
+        for branch, is_tie in branches:
+            self.line_reactors(branch, branch_name(branch) if is_tie else self.line(branch))
         for unit in self.raw.transformers:
             self.transformer(unit)
         for reactor in self.gic.reactors:
@@ -172,9 +172,9 @@ class Making:
         self.join(branch.record, f"{what} of {self.ohm(branch):f} ohm", branch.ends)
         return True
 
-    def line(self, branch: Branch) -> None:
-        numbers = "-".join(map(str, branch.ends))
-        name = self.names.give(branch.name, f"L{numbers}-{branch.circuit}")
+    def line(self, branch: Branch) -> str:
+        """Writes a line, and answers its name."""
+        name = self.names.give(branch.name, branch_name(branch))
         start, end = (self.raw.buses[bus] for bus in branch.ends)
         if start.kilovolts != end.kilovolts:
             words = f"it joins a bus of {start.kilovolts:f} kV to one of {end.kilovolts:f} kV; look at BASKV of both"
@@ -197,6 +197,10 @@ class Making:
             words = f"{name} has a negative X: it is a series capacitor, and blocked"
             self.tell(branch.record, words)
         self.add("line", Row(name, fields), branch.name, branch.ends, branch.circuit)
+        return name
+
+    def line_reactors(self, branch: Branch, name: str) -> None:
+        """The reactors at the ends of a branch of this name."""
         data = self.line_data(branch)
         for bus, ohm in ({} if data is None else data.shunts).items():
             if ohm != 0 and data is not None:
@@ -249,10 +253,11 @@ class Making:
         """The zone of a substation: that of the table, or that of the polygons; empty where it has none, told once."""
         if number not in self.substation_zones:
             substation = self.gic.substations[number]
-            zone = self.zones.of_substations.get(number, "")
-            if not zone and self.zones.polygons:
+            row = self.zones.of_substations.get(number)
+            zone = "" if row is None else row.text("zone")
+            if row is None and self.zones.polygons:
                 zone = zone_of(substation.record, (substation.latitude, substation.longitude), self.zones.polygons)
-            elif not zone:
+            elif row is None:
                 words = f"the substation {number} has no zone; write it into the table of --substations"
                 substation.record.wrong(None, f"{words}, or give --polygons")
             self.substation_zones[number] = zone
@@ -316,13 +321,17 @@ class Making:
             self.add("transformer", row, "", [bus])
 
     def records_used(self) -> None:
-        """A row of the table of lines that is of no branch is a finding, since it was meant for one. A record of
-        resistances that is of nothing is told, and so is a reactor without one."""
+        """A row of the table of lines that is of no branch is a finding, since it was meant for one. A row of the table
+        of substations that is of none is told, since the table may be of a larger network; so is a record of
+        resistances that is of nothing, and a reactor without one."""
         branches: set[Key] = {(frozenset(branch.ends), branch.circuit) for branch in self.raw.branches}
         units: set[Key] = {(frozenset(unit.buses), unit.circuit) for unit in self.raw.transformers}
         for key, override in self.zones.of_lines.items():
             if key not in branches:
                 override.record.wrong("bus_i", f"there is no branch of these buses and this circuit in {self.raw.file}")
+        for number, row in self.zones.of_substations.items():
+            if number not in self.gic.substations:
+                self.tell(row, f"there is no substation {number} in {self.gic.file}: this row is of none")
         for what, data, keys in (("branch", self.gic.lines, branches), ("transformer", self.gic.windings, units)):
             for key, datum in data.items():
                 if key not in keys:
@@ -356,6 +365,11 @@ class Making:
         if others:
             words = f"{others} of {len(self.raw.buses)} buses have no line and no grounded winding: they are left out"
             self.notes.append(Finding(self.raw.file, words))
+
+
+def branch_name(branch: Branch) -> str:
+    """The name of a branch by its numbers."""
+    return f"L{'-'.join(map(str, branch.ends))}-{branch.circuit}"
 
 
 def title(buses: Sequence[int], circuit: str) -> str:

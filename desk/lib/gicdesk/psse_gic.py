@@ -148,4 +148,5 @@ def read_gic(file: str, findings: list[Finding], notes: list[Finding]) -> Gic:
     lines_data = [read_line(at) for at in records("BRANCH")]
     for found in (windings, lines_data):
         look_for_twins([(key, datum.record) for key, datum in found])
+    look_for_twins([((frozenset([reactor.bus]), reactor.circuit), reactor.record) for reactor in reactors])
     return Gic(file, substations, substation_of, dict(windings), reactors, dict(lines_data))

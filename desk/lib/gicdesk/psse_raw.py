@@ -205,5 +205,6 @@ def read_raw(file: str, findings: list[Finding], notes: list[Finding]) -> Raw:
     shunts = [read_shunt(at) for at in records("FIXED SHUNT")]
     look_for_twins([((frozenset(branch.ends), branch.circuit), branch.record) for branch in branches])
     look_for_twins([((frozenset(unit.buses), unit.circuit), unit.record) for unit in units])
+    look_for_twins([((frozenset([shunt.bus]), shunt.circuit), shunt.record) for shunt in shunts])
     by_bus = {(shunt.bus, shunt.circuit): shunt for shunt in shunts}
     return Raw(file, base, buses, branches, switches, units, by_bus)

@@ -80,6 +80,12 @@ class SectionLine:
     named: list[str]
 
 
+def ends_section(section: str, line: str, fields: Sequence[str]) -> bool:
+    """Whether a line ends the section: it begins with 0. A line of a transformer may begin so too, with a resistance,
+    and then numbers stand behind it."""
+    return fields[0] == "0" and (section != "TRANSFORMER" or not any(fields[1:]) or "END OF" in line.upper())
+
+
 def read_sections(
     file: str, lines: Sequence[str], first: int, layout: Layout, findings: list[Finding]
 ) -> dict[str, list[SectionLine]]:
@@ -100,7 +106,7 @@ def read_sections(
             continue
         if fields == ["Q"]:
             break
-        if fields[0] == "0":
+        if ends_section(section, line, fields):
             begun = BEGIN.search(line)
             place += 1
             if begun is not None:

@@ -122,7 +122,7 @@ def windings_of(
     if letters is None:
         return []
     out = OUT.get(unit.status)
-    if out is not None and "A" in letters and letters[out] in ("A", "Y", GROUNDED):
+    if out is not None and "A" in letters and (letters[out] == "A" or out == by_volts(kilovolts)[0]):
         words = "a winding of the autotransformer is out of service, and with it all of it is left out"
         notes.append(Finding(unit.record.file, words, unit.record.line))
         return []

@@ -73,7 +73,8 @@ def heads_fault(top: str, first: list[str], heads: Sequence[str], optional: Sequ
     if missing and len(missing) < len(heads):
         odd = [shown(head) for head in first if head and optional is not None and head not in (*heads, *optional)]
         there = f", and {', '.join(odd)} is none of its columns" if odd else ""
-        allowed = f"; allowed are {','.join(heads)}" + (f", and {','.join(optional)}" if optional else "")
+        beside = "any others" if optional is None else ",".join(optional)
+        allowed = f"; allowed are {','.join(heads)}" + (f", and {beside}" if beside else "")
         return f"it has no column {', '.join(missing)}{there}{allowed}"
     if missing:
         return f"the columns are {shown(top)}, and not {','.join(heads)}; write these, with commas or semicolons"

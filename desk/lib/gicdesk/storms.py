@@ -1,5 +1,6 @@
 """The field of a storm that the program has taken, and how long currents stay above a threshold in it."""
 
+import bisect
 import csv
 import dataclasses
 import io
@@ -20,27 +21,43 @@ class StormStep:
 
 
 def records(data: bytes) -> list[list[str]]:
-    return list(csv.reader(io.StringIO(data.decode("utf-8", "replace"), newline="")))
+    """The records of a file that the program has taken, the heads first. To it a byte order mark and blank lines are
+    none."""
+    text = data.decode("utf-8-sig", "replace")
+    return [cells for cells in csv.reader(io.StringIO(text, newline="")) if cells]
 
 
 def storm_steps(data: bytes, zones: Sequence[str]) -> list[StormStep]:
     """The steps of a storm: at each a zone has the field of the last row that names it or stands for all, and else
     none."""
-    head, *rows = [cells for cells in records(data) if cells]
+    head, *rows = records(data)
     if head == ["time", "north", "east"]:
         return [StormStep(int(time), dict.fromkeys(zones, (int(north), int(east)))) for time, north, east in rows]
     steps: list[StormStep] = []
     for time, zone, north, east in rows:
         if not steps or steps[-1].time != int(time):
             steps.append(StormStep(int(time), dict.fromkeys(zones, (0, 0))))
-        named = zones if zone == "*" else [zone]
+        named = list(steps[-1].fields) if zone == "*" else [zone]
         steps[-1].fields.update(dict.fromkeys(named, (int(north), int(east))))
     return steps
 
 
 def switching_rows(data: bytes) -> list[tuple[int, str, str]]:
     """Time, item and action of each row of switchings."""
-    return [(int(time), item, action) for time, item, action in (cells for cells in records(data)[1:] if cells)]
+    return [(int(time), item, action) for time, item, action in records(data)[1:]]
+
+
+def seen_rows(rows: Sequence[tuple[int, str, str]], times: Sequence[int]) -> list[bool]:
+    """Whether each row of switchings is in force at a step: the first step from its time on is one, and lies before the
+    next row that says the same kind of thing of its item."""
+    later: dict[tuple[str, bool], int] = {}
+    seen = []
+    for time, item, action in reversed(rows):
+        kind = (item, action in ("block", "unblock"))
+        place = bisect.bisect_left(times, time)
+        seen.append(place < len(times) and times[place] < later.get(kind, times[place] + 1))
+        later[kind] = time
+    return seen[::-1]
 
 
 @dataclasses.dataclass(frozen=True)

@@ -12,7 +12,7 @@ from typing import TypeVar
 
 from . import outages
 from .counts import plural
-from .events import Event, Items, one_event, read_events
+from .events import BaseSwitchings, Event, Items, one_event, read_events
 from .factors import Factor, read_factors, size, total
 from .files import read_bytes
 from .findings import Finding, Refused, refuse
@@ -43,6 +43,7 @@ Kind = TypeVar("Kind")
 OPTIONS = ("storm", "switch", "factors", "events", "places", "width")
 SHOWN = 40  # units and questions on the terminal
 MUST = ("reaches", "undecided")  # the verdicts of a unit that must be assessed
+CHANGED = "it has changed while the study ran, so the reports are of several files; run it again"
 
 
 @dataclasses.dataclass(frozen=True)
@@ -75,6 +76,11 @@ class Request:
     def screen_words(self) -> tuple[str, ...]:
         """The words of a screen of the whole network, of its outages, and of a field."""
         return (*self.standing_words, *self.words)
+
+    def file_of(self, run: Run) -> str:
+        """The file that the line of a run speaks of: the case where it speaks of no other."""
+        given = {"storm": self.storm, "switch": self.switch}.get(run.file or "")
+        return self.case if given is None else given
 
     def files(self) -> dict[str, str]:
         names = {name: getattr(self, name) for name in ("case", *OPTIONS) if name != "width"}
@@ -182,6 +188,15 @@ class Study:
         """The units that reach the threshold or may, in the order of `units`."""
         return [unit for unit in self.units if unit.must_be_assessed]
 
+    @property
+    def beyond(self) -> list[UnitFacts]:
+        """The others that reach the threshold of the supplemental event or may."""
+        return [unit for unit in self.units if unit.supplemental.verdict in MUST and not unit.must_be_assessed]
+
+    @property
+    def switchings(self) -> list[tuple[int, str, str]]:
+        return [row for given in self.inputs if given.role == "switch" for row in switching_rows(given.data)]
+
 
 def middle(value: Interval) -> float:
     return (value.low + value.high) / 2
@@ -240,19 +255,10 @@ class Runs:
         run = self.run(name, mode, *words)
         report = self.kept[-1].report
         if run.status != 0:
-            raise refuse(file_of(self.request, run.line), ending(run))
+            raise refuse(self.request.file_of(run), ending(run))
         if not isinstance(report, kind):
             raise refuse(f"the report of gicstudy {mode}", "it is one of another mode; is --program another program?")
         return report
-
-
-def file_of(request: Request, line: str) -> str:
-    """The file that a fault line speaks of."""
-    for role in ("storm", "switch"):
-        file = getattr(request, role)
-        if file is not None and role in line:
-            return str(file)
-    return request.case
 
 
 def file_name(name: str) -> str:
@@ -278,8 +284,7 @@ def look_for_changes(inputs: Iterable[Input]) -> None:
     """Refuses a study of which a file has changed since it began."""
     changed = [given for given in inputs if read_bytes(file_name(given.name)) != given.data]
     if changed:
-        words = "it has changed while the study ran, so the reports are of several files; run it again"
-        raise Refused([Finding(given.name, words) for given in changed])
+        raise Refused([Finding(given.name, CHANGED) for given in changed])
 
 
 def first_screen(runs: Runs, words: tuple[str, ...], review: Review) -> Screen:
@@ -378,7 +383,7 @@ def run_storm(runs: Runs, request: Request, inputs: Mapping[str, Input], zones: 
     run = runs.run("study", "study", *words, *request.words)
     report = runs.kept[-1].report
     if report is None and run.network_fault is None:
-        raise refuse(file_of(request, run.line), ending(run))
+        raise refuse(request.file_of(run), ending(run))
     switchings = switching_rows(inputs["switch"].data) if request.switch is not None else []
     steps = storm_steps(inputs["storm"].data, zones)
     return Storm(report if isinstance(report, StormReport) else None, run.line, steps, switchings, {})
@@ -457,10 +462,10 @@ class Basis:
 def look_at_case(runs: Runs, case: Input) -> Basis:
     words = runs.request.screen_words
     review = runs.report(Review, "review", "review")
+    screen = first_screen(runs, words, review)
     check = runs.report(Check, "check", "check", *runs.request.standing_words)
     elements = runs.report(Elements, "list", "list").elements
     lines = runs.report(Volts, "volts", "volts", "--north=8000").lines
-    screen = first_screen(runs, words, review)
     supplemental = runs.report(Screen, "supplemental", "screen", "--event=supplemental", *words)
     items = outages.items_of(elements, lines, screen)
     return Basis(network_of(case.data), review, check, items, screen, supplemental)
@@ -478,13 +483,12 @@ def expect_runs(runs: Runs, basis: Basis, tables: Tables) -> int:
 
 
 def run_outages(
-    runs: Runs, basis: Basis, events: list[Event], outage: Outage, folder: str
+    runs: Runs, basis: Basis, base: BaseSwitchings, events: list[Event], outage: Outage, folder: str
 ) -> tuple[Outages | None, dict[str, Worst]]:
     """The events of the list, and the worst single outage of each transformer."""
     request = runs.request
     runs.progress.total -= sum(outcome.word != "solved" for outcome in outage.outcomes)
     asked = Asked(request.program, request.case, request.standing_switch, request.words)
-    base = outages.base_switchings(request.standing_switch)
     runner = outages.Runner(asked, base, request.events or request.case, pathlib.Path(folder, "event.csv"))
     found = None
     if request.events is not None:
@@ -504,30 +508,33 @@ def look_for_one_case(inputs: Iterable[Input], reports: Iterable[Screen | Outage
 
 def make_study(request: Request) -> Study:
     """Runs all that is asked, in the order in which faults of the files come early."""
-    began = datetime.datetime.now().astimezone()
+    began, commit, checksum = datetime.datetime.now().astimezone(), request.program.commit(), request.program.checksum()
     inputs = {given.role: given for given in read_inputs(request)}
     with Progress(7) as progress, tempfile.TemporaryDirectory(prefix="gicdesk.") as folder:
         runs = Runs(request, progress)
         basis = look_at_case(runs, inputs["case"])
         network, screen, supplemental = basis.network, basis.screen, basis.supplemental
         tables = read_tables(request, network, basis.items)
+        base = outages.base_switchings(request.standing_switch)
         expected = expect_runs(runs, basis, tables)
         storm = run_storm(runs, request, inputs, network.zones if network is not None else ["*"])
         outage = runs.report(Outage, "outage", "outage", *request.screen_words)
         look_for_one_case(inputs.values(), (screen, supplemental, outage, None if storm is None else storm.report))
         losses = run_losses(runs, tables.factors, screen, request.screen_words)
-        events, worst = run_outages(runs, basis, tables.events, outage, folder)
+        events, worst = run_outages(runs, basis, base, tables.events, outage, folder)
         units = facts_of(screen, supplemental, outage, worst, events, storm)
         progress.total -= expected
         run_series(runs, storm, [unit.name for unit in units if wants_series(unit) or unit.name in tables.factors])
         units = facts_of(screen, supplemental, outage, worst, events, storm)
     look_for_changes(inputs.values())
+    if request.program.checksum() != checksum:
+        raise refuse(request.program.path, CHANGED)
     places, parts = ({}, 0) if network is None else laid_out(network, tables.places)
     return Study(
         request=request,
         began=began,
-        commit=request.program.commit(),
-        program_checksum=hashlib.sha256(pathlib.Path(request.program.path).read_bytes()).hexdigest(),
+        commit=commit,
+        program_checksum=checksum,
         inputs=list(inputs.values()),
         kept=runs.kept,
         review=basis.review,
@@ -562,10 +569,15 @@ def sum_text(study: Study, page: str) -> str:
     lines = [f"question: {question_text(question)}" for question in questions[:SHOWN]]
     if len(questions) > SHOWN:
         lines.append(f"and {plural(len(questions) - SHOWN, 'question')} more")
-    lines.append(f"{len(study.assessed)} of {plural(len(study.units), 'unit')} must be assessed")
+    lines.append(f"{len(study.assessed)} of {plural(len(study.units), 'unit')} must be assessed by the benchmark event")
     whole = [unit.name for unit in study.assessed if unit.benchmark.verdict in MUST]
     without = [unit.name for unit in study.assessed if unit.benchmark.verdict not in MUST]
-    for names, when in ((whole, "in the network as it stands"), (without, "with something out, and not before")):
+    beyond = [unit.name for unit in study.beyond]
+    for names, when in (
+        (whole, "in the network as it stands"),
+        (without, "with something out, and not before"),
+        (beyond, "more by the supplemental event alone"),
+    ):
         more = [f"and {len(names) - SHOWN} more"] if len(names) > SHOWN else []
         if names:
             lines.append(f"{len(names)} {when}: {' '.join([*names[:SHOWN], *more])}")

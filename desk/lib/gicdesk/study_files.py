@@ -27,7 +27,7 @@ def interval_heads(name: str) -> list[str]:
 def worst_cells(worst: Worst | None) -> list[str]:
     if worst is None:
         return ["", "", "", "", ""]
-    return [worst.event, *ends_or_nothing(worst.unit.worst), worst.unit.verdict, "; ".join(worst.perhaps)]
+    return [worst.event, *ends_or_nothing(worst.unit.worst), worst.unit.verdict, worst.perhaps_text]
 
 
 def page_of(folder: str) -> str:
@@ -102,7 +102,7 @@ def losses_table(study: Study) -> Table:
         for name, factor in study.losses.factors.items():
             value = found[name] or Interval(0, 0)
             kilovolts = [f"{factor.at_kv:f}", shifted(factor.volts, MILLI)]
-            mvar = [f"{factor.mvar(end):.3f}" for end in (value.low, value.high)]
+            mvar = [f"{end:f}" for end in factor.mvar_within(value)]
             rows.append([name, f"{factor.given:f}", *kilovolts, *ends_or_nothing(value), *mvar])
     return Table(heads, rows)
 
@@ -113,7 +113,8 @@ def commands_text(study: Study) -> str:
     for kept in study.kept:
         told = f"  # {kept.run.line}" if kept.run.line else ""
         lines.append(f"{kept.run.status} {kept.name} {shlex.join(('gicstudy', *kept.words))}{told}")
-    return "\n".join(["# status, report, words", *lines]) + "\n"
+    heads = "# status, report, words; files in reports/ lie in this folder, and others are named as they were given"
+    return "\n".join([heads, *lines]) + "\n"
 
 
 def files_of(study: Study, comma: bool) -> dict[str, str | bytes]:

@@ -10,17 +10,28 @@ from .decimals import MILLI, shifted
 from .markup import Markup, joined, table, tag
 from .outages import Worst
 from .questions import question_text
-from .reports import Screen
+from .reports import Screen, ScreenUnit
 from .study import MUST, Study, UnitFacts
 from .study_map import map_section
 from .study_storm import losses_section, storm_section
 from .study_style import STYLE
 from .study_units import directions_section, units_section
-from .study_words import TITLES, amperes, made, names_text, peak_of, section, threshold_of, words_of
+from .study_words import (
+    ABSENT,
+    TITLES,
+    amperes,
+    made,
+    names_text,
+    peak_of,
+    section,
+    switchings_text,
+    threshold_of,
+    words_of,
+)
 
 # A browser that reads it asks for nothing, whatever stands in the page.
 POLICY = "default-src 'none'; style-src 'unsafe-inline'; img-src data:"
-COMMIT_UNKNOWN = "not known: the program isn't that of a repository with its history"
+COMMIT_UNKNOWN = "not known: this command didn't build the program itself, in a repository with its history"
 UNSOLVED = {
     "unearthed": "without the item a part is live and hangs in the air, and nothing is said of any current",
     "unresolved": "without the item a part is earthed too poorly, and nothing is said of any current",
@@ -28,8 +39,8 @@ UNSOLVED = {
     "closes its line",
 }
 KEPT_NOTE = (
-    "Each of these commands was run, and its report stands beside this page as it came, in reports/, and as a table in "
-    "tables/; checksums.txt has the sha256 of each file in full, and commands.txt all words."
+    "Each of these commands was run, and where its status is 0 its report stands beside this page as it came, in "
+    "reports/, and as a table in tables/; checksums.txt has the sha256 of each file in full, and commands.txt all words."
 )
 PROVED_NOTE = (
     "What the program proves holds from the bytes of the case to its reports: each interval holds the exact value. Nothing "
@@ -46,8 +57,10 @@ def event_text(name: str, screen: Screen, what: str) -> str:
 def switch_text(study: Study) -> str:
     if study.request.switch is None:
         return "none"
+    if not study.switchings:
+        return "none: the file has no rows"
     if study.request.storm is None:
-        return "all rows are in force in each report"
+        return f"all rows are in force in each report of the network: {switchings_text(study.switchings)}"
     return "in force by their times in the storm, and in no other report"
 
 
@@ -91,18 +104,26 @@ def group(words: str, units: Iterable[tuple[str, str]]) -> Markup:
     return joined((tag("h3", f"{words}: {len(items)}"), tag("ul", *items, class_="list"))) if items else Markup("")
 
 
-def whole_words(unit: UnitFacts) -> str:
-    """The worst current of a unit, and a word where the interval doesn't tell whether it reaches the threshold."""
-    return amperes(unit.benchmark.worst) + (", perhaps" if unit.benchmark.verdict == "undecided" else "")
+def perhaps(words: str, verdict: str) -> str:
+    """The words of a current, and one more where its interval doesn't tell whether it reaches the threshold."""
+    return words + (", perhaps" if verdict == "undecided" else "")
+
+
+def screen_words(row: ScreenUnit) -> str:
+    return perhaps(amperes(row.worst), row.verdict)
 
 
 def outage_words(unit: UnitFacts) -> str:
     without = "" if unit.worst_outage is None else f" without {unit.worst_outage.event}"
-    return f"{amperes(unit.outage.value)}{without}"
+    return perhaps(f"{amperes(unit.outage.value)}{without}", unit.outage.verdict)
 
 
 def event_words(worst: Worst | None) -> str:
-    return "" if worst is None else f"{amperes(worst.unit.worst)} in {worst.event}"
+    return "" if worst is None else perhaps(f"{amperes(worst.unit.worst)} in {worst.event}", worst.unit.verdict)
+
+
+def peak_words(unit: UnitFacts) -> str:
+    return amperes(peak_of(unit)) if unit.peak is None else perhaps(amperes(peak_of(unit)), unit.peak.verdict)
 
 
 def lead_text(study: Study) -> str:
@@ -112,12 +133,16 @@ def lead_text(study: Study) -> str:
     end = f"{outside} {'is' if outside == 1 else 'are'} outside of the assessment."
     if study.assessed:
         return (
-            f"{len(study.assessed)} of {units} must be assessed: in some direction of a uniform field of {field} V/km they "
-            f"have {threshold} A a phase or more, or may have it, in the network as it stands or with something out. {end}"
+            f"{len(study.assessed)} of {units} must be assessed by the benchmark event: in some direction of a uniform "
+            f"field of {field} V/km they have {threshold} A a phase or more, or may have it, in the network as it stands "
+            f"or with something out. {end}"
         )
+    if outside == len(study.units):
+        return f"None of {units} is judged. {end}"
     return (
-        f"None of {units} must be assessed: all that are judged stay under {threshold} A a phase in every direction of a "
-        f"uniform field of {field} V/km, also with each single item out whose network can be solved. {end}"
+        f"None of {units} must be assessed by the benchmark event: all that are judged stay under {threshold} A a phase "
+        f"in every direction of a uniform field of {field} V/km, also with each single item out whose network can be "
+        f"solved. {end}"
     )
 
 
@@ -128,7 +153,10 @@ def answer_groups(study: Study) -> list[Markup]:
     by_event = [unit for unit in rest if unit.outage.verdict not in MUST]
     whole = [unit for unit in study.units if unit.benchmark.verdict in MUST]
     return [
-        group("In the network as it stands", [(unit.name, whole_words(unit)) for unit in whole]),
+        group(
+            "In the network as it stands",
+            [(unit.name, screen_words(unit.benchmark)) for unit in whole],
+        ),
         group("With one item out, and not before", [(unit.name, outage_words(unit)) for unit in by_outage]),
         group("In an event of the list, and not before", [(one.name, event_words(one.worst_event)) for one in by_event]),
     ]
@@ -136,7 +164,6 @@ def answer_groups(study: Study) -> list[Markup]:
 
 def groups_beside(study: Study) -> list[Markup]:
     """What the supplemental event and the storm bring to a threshold."""
-    beyond = [unit for unit in study.units if unit.supplemental.verdict in MUST and not unit.must_be_assessed]
     storm = [
         unit
         for unit in study.units
@@ -147,9 +174,9 @@ def groups_beside(study: Study) -> list[Markup]:
     return [
         group(
             f"Of the others these reach {threshold} A in the supplemental event",
-            [(unit.name, amperes(unit.supplemental.worst)) for unit in beyond],
+            [(unit.name, screen_words(unit.supplemental)) for unit in study.beyond],
         ),
-        group(words, [(unit.name, amperes(peak_of(unit))) for unit in storm]),
+        group(words, [(unit.name, peak_words(unit)) for unit in storm]),
     ]
 
 
@@ -200,9 +227,17 @@ def network_items(study: Study) -> list[str]:
         core = "nothing is said of the core, as of a delta-delta unit or a reactor"
         why = f"since the high side has 200 kV or less, or {core}"
         items.append(f"{plural(len(outside), 'unit')} outside, {why}: {names_text(outside)}.")
+    idle = {outcome.item for outcome in study.outage.outcomes if outcome.word == "idle"}
+    off = [unit.name for unit in study.units if unit.name in idle and unit.benchmark.verdict != "outside"]
+    if off:
+        items.append(f"{plural(len(off), 'unit')} switched off, of which below says nothing: {names_text(off)}.")
     dead = [name for name, state in study.check.nodes.items() if state == "dead"]
     if dead:
-        items.append(f"{plural(len(dead), 'node')} at which nothing ends, without a potential: {names_text(dead)}.")
+        nodes = plural(len(dead), "node")
+        items.append(f"{nodes} at which nothing that stands ends, without a potential: {names_text(dead)}.")
+    if study.network is None:
+        words = "the case is in TOML 1.1, which Python doesn't read, so none is named"
+        items.append(f"Lines with a series capacitor: {words}.")
     blocked = [] if study.network is None else [link.name for link in study.network.links if link.blocked]
     if blocked:
         lines = plural(len(blocked), "line")
@@ -215,6 +250,8 @@ def left_section(study: Study) -> Markup:
     items = [*network_items(study), *outage_items(study), "Outages and events in the supplemental event."]
     if study.storm is None:
         items.append("The current over time: no storm was given.")
+    elif study.storm.report is None:
+        items.append("The current over time: the storm has no report.")
     if study.losses is None:
         items.append("Losses: no factors were given.")
     elif len(study.losses.factors) < len(study.units):
@@ -242,8 +279,8 @@ def made_section(study: Study) -> Markup:
     rows = []
     for kept in study.kept:
         if kept.mode != "series":
-            digest = hashlib.sha256(kept.run.report).hexdigest()
-            rows.append((kept.name, words_of(("gicstudy", *kept.words)), str(kept.run.status), digest[:32]))
+            digest = ABSENT if kept.report is None else hashlib.sha256(kept.run.report).hexdigest()[:32]
+            rows.append((kept.name, words_of(("gicstudy", *kept.words)), str(kept.run.status), digest))
     single = plural(sum(outcome.word == "solved" for outcome in study.outage.outcomes), "screen")
     more = f"The worst outages have their names from {single}, each with one item open, whose reports aren't kept."
     if series:

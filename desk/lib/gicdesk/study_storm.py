@@ -9,9 +9,9 @@ from .factors import USUAL_KV, StormLosses, size, storm_losses, total
 from .forms import Interval
 from .markup import Markup, table, tag
 from .reports import Series
-from .storms import seconds_above
-from .study import Losses, Storm, Study, UnitFacts, current_at, middle
-from .study_words import MOST_LISTED, amperes, made, peak_of, section, threshold_of, volts_per_km, words_of
+from .storms import seconds_above, seen_rows
+from .study import Losses, Study, UnitFacts, current_at, middle
+from .study_words import amperes, made, peak_of, section, switchings_text, threshold_of, volts_per_km, words_of
 
 MOST_STRIPS = 24
 LOSS_STEP = 15  # degrees between the bearings of the table of losses
@@ -19,8 +19,8 @@ LOSS_STEP = 15  # degrees between the bearings of the table of losses
 STORM_NOTE = (
     "A curve goes through the middles of the intervals; the scale of each is its own, the grey line is 0 and a dashed red "
     "one {threshold} A to either side. Between two steps the program says nothing, and seconds count each step up to the "
-    "next one. The strength of the field is the root of the squares of its two parts, in the strongest zone of each step, "
-    "by the storm's own numbers."
+    "next one, and the last step for nothing. The strength of the field is the root of the squares of its two parts, in "
+    "the strongest zone of each step, by the storm's own numbers."
 )
 LOSSES_NOTE = (
     "Losses are the high end of a current times the factor of the table, times the unit's rated kilovolts over those for "
@@ -55,10 +55,17 @@ def unit_figure(axis: pictures.Axis, marks: Sequence[int], series: Series, thres
     return strip_figure(strip, series.transformer, f"to {amperes(value)} A at {time} s", above)
 
 
-def switchings_text(storm: Storm) -> str:
-    told = [f"{time} s {action} {item}" for time, item, action in storm.switchings]
-    more = f"; and {len(told) - MOST_LISTED} more" if len(told) > MOST_LISTED else ""
-    return f"Switchings, dotted in the strips: {'; '.join(told[:MOST_LISTED])}{more}."
+def switched_text(rows: Sequence[tuple[int, str, str]], seen: Sequence[bool]) -> str:
+    """The switchings of a storm, and which of them no step sees."""
+    told = [row for row, is_seen in zip(rows, seen) if is_seen]
+    unseen = [row for row, is_seen in zip(rows, seen) if not is_seen]
+    sentences = []
+    if told:
+        sentences.append(f"Switchings, dotted in the strips where they lie within the storm: {switchings_text(told)}.")
+    if unseen:
+        words = "In force at no step, since none comes before the next row of the same item or the end of the storm"
+        sentences.append(f"{words}: {switchings_text(unseen)}.")
+    return " ".join(sentences)
 
 
 def peak_size(unit: UnitFacts) -> int:
@@ -75,7 +82,8 @@ def storm_section(study: Study) -> Markup:
         return section("storm", tag("p", *words))
     first, last = storm.steps[0].time, storm.steps[-1].time
     axis = pictures.Axis(first, last)
-    marks = [time for time, _, _ in storm.switchings if first <= time <= last]
+    seen = seen_rows(storm.switchings, [step.time for step in storm.steps])
+    marks = [time for (time, _, _), is_seen in zip(storm.switchings, seen) if is_seen and first <= time <= last]
     strongest = max(storm.steps, key=lambda step: step.strength)
     strength = volts_per_km(strongest.strength)
     field = pictures.Strip(axis, [(step.time, step.strength) for step in storm.steps], marks, None)
@@ -89,9 +97,10 @@ def storm_section(study: Study) -> Markup:
     )
     pieces = [tag("p", words)]
     if storm.switchings:
-        pieces.append(tag("p", switchings_text(storm)))
+        pieces.append(tag("p", switched_text(storm.switchings, seen)))
     if not units:
-        pieces.append(tag("p", "No unit reaches a threshold or may, so no series was made."))
+        words = f"No unit reaches {threshold_of(study)} A or may, in the benchmark event, with something out or in the"
+        pieces.append(tag("p", f"{words} storm, so no series was made."))
     note = STORM_NOTE.format(threshold=threshold_of(study))
     if len(units) > MOST_STRIPS:
         note += f" The {MOST_STRIPS} greatest of {len(units)} series are drawn; the others stand in tables/."

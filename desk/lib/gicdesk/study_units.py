@@ -44,8 +44,9 @@ NOTE = (
 EVENT_NOTE = " The worst event is the one of the list with the greatest high end."
 STORM_NOTE = (
     " Storm is the greatest current over it, and seconds how long a current is {threshold} A or more whatever its sign, "
-    "each step counted up to the next one: by the series of a unit, and 0 where study says below. Where two numbers "
-    "stand it is surely the first and at most the second."
+    "each step counted up to the next one, and the last one for nothing, so 0 may stand beside a current above it: by "
+    "the series of a unit, and 0 where study says below. Where two numbers stand it is surely the first and at most the "
+    "second."
 )
 ROSE_NOTE = (
     "All roses have one scale: the outer circle is {scale} A, and the dashed one {threshold} A. How far a curve is from "

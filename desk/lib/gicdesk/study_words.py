@@ -55,6 +55,13 @@ def names_text(names: Sequence[str]) -> str:
     return ", ".join(names[:MOST_LISTED]) + more
 
 
+def switchings_text(rows: Sequence[tuple[int, str, str]]) -> str:
+    """Switchings in a sentence, as far as there are not too many."""
+    told = [f"{time} s {action} {item}" for time, item, action in rows]
+    more = f"; and {len(told) - MOST_LISTED} more" if len(told) > MOST_LISTED else ""
+    return "; ".join(told[:MOST_LISTED]) + more
+
+
 def section(key: str, *inside: str, **attributes: str) -> Markup:
     return tag("section", tag("h2", TITLES[key]), "\n", *inside, id=key, **attributes)
 

@@ -40,7 +40,7 @@ class Zones:
     """The zones, and where they are: of a substation the table of substations decides, and then the polygons."""
 
     rows: list[Row]
-    of_substations: dict[int, str]
+    of_substations: dict[int, Record]  # each with its zone
     polygons: list[Polygon]
     of_lines: dict[tuple[frozenset[int], str], Override]
 
@@ -82,13 +82,14 @@ def zone_in(at: Record, names: set[str]) -> str:
     return zone
 
 
-def read_of_substations(file: str, names: set[str], findings: list[Finding]) -> dict[int, str]:
-    zones: dict[int, str] = {}
+def read_of_substations(file: str, names: set[str], findings: list[Finding]) -> dict[int, Record]:
+    zones: dict[int, Record] = {}
     for at in read_table(file, SUBSTATIONS, findings):
         number = at.whole("substation")
         if number in zones:
             at.wrong("substation", f"{number} stands in the table already; leave one of the two")
-        zones[number] = zone_in(at, names)
+        zone_in(at, names)
+        zones[number] = at
     return zones
 
 
