@@ -17,11 +17,14 @@ import tempfile
 HERE = os.path.dirname(os.path.abspath(__file__))
 FIELDS = {"benchmark": 8000, "supplemental": 12000}
 DIRECTIONS = 12
+UNSOLVED = (8, 9)  # the statuses of a network that can't be solved
 
 
 def report(program, folder, words):
     """The lines of a report, or none where the network is refused."""
     ran = subprocess.run([program, *words], cwd=folder, capture_output=True, text=True, check=False)
+    if ran.returncode not in (0, *UNSOLVED):
+        sys.exit(f"directions.py: {' '.join(words)} ended with status {ran.returncode}")
     return [line.split() for line in ran.stdout.splitlines()] if ran.returncode == 0 else None
 
 

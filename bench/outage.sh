@@ -19,7 +19,7 @@ cd "$scratch"
 # Microseconds of one run.
 microseconds() {
     local begin=${EPOCHREALTIME/./}
-    "$program" "$@" >out
+    "$program" "$@" >out || exit
     echo $((${EPOCHREALTIME/./} - begin))
 }
 
@@ -55,8 +55,9 @@ for _ in {1..3}; do
 done
 printf 'made: screen %d us, outage %d us, outage / screen %d.%02d (at most 400 is the aim)\n' \
     "$screen" "$outage" $((outage / screen)) $((outage % screen * 100 / screen))
-printf 'made: outage %s; %s\n' "$(measured outage --case=made)" "$(ends)"
+told=$(measured outage --case=made)
+printf 'made: outage %s; %s\n' "$told" "$(ends)"
 
 [ "${2:-}" != made ] || exit 0
-printf 'limit: outage %s (less than 900 s is the aim); ' "$(measured outage --case=limit)"
-printf '%s\n' "$(ends)"
+told=$(measured outage --case=limit)
+printf 'limit: outage %s (less than 900 s is the aim); %s\n' "$told" "$(ends)"

@@ -16,7 +16,7 @@ cd "$scratch"
 # Microseconds of one run.
 microseconds() {
     local begin=${EPOCHREALTIME/./}
-    "$program" "$@" >out
+    "$program" "$@" >out || exit
     echo $((${EPOCHREALTIME/./} - begin))
 }
 

@@ -36,7 +36,8 @@ baseline() {
 	echo "$figure"
 }
 
-for name in p realistic ps made-20 made-200 made-2000 row chain grid grid-far grid-units limit far-small far; do
+cases=(p realistic ps made-20 made-200 made-2000 row chain grid grid-far grid-units limit far-small far)
+for name in "${cases[@]}"; do
 	measures=$("$binary" "$scratch/$name.toml")
 	"$binary" network "$scratch/$name.toml" >"$scratch/$name.net"
 	direct=$(baseline "$scratch/direct" "$scratch/$name.net")
@@ -47,6 +48,7 @@ for name in p realistic ps made-20 made-200 made-2000 row chain grid grid-far gr
 	fi
 	echo "case $name $measures direct $direct ball $ball interval $interval"
 done | tee "$scratch/figures.txt" | python3 "$bench/table.py"
+[ "$(wc -l <"$scratch/figures.txt")" = "${#cases[@]}" ] || exit 1
 
 # The peak of memory of a run, in KiB.
 peak() {

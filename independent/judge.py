@@ -545,7 +545,10 @@ def main(words: list[str]) -> int:
     except (OSError, UnicodeError):
         os.dup2(os.open(os.devnull, os.O_WRONLY), 1)
         status, reason = 4, "cannot write"
-    print(f"judge: {reason}", file=sys.stderr or io.StringIO())
+    try:
+        print(f"judge: {reason}", file=sys.stderr or io.StringIO(), flush=True)
+    except OSError:
+        os.dup2(os.open(os.devnull, os.O_WRONLY), 2)
     return status
 
 

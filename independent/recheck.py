@@ -17,7 +17,6 @@ import sys
 from collections.abc import Iterable
 from fractions import Fraction
 from math import ceil, floor
-from pathlib import Path
 from typing import Any, NamedTuple
 
 from rules import CASE, USAGE, Refused, Table, file_bytes, read_case, read_switchings
@@ -265,8 +264,11 @@ def report_of(words: list[str]) -> str:
     """Reads the files that the words name, in the order in which the program does, and rechecks."""
     options = argparse.ArgumentParser(usage="recheck.py --case=FILE --cert=FILE [--switch=FILE]", allow_abbrev=False)
     for option in ("--case", "--cert", "--switch"):
-        options.add_argument(option, type=Path, action=Once, required=option != "--switch")
-    files = options.parse_args(words)
+        options.add_argument(option, action=Once, required=option != "--switch")
+    try:
+        files = options.parse_args(words)
+    except OSError:  # its line can't be written
+        raise Refused(USAGE, "usage: words") from None
     case = read_case(file_bytes(files.case, "case"))
     check_degrees(case)
     switchings = read_switchings(file_bytes(files.switch, "switch"), case) if files.switch is not None else []
@@ -293,12 +295,16 @@ def main(words: list[str]) -> int:
 
 
 def told(line: str, status: int) -> int:
-    """Writes the fault line, where there is an error stream, and answers the status."""
-    if sys.stderr is not None:
+    """Writes the fault line, where there is an error stream that takes it, and answers the status."""
+    try:
         sys.stderr.write(f"gicstudy: {line}\n")
+        sys.stderr.flush()
+    except OSError:
+        os.dup2(os.open(os.devnull, os.O_WRONLY), 2)  # what is left is written to nowhere
     return status
 
 
 if __name__ == "__main__":
     signal.signal(signal.SIGINT, signal.SIG_DFL)
+    sys.stderr = sys.stderr or open(os.devnull, "w")
     sys.exit(main(sys.argv[1:]))

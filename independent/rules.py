@@ -9,7 +9,6 @@ import io
 import re
 import tomllib
 from collections.abc import Iterator
-from pathlib import Path
 from typing import Any
 
 Table = dict[str, Any]  # a table of TOML: a whole case, or a row of one of its lists
@@ -63,10 +62,10 @@ class Refused(Exception):
         self.status = status
 
 
-def file_bytes(path: Path, what: str) -> bytes:
+def file_bytes(name: str, what: str) -> bytes:
     """All bytes of a file."""
     try:
-        with path.open("rb") as file:
+        with open(name, "rb") as file:
             found = file.read(LONGEST + 1)
     except (OSError, ValueError):
         raise Refused(UNREADABLE, f"cannot read {what}") from None

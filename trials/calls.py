@@ -103,20 +103,20 @@ def refusals(counts):
 
 
 def words_of_runs():
-    """The words of each run: of every mode, and of runs that are refused."""
-    yield from (shared.words_of(mode) for mode in shared.MODES)
-    yield from ([mode] for mode in ("volts", "fly"))
-    yield shared.words_of("check", case="t")
-    yield shared.words_of("study", storm="s")
-    yield shared.words_of("field", switch="p")
-    yield shared.words_of("recheck", cert="p")
+    """The words of each run and its status: of every mode, and of runs that are refused."""
+    yield from ((shared.words_of(mode), 0) for mode in shared.MODES)
+    yield from (([mode], 2) for mode in ("volts", "fly"))
+    yield shared.words_of("check", case="t"), 5
+    yield shared.words_of("study", storm="s"), 6
+    yield shared.words_of("field", switch="p"), 7
+    yield shared.words_of("recheck", cert="p"), 13
 
 
 def jobs_of(library, command, folder, faults):
     """Each run with its counts."""
-    for words in words_of_runs():
+    for words, status in words_of_runs():
         whole, counts = preload.run(library, command + words, folder)
-        if whole.status not in (0, 2, 5, 6, 7, 13):
+        if whole.status != status:
             faults.add(words, "ends with", shared.ending(whole.status), whole.told)
         yield Job(folder, words, whole), counts
 
@@ -127,15 +127,18 @@ def jobs_of(library, command, folder, faults):
 def with_output(command, job, make_output):
     """The status and what was told of a run whose output is what `make_output` opens."""
     output = make_output()
-    ran = subprocess.run(
-        command + job.words,
-        cwd=job.folder,
-        stdin=subprocess.DEVNULL,
-        stdout=output,
-        stderr=subprocess.PIPE,
-        check=False,
-    )
-    os.close(output)
+    try:
+        return ended(command + job.words, cwd=job.folder, stdin=subprocess.DEVNULL, stdout=output)
+    finally:
+        os.close(output)
+
+
+def ended(words, **options):
+    """The status of a run and what it told; None where it doesn't end in time."""
+    try:
+        ran = subprocess.run(words, stderr=subprocess.PIPE, check=False, timeout=shared.RUN_SECONDS, **options)
+    except subprocess.TimeoutExpired:
+        return None, b""
     return ran.returncode, ran.stderr
 
 
@@ -147,10 +150,7 @@ def pipe_without_reader():
 
 def closed_output(command, job):
     """A run that has no output at all."""
-    ran = subprocess.run(
-        ["sh", "-c", 'exec "$@" >&-', "sh", *command, *job.words], cwd=job.folder, stderr=subprocess.PIPE, check=False
-    )
-    return ran.returncode, ran.stderr
+    return ended(["sh", "-c", 'exec "$@" >&-', "sh", *command, *job.words], cwd=job.folder)
 
 
 def slow_reader(command, job):
@@ -163,11 +163,14 @@ def slow_reader(command, job):
         stdout=subprocess.PIPE,
         stderr=subprocess.PIPE,
     )
+    timer = threading.Timer(shared.RUN_SECONDS, process.kill)
+    timer.start()
     got = process.stdout.read(1)
     time.sleep(0.2)
     while part := process.stdout.read(977):
         got += part
     told = process.stderr.read()
+    timer.cancel()
     return shared.Answer(process.wait(), got, told)
 
 

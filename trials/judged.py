@@ -141,8 +141,10 @@ def report(command, item):
             return mode, kind, [0, 0, 0, 0], opened, ends, faults
         status, output, told = judged(folder, options)
         figures = FIGURES.fullmatch(output[-1]) if output else None
-        if status not in (0, 16) or not figures:
-            faults.append(f"{label}: status {status} {told}: {[line for line in output if 'refuted: ' in line][:1]}")
+        odd = [line for line in output if line.startswith("open: ") and " unresolved " not in line]
+        if status not in (0, 16) or not figures or odd:
+            odd += [line for line in output if "refuted: " in line]
+            faults.append(f"{label}: status {status} {told}: {odd[:1]}")
         figures = [int(word) for word in figures.groups()] if figures else [0, 0, 0, 0]
         opened += [f"{label}: {line}" for line in output if line.startswith("open: ")]
         outcome = predict([os.fsencode(word) for word in words], folder)

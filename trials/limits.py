@@ -59,9 +59,10 @@ EDGES = {
 }
 SOME_BUSES = 300
 ADDRESS_SPACE = 6 << 30
-# How long is waited for a run, in its seconds of the processor, and what ends it where these are over.
+# How long is waited for a run, in its seconds of the processor, and what ends it where these are over. One that hasn't ended
+# then, or that something else ends, is a fault.
 WAITS = 10
-OUT_OF_TIME = (signal.SIGXCPU, signal.SIGKILL)
+OUT_OF_TIME = (signal.SIGXCPU,)
 
 
 class Measure(NamedTuple):
@@ -99,7 +100,7 @@ def measure(measurer, command, folder, seconds):
     limits = [str(max(1, int(seconds))), str(ADDRESS_SPACE >> 10)]
     answer = shared.run([measurer, *limits, *command], folder, seconds=WAITS * seconds)
     if answer.status != 0:
-        return Measure(None, seconds, 0)
+        return Measure(-signal.SIGKILL, seconds, 0)
     status, microseconds, kibibytes = map(int, answer.output.split())
     return Measure(None if -status in OUT_OF_TIME else status, microseconds / 10**6, kibibytes / 1024)
 
@@ -413,6 +414,8 @@ def main():
     print("| " + " | ".join(heads) + " |\n|" + "---|" * len(heads), flush=True)
     every = [*rows(command, given.limit_steps), *rows_3(command)]
     chosen = [row for row in every if given.only in row.name]
+    if not chosen:
+        faults.add("no row has", given.only, "in its name")
     run = 0
     with shared.scratch() as top:
         measurer = build(top)

@@ -2,17 +2,20 @@
  *
  *     measure SECONDS KIBIBYTES COMMAND ..
  *
- * The command has so many seconds of the processor and so much address space. The one line that is told has its status,
- * or below 0 the signal that ended it; its time of the processor in microseconds; and its peak of memory in KiB. The
- * peak counts what starts a command too, so that this is as small as it can be. */
+ * The command has so many seconds of the processor and so much address space, and ends with this program. The one line
+ * that is told has its status, or below 0 the signal that ended it; its time of the processor in microseconds; and its
+ * peak of memory in KiB. The peak counts what starts a command too, so that this is as small as it can be. */
 #include <fcntl.h>
+#include <signal.h>
 #include <stdio.h>
 #include <stdlib.h>
+#include <sys/prctl.h>
 #include <sys/resource.h>
 #include <sys/wait.h>
 #include <unistd.h>
 
 static void become(char **words) {
+    prctl(PR_SET_PDEATHSIG, SIGKILL);
     struct rlimit room;
     room.rlim_cur = room.rlim_max = strtoul(words[2], NULL, 10) * 1024;
     setrlimit(RLIMIT_AS, &room);

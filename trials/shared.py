@@ -85,6 +85,7 @@ def arguments(description, minutes, extra=(), has_program=True):
     for name, default in extra:
         parser.add_argument("--" + name, type=type(default), default=default)
     given = parser.parse_args()
+    signal.signal(signal.SIGTERM, lambda *_: sys.exit("ended by a signal"))
     print(f"seed {given.seed}, {given.minutes:g} minutes at most, {given.jobs} side by side", flush=True)
     return given
 

@@ -67,7 +67,11 @@ def in_another_folder(command, folder, words):
 
 
 def into_a_pipe(command, folder, words):
-    ran = subprocess.run(command + words, cwd=folder, stdin=subprocess.DEVNULL, capture_output=True, check=False)
+    given = {"cwd": folder, "stdin": subprocess.DEVNULL, "timeout": shared.RUN_SECONDS}
+    try:
+        ran = subprocess.run(command + words, capture_output=True, check=False, **given)
+    except subprocess.TimeoutExpired:
+        return shared.Answer(None, b"", b"")
     return shared.Answer(ran.returncode, ran.stdout, ran.stderr)
 
 

@@ -171,7 +171,7 @@ def main():
             for fault in faults or []:
                 print(f"{name}: {fault}", flush=True)
     print(", ".join(f"{count} {word}" for word, count in counts.items()))
-    return counts["failed"] > 0
+    return counts["failed"] > 0 or not names
 
 
 if __name__ == "__main__":
