@@ -6,6 +6,8 @@
 import contextlib
 import io
 import os
+import subprocess
+import sys
 import tempfile
 import unittest
 import unittest.mock
@@ -273,6 +275,22 @@ class Judging(unittest.TestCase):
             self.refused(5, OF_FIELD, case=LOOP.replace(old, new))
         for rows in ["", "time,item\n", "time,item,action\n0,L,block\n", "time,item,action\n1,L,open\n0,L,close\n"]:
             self.refused(7, [*OF_FIELD, "--switch=s"], s=rows)
+
+    def test_an_error_stream_that_takes_nothing_changes_no_status(self) -> None:
+        here = os.path.dirname(os.path.abspath(__file__))
+        for script, words, status in (
+            ("recheck.py", ["--case=none", "--cert=none"], 3),
+            ("recheck.py", ["--case"], 2),
+            ("judge.py", ["--case=none", "--report=none", "--cert=none"], 3),
+        ):
+            for stream in ("2>/dev/full", "2>&-"):
+                shell = f'exec "$@" {stream}'
+                ran = subprocess.run(
+                    ["sh", "-c", shell, "sh", sys.executable, "-B", os.path.join(here, script), *words],
+                    stdin=subprocess.DEVNULL,
+                    stdout=subprocess.PIPE,
+                )
+                self.assertEqual((ran.returncode, ran.stdout), (status, b""), (script, words, stream))
 
     def test_words_and_files_that_are_not_there_are_refused(self) -> None:
         self.refused(2, [])

@@ -3,9 +3,11 @@
 import csv
 import io
 import re
+import subprocess
+import sys
 import unittest
 
-from shared import REPORTS, DeskTest
+from shared import REPORTS, TOP, DeskTest
 
 from gicdesk.decimals import shifted, signed
 
@@ -335,6 +337,13 @@ class Output(DeskTest):
         self.done("csv", report, f"--out={out}", "--force")
         self.assertEqual(out.read_text(), self.done("csv", report))
         self.assertEqual(sorted(path.name for path in self.folder.iterdir()), ["report.txt", "table.csv"])
+
+    def test_an_output_that_is_full_is_told_once(self) -> None:
+        with open("/dev/full", "wb") as full:
+            words = [sys.executable, "-B", TOP / "desk" / "gicdesk", "csv", self.file("report.txt", SCREEN)]
+            ran = subprocess.run(words, stdout=full, stderr=subprocess.PIPE, stdin=subprocess.DEVNULL)
+        line = b"gicdesk: the output: it can't be written (No space left on device); see where the output goes\n"
+        self.assertEqual((ran.returncode, ran.stderr), (1, line))
 
     def test_nothing_is_written_for_a_report_that_is_refused(self) -> None:
         out = self.folder / "table.csv"

@@ -33,13 +33,8 @@ def show(text: str) -> None:
     stream, with a backslash."""
     if sys.stdout is None:
         raise refuse("the output", unwritten("it is closed"))
-    try:
-        sys.stdout.buffer.write(text.encode(errors="backslashreplace"))
-        sys.stdout.buffer.flush()
-    except OSError:
-        # What is left is written to nowhere, so that Python's own end doesn't fail with it and tell of that.
-        os.dup2(os.open(os.devnull, os.O_WRONLY), sys.stdout.fileno())
-        raise
+    sys.stdout.buffer.write(text.encode(errors="backslashreplace"))
+    sys.stdout.buffer.flush()
 
 
 def tell(words: str) -> None:
@@ -211,7 +206,10 @@ def main(arguments: Sequence[str]) -> int:
         for line in refused.lines():
             tell(line)
         return REFUSED
-    except BrokenPipeError:  # nobody reads any more
+    except BrokenPipeError:
+        # Nobody reads any more. The system's own message at the end is kept away as well.
+        if sys.stdout is not None:
+            os.dup2(os.open(os.devnull, os.O_WRONLY), sys.stdout.fileno())
         return REFUSED
     except OSError as error:
         tell(f"{error.filename}: {error.strerror}" if error.filename else f"the output: {unwritten(error.strerror)}")
