@@ -7,7 +7,7 @@ from pathlib import Path
 
 import machine
 from crates import PROGRAM, Crate, Fault, below, read_text
-from plan import Start, chains, longest_chain, read_table, starts, weigh
+from plan import Start, chains, read_table, starts, weigh
 from rooms import Room, clear_rooms, is_proved, out_of, rooms_of
 from runs import Ended, Run, was_interrupted, was_killed
 from sources import Sources

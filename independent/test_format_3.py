@@ -8,7 +8,6 @@ from __future__ import annotations
 
 import unittest
 from fractions import Fraction
-from pathlib import Path
 
 import judge
 import recheck

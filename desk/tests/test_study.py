@@ -339,7 +339,7 @@ class Page(StudyTest):
             (120, "K", "open", True),
             (121, "L", "open", False),
         ]
-        seen = storms.seen_rows([row[:3] for row in rows], [5, 60, 120])
+        seen = storms.seen_rows([storms.SwitchingRow(*row[:3]) for row in rows], [5, 60, 120])
         self.assertEqual(seen, [row[3] for row in rows])
         switch = self.file("switch.csv", "time,item,action\n60,K,open\n5000,K,close\n")
         told = self.text_of("storm", self.page(f"--storm={self.file('storm.csv', STORM)}", f"--switch={switch}"))
@@ -629,7 +629,7 @@ def made_study(size: int) -> study.Study:
     greatest = sorted(benchmark.rows, key=lambda row: -row.worst.high)[: study_storm.MOST_STRIPS]
     series = {name: study.Series(100, name, long[-2:]) for name in names}
     series |= {row.name: study.Series(100, row.name, long) for row in greatest}
-    storm = study.Storm(study.StormReport(100, 75000, 3000, None, [], peaks, []), "", steps, [], series)
+    storm = study.Storm(study.StormReport(100, 75000, 3000, None, [], peaks, []), "", steps, series)
     found = network.network_of(case.encode())
     assert found is not None
     places, parts = network.laid_out(found, {})

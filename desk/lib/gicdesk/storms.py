@@ -5,6 +5,7 @@ import csv
 import dataclasses
 import io
 from collections.abc import Sequence
+from typing import NamedTuple
 
 from .forms import Interval
 
@@ -42,12 +43,17 @@ def storm_steps(data: bytes, zones: Sequence[str]) -> list[StormStep]:
     return steps
 
 
-def switching_rows(data: bytes) -> list[tuple[int, str, str]]:
-    """Time, item and action of each row of switchings."""
-    return [(int(time), item, action) for time, item, action in records(data)[1:]]
+class SwitchingRow(NamedTuple):
+    time: int
+    item: str
+    action: str
 
 
-def seen_rows(rows: Sequence[tuple[int, str, str]], times: Sequence[int]) -> list[bool]:
+def switching_rows(data: bytes) -> list[SwitchingRow]:
+    return [SwitchingRow(int(time), item, action) for time, item, action in records(data)[1:]]
+
+
+def seen_rows(rows: Sequence[SwitchingRow], times: Sequence[int]) -> list[bool]:
     """Whether each row of switchings is in force at a step: the first step from its time on is one, and lies before the
     next row that says the same kind of thing of its item."""
     later: dict[tuple[str, bool], int] = {}

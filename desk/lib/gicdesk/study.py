@@ -37,7 +37,7 @@ from .reports import (
     parse_report,
 )
 from .reports import Study as StormReport
-from .storms import Seconds, StormStep, seconds_above, storm_steps, switching_rows
+from .storms import Seconds, StormStep, SwitchingRow, seconds_above, storm_steps, switching_rows
 
 Kind = TypeVar("Kind")
 OPTIONS = ("storm", "switch", "factors", "events", "places", "width")
@@ -111,12 +111,11 @@ class Kept:
 
 @dataclasses.dataclass(frozen=True)
 class Storm:
-    """A storm: its report, or the line of the program where it has none, and what goes on in it."""
+    """A storm: its report, or the line of the program where it has none, its steps, and the series of units in it."""
 
     report: StormReport | None
     fault: str
     steps: list[StormStep]
-    switchings: list[tuple[int, str, str]]
     series: dict[str, Series]
 
 
@@ -194,7 +193,8 @@ class Study:
         return [unit for unit in self.units if unit.supplemental.verdict in MUST and not unit.must_be_assessed]
 
     @property
-    def switchings(self) -> list[tuple[int, str, str]]:
+    def switchings(self) -> list[SwitchingRow]:
+        """The rows of --switch."""
         return [row for given in self.inputs if given.role == "switch" for row in switching_rows(given.data)]
 
 
@@ -384,9 +384,8 @@ def run_storm(runs: Runs, request: Request, inputs: Mapping[str, Input], zones: 
     report = runs.kept[-1].report
     if report is None and run.network_fault is None:
         raise refuse(request.file_of(run), ending(run))
-    switchings = switching_rows(inputs["switch"].data) if request.switch is not None else []
     steps = storm_steps(inputs["storm"].data, zones)
-    return Storm(report if isinstance(report, StormReport) else None, run.line, steps, switchings, {})
+    return Storm(report if isinstance(report, StormReport) else None, run.line, steps, {})
 
 
 def storm_words(request: Request) -> tuple[str, ...]:

@@ -9,7 +9,7 @@ from .factors import USUAL_KV, StormLosses, size, storm_losses, total
 from .forms import Interval
 from .markup import Markup, table, tag
 from .reports import Series
-from .storms import seconds_above, seen_rows
+from .storms import SwitchingRow, seconds_above, seen_rows
 from .study import Losses, Study, UnitFacts, current_at, middle
 from .study_words import amperes, made, peak_of, section, switchings_text, threshold_of, volts_per_km, words_of
 
@@ -55,7 +55,7 @@ def unit_figure(axis: pictures.Axis, marks: Sequence[int], series: Series, thres
     return strip_figure(strip, series.transformer, f"to {amperes(value)} A at {time} s", above)
 
 
-def switched_text(rows: Sequence[tuple[int, str, str]], seen: Sequence[bool]) -> str:
+def switched_text(rows: Sequence[SwitchingRow], seen: Sequence[bool]) -> str:
     """The switchings of a storm, and which of them no step sees."""
     told = [row for row, is_seen in zip(rows, seen) if is_seen]
     unseen = [row for row, is_seen in zip(rows, seen) if not is_seen]
@@ -82,8 +82,8 @@ def storm_section(study: Study) -> Markup:
         return section("storm", tag("p", *words))
     first, last = storm.steps[0].time, storm.steps[-1].time
     axis = pictures.Axis(first, last)
-    seen = seen_rows(storm.switchings, [step.time for step in storm.steps])
-    marks = [time for (time, _, _), is_seen in zip(storm.switchings, seen) if is_seen and first <= time <= last]
+    seen = seen_rows(study.switchings, [step.time for step in storm.steps])
+    marks = [row.time for row, is_seen in zip(study.switchings, seen) if is_seen and first <= row.time <= last]
     strongest = max(storm.steps, key=lambda step: step.strength)
     strength = volts_per_km(strongest.strength)
     field = pictures.Strip(axis, [(step.time, step.strength) for step in storm.steps], marks, None)
@@ -96,8 +96,8 @@ def storm_section(study: Study) -> Markup:
         f"field is {strength}, at {strongest.time} s, before alpha and beta scale it."
     )
     pieces = [tag("p", words)]
-    if storm.switchings:
-        pieces.append(tag("p", switched_text(storm.switchings, seen)))
+    if study.switchings:
+        pieces.append(tag("p", switched_text(study.switchings, seen)))
     if not units:
         words = f"No unit reaches {threshold_of(study)} A or may, in the benchmark event, with something out or in the"
         pieces.append(tag("p", f"{words} storm, so no series was made."))

@@ -5,6 +5,7 @@ from collections.abc import Sequence
 from .decimals import MILLI, shifted
 from .forms import Interval
 from .markup import Markup, tag
+from .storms import SwitchingRow
 from .study import Study, UnitFacts, shown_current
 
 MOST_LISTED = 40  # names in a sentence
@@ -55,9 +56,9 @@ def names_text(names: Sequence[str]) -> str:
     return ", ".join(names[:MOST_LISTED]) + more
 
 
-def switchings_text(rows: Sequence[tuple[int, str, str]]) -> str:
+def switchings_text(rows: Sequence[SwitchingRow]) -> str:
     """Switchings in a sentence, as far as there are not too many."""
-    told = [f"{time} s {action} {item}" for time, item, action in rows]
+    told = [f"{row.time} s {row.action} {row.item}" for row in rows]
     more = f"; and {len(told) - MOST_LISTED} more" if len(told) > MOST_LISTED else ""
     return "; ".join(told[:MOST_LISTED]) + more
 

@@ -88,7 +88,7 @@ def read_of_substations(file: str, names: set[str], findings: list[Finding]) -> 
         number = at.whole("substation")
         if number in zones:
             at.wrong("substation", f"{number} stands in the table already; leave one of the two")
-        zone_in(at, names)
+        zone_in(at, names)  # (a finding where it is none of them)
         zones[number] = at
     return zones
 
