@@ -4,7 +4,7 @@ import os
 import re
 from pathlib import Path
 
-# The memory that the proof of a crate is given, and what a further job of it takes of that.
+# The memory that the proof of a crate is given.
 PROOF_MEMORY = 2_500_000_000
 # A build from nothing needs this on the disk, and one of a few crates its share of it, but no less than the second.
 DISK = 9_000_000_000

@@ -1,7 +1,8 @@
 """Has the program built where its sources aren't those that it was built of, and then becomes it, with the words given.
 
-The script `gicstudy` calls this where a source, or a folder of sources, has changed since the program's sources were read.
-Whether they differ is told by their contents; a checkout whose files are only newer needs no build."""
+The script `gicstudy` calls this where there is no program yet, and where it can't see that no source and no folder of
+sources has changed since the program's sources were read. Whether they differ is told by their contents; a checkout whose
+files are only newer needs no build."""
 
 import errno
 import fcntl

@@ -9,6 +9,7 @@ from unittest import mock
 from shared import EXAMPLES, TOP, DeskTest, desk
 from small import TABLES
 
+from gicdesk import cases
 from gicdesk.usual import GROUNDS, LINES, REACTORS, WINDINGS, usual_at
 
 LISTS = ("zone", "substation", "bus", "line", "transformer")
@@ -257,6 +258,8 @@ class Rows(CaseTest):
     def test_a_wye_that_is_earthed_on_the_low_side(self) -> None:
         self.change("transformers", "T3,delta-wye,S345,,362", "T3,delta-wye,S138,,138")
         self.change("transformers", "YNd1", "Dyn1")
+        (line,) = self.findings()
+        self.assertIn("its verdict means nothing; write kind reactor, which has no verdict, without high_kv", line)
         self.assertEqual(self.made("--accept=vector:T3")["transformer"]["T3"]["high"], "S138")
 
 
@@ -351,6 +354,11 @@ class Zones(CaseTest):
         words = "upland has 1 corner; a polygon has 3 or more, a row for each"
         self.assertIn(f"polygons.csv: {words}", self.findings())
 
+    def test_a_polygon_in_two_pieces(self) -> None:
+        self.texts["polygons"] = POLYGONS + "upland,49.7,-100\n"
+        words = "upland has rows above those of coast already; a zone has one polygon, its rows together"
+        self.assertIn(f"polygons.csv line 10, zone: {words}", self.findings())
+
     def test_polygons_that_overlap(self) -> None:
         self.texts["polygons"] = POLYGONS.replace("coast,49.6", "coast,49.7")
         ways = "mend the polygons, or write its zone"
@@ -419,6 +427,23 @@ class Output(CaseTest):
         self.change("buses", "N345,North,345", "N345,North,345000")
         self.refused(*self.words("--force"))
         self.assertEqual(self.out.read_text(), "mine")
+
+    def test_a_case_that_is_too_long_has_no_remarks_or_is_refused(self) -> None:
+        self.made()
+        text = self.out.read_text()
+        most = len(text.encode()) - 1
+        with mock.patch.object(cases, "MOST_BYTES", most):
+            self.made()
+        words = f"the case has no remarks, since it would have more than {most} bytes with them"
+        self.assertEqual(self.told, [f"tables: {words}"])
+        bare = self.out.read_text()
+        self.assertNotIn("  #", bare)
+        self.assertEqual(tomllib.loads(bare), tomllib.loads(text))
+        self.out.unlink()
+        size = len(bare.encode())
+        with mock.patch.object(cases, "MOST_BYTES", size - 1):
+            (line,) = self.findings()
+        self.assertIn(f": the case would have {size} bytes, and the program takes {size - 1}; give shorter names", line)
 
     def test_a_case_that_is_stopped_leaves_nothing_beside_it(self) -> None:
         self.out.write_text("mine")

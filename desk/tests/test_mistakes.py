@@ -310,7 +310,8 @@ CASE = (
     Mistake(
         "an earthed wye on the low side", "transformers", "YNd1", "Dyn1",
         'transformers.csv line 4, vector_group: "Dyn1" is earthed on its low side, so high is its low bus '
-        "here, and its verdict means nothing; write kind delta-delta, which lists it, or give --accept=vector:T3",
+        "here, and its verdict means nothing; write kind reactor, which has no verdict, without high_kv and "
+        "vector_group, or give --accept=vector:T3",
     ),
     Mistake(
         "an earthed wye that is listed alone", "transformers", "Dyn11", "YNd11",

@@ -7,12 +7,18 @@ With both the loop has 2.7 ohm, so 296.3 A flow, 98.765 A a phase; with one it h
 
 import csv
 import os
+import pathlib
+import signal
+import subprocess
 import sys
+import time
 import unittest
+from collections.abc import Callable
 from unittest import mock
 
-from shared import BUILT, EXAMPLES, FAKE, REPORTS, DeskTest, desk
+from shared import BUILT, EXAMPLES, FAKE, REPORTS, TESTS, DeskTest, desk
 
+from gicdesk.events import BaseSwitchings, one_event
 from gicdesk.outages import Worst, worst_of
 from gicdesk.progress import Progress
 from gicdesk.reports import ScreenUnit
@@ -47,6 +53,8 @@ end
 """
 BOTH, ONE, NONE = "98765 98767 reaches", "83333 83335 reaches", "0 2 below"
 HEADS = "event,item,action\n"
+DESK = TESTS.parent / "gicdesk"
+LONG = 60  # seconds: no run of a test takes so long
 
 
 def screen(first: str, second: str) -> str:
@@ -181,6 +189,18 @@ class Events(OutagesTest):
         self.assertEqual(cells, [("", "", "0"), ("swap", "close K; open TA", "2")])
         self.assertEqual([row["worst_event"] for row in tables["units"]], ["swap", "swap", ""])
         self.assertIn(f"case case.toml, switchings {switch}, threshold", self.shown)
+
+    def test_switchings_in_force_whose_last_quotation_mark_is_missing(self) -> None:
+        # To the program such a field ends with the file; what comes behind is not to fall into it.
+        base = BaseSwitchings(b'time,item,action\r\n5,L,open\r\n+07,L,"close')
+        wanted = b"time,item,action\n5,L,open\n+07,L,close\n7,K,open\n"
+        self.assertEqual(base.with_event(one_event("K")), wanted)
+
+    def test_a_folder_for_what_is_passing_that_is_full_is_told(self) -> None:
+        words = self.words(self.events("one line,K,open\n"))
+        with mock.patch("pathlib.Path.write_bytes", side_effect=OSError(28, "No space left on device")):
+            (line,) = self.refused(*words)
+        self.assertIn(": the switchings of a run can't be written there (No space left on device)", line)
 
     def test_the_network_without_an_event_need_not_be_solved(self) -> None:
         self.prints("screen", "gicstudy: unearthed: step 1 node B\n")
@@ -346,6 +366,40 @@ class Refusals(OutagesTest):
             status, out, err = desk(*words)
             self.assertEqual((status, out), (2, ""))
             self.assertIn("usage: gicdesk", err)
+
+
+class Stopped(OutagesTest):
+    def test_all_runs_end_and_a_line_tells_it_on_a_terminal(self) -> None:
+        self.stopped(os.killpg)
+
+    def test_all_runs_end_and_a_line_tells_it_where_the_desk_alone_is_stopped(self) -> None:
+        self.stopped(os.kill)
+
+    def stopped(self, stop: Callable[[int, int], None]) -> None:
+        begun = self.folder / "begun"
+        slow = self.file(
+            "slow", f'#!/bin/sh\ncase "$*" in screen*--switch=*) echo $$ >>{begun}; exec sleep 600 ;; esac\nexec {FAKE} "$@"\n'
+        )
+        slow.chmod(0o755)
+        words = [sys.executable, "-B", DESK, "outages", "case.toml", f"--program={slow}"]
+        process = subprocess.Popen(
+            words,
+            stdout=subprocess.DEVNULL,
+            stderr=subprocess.PIPE,
+            text=True,
+            start_new_session=True,
+            preexec_fn=lambda: signal.signal(signal.SIGINT, signal.SIG_DFL),  # (a shell's background ignores it)
+        )
+        self.addCleanup(process.kill)
+        end = time.monotonic() + LONG
+        while not (begun.exists() and begun.read_text().endswith("\n")):
+            self.assertLess(time.monotonic(), end, "no run has begun")
+            time.sleep(0.02)
+        stop(process.pid, signal.SIGINT)
+        _, err = process.communicate(timeout=LONG)
+        self.assertEqual((process.returncode, err), (130, "gicdesk: stopped\n"))
+        for number in begun.read_text().split():
+            self.assertFalse(pathlib.Path("/proc", number).exists(), number)
 
 
 class Bars(unittest.TestCase):

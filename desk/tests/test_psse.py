@@ -7,10 +7,12 @@ import pathlib
 import subprocess
 import tomllib
 import unittest
+from unittest import mock
 
 import make_pair
 from shared import BUILT, EXAMPLES, REPORTS, TESTS, DeskTest
 
+from gicdesk import cases
 from gicdesk.polygons import Polygon
 from gicdesk.psse_text import fields_of
 from gicdesk.psse_units import letters_of
@@ -302,8 +304,33 @@ class Small(PsseTest):
             raw = RAW.replace("'BANK',1", f"'BANK',{status}")
             made = self.case([*self.words(raw, GIC.replace("YNa0yn0", letters)), "--beyond=leave", "--force"])
             self.assertEqual(made["transformer"].get("BANK"), expected, (status, letters))
-            words = "a winding of the autotransformer is out of service, and with it all of it is left out"
+            words = "side of the autotransformer is out of service, and all of it is left out"
             self.assertEqual(words in "".join(self.shown), expected is None, (status, letters))
+        # The bus of a winding that is out may be isolated.
+        raw = RAW.replace("'BANK',1", "'BANK',3").replace("3,'NORTH 13 ',13.8,1", "3,'NORTH 13 ',13.8,4")
+        made = self.case([*self.words(raw), "--beyond=leave", "--force"])
+        self.assertEqual(made["transformer"].get("BANK"), bank)
+
+    def test_letters_of_buses_stand_in_the_order_of_their_own_record(self) -> None:
+        # The same unit from its other bus in the file of resistances: its first letter is that of bus 6 by the buses.
+        gic = GIC.replace("4,6,0,'1 ',0.3,0.1,0.0,0,0,0,'YNd1'", "6,4,0,'1 ',0.1,0.3,0.0,0,0,0,'Dyn1'")
+        made = self.case([*self.words(gic=gic), "--beyond=leave", "--vector=buses"])
+        unit = made["transformer"]["T4-6-1"]
+        self.assertEqual((unit["high"], unit["high_volts"], unit["high_resistance"]), ("4_SOUTH_A", 345000, 300000))
+        lines = self.refused(*self.words(gic=gic), "--beyond=leave", "--force")
+        self.assertIn("can be read in two ways", lines[0])
+
+    def test_a_unit_between_two_buses_of_one_voltage_is_told(self) -> None:
+        raw = RAW.replace("6,'SOUTH LV ',138.0,1", "6,'SOUTH LV ',345.0,1")
+        self.case([*self.words(raw), "--beyond=leave"])
+        self.assertIn("joins two buses of one voltage: if it is a phase shifter", "".join(self.shown))
+        self.case([*self.words(), "--beyond=leave", "--force"])
+        self.assertNotIn("two buses of one voltage", "".join(self.shown))
+
+    def test_more_rows_than_a_case_has(self) -> None:
+        with mock.patch.dict(cases.MOST_ROWS_3, {"bus": 3}):
+            (line,) = self.refused(*self.words(), "--beyond=leave")
+        self.assertIn("net.raw: a case of it has 4 rows bus, and at most 3", line)
 
     def test_a_resistance_of_0_ends_no_section(self) -> None:
         made = self.case([*self.words(), "--beyond=leave"])

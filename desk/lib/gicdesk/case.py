@@ -16,7 +16,6 @@ from .case_tables import (
     LATITUDE,
     LINES,
     LONGITUDE,
-    MOST_ROWS,
     OHM,
     PARALLEL,
     SUBSTATIONS,
@@ -33,7 +32,7 @@ from .case_tables import (
 )
 from .case_lines import Line, Network
 from .case_units import Unit
-from .cases import LISTS, Case, Field, Names, Row
+from .cases import LISTS, Case, Field, Names, Row, short_enough
 from .findings import Finding, Refused, shown
 from .forms import NAME
 from .records import Record
@@ -86,11 +85,10 @@ class Making:
         ):
             for at in self.tables.rows[table].values():
                 make(at)
-        for table, list_name in zip(COLUMNS, LISTS):
-            many, most = len(self.case.lists[list_name]), MOST_ROWS[table]
-            if many > most:
-                file = next(iter(self.tables.rows[table].values())).file
-                self.findings.append(Finding(file, f"a case of it has {many} rows {list_name}, and at most {most}"))
+        files = {list_name: table for table, list_name in zip(COLUMNS, LISTS)}
+        for list_name, words in self.case.too_many().items():
+            file = next(iter(self.tables.rows[files[list_name]].values())).file
+            self.findings.append(Finding(file, words))
 
     def add(self, list_name: str, name: str, fields: list[Field], at: Record) -> None:
         self.case.lists[list_name].append(Row(name, fields, at.text("note")))
@@ -247,4 +245,4 @@ def make_case(folder: str, choices: Choices) -> Made:
     accepted = sorted(making.questions.taken)
     if accepted:
         origin += f" Accepted: {', '.join(accepted)}."
-    return Made(making.case.text(origin), notes)
+    return Made(short_enough(making.case.text(origin), folder, notes), notes)

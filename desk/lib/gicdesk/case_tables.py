@@ -29,7 +29,6 @@ OPTIONAL = {
     LINES: ["per_unit", "parallel", "note"],
     TRANSFORMERS: ["vector_group", "third", "third_kv", "third_ohm", "parallel", "note"],
 }
-MOST_ROWS = {ZONES: 256, SUBSTATIONS: 4096, BUSES: 12288, LINES: 24576, TRANSFORMERS: 8192}  # of a case of format 3
 PARALLEL = [str(number) for number in range(1, 21)]  # so many equal ones a row may stand for
 # The kinds of findings that --accept takes away.
 KINDS = "alpha ground line winding neutral volts vector span zone unused".split()

@@ -106,7 +106,8 @@ class Unit:
             self.at.wrong("vector_group", f"{group} is no vector group; allowed are {GROUPS}")
         elif kind == "delta-wye" and is_earthed_below(letters):
             words = f"{group} is earthed on its low side, so high is its low bus here, and its verdict means nothing"
-            self.ask("vector", "vector_group", words, "write kind delta-delta, which lists it")
+            ways = f"write kind {REACTOR}, which has no verdict, without high_kv and vector_group"
+            self.ask("vector", "vector_group", words, ways)
         elif kind not in (kinds := kinds_of(letters, has_third)):
             self.at.wrong("vector_group", self.vector_words(group, kind, kinds, letters, has_third))
         elif letters[0] == "Y" and "A" in letters and has_third:
@@ -218,6 +219,6 @@ class Unit:
         resistance = self.winding("high", "high_resistance", usual, kilovolts)
         if not resistance or kilovolts is None:
             return []
-        note = self.at.text("note") or "a shunt reactor"
+        note = self.at.text("note") or "a reactor, or a winding that is earthed alone"
         volts = whole(kilovolts, KILOVOLT)
         return [reactor_row(self.name, volts, self.at.text("high"), resistance[0], self.neutral(), note)]

@@ -4,6 +4,8 @@ import dataclasses
 import re
 from fractions import Fraction
 
+from .findings import Finding, refuse
+
 LISTS = {
     "zone": "Zones: where one field, one geomagnetic latitude and one earth hold.",
     "substation": "Substations: ground grids and their resistance to remote earth.",
@@ -14,7 +16,10 @@ LISTS = {
 LONGEST_NAME = 32
 # What a case of format 2 may have; one with more, with other kinds or with lines in parts is of format 3.
 MOST_ROWS_2 = {"zone": 256, "substation": 1024, "bus": 3072, "line": 8192, "transformer": 3584}
+MOST_ROWS_3 = {"zone": 256, "substation": 4096, "bus": 12288, "line": 24576, "transformer": 8192}
 KINDS_2 = ("delta-wye", "wye-wye", "auto", "delta-delta")
+MOST_BYTES = 16_777_216  # of a case that the program reads
+REMARK = re.compile("  # .*")
 
 
 @dataclasses.dataclass(frozen=True)
@@ -94,10 +99,31 @@ class Case:
                 lines += [str(field) for field in row.fields]
         return "\n".join(lines) + "\n"
 
+    def too_many(self) -> dict[str, str]:
+        """What is to be told of each list that has more rows than a case can have."""
+        return {
+            name: f"a case of it has {len(self.lists[name])} rows {name}, and at most {most}"
+            for name, most in MOST_ROWS_3.items()
+            if len(self.lists[name]) > most
+        }
+
     def format(self) -> int:
         has_more = any(len(rows) > MOST_ROWS_2[name] for name, rows in self.lists.items())
         has_other = any(row.value("kind") not in KINDS_2 for row in self.lists["transformer"])
         return 3 if has_more or has_other or any(row.value("part") for row in self.lists["line"]) else 2
+
+
+def short_enough(text: str, file: str, notes: list[Finding]) -> str:
+    """The text of a case that is made of a file; without its remarks where it is too long for the program with them."""
+    if len(text.encode()) <= MOST_BYTES:
+        return text
+    bare = REMARK.sub("", text)
+    size = len(bare.encode())
+    if size > MOST_BYTES:
+        words = f"the case would have {size} bytes, and the program takes {MOST_BYTES}"
+        raise refuse(file, f"{words}; give shorter names, or leave out what no direct current can reach")
+    notes.append(Finding(file, f"the case has no remarks, since it would have more than {MOST_BYTES} bytes with them"))
+    return bare
 
 
 def printable(text: str) -> str:

@@ -214,6 +214,9 @@ def main(arguments: Sequence[str]) -> int:
     except OSError as error:
         tell(f"{error.filename}: {error.strerror}" if error.filename else f"the output: {unwritten(error.strerror)}")
         return REFUSED
+    except MemoryError:
+        tell("there is too little memory; give it more, or leave out what isn't needed")
+        return REFUSED
     except KeyboardInterrupt:
         tell("stopped")
         return STOPPED

@@ -1,16 +1,15 @@
 """Events: named sets of switchings, from a table `event,item,action`."""
 
-import csv
 import dataclasses
-import difflib
-import io
 from collections.abc import Iterable
 
-from .findings import Finding, Refused, shown
+from .findings import Finding, Hints, Refused, shown
 from .forms import NAME
 from .records import read_table
+from .storms import records
 
 HEADS = ["event", "item", "action"]
+SWITCHINGS = ["time", "item", "action"]  # the heads of a file of switchings
 ACTIONS = ("open", "close", "block", "unblock")
 LONGEST_EVENT_NAME = 64
 FORMULAS = ("=", "+", "-", "@")  # what a cell begins with that a spreadsheet works out
@@ -67,24 +66,23 @@ def name_fault(name: str) -> str | None:
     return None
 
 
-def item_fault(item: str, action: str, items: Items) -> str | None:
+def item_fault(item: str, action: str, items: Items, hints: Hints) -> str | None:
     allowed = items.allowed(action)
     if not NAME.fullmatch(item):
         return f"{shown(item)} is no name of a case; allowed are 1 to 32 letters, digits and _ - ."
     if allowed is None or item in allowed:
         return None
-    near = difflib.get_close_matches(item, sorted(allowed), 1)
-    hint = f"; is it {near[0]}?" if near else "; look at the names of the case"
     what = "a line, a transformer, or a substation with a ground"
     if action in ("block", "unblock"):
         what = "a transformer with a neutral resistor"
-    return f"{shown(item)} isn't {what}, as {action} takes{hint}"
+    return f"{shown(item)} isn't {what}, as {action} takes; {hints.near(item, allowed)}"
 
 
 def read_events(file: str, items: Items) -> list[Event]:
     """The events of a table in the order of their first rows; all that is wrong with it is told at once."""
     events: dict[str, dict[str, Switching]] = {}
     findings: list[Finding] = []
+    hints = Hints()
     for at in read_table(file, HEADS, findings):
         name, item, action = at.text("event"), at.text("item"), at.text("action")
         earlier = events.setdefault(name, {}).get(item)
@@ -94,7 +92,7 @@ def read_events(file: str, items: Items) -> list[Event]:
         elif earlier is not None:
             faults["item"] = f"{item} is in this event already, by line {earlier.line}; leave one of the two"
         else:
-            faults["item"] = item_fault(item, action, items)
+            faults["item"] = item_fault(item, action, items, hints)
         for column, words in faults.items():
             if words is not None:
                 at.wrong(column, words)
@@ -123,11 +121,11 @@ class BaseSwitchings:
 
     @property
     def rows(self) -> list[list[str]]:
-        text = self.data.decode("utf-8-sig", "replace")
-        return [cells for cells in csv.reader(io.StringIO(text, newline="")) if cells][1:]
+        return records(self.data)[1:]
 
     def with_event(self, event: Event) -> bytes:
         """The switchings of an event behind them, all at the time of their last row, since times don't fall."""
-        time = last_time(self.rows)
-        behind = "".join(f"{time},{switching.item},{switching.action}\n" for switching in event.switchings)
-        return self.data.rstrip(b"\r\n") + b"\n" + behind.encode()
+        rows = self.rows
+        time = str(last_time(rows))
+        behind = [[time, switching.item, switching.action] for switching in event.switchings]
+        return "".join(",".join(cells) + "\n" for cells in (SWITCHINGS, *rows, *behind)).encode()

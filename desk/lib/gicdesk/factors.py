@@ -6,10 +6,9 @@ is scaled by its rated kilovolts of the high side over that voltage.
 
 import dataclasses
 import decimal
-import difflib
 from collections.abc import Mapping, Sequence
 
-from .findings import Finding, shown
+from .findings import Finding, Hints, shown
 from .forms import Interval
 from .records import read_table
 
@@ -49,13 +48,12 @@ def read_factors(file: str, volts: Mapping[str, int], findings: list[Finding]) -
     """The factors of a table by the names of their units; all that is wrong with it becomes findings."""
     factors: dict[str, Factor] = {}
     lines: dict[str, int] = {}
+    hints = Hints()
     for at in read_table(file, HEADS, findings):
         name, given = at.text("transformer"), at.number("mvar_per_ampere")
         at_kv = at.number("at_kv", str(USUAL_KV))
         if name not in volts:
-            near = difflib.get_close_matches(name, sorted(volts), 1)
-            hint = f"; is it {near[0]}?" if near else "; look at the names of the case"
-            at.wrong("transformer", f"{shown(name)} is no transformer of the case{hint}")
+            at.wrong("transformer", f"{shown(name)} is no transformer of the case; {hints.near(name, volts)}")
         elif name in lines:
             at.wrong("transformer", f"{name} has a factor already, by line {lines[name]}; leave one of the two")
         if not 0 < given <= MOST:

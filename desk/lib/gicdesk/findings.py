@@ -1,7 +1,8 @@
 """What is wrong with a file, each finding with its place."""
 
 import dataclasses
-from collections.abc import Sequence
+import difflib
+from collections.abc import Iterable, Sequence
 
 SHOWN = 20  # so many findings of a file are told
 ALSO = 12  # so many lines are named of findings that say the same
@@ -23,6 +24,20 @@ class Finding:
         if self.column is not None:
             place += f", {self.column}"
         return f"{place}: {self.words}"
+
+
+@dataclasses.dataclass
+class Hints:
+    """The names that are nearest to wrong ones, looked for while they will be shown."""
+
+    found: dict[str, str] = dataclasses.field(default_factory=dict)
+
+    def near(self, name: str, names: Iterable[str]) -> str:
+        """What to do about a name that is none of these."""
+        if name not in self.found and len(self.found) < SHOWN:
+            self.found[name] = "".join(difflib.get_close_matches(name, sorted(names), 1))
+        near = self.found.get(name)
+        return f"is it {near}?" if near else "look at the names of the case"
 
 
 class Refused(Exception):

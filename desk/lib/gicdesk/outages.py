@@ -7,7 +7,7 @@ import dataclasses
 import pathlib
 import tempfile
 from collections import Counter
-from collections.abc import Callable, Iterable, Sequence
+from collections.abc import Callable, Iterable, Iterator, Sequence
 from typing import TypeVar
 
 from .compare import ends_or_nothing, interval_text, outcome_text, verdict_text
@@ -21,6 +21,7 @@ from .program import Program, Run, ending
 from .progress import Progress
 from .reports import VERDICTS, Element, Elements, Outage, Outcome, Screen, ScreenUnit, Volts, parse_report
 from .tables import Table
+from .together import together
 
 Kind = TypeVar("Kind")
 Step = Callable[[str], None]  # told of each piece of the work as it begins
@@ -192,20 +193,27 @@ def look_for_room(file: str, base: BaseSwitchings, events: Sequence[Event]) -> N
 
 @dataclasses.dataclass(frozen=True)
 class Runner:
-    """Runs `screen` for one event after another."""
+    """Runs `screen` for each of several events."""
 
     asked: Asked
     base: BaseSwitchings
     file: str  # of the events, for refusals
-    switchings: pathlib.Path  # the file that each event has its switchings in
 
-    def result(self, event: Event) -> Result:
-        self.write(event)
-        return self.told(event, self.asked.run("screen", str(self.switchings)))
+    def run(self, event: Event) -> Run:
+        folder = tempfile.gettempdir()
+        with tempfile.NamedTemporaryFile(prefix="gicdesk.", suffix=".csv", dir=folder) as switchings:
+            try:
+                pathlib.Path(switchings.name).write_bytes(self.base.with_event(event))
+            except OSError as error:
+                raise refuse(folder, f"the switchings of a run can't be written there ({error.strerror})") from None
+            return self.asked.run("screen", switchings.name)
 
-    def write(self, event: Event) -> None:
-        """Writes the switchings of an event."""
-        self.switchings.write_bytes(self.base.with_event(event))
+    def runs(self, events: Sequence[Event], next_piece: Step) -> Iterator[tuple[Event, Run]]:
+        """Each event with its run, in their order; several run at once."""
+        runs = together(self.run, events)
+        for event in events:
+            next_piece(event.name)
+            yield event, next(runs)
 
     def told(self, event: Event, run: Run) -> Result:
         """What a run says of an event; a refusal where it says nothing of the network."""
@@ -224,10 +232,9 @@ def listed_results(runner: Runner, events: Sequence[Event], next_piece: Step) ->
     """A screen of each event. What the program refuses of several is told at once."""
     results: list[Result] = []
     findings: list[Finding] = []
-    for event in events:
-        next_piece(event.name)
+    for event, run in runner.runs(events, next_piece):
         try:
-            results.append(runner.result(event))
+            results.append(runner.told(event, run))
         except Refused as refused:
             findings += refused.findings
     if findings:
@@ -235,14 +242,17 @@ def listed_results(runner: Runner, events: Sequence[Event], next_piece: Step) ->
     return results
 
 
+def solved_items(outage: Outage) -> list[Event]:
+    """The outages of a single item that can be solved."""
+    return [one_event(outcome.item) for outcome in outage.outcomes if outcome.word == "solved"]
+
+
 def single_results(runner: Runner, outage: Outage, next_piece: Step) -> list[Result]:
     """A screen of each outage of a single item that can be solved; the others end as `outage` says."""
-    results = []
-    for outcome in outage.outcomes:
-        next_piece(outcome.item)
-        event = one_event(outcome.item)
-        results.append(runner.result(event) if outcome.word == "solved" else Result(event, outcome, None))
-    return results
+    solved = {event.name: runner.told(event, run) for event, run in runner.runs(solved_items(outage), next_piece)}
+    return [
+        solved.get(outcome.item, Result(one_event(outcome.item), outcome, None)) for outcome in outage.outcomes
+    ]
 
 
 def outage_report(asked: Asked) -> Outage:
@@ -257,19 +267,18 @@ def find_outages(asked: Asked, file: str | None) -> Outages:
     """The outages of the events of a file; or, without one, of each single line and each single transformer."""
     whole = whole_result(asked)
     base = base_switchings(asked.switch)
-    with tempfile.TemporaryDirectory(prefix="gicdesk.") as folder:
-        runner = Runner(asked, base, file or asked.case, pathlib.Path(folder, "event.csv"))
-        if file is None:
-            with Progress(1) as progress:
-                progress.next("the report of outage")
-                outage = outage_report(asked)
-            with Progress(len(outage.outcomes)) as progress:
-                results = single_results(runner, outage, progress.next)
-        else:
-            events = read_events(file, known_items(asked, whole))
-            look_for_room(file, base, events)
-            with Progress(len(events)) as progress:
-                results = listed_results(runner, events, progress.next)
+    runner = Runner(asked, base, file or asked.case)
+    if file is None:
+        with Progress(1) as progress:
+            progress.next("the report of outage")
+            outage = outage_report(asked)
+        with Progress(len(solved_items(outage))) as progress:
+            results = single_results(runner, outage, progress.next)
+    else:
+        events = read_events(file, known_items(asked, whole))
+        look_for_room(file, base, events)
+        with Progress(len(events)) as progress:
+            results = listed_results(runner, events, progress.next)
     return Outages(whole, results)
 
 

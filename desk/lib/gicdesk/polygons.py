@@ -52,12 +52,16 @@ def turn(start: Place, end: Place, place: Place) -> int:
 def read_polygons(file: str, zones: set[str], findings: list[Finding]) -> list[Polygon]:
     """The polygons of a table of corners, one for each zone that it names."""
     polygons: dict[str, Polygon] = {}
+    last = ""
     for at in read_table(file, HEADS, findings):
         zone = at.text("zone")
         if zone not in zones:
             at.wrong("zone", f'"{zone}" is none of {", ".join(sorted(zones))}; write one of these')
             continue
+        if zone in polygons and zone != last:
+            at.wrong("zone", f"{zone} has rows above those of {last} already; a zone has one polygon, its rows together")
         polygons.setdefault(zone, Polygon(zone, [])).corners.append(corner(at))
+        last = zone
     for polygon in polygons.values():
         if len(polygon.corners) < 3:
             corners = plural(len(polygon.corners), "corner")

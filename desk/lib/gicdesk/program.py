@@ -7,6 +7,7 @@ import pathlib
 import re
 import shutil
 import subprocess
+import threading
 
 from .findings import refuse, shown
 
@@ -16,6 +17,17 @@ BUILT = TOP / "crates" / "gicstudy" / "out" / "gicstudy"
 NETWORK_FAULT = re.compile(r"gicstudy: (unearthed|unresolved): step [0-9]+ node (\S+)")
 FILE_FAULT = re.compile(r"gicstudy: (?:cannot read |too long: )?([a-z]+)\b")
 SWITCH_FAULT = re.compile(r"gicstudy: switch: .* in row ([0-9]+)")
+
+
+RUNNING: set["subprocess.Popen[bytes]"] = set()  # what has begun and not ended
+STOPPING = threading.Event()
+
+
+def stop_running() -> None:
+    """Ends each run that goes on, and each that begins while `STOPPING` is set."""
+    STOPPING.set()
+    for process in list(RUNNING):
+        process.kill()
 
 
 @dataclasses.dataclass(frozen=True)
@@ -61,11 +73,23 @@ class Program:
 
     def run(self, *words: str) -> Run:
         try:
-            done = subprocess.run([self.path, *words], capture_output=True, stdin=subprocess.DEVNULL, check=False)
+            process = subprocess.Popen(
+                [self.path, *words], stdin=subprocess.DEVNULL, stdout=subprocess.PIPE, stderr=subprocess.PIPE
+            )
         except OSError as error:
             raise refuse(self.path, f"it can't be run ({error.strerror}); name the program by --program") from None
-        line = done.stderr.decode("utf-8", "replace").strip()
-        return Run(done.returncode, done.stdout, line)
+        with process:
+            RUNNING.add(process)
+            if STOPPING.is_set():
+                process.kill()
+            try:
+                report, line = process.communicate()
+            except BaseException:
+                process.kill()
+                raise
+            finally:
+                RUNNING.discard(process)
+        return Run(process.returncode, report, line.decode("utf-8", "replace").strip())
 
     def report(self, *words: str) -> bytes:
         """The report of a run that must have one; else its line is the refusal."""

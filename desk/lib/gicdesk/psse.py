@@ -6,7 +6,7 @@ import math
 from collections.abc import Sequence
 
 from .beyond import reactor_row
-from .cases import Case, Field, Names, Row, span_fields
+from .cases import Case, Field, Names, Row, short_enough, span_fields
 from .decimals import MILLI, shifted
 from .findings import Finding, Refused
 from .places import MOST_KM, SHORT_M, SPAN_FROM_MAP_M, span_metres
@@ -214,7 +214,7 @@ class Making:
         from_data = data is not None and data.ohm != 0
         comment = f"{ohm.normalize():f} ohm per phase" + ("" if from_data else ", from per unit")
         if branch.reactance < 0 and ohm * 1000 < 1:
-            return Field("resistance", BLOCKED_MICRO_OHM, "of no account: it is blocked")
+            return Field("resistance", BLOCKED_MICRO_OHM, "no resistance of 0.001 ohm or more was given: it carries nothing while it is blocked")
         at, column = (data.record, "RBRN") if data is not None and from_data else (branch.record, "R")
         return Field("resistance", micro_ohm(at, column, ohm), comment)
 
@@ -265,7 +265,7 @@ class Making:
 
     def transformer(self, unit: Transformer) -> None:
         what = f"the transformer {title(unit.buses, unit.circuit)}"
-        if unit.status == 0 or self.isolated(unit.buses):
+        if unit.status == 0 or self.isolated(unit.live_buses):
             self.tell(unit.record, f"{what} is out of service: it is left out")
             return
         if not self.known(unit.record, unit.buses):
@@ -402,7 +402,10 @@ def make_case(raw_file: str, gic_file: str, zone_files: ZoneFiles, choices: Choi
         raise Refused(findings)
     making = Making(raw, gic, zones, choices, notes)
     making.make()
+    files = {"zone": zone_files.zones, "substation": gic_file}
+    findings += [Finding(files.get(name, raw_file), words) for name, words in making.case.too_many().items()]
     if findings:
         raise Refused(findings)
     origin = f"Made by gicdesk psse of {raw_file} and {gic_file}: change these, and make it again."
-    return Made(making.case.text(origin), Table(NAME_HEADS, making.theirs).csv(), making.notes)
+    text = short_enough(making.case.text(origin), raw_file, notes)
+    return Made(text, Table(NAME_HEADS, making.theirs).csv(), making.notes)

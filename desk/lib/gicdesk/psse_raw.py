@@ -76,6 +76,9 @@ class Switch:
     record: Record
 
 
+OUT = {2: 1, 3: 2, 4: 0}  # the place of the winding that is out, by the status of a unit
+
+
 @dataclasses.dataclass(frozen=True)
 class Transformer:
     """A unit of two or three buses. Rated kilovolts are 0 where they are those of the bus. The status is 0 for a unit
@@ -88,6 +91,16 @@ class Transformer:
     name: str
     vector: str
     record: Record
+
+    @property
+    def out(self) -> int | None:
+        """The place of the winding that is out, where one is."""
+        return OUT.get(self.status)
+
+    @property
+    def live_buses(self) -> tuple[int, ...]:
+        """The buses of the windings that are in."""
+        return tuple(bus for place, bus in enumerate(self.buses) if place != self.out)
 
 
 @dataclasses.dataclass(frozen=True)
@@ -186,6 +199,8 @@ def read_transformers(
         sides = [Record(file, line.number, line.fields, ["WINDV", "NOMV"], findings) for line in windings]
         rated = tuple(side.number("NOMV", "0") for side in sides)
         status = at.whole("ST", 1)
+        if status not in (0, 1, *(OUT if len(buses) == 3 else ())):
+            at.wrong("ST", f"it is {status}, and not 0 or 1, nor for a unit of three buses 2, 3 or 4")
         units.append(Transformer(buses, rated, circuit_of(at), status, at.text("NAME"), at.text("VECGRP"), at))
         place += 2 + len(buses)
     return units

@@ -5,7 +5,7 @@ What only format 3 of a case can say, a third earthed winding and a shunt reacto
 
 import dataclasses
 import decimal
-from collections.abc import Callable, Sequence
+from collections.abc import Callable, Mapping, Sequence
 
 from .beyond import THREE_SIDED, with_third
 from .cases import Field, Row
@@ -18,7 +18,10 @@ from .vectors import GROUNDED, GROUPS, letters_of
 
 RATED_FROM_BUS = decimal.Decimal("0.1")  # a rated voltage is mostly within a tenth of that of its bus
 CHOICES = ("leave", "model")
-OUT = {2: 1, 3: 2, 4: 0}  # the place of the winding that is out, by the status of a unit
+OPEN_AUTO = (
+    "a side of the autotransformer is out of service, and all of it is left out; its windings may still carry current: for "
+    "that, write it with this side at a bus of its own, where nothing else ends"
+)
 
 
 @dataclasses.dataclass(frozen=True)
@@ -76,10 +79,11 @@ def by_volts(kilovolts: Sequence[decimal.Decimal]) -> list[int]:
 
 
 def letters_by_bus(
-    at: Record, vector: str, kilovolts: Sequence[decimal.Decimal], order: str | None
-) -> list[str] | None:
-    """The letters of the winding at each bus. They stand in the order of the voltages, or in that of the buses, as the
-    user says; where it doesn't matter nobody is asked."""
+    at: Record, vector: str, kilovolts: Mapping[int, decimal.Decimal], order: str | None
+) -> dict[int, str] | None:
+    """The letters of the winding at each bus, of which the voltages are given in the order of the record that has the
+    group. Letters stand in the order of the voltages, or in that of the buses, as the user says; where it doesn't matter
+    nobody is asked."""
     letters = letters_of(vector)
     if letters is None:
         what = f'"{vector}" is no vector group' if vector else "it is empty, and so is that of the other file"
@@ -92,9 +96,9 @@ def letters_by_bus(
     if GROUNDED in letters[many:]:
         at.wrong("VECGRP", f'"{vector}" has a grounded winding without a bus; write its bus, or its letter without N')
         return None
-    by_order = {"buses": letters[:many], "volts": [""] * many}
-    for place, letter in zip(by_volts(kilovolts), letters):
-        by_order["volts"][place] = letter
+    buses = list(kilovolts)
+    of_volts = [buses[place] for place in by_volts(list(kilovolts.values()))]
+    by_order = {"buses": dict(zip(buses, letters)), "volts": dict(zip(of_volts, letters))}
     if order is None and by_order["buses"] != by_order["volts"]:
         ways = "--vector=volts takes the first letters for the highest voltage, --vector=buses for bus I"
         at.wrong("VECGRP", f'"{vector}" can be read in two ways: bus I isn\'t the one of the highest voltage; {ways}')
@@ -117,20 +121,21 @@ def windings_of(
         if abs(kilovolts[-1] - own) > RATED_FROM_BUS * own:
             words = f"a winding rated at {kilovolts[-1]:f} kV is at the bus {bus} of {own:f} kV; look at both"
             notes.append(Finding(unit.record.file, words, unit.record.line))
-    vector_at = data.record if data.vector else unit.record
-    letters = letters_by_bus(vector_at, data.vector or unit.vector, kilovolts, order)
+    of_buses = dict(zip(unit.buses, kilovolts))
+    vector_at, named = (data.record, data.sides) if data.vector else (unit.record, unit.buses)
+    letters = letters_by_bus(vector_at, data.vector or unit.vector, {bus: of_buses[bus] for bus in named}, order)
     if letters is None:
         return []
-    out = OUT.get(unit.status)
-    if out is not None and "A" in letters and (letters[out] == "A" or out == by_volts(kilovolts)[0]):
-        words = "a winding of the autotransformer is out of service, and with it all of it is left out"
-        notes.append(Finding(unit.record.file, words, unit.record.line))
-        return []
+    out = unit.out
+    if out is not None and "A" in letters.values():
+        if out == by_volts(kilovolts)[0] or letters[unit.buses[out]] == "A":
+            notes.append(Finding(unit.record.file, OPEN_AUTO, unit.record.line))
+            return []
     windings = []
     for place in by_volts(kilovolts):
         bus = unit.buses[place]
         column = next(name for name in SIDES if data.record.bus(name, 0) == bus)
-        letter = "D" if place == out else letters[place]  # as a delta does, a winding that is out carries nothing here
+        letter = "D" if place == out else letters[bus]  # as a delta does, a winding that is out carries nothing here
         windings.append(Winding(bus, kilovolts[place], letter, data.sides[bus], column))
     return windings
 
@@ -184,6 +189,7 @@ class Unit:
         lower = [winding for winding in self.windings if winding.letters == "A"]
         if lower:
             return self.auto(lower[0])
+        self.tell_of_one_voltage()
         grounded = [winding for winding in self.windings if winding.letters == GROUNDED]
         if len(grounded) > 1:
             grounded = self.unblocked(grounded)
@@ -216,6 +222,13 @@ class Unit:
             what = f"the winding at the bus {winding.bus} is its high side here, and its verdict means nothing"
             self.tell(f"{self.name} isn't grounded at its highest voltage: {what}")
 
+    def tell_of_one_voltage(self) -> None:
+        """Tells where two buses of the highest voltage are joined by a unit that is no autotransformer."""
+        high, next_one = self.windings[:2]
+        if high.kilovolts - next_one.kilovolts <= RATED_FROM_BUS * high.kilovolts:
+            words = f"{self.name} joins two buses of one voltage: if it is a phase shifter, its series winding is missing"
+            self.tell(f"{words} in the case")
+
     def delta_wye(self, winding: Winding) -> Row:
         self.tell_of_high(winding)
         fields = [Field("kind", "delta-wye"), *self.side("high", winding)]
@@ -226,8 +239,9 @@ class Unit:
     def refuse_resistors(self, windings: Sequence[Winding]) -> None:
         for winding in windings:
             if winding.side.neutral_ohm != 0:
-                words = "a resistor in one of several neutrals has no key in a case, which joins them; make it 0"
-                self.data_at.wrong(f"GRDR{winding.name}", words)
+                words = "a resistor in one of several neutrals has no key in a case, which joins them"
+                ways = f"make it 0, and WR{winding.name} greater by three times it"
+                self.data_at.wrong(f"GRDR{winding.name}", f"{words}; {ways}")
 
     def wye_wye(self, high: Winding, low: Winding, others: Sequence[Winding]) -> Row:
         self.tell_of_high(high)
@@ -253,7 +267,8 @@ class Unit:
         third = self.third("auto", self.unblocked(others))
         if third and neutral:
             words = f"the neutral of {self.name} has a device or no ground, and a case joins that of its third winding"
-            self.data_at.wrong(None, f"{words} to it; make it a plain one, or leave the winding out by --beyond=leave")
+            ways = f"make a resistor 0, and WR{low.name} greater by three times it, or leave the winding out by --beyond=leave"
+            self.data_at.wrong(None, f"{words} to it; {ways}")
         return [Row(self.name, [*(with_third(fields, third) if third else fields), *neutral], self.note)]
 
     def third(self, kind: str, windings: Sequence[Winding]) -> list[Field]:

@@ -5,14 +5,12 @@ import dataclasses
 import datetime
 import hashlib
 import math
-import pathlib
-import tempfile
 from collections.abc import Iterable, Iterator, Mapping
 from typing import TypeVar
 
 from . import outages
 from .counts import plural
-from .events import BaseSwitchings, Event, Items, one_event, read_events
+from .events import BaseSwitchings, Event, Items, read_events
 from .factors import Factor, read_factors, size, total
 from .files import read_bytes
 from .findings import Finding, Refused, refuse
@@ -38,6 +36,7 @@ from .reports import (
 )
 from .reports import Study as StormReport
 from .storms import Seconds, StormStep, SwitchingRow, seconds_above, storm_steps, switching_rows
+from .together import together
 
 Kind = TypeVar("Kind")
 OPTIONS = ("storm", "switch", "factors", "events", "places", "width")
@@ -58,6 +57,14 @@ class Request:
     events: str | None = None
     places: str | None = None
     width: str | None = None
+
+    @property
+    def case_word(self) -> str:
+        return f"--case={self.case}"
+
+    def run(self, mode: str, *words: str) -> Run:
+        """A run of the case."""
+        return self.program.run(mode, self.case_word, *words)
 
     @property
     def standing_switch(self) -> str | None:
@@ -240,25 +247,39 @@ class Runs:
     progress: Progress
     kept: list[Kept] = dataclasses.field(default_factory=list)
 
-    def run(self, name: str, mode: str, *words: str, shown: tuple[str, ...] | None = None) -> Run:
-        """A run of the case that is kept under a name. Words that name a file which won't be there are shown
-        otherwise."""
+    def run(self, name: str, mode: str, *words: str) -> Run:
+        """A run of the case that is kept under a name."""
         self.progress.next(name)
-        case = f"--case={self.request.case}"
-        run = self.request.program.run(mode, case, *words)
+        return self.keep(name, mode, words, self.request.run(mode, *words))
+
+    def keep(self, name: str, mode: str, words: Iterable[str], run: Run) -> Run:
+        """Keeps a run under a name, with words by which it can be asked for again."""
         report = parse_report(f"the report of gicstudy {mode}", run.report)[1] if run.status == 0 else None
-        self.kept.append(Kept(name, (mode, case, *(shown or words)), run, mode, report))
+        self.kept.append(Kept(name, (mode, self.request.case_word, *words), run, mode, report))
         return run
 
     def report(self, kind: type[Kind], name: str, mode: str, *words: str) -> Kind:
         """The report of a run that must have one; else its line is the refusal, of the file that it speaks of."""
-        run = self.run(name, mode, *words)
-        report = self.kept[-1].report
-        if run.status != 0:
-            raise refuse(self.request.file_of(run), ending(run))
-        if not isinstance(report, kind):
-            raise refuse(f"the report of gicstudy {mode}", "it is one of another mode; is --program another program?")
-        return report
+        self.run(name, mode, *words)
+        return self.last_report(kind)
+
+    def reports(self, kind: type[Kind], mode: str, asked: Mapping[str, tuple[str, ...]]) -> Iterator[Kind]:
+        """The same of several runs, each with its words under its name; several run at once."""
+        runs = together(lambda words: self.request.run(mode, *words), asked.values())
+        for name, words in asked.items():
+            self.progress.next(name)
+            self.keep(name, mode, words, next(runs))
+            yield self.last_report(kind)
+
+    def last_report(self, kind: type[Kind]) -> Kind:
+        """That of the last run."""
+        last = self.kept[-1]
+        if last.run.status != 0:
+            raise refuse(self.request.file_of(last.run), ending(last.run))
+        if not isinstance(last.report, kind):
+            words = "it is one of another mode; is --program another program?"
+            raise refuse(f"the report of gicstudy {last.mode}", words)
+        return last.report
 
 
 def file_name(name: str) -> str:
@@ -344,15 +365,13 @@ def collected(findings: list[Finding]) -> Iterator[None]:
 def worst_outages(runner: outages.Runner, outage: Outage, progress: Progress) -> dict[str, Worst]:
     """The worst outage of a single item for each transformer that has a current in one."""
     found: dict[str, list[tuple[str, ScreenUnit]]] = {}
-    least: dict[str, int] = {}
-    for outcome in outage.outcomes:
-        if outcome.word != "solved":
-            continue
-        progress.next(f"without {outcome.item}")
-        screen = runner.result(one_event(outcome.item)).screen
+    least = {unit.name: unit.value.low for unit in outage.units if unit.value is not None}
+    solved = outages.solved_items(outage)
+    for event, run in runner.runs(solved, lambda name: progress.next(f"without {name}")):
+        screen = runner.told(event, run).screen
         for row in screen.rows if screen is not None else []:
             if row.worst.high > 0 and row.worst.high >= least.get(row.name, 0):
-                found.setdefault(row.name, []).append((outcome.item, row))
+                found.setdefault(row.name, []).append((event.name, row))
                 if row.worst.low > least.get(row.name, 0):
                     least[row.name] = row.worst.low
                     found[row.name] = [pair for pair in found[row.name] if pair[1].worst.high >= row.worst.low]
@@ -363,11 +382,9 @@ def event_results(runs: Runs, runner: outages.Runner, events: list[Event], words
     """A screen of each event, kept with its switchings. What the program refuses of several is told at once."""
     results: list[Result] = []
     findings: list[Finding] = []
-    for number, event in enumerate(events, 1):
+    for number, (event, run) in enumerate(runner.runs(events, runs.progress.next), 1):
         name = f"event_{number}"
-        runner.write(event)
-        shown = (*words, f"--switch=reports/{name}.csv")
-        run = runs.run(name, "screen", *words, f"--switch={runner.switchings}", shown=shown)
+        runs.keep(name, "screen", (*words, f"--switch=reports/{name}.csv"), run)
         with collected(findings):
             results.append(runner.told(event, run))
     if findings:
@@ -397,11 +414,10 @@ def run_series(runs: Runs, storm: Storm | None, names: Iterable[str]) -> None:
     """The current of each of these transformers over the storm."""
     if storm is None or storm.report is None:
         return
-    names = list(names)
-    runs.progress.total += len(names)
-    for name in names:
-        words = (*storm_words(runs.request), f"--transformer={name}", *runs.request.words)
-        storm.series[name] = runs.report(Series, f"series_{name}", "series", *words)
+    words = {name: (*storm_words(runs.request), f"--transformer={name}", *runs.request.words) for name in names}
+    runs.progress.total += len(words)
+    asked = {f"series_{name}": given for name, given in words.items()}
+    storm.series.update(zip(words, runs.reports(Series, "series", asked)))
 
 
 def run_losses(runs: Runs, factors: dict[str, Factor], screen: Screen, words: tuple[str, ...]) -> Losses | None:
@@ -482,13 +498,13 @@ def expect_runs(runs: Runs, basis: Basis, tables: Tables) -> int:
 
 
 def run_outages(
-    runs: Runs, basis: Basis, base: BaseSwitchings, events: list[Event], outage: Outage, folder: str
+    runs: Runs, basis: Basis, base: BaseSwitchings, events: list[Event], outage: Outage
 ) -> tuple[Outages | None, dict[str, Worst]]:
     """The events of the list, and the worst single outage of each transformer."""
     request = runs.request
     runs.progress.total -= sum(outcome.word != "solved" for outcome in outage.outcomes)
     asked = Asked(request.program, request.case, request.standing_switch, request.words)
-    runner = outages.Runner(asked, base, request.events or request.case, pathlib.Path(folder, "event.csv"))
+    runner = outages.Runner(asked, base, request.events or request.case)
     found = None
     if request.events is not None:
         outages.look_for_room(request.events, base, events)
@@ -509,7 +525,7 @@ def make_study(request: Request) -> Study:
     """Runs all that is asked, in the order in which faults of the files come early."""
     began, commit, checksum = datetime.datetime.now().astimezone(), request.program.commit(), request.program.checksum()
     inputs = {given.role: given for given in read_inputs(request)}
-    with Progress(7) as progress, tempfile.TemporaryDirectory(prefix="gicdesk.") as folder:
+    with Progress(7) as progress:
         runs = Runs(request, progress)
         basis = look_at_case(runs, inputs["case"])
         network, screen, supplemental = basis.network, basis.screen, basis.supplemental
@@ -520,7 +536,7 @@ def make_study(request: Request) -> Study:
         outage = runs.report(Outage, "outage", "outage", *request.screen_words)
         look_for_one_case(inputs.values(), (screen, supplemental, outage, None if storm is None else storm.report))
         losses = run_losses(runs, tables.factors, screen, request.screen_words)
-        events, worst = run_outages(runs, basis, base, tables.events, outage, folder)
+        events, worst = run_outages(runs, basis, base, tables.events, outage)
         units = facts_of(screen, supplemental, outage, worst, events, storm)
         progress.total -= expected
         run_series(runs, storm, [unit.name for unit in units if wants_series(unit) or unit.name in tables.factors])
