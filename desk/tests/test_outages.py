@@ -198,9 +198,11 @@ class Events(OutagesTest):
 
     def test_a_folder_for_what_is_passing_that_is_full_is_told(self) -> None:
         words = self.words(self.events("one line,K,open\n"))
-        with mock.patch("pathlib.Path.write_bytes", side_effect=OSError(28, "No space left on device")):
-            (line,) = self.refused(*words)
-        self.assertIn(": the switchings of a run can't be written there (No space left on device)", line)
+        for call in ("pathlib.Path.write_bytes", "tempfile.NamedTemporaryFile"):
+            with self.subTest(call), mock.patch(call, side_effect=OSError(28, "No space left on device")):
+                (line,) = self.refused(*words)
+                told = "the switchings of a run can't be written there (No space left on device); look at TMPDIR"
+                self.assertEqual(line, f"the temporary folder: {told}")
 
     def test_the_network_without_an_event_need_not_be_solved(self) -> None:
         self.prints("screen", "gicstudy: unearthed: step 1 node B\n")
@@ -283,6 +285,11 @@ class Refusals(OutagesTest):
             'line 7, item: "a b" is no name of a case; allowed are 1 to 32 letters, digits and _ - .',
             "line 9, item: L is in this event already, by line 8; leave one of the two",
         )
+
+    def test_a_near_name_is_one_that_the_action_takes(self) -> None:
+        lines = self.refused(*self.words(self.events("e,KK,open\nf,KK,block\ng,KK,open\n")))
+        self.assertIn("as open takes; is it K?; so also in line 4", lines[0])
+        self.assertIn("as block takes; look at the names of the case", lines[1])
 
     def test_a_name_that_a_spreadsheet_works_out(self) -> None:
         (line,) = self.refused(*self.words(self.events("=1+1,K,open\n")))

@@ -327,6 +327,18 @@ class Small(PsseTest):
         self.case([*self.words(), "--beyond=leave", "--force"])
         self.assertNotIn("two buses of one voltage", "".join(self.shown))
 
+    def test_a_status_that_is_none(self) -> None:
+        for name, status, is_taken in (("BANK", 4, True), ("BANK", 5, False), ("SPARE", 2, False)):
+            old = 0 if name == "SPARE" else 1
+            words = self.words(RAW.replace(f"'{name}',{old}", f"'{name}',{status}"))
+            if is_taken:
+                self.case([*words, "--beyond=leave"])
+                self.out.unlink()
+                continue
+            lines = [line for line in self.refused(*words, "--beyond=leave", "--force") if ", ST" in line]
+            self.assertEqual(len(lines), 1)
+            self.assertIn(f"ST: it is {status}, and not 0 or 1, nor for a unit of three buses 2, 3 or 4", lines[0])
+
     def test_more_rows_than_a_case_has(self) -> None:
         with mock.patch.dict(cases.MOST_ROWS_3, {"bus": 3}):
             (line,) = self.refused(*self.words(), "--beyond=leave")

@@ -66,7 +66,7 @@ class Together(unittest.TestCase):
         with mock.patch("threading.Thread.start", side_effect=RuntimeError("can't start new thread")):
             with self.assertRaises(Refused) as refused:
                 list(together(lambda number: number, range(9)))
-        self.assertEqual(refused.exception.lines(), ["gicdesk: no run can be begun beside another (can't start new thread)"])
+        self.assertEqual(refused.exception.lines(), ["the runs: none can be begun beside another (can't start new thread)"])
 
     def test_where_the_caller_goes_no_further_nothing_begins(self) -> None:
         begun: list[int] = []

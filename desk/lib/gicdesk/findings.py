@@ -30,13 +30,13 @@ class Finding:
 class Hints:
     """The names that are nearest to wrong ones, looked for while they will be shown."""
 
-    found: dict[str, str] = dataclasses.field(default_factory=dict)
+    found: dict[tuple[str, str], str] = dataclasses.field(default_factory=dict)
 
-    def near(self, name: str, names: Iterable[str]) -> str:
-        """What to do about a name that is none of these."""
-        if name not in self.found and len(self.found) < SHOWN:
-            self.found[name] = "".join(difflib.get_close_matches(name, sorted(names), 1))
-        near = self.found.get(name)
+    def near(self, name: str, names: Iterable[str], purpose: str = "") -> str:
+        """What to do about a name that is none of these, which are those for a purpose."""
+        if (name, purpose) not in self.found and len(self.found) < SHOWN:
+            self.found[name, purpose] = "".join(difflib.get_close_matches(name, sorted(names), 1))
+        near = self.found.get((name, purpose))
         return f"is it {near}?" if near else "look at the names of the case"
 
 

@@ -200,13 +200,13 @@ class Runner:
     file: str  # of the events, for refusals
 
     def run(self, event: Event) -> Run:
-        folder = tempfile.gettempdir()
-        with tempfile.NamedTemporaryFile(prefix="gicdesk.", suffix=".csv", dir=folder) as switchings:
-            try:
+        try:
+            with tempfile.NamedTemporaryFile(prefix="gicdesk.", suffix=".csv") as switchings:
                 pathlib.Path(switchings.name).write_bytes(self.base.with_event(event))
-            except OSError as error:
-                raise refuse(folder, f"the switchings of a run can't be written there ({error.strerror})") from None
-            return self.asked.run("screen", switchings.name)
+                return self.asked.run("screen", switchings.name)
+        except OSError as error:
+            words = f"the switchings of a run can't be written there ({error.strerror}); look at TMPDIR"
+            raise refuse("the temporary folder", words) from None
 
     def runs(self, events: Sequence[Event], next_piece: Step) -> Iterator[tuple[Event, Run]]:
         """Each event with its run, in their order; several run at once."""

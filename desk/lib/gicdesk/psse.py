@@ -214,7 +214,8 @@ class Making:
         from_data = data is not None and data.ohm != 0
         comment = f"{ohm.normalize():f} ohm per phase" + ("" if from_data else ", from per unit")
         if branch.reactance < 0 and ohm * 1000 < 1:
-            return Field("resistance", BLOCKED_MICRO_OHM, "no resistance of 0.001 ohm or more was given: it carries nothing while it is blocked")
+            comment = "no resistance of 0.001 ohm or more was given: it carries nothing while it is blocked"
+            return Field("resistance", BLOCKED_MICRO_OHM, comment)
         at, column = (data.record, "RBRN") if data is not None and from_data else (branch.record, "R")
         return Field("resistance", micro_ohm(at, column, ohm), comment)
 

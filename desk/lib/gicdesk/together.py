@@ -16,6 +16,7 @@ Answer = TypeVar("Answer")
 
 MOST_AT_ONCE = 8
 ONE_RUN = 600_000_000  # bytes, as over a case at every limit; most take a sixth of that and less
+MOMENT = 0.2  # seconds
 MEMORY = pathlib.Path("/proc/meminfo")
 
 
@@ -41,15 +42,25 @@ def together(run: Callable[[Question], Answer], questions: Iterable[Question]) -
                 for question in questions:
                     waiting.append(begun(pool, run, question))
                     if len(waiting) == 2 * at_once:
-                        yield waiting.popleft().result()
+                        yield taken(waiting.popleft())
                 while waiting:
-                    yield waiting.popleft().result()
+                    yield taken(waiting.popleft())
             except BaseException:
-                pool.shutdown(wait=False, cancel_futures=True)
                 stop_running()
+                pool.shutdown(wait=False, cancel_futures=True)
                 raise
-    finally:
+    except (Exception, GeneratorExit):
+        # (behind an interrupt nothing is to run any more)
         STOPPING.clear()
+        raise
+
+
+def taken(future: concurrent.futures.Future[Answer]) -> Answer:
+    """What a run brings, once it has ended. That is looked for every moment: an interrupt just before a wait without an end
+    would be seen behind it alone."""
+    while not future.done():
+        concurrent.futures.wait([future], MOMENT)
+    return future.result()
 
 
 def begun(
@@ -58,4 +69,4 @@ def begun(
     try:
         return pool.submit(run, question)
     except RuntimeError as error:
-        raise refuse("gicdesk", f"no run can be begun beside another ({error})") from None
+        raise refuse("the runs", f"none can be begun beside another ({error})") from None
