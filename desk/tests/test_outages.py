@@ -363,6 +363,11 @@ class Refusals(OutagesTest):
         names = ["currents.csv", "events.csv", "mine.txt", "units.csv"]
         self.assertEqual(sorted(path.name for path in out.iterdir()), names)
 
+    def test_too_little_memory_is_told(self) -> None:
+        with mock.patch("gicdesk.outages.find_outages", side_effect=MemoryError):
+            (line,) = self.refused(*self.words())
+        self.assertEqual(line, "there is too little memory; give it more, or leave out what isn't needed")
+
     def test_words_that_the_program_refuses(self) -> None:
         self.prints("screen", "gicstudy: usage: number --width\n")
         (line,) = self.refused(*self.words("--width=9"))

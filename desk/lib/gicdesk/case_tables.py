@@ -2,13 +2,12 @@
 
 import dataclasses
 import decimal
-import difflib
 import pathlib
 from collections.abc import Iterable
 from fractions import Fraction
 
 from .borders import Borders
-from .findings import SHOWN, Finding, Refused, refuse, shown
+from .findings import Finding, Hints, Refused, refuse, shown
 from .forms import NAME
 from .polygons import read_polygons
 from .records import Record, read_table
@@ -125,6 +124,7 @@ class Tables:
     rows: dict[str, dict[str, Record]]
     findings: list[Finding]
     borders: Borders | None = None
+    hints: Hints = dataclasses.field(default_factory=Hints)
 
     def refer(self, at: Record, column: str, table: str) -> Record | None:
         """The row of another table whose name stands in the column; None where there is none, which is a finding."""
@@ -134,9 +134,8 @@ class Tables:
         if not name:
             at.wrong(column, f"it is empty; write a name of {table}.csv")
             return None
-        near = difflib.get_close_matches(name, rows, 1) if len(self.findings) < SHOWN else []
-        hinted = f"is it {near[0]}?" if near else "write its row there, or another name"
-        at.wrong(column, f"{shown(name)} is not in {table}.csv; {hinted}")
+        ways = self.hints.ways(name, rows, table, "write its row there, or another name")
+        at.wrong(column, f"{shown(name)} is not in {table}.csv; {ways}")
         return None
 
 

@@ -75,7 +75,7 @@ def item_fault(item: str, action: str, items: Items, hints: Hints) -> str | None
     what = "a line, a transformer, or a substation with a ground"
     if action in ("block", "unblock"):
         what = "a transformer with a neutral resistor"
-    return f"{shown(item)} isn't {what}, as {action} takes; {hints.near(item, allowed, action)}"
+    return f"{shown(item)} isn't {what}, as {action} takes; {hints.ways(item, allowed, action)}"
 
 
 def read_events(file: str, items: Items) -> list[Event]:

@@ -53,7 +53,7 @@ def read_factors(file: str, volts: Mapping[str, int], findings: list[Finding]) -
         name, given = at.text("transformer"), at.number("mvar_per_ampere")
         at_kv = at.number("at_kv", str(USUAL_KV))
         if name not in volts:
-            at.wrong("transformer", f"{shown(name)} is no transformer of the case; {hints.near(name, volts)}")
+            at.wrong("transformer", f"{shown(name)} is no transformer of the case; {hints.ways(name, volts, HEADS[0])}")
         elif name in lines:
             at.wrong("transformer", f"{name} has a factor already, by line {lines[name]}; leave one of the two")
         if not 0 < given <= MOST:

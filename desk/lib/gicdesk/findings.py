@@ -32,12 +32,12 @@ class Hints:
 
     found: dict[tuple[str, str], str] = dataclasses.field(default_factory=dict)
 
-    def near(self, name: str, names: Iterable[str], purpose: str = "") -> str:
+    def ways(self, name: str, names: Iterable[str], purpose: str, otherwise: str = "look at the names of the case") -> str:
         """What to do about a name that is none of these, which are those for a purpose."""
         if (name, purpose) not in self.found and len(self.found) < SHOWN:
             self.found[name, purpose] = "".join(difflib.get_close_matches(name, sorted(names), 1))
         near = self.found.get((name, purpose))
-        return f"is it {near}?" if near else "look at the names of the case"
+        return f"is it {near}?" if near else otherwise
 
 
 class Refused(Exception):

@@ -365,6 +365,7 @@ def collected(findings: list[Finding]) -> Iterator[None]:
 def worst_outages(runner: outages.Runner, outage: Outage, progress: Progress) -> dict[str, Worst]:
     """The worst outage of a single item for each transformer that has a current in one."""
     found: dict[str, list[tuple[str, ScreenUnit]]] = {}
+    # A current whose high end is below the low end of the greatest one isn't the worst.
     least = {unit.name: unit.value.low for unit in outage.units if unit.value is not None}
     solved = outages.solved_items(outage)
     for event, run in runner.runs(solved, lambda name: progress.next(f"without {name}")):
