@@ -12,10 +12,19 @@ use gic_model::{Elements, Volts};
 use std::alloc::Global;
 
 /// The voltages of a base field, in nanovolts, and the potentials in it, in grains of 2^-36 nanovolt.
-#[derive(Drop)]
 pub struct BaseField {
     pub(crate) volts: Volts,
     pub(crate) potentials: Potentials,
+}
+
+impl Drop for BaseField {
+    /// Lets go of everything, in one step for whoever drops it.
+    fn drop(self) {
+        let BaseField {
+            volts: _volts,
+            potentials: _potentials,
+        } = self;
+    }
 }
 
 impl BaseField {
@@ -30,11 +39,21 @@ impl BaseField {
 }
 
 /// What base fields are solved in, and the table of what they show.
-#[derive(Drop)]
 pub struct BaseRoom {
     pub(crate) north: BaseField,
     pub(crate) east: BaseField,
     pub table: BaseTable,
+}
+
+impl Drop for BaseRoom {
+    /// Lets go of everything, in one step for whoever drops it.
+    fn drop(self) {
+        let BaseRoom {
+            north: _north,
+            east: _east,
+            table: _table,
+        } = self;
+    }
 }
 
 impl BaseRoom {

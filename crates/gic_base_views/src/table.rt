@@ -11,11 +11,21 @@ use std::alloc::Global;
 
 /// The intervals of all that a view of a case shows, in the two base fields of each zone: a row for each node in
 /// nanovolts, for each element in nanoamperes and for each transformer in nanoamperes per phase.
-#[derive(Drop)]
 pub struct BaseTable {
     pub(crate) nodes: PairRows,
     pub(crate) elements: PairRows,
     pub(crate) effective: PairRows,
+}
+
+impl Drop for BaseTable {
+    /// Lets go of everything, in one step for whoever drops it.
+    fn drop(self) {
+        let BaseTable {
+            nodes: _nodes,
+            elements: _elements,
+            effective: _effective,
+        } = self;
+    }
 }
 
 impl BaseTable {

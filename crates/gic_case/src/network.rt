@@ -5,7 +5,6 @@ use gic_scale::Zone;
 use std::marker::Model;
 
 /// The lists of a case whose ends, voltages and degrees are still to be looked at.
-#[derive(Drop)]
 pub struct Network {
     pub zones: Vec<Zone>,
     pub substations: Vec<Substation>,
@@ -24,4 +23,17 @@ impl Model for Network {
     ghost view = { λ n. record { zones = n.zones.items; substations = n.substations.items; buses = n.buses.items; lines = n.lines.items; transformers = n.transformers.items } };
 
     ghost invariant = { λ n. (length n.substations.items ≤ MOST_SUBSTATIONS) × (length n.buses.items ≤ MOST_BUSES) × (length n.lines.items ≤ MOST_LINES) × (length n.transformers.items ≤ MOST_TRANSFORMERS) };
+}
+
+impl Drop for Network {
+    /// Lets go of everything, in one step for whoever drops it.
+    fn drop(self) {
+        let Network {
+            zones: _zones,
+            substations: _substations,
+            buses: _buses,
+            lines: _lines,
+            transformers: _transformers,
+        } = self;
+    }
 }

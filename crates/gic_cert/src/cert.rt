@@ -17,7 +17,6 @@ use std::marker::Model;
 /// [`MOST_WALK`]: gic_base::limits::MOST_WALK
 /// [`MOST_WRITTEN_GUESS`]: crate::limits::MOST_WRITTEN_GUESS
 /// [`MOST_WRITTEN_RADIUS`]: crate::limits::MOST_WRITTEN_RADIUS
-#[derive(Drop)]
 pub struct Cert {
     field: Field,
     /// Entries, guesses and radii by node, 0 each at dead nodes.
@@ -35,6 +34,18 @@ impl Model for Cert {
     ghost view = { λ c. record { north = c.field.north; east = c.field.east; nodes = written_rows c.entries c.guesses.items c.radii.items } };
 
     ghost invariant = { λ c. IsKept c.field.north c.field.east c.entries c.guesses.items c.radii.items };
+}
+
+impl Drop for Cert {
+    /// Lets go of everything, in one step for whoever drops it.
+    fn drop(self) {
+        let Cert {
+            field: _field,
+            entries: _entries,
+            guesses: _guesses,
+            radii: _radii,
+        } = self;
+    }
 }
 
 impl Cert {

@@ -13,13 +13,24 @@ use gic_winding::elements;
 use std::alloc::Global;
 
 /// All that the mode takes memory for. It is made before the network is looked at.
-#[derive(Drop)]
 pub struct Room {
     pub(crate) line: LineBuilder,
     pub(crate) net: Net,
     pub(crate) scratch: Scratch,
     /// Whether each node is live.
     pub(crate) live: Vec<bool>,
+}
+
+impl Drop for Room {
+    /// Lets go of everything, in one step for whoever drops it.
+    fn drop(self) {
+        let Room {
+            line: _line,
+            net: _net,
+            scratch: _scratch,
+            live: _live,
+        } = self;
+    }
 }
 
 /// Room for the network of the case, with all rows of the switchings in force.

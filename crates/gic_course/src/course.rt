@@ -33,13 +33,24 @@ use gic_winding::laws::limits_law;
 use std::alloc::Global;
 
 /// The course of a storm over the network of a case. All that takes memory is made with it.
-#[derive(Drop)]
 pub struct Course {
     epochs: Vec<Epoch>,
     switched: SwitchedNet,
     /// The epoch for whose steps the net and what they take are ready.
     ready: Option<Ready>,
     room: Room,
+}
+
+impl Drop for Course {
+    /// Lets go of everything, in one step for whoever drops it.
+    fn drop(self) {
+        let Course {
+            epochs: _epochs,
+            switched: _switched,
+            ready: _ready,
+            room: _room,
+        } = self;
+    }
 }
 
 impl Course {

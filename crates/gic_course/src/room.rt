@@ -50,7 +50,6 @@ fn room_for_bases(
 }
 
 /// What a course writes to. It is made before any step is looked at.
-#[derive(Drop)]
 pub(crate) struct Room {
     pub(crate) scratch: Scratch,
     pub(crate) vector: BoundVector,
@@ -61,6 +60,22 @@ pub(crate) struct Room {
     pub(crate) potentials: Potentials,
     /// Room for base fields, where their intervals are few enough to be kept.
     pub(crate) bases: Option<BaseRoom>,
+}
+
+impl Drop for Room {
+    /// Lets go of everything, in one step for whoever drops it.
+    fn drop(self) {
+        let Room {
+            scratch: _scratch,
+            vector: _vector,
+            start: _start,
+            fields: _fields,
+            volts: _volts,
+            solver: _solver,
+            potentials: _potentials,
+            bases: _bases,
+        } = self;
+    }
 }
 
 /// Room for the network of a case and its zones.

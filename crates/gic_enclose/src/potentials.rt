@@ -8,7 +8,6 @@ use std::alloc::Global;
 use std::marker::Model;
 
 /// One interval for each node, in grains of 2^-36 nanovolt, each with both ends from -2^96 to 2^96.
-#[derive(Drop)]
 pub struct Potentials {
     intervals: Vec<Interval>,
     /// Room for the residuals, rounded down and up.
@@ -26,6 +25,17 @@ impl Model for Potentials {
     ghost view = { λ p. map ends_of p.intervals.items };
 
     ghost invariant = { λ p. AreIntervals p.intervals.items p.low.items p.high.items };
+}
+
+impl Drop for Potentials {
+    /// Lets go of everything, in one step for whoever drops it.
+    fn drop(self) {
+        let Potentials {
+            intervals: _intervals,
+            low: _low,
+            high: _high,
+        } = self;
+    }
 }
 
 impl Potentials {

@@ -16,7 +16,6 @@ use gic_winding::elements;
 use std::alloc::Global;
 
 /// All that the mode takes memory for. It is made before the network is looked at.
-#[derive(Drop)]
 pub struct Room {
     pub(crate) line: LineBuilder,
     pub(crate) net: Net,
@@ -24,6 +23,19 @@ pub struct Room {
     pub(crate) volts: Volts,
     pub(crate) view: StepView,
     pub(crate) solving: gic_uniform::Room,
+}
+
+impl Drop for Room {
+    /// Lets go of everything, in one step for whoever drops it.
+    fn drop(self) {
+        let Room {
+            line: _line,
+            net: _net,
+            volts: _volts,
+            view: _view,
+            solving: _solving,
+        } = self;
+    }
 }
 
 /// Room for the network of the case, with all rows of the switchings in force.

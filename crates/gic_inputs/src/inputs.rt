@@ -6,7 +6,6 @@ use gic_storm::Storm;
 use gic_switch::Switchings;
 
 /// What a mode is given: the files that are named, read and accepted, and what is asked of the network.
-#[derive(Drop)]
 pub struct Inputs {
     pub case: Case,
     /// None where the words name no switchings.
@@ -14,11 +13,31 @@ pub struct Inputs {
     pub question: Question,
 }
 
+impl Drop for Inputs {
+    /// Lets go of everything, in one step for whoever drops it.
+    fn drop(self) {
+        let Inputs {
+            case: _case,
+            switchings: _switchings,
+            question: _question,
+        } = self;
+    }
+}
+
 /// What a mode over a storm is given: what every mode is, and a storm, read and accepted.
-#[derive(Drop)]
 pub struct StormInputs {
     pub inputs: Inputs,
     pub storm: Storm,
+}
+
+impl Drop for StormInputs {
+    /// Lets go of everything, in one step for whoever drops it.
+    fn drop(self) {
+        let StormInputs {
+            inputs: _inputs,
+            storm: _storm,
+        } = self;
+    }
 }
 
 impl StormInputs {

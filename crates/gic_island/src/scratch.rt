@@ -4,7 +4,6 @@ use std::alloc::Global;
 use std::marker::Model;
 
 /// Room for the nodes that are reached, each once, in the order in which they are.
-#[derive(Drop)]
 pub struct Scratch {
     /// For each node whether it was reached.
     marks: Vec<bool>,
@@ -22,6 +21,17 @@ impl Model for Scratch {
     ghost view = { λ a. record { nodes = length a.marks.items; reached = take a.count a.queue.items } };
 
     ghost invariant = { λ a. IsMarked a.marks.items a.queue.items a.count };
+}
+
+impl Drop for Scratch {
+    /// Lets go of everything, in one step for whoever drops it.
+    fn drop(self) {
+        let Scratch {
+            marks: _marks,
+            queue: _queue,
+            count: _count,
+        } = self;
+    }
 }
 
 impl Scratch {

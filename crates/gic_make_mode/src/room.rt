@@ -16,7 +16,6 @@ use gic_winding::elements;
 use std::alloc::Global;
 
 /// All that the mode takes memory for: the made case, too. It is made before the network is solved.
-#[derive(Drop)]
 pub struct Room {
     pub(crate) line: LineBuilder,
     pub(crate) case: Case,
@@ -24,6 +23,19 @@ pub struct Room {
     /// The voltages of the field of the benchmark event to the north.
     pub(crate) volts: Volts,
     pub(crate) summary: SummaryRoom,
+}
+
+impl Drop for Room {
+    /// Lets go of everything, in one step for whoever drops it.
+    fn drop(self) {
+        let Room {
+            line: _line,
+            case: _case,
+            net: _net,
+            volts: _volts,
+            summary: _summary,
+        } = self;
+    }
 }
 
 /// Makes the case of a seed, of `size` sites from `LEAST_SIZE` to `MOST_SIZE`, and room for its network.

@@ -26,11 +26,21 @@ use std::alloc::Global;
 pub(crate) const WIDTH: u32 = 100;
 
 /// What a summary is made in. It is made before the network is solved.
-#[derive(Drop)]
 pub(crate) struct SummaryRoom {
     pub(crate) solving: Room,
     pub(crate) vector: BoundVector,
     pub(crate) view: StepView,
+}
+
+impl Drop for SummaryRoom {
+    /// Lets go of everything, in one step for whoever drops it.
+    fn drop(self) {
+        let SummaryRoom {
+            solving: _solving,
+            vector: _vector,
+            view: _view,
+        } = self;
+    }
 }
 
 /// Room for the network of a case.

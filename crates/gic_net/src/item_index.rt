@@ -13,10 +13,19 @@ use std::alloc::Global;
 
 /// For each number of an item the place of its first element, and for each element the place of the next one of the
 /// same item; the number of elements stands where there is none.
-#[derive(Drop)]
 pub struct ItemIndex {
     pub first: Vec<u16>,
     pub next: Vec<u16>,
+}
+
+impl Drop for ItemIndex {
+    /// Lets go of everything, in one step for whoever drops it.
+    fn drop(self) {
+        let ItemIndex {
+            first: _first,
+            next: _next,
+        } = self;
+    }
 }
 
 /// The index of this list.

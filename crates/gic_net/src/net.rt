@@ -13,7 +13,6 @@ use std::alloc::Global;
 use std::marker::Model;
 
 /// The elements of a network, and which of their items are open.
-#[derive(Drop)]
 pub struct Net {
     nodes: u16,
     list: Vec<Element>,
@@ -47,6 +46,20 @@ impl Model for Net {
     ghost invariant = { λ a.
         IsStored (record { nodes = a.nodes; list = a.list.items }) a.opened.items a.index.first.items a.index.next.items a.rows.items
         × (a.conductors.items ≡ map conductor_of a.list.items) };
+}
+
+impl Drop for Net {
+    /// Lets go of everything, in one step for whoever drops it.
+    fn drop(self) {
+        let Net {
+            nodes: _nodes,
+            list: _list,
+            opened: _opened,
+            index: _index,
+            rows: _rows,
+            conductors: _conductors,
+        } = self;
+    }
 }
 
 impl Net {

@@ -10,7 +10,6 @@ use std::alloc::Global;
 use std::marker::Model;
 
 /// The places of all elements that end at a node, and in front of a second list the places of those that stand.
-#[derive(Drop)]
 pub struct Row {
     all: Vec<u16>,
     front: Vec<u16>,
@@ -26,6 +25,17 @@ impl Model for Row {
     ghost view = { λ a. record { all = a.all.items; standing = take a.degree a.front.items } };
 
     ghost invariant = { λ a. (length a.front.items ≡ length a.all.items) × (a.degree ≤ length a.all.items) };
+}
+
+impl Drop for Row {
+    /// Lets go of everything, in one step for whoever drops it.
+    fn drop(self) {
+        let Row {
+            all: _all,
+            front: _front,
+            degree: _degree,
+        } = self;
+    }
 }
 
 impl Row {

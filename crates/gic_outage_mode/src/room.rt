@@ -17,7 +17,6 @@ use gic_winding::elements;
 use std::alloc::Global;
 
 /// All that the mode takes memory for, and the items that it takes out. It is made before the network is looked at.
-#[derive(Drop)]
 pub struct Room {
     pub(crate) line: LineBuilder,
     pub(crate) net: Net,
@@ -28,6 +27,22 @@ pub struct Room {
     pub(crate) plan: Vec<Item>,
     pub(crate) outcomes: Vec<Outcome>,
     pub(crate) greatest: Greatest,
+}
+
+impl Drop for Room {
+    /// Lets go of everything, in one step for whoever drops it.
+    fn drop(self) {
+        let Room {
+            line: _line,
+            net: _net,
+            volts: _volts,
+            screening: _screening,
+            intact: _intact,
+            plan: _plan,
+            outcomes: _outcomes,
+            greatest: _greatest,
+        } = self;
+    }
 }
 
 /// So many outcomes.

@@ -18,7 +18,6 @@ use gic_winding::elements;
 use std::alloc::Global;
 
 /// All that the mode takes memory for: the certificate that was read, too.
-#[derive(Drop)]
 pub struct Room {
     pub(crate) line: LineBuilder,
     pub(crate) net: Net,
@@ -27,6 +26,19 @@ pub struct Room {
     pub(crate) volts: Volts,
     /// The interval of each live node in millivolts.
     pub(crate) intervals: Vec<Option<Interval>>,
+}
+
+impl Drop for Room {
+    /// Lets go of everything, in one step for whoever drops it.
+    fn drop(self) {
+        let Room {
+            line: _line,
+            net: _net,
+            cert: _cert,
+            volts: _volts,
+            intervals: _intervals,
+        } = self;
+    }
 }
 
 /// Reads a certificate over the network of the case, with all rows of the switchings in force, and makes room for its

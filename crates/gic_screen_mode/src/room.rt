@@ -12,13 +12,24 @@ use gic_winding::elements;
 use std::alloc::Global;
 
 /// All that the mode takes memory for. It is made before the network is looked at.
-#[derive(Drop)]
 pub struct Room {
     pub(crate) line: LineBuilder,
     pub(crate) net: Net,
     /// The voltages of the field of the event that is asked for.
     pub(crate) volts: FieldVolts,
     pub(crate) screening: ScreenRoom,
+}
+
+impl Drop for Room {
+    /// Lets go of everything, in one step for whoever drops it.
+    fn drop(self) {
+        let Room {
+            line: _line,
+            net: _net,
+            volts: _volts,
+            screening: _screening,
+        } = self;
+    }
 }
 
 /// Room for the network of the case, with all rows of the switchings in force.

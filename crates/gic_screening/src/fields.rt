@@ -11,10 +11,19 @@ use gic_uniform::uniform_volts;
 use std::alloc::Global;
 
 /// The voltages in nanovolts in one field to the north, and in the same field to the east.
-#[derive(Drop)]
 pub struct FieldVolts {
     pub north: Volts,
     pub east: Volts,
+}
+
+impl Drop for FieldVolts {
+    /// Lets go of everything, in one step for whoever drops it.
+    fn drop(self) {
+        let FieldVolts {
+            north: _north,
+            east: _east,
+        } = self;
+    }
 }
 
 /// The voltages of the elements of a case in the field of an event.

@@ -19,12 +19,23 @@ use gic_view::StepView;
 use std::alloc::Global;
 
 /// What a screen writes to. It is made before the network is looked at.
-#[derive(Drop)]
 pub struct ScreenRoom {
     pub solving: Room,
     pub north: StepView,
     pub east: StepView,
     pub rows: ScreenRows,
+}
+
+impl Drop for ScreenRoom {
+    /// Lets go of everything, in one step for whoever drops it.
+    fn drop(self) {
+        let ScreenRoom {
+            solving: _solving,
+            north: _north,
+            east: _east,
+            rows: _rows,
+        } = self;
+    }
 }
 
 /// Room for the network of a case.

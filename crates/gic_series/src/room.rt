@@ -12,7 +12,6 @@ use gic_view::StepView;
 use std::alloc::Global;
 
 /// All that a series takes memory for. It is made before any step is looked at.
-#[derive(Drop)]
 pub struct Room {
     pub(crate) line: LineBuilder,
     pub(crate) course: Course,
@@ -20,6 +19,18 @@ pub struct Room {
     pub(crate) view: StepView,
     /// A row for each step.
     pub(crate) rows: SeriesRows,
+}
+
+impl Drop for Room {
+    /// Lets go of everything, in one step for whoever drops it.
+    fn drop(self) {
+        let Room {
+            line: _line,
+            course: _course,
+            view: _view,
+            rows: _rows,
+        } = self;
+    }
 }
 
 /// Room for a series of this storm.

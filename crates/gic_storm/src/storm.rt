@@ -20,7 +20,6 @@ use std::alloc::{AllocError, Global};
 use std::marker::Model;
 
 /// The fields of the zones of a case in the course of time: 1 to 20000 rows, whose times do not fall.
-#[derive(Drop)]
 pub struct Storm {
     zones: u16,
     rows: Vec<Row>,
@@ -37,6 +36,17 @@ impl Model for Storm {
     ghost view = { λ s. record { zones = s.zones; rows = s.rows.items } };
 
     ghost invariant = { λ s. IsStorm (record { zones = s.zones; rows = s.rows.items }) × (s.starts.items ≡ starts_from 0 None s.rows.items) };
+}
+
+impl Drop for Storm {
+    /// Lets go of everything, in one step for whoever drops it.
+    fn drop(self) {
+        let Storm {
+            zones: _zones,
+            rows: _rows,
+            starts: _starts,
+        } = self;
+    }
 }
 
 /// Whether a time is another than the one before.

@@ -18,7 +18,6 @@ use gic_text::LineBuilder;
 use std::alloc::Global;
 
 /// What a study writes to, and what its monitors begin with.
-#[derive(Drop)]
 pub struct StepsRoom {
     pub(crate) line: LineBuilder,
     pub(crate) course: Course,
@@ -26,6 +25,19 @@ pub struct StepsRoom {
     /// The fields of the step that is asked for, if there is one.
     pub(crate) fields: Option<Fields>,
     pub(crate) roster: Roster,
+}
+
+impl Drop for StepsRoom {
+    /// Lets go of everything, in one step for whoever drops it.
+    fn drop(self) {
+        let StepsRoom {
+            line: _line,
+            course: _course,
+            views: _views,
+            fields: _fields,
+            roster: _roster,
+        } = self;
+    }
 }
 
 /// Room for the steps of this storm, with the one that is asked for in detail.
@@ -53,10 +65,19 @@ fn make_steps_room(
 }
 
 /// All that a study takes memory for before it looks at any step. Its monitors have begun.
-#[derive(Drop)]
 pub struct Room {
     pub(crate) steps: StepsRoom,
     pub(crate) board: Board,
+}
+
+impl Drop for Room {
+    /// Lets go of everything, in one step for whoever drops it.
+    fn drop(self) {
+        let Room {
+            steps: _steps,
+            board: _board,
+        } = self;
+    }
 }
 
 /// Room for a study of this storm, with the step that is asked for in detail. The monitors begin, each once, in order.

@@ -12,7 +12,6 @@ use gic_view::StepView;
 use std::alloc::Global;
 
 /// What a study writes to. It is made before any step is looked at.
-#[derive(Drop)]
 pub(crate) struct Views {
     /// The peaks of the views so far.
     pub(crate) peaks: Peaks,
@@ -20,6 +19,17 @@ pub(crate) struct Views {
     pub(crate) asked: StepView,
     /// The view of any other step.
     pub(crate) other: StepView,
+}
+
+impl Drop for Views {
+    /// Lets go of everything, in one step for whoever drops it.
+    fn drop(self) {
+        let Views {
+            peaks: _peaks,
+            asked: _asked,
+            other: _other,
+        } = self;
+    }
 }
 
 /// Room for the views of a storm. There are no peaks yet.

@@ -18,7 +18,6 @@ use std::marker::Model;
 use std::sync::ledger::Ledger;
 
 /// One guess for each node, in grains of 2^-36 nanovolt, each from -2^96 to 2^96.
-#[derive(Drop)]
 pub struct Solver {
     guesses: Guesses,
     /// Room for the guesses as they were before they are written.
@@ -38,6 +37,19 @@ impl Model for Solver {
     ghost view = { λ s. s.guesses };
 
     ghost invariant = { λ s. IsRoomForGuesses s.guesses s.before.items s.low.items s.high.items s.thinning };
+}
+
+impl Drop for Solver {
+    /// Lets go of everything, in one step for whoever drops it.
+    fn drop(self) {
+        let Solver {
+            guesses: _guesses,
+            before: _before,
+            low: _low,
+            high: _high,
+            thinning: _thinning,
+        } = self;
+    }
 }
 
 ghost use Rattle.std.specs.Prelude.{◌≡◌, ℕ, ℤ, ◌+◌, ◌^◌, ◌<◌, ◌≤◌, ◌*◌, length, IfOk, replicate, pos, unsigned_abs, IsTrue, IfSome, IfNone};

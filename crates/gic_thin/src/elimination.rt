@@ -14,7 +14,6 @@ use std::marker::Model;
 
 /// What an elimination works on: the web of the nodes that are left, and the factors so far. It is seen as the number of
 /// nodes.
-#[derive(Drop)]
 pub struct Elimination {
     web: Web,
     star: Star,
@@ -30,6 +29,18 @@ impl Model for Elimination {
     ghost view = { λ e. e.web };
 
     ghost invariant = { λ e. (e.star ≡ e.web) × (e.factors ≡ e.web) };
+}
+
+impl Drop for Elimination {
+    /// Lets go of everything, in one step for whoever drops it.
+    fn drop(self) {
+        let Elimination {
+            web: _web,
+            star: _star,
+            factors: _factors,
+            draws: _draws,
+        } = self;
+    }
 }
 
 ghost use Rattle.std.specs.Prelude.{◌≡◌, ◌<◌, IfOk};

@@ -7,7 +7,6 @@ use std::alloc::Global;
 use std::marker::Model;
 
 /// The factors that an elimination makes: a step a node, with its entries. They are seen as the number of nodes.
-#[derive(Drop)]
 pub struct Factors {
     steps: Vec<Step>,
     entries: Vec<Entry>,
@@ -33,6 +32,19 @@ impl Model for Factors {
         × (f.made ≤ length f.steps.items)
         × (f.used ≤ length f.entries.items)
         × (length f.entries.items ≤ MOST_ENTRIES) };
+}
+
+impl Drop for Factors {
+    /// Lets go of everything, in one step for whoever drops it.
+    fn drop(self) {
+        let Factors {
+            steps: _steps,
+            entries: _entries,
+            made: _made,
+            used: _used,
+            nodes: _nodes,
+        } = self;
+    }
 }
 
 ghost use Rattle.std.specs.Prelude.{ℕ, ◌≡◌, ◌<◌, ◌≤◌, IfOk, length};

@@ -9,7 +9,6 @@ use std::alloc::Global;
 use std::marker::Model;
 
 /// The wires of a network, and the factors of its equations. It is seen as the number of nodes.
-#[derive(Drop)]
 pub struct System {
     wires: Wires,
     elimination: Elimination,
@@ -28,6 +27,18 @@ impl Model for System {
     ghost view = { λ s. s.wires };
 
     ghost invariant = { λ s. (s.elimination ≡ s.wires) × (length s.list.items ≡ s.wires) × AreNodes s.wires s.list.items };
+}
+
+impl Drop for System {
+    /// Lets go of everything, in one step for whoever drops it.
+    fn drop(self) {
+        let System {
+            wires: _wires,
+            elimination: _elimination,
+            list: _list,
+            is_factored: _is_factored,
+        } = self;
+    }
 }
 
 ghost use Rattle.std.specs.Prelude.{◌≡◌, ◌<◌, ◌≤◌, IfOk, length};

@@ -8,7 +8,6 @@ use std::alloc::Global;
 use std::marker::Model;
 
 /// The vectors of conjugate gradients, a number a node each. They are seen as the number of nodes.
-#[derive(Drop)]
 pub struct Vectors {
     /// The currents that are not balanced yet.
     currents: Vec<i64>,
@@ -34,6 +33,19 @@ impl Model for Vectors {
         × (length v.direction.items ≡ length v.currents.items)
         × (length v.guess.items ≡ length v.currents.items)
         × (length v.drawn.items ≡ length v.currents.items) };
+}
+
+impl Drop for Vectors {
+    /// Lets go of everything, in one step for whoever drops it.
+    fn drop(self) {
+        let Vectors {
+            currents: _currents,
+            potentials: _potentials,
+            direction: _direction,
+            guess: _guess,
+            drawn: _drawn,
+        } = self;
+    }
 }
 
 ghost use Rattle.std.specs.Prelude.{◌≡◌, ◌<◌, ◌≤◌, IfOk, length, replicate, pos};

@@ -7,7 +7,6 @@ use std::alloc::Global;
 use std::marker::Model;
 
 /// The links between the nodes that are left, and what these have to earth. It is seen as the number of nodes.
-#[derive(Drop)]
 pub struct Web {
     knots: Vec<Knot>,
     /// The halves of links that are in use, and room for others. No link needs more: a new one takes the halves of an
@@ -25,6 +24,17 @@ impl Model for Web {
     ghost view = { λ w. length w.knots.items };
 
     ghost invariant = { λ w. AreHalvesInside (length w.knots.items) w.halves.items };
+}
+
+impl Drop for Web {
+    /// Lets go of everything, in one step for whoever drops it.
+    fn drop(self) {
+        let Web {
+            knots: _knots,
+            halves: _halves,
+            used: _used,
+        } = self;
+    }
 }
 
 ghost use Rattle.std.specs.Prelude.{◌≡◌, ◌+◌, ◌<◌, ◌≤◌, IfOk, IfSome, length};

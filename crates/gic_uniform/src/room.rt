@@ -14,13 +14,25 @@ use gic_sweep::Solver;
 use std::alloc::Global;
 
 /// What a solve writes to besides its view. It is made before the network is looked at.
-#[derive(Drop)]
 pub struct Room {
     pub(crate) scratch: Scratch,
     pub(crate) vector: BoundVector,
     pub(crate) start: Start,
     pub(crate) solver: Solver,
     pub(crate) potentials: Potentials,
+}
+
+impl Drop for Room {
+    /// Lets go of everything, in one step for whoever drops it.
+    fn drop(self) {
+        let Room {
+            scratch: _scratch,
+            vector: _vector,
+            start: _start,
+            solver: _solver,
+            potentials: _potentials,
+        } = self;
+    }
 }
 
 impl Room {

@@ -10,7 +10,6 @@ use std::marker::Model;
 /// What a step shows: its number and its time in seconds, an interval of each node's potential in millivolts (`None`
 /// where it is dead), of each element's current in milliamperes (`None` where it doesn't stand), and of each
 /// transformer's signed effective current in milliamperes per phase.
-#[derive(Drop)]
 pub struct StepView {
     number: u32,
     time: u32,
@@ -36,6 +35,19 @@ impl Model for StepView {
     } };
 
     ghost invariant = { λ v. AreFew (length v.nodes.items) (length v.elements.items) (length v.effective.items) };
+}
+
+impl Drop for StepView {
+    /// Lets go of everything, in one step for whoever drops it.
+    fn drop(self) {
+        let StepView {
+            number: _number,
+            time: _time,
+            nodes: _nodes,
+            elements: _elements,
+            effective: _effective,
+        } = self;
+    }
 }
 
 /// No intervals.
