@@ -1,33 +1,38 @@
 """Proves the crates, each as soon as those below it are built, and links the program."""
 
 import os
+import subprocess
+import sys
 import time
 from dataclasses import dataclass, field
 from pathlib import Path
 
 import machine
-from crates import PROGRAM, Crate, Fault, below, read_text
+from crates import PROGRAM, Crate, Fault, read_text
 from plan import Start, chains, read_table, starts, weigh
-from rooms import Room, clear_rooms, is_proved, out_of, rooms_of
+from prove_crate import UNKNOWN_TOOLCHAIN
 from runs import Ended, Run, was_interrupted, was_killed
+from snapshot import Snapshot, is_library_there, is_proved, out_of, put_mark, remove_mark
 from sources import Sources
 from teller import Teller
 
 LOG = "build.log"
 TIMES = "build.times"
-# A run of the program that ends with status 0: `rt run` proves it, links it and runs it.
+PROVER = Path(__file__).with_name("prove_crate.py")
+# A run of the program that ends with status 0: what is linked takes the program's place only behind it.
 TRIED = ("volts", "--case=data/p.toml", "--north=1000")
+# So many seconds it may take.
+TRIED_FOR = 60
 # How long the builder sleeps before it looks again at what runs.
 LOOK = 0.1
 
 
 @dataclass
 class Work:
-    """A crate at work: the room it has, and its run."""
+    """A crate at work, and its run."""
 
     start: Start
     crate: Crate
-    room: Room
     run: Run
 
 
@@ -47,13 +52,12 @@ class Builder:
     def __post_init__(self) -> None:
         self.crates = {it.name: it for it in self.sources.crates}
         self.sums = self.sources.sums(self.toolchain)
-        self.libraries = {name: below(self.crates, name) for name in self.crates}
         weights = weigh({name: self.sources.lines(name) for name in self.crates}, self.table)
         self.behind = chains(self.sources.crates, weights)
         self.proved = {name for name in self.crates if name != PROGRAM and is_proved(self.top, name, self.sums[name])}
         self.before = len(self.proved)
         self.work: list[Work] = []
-        self.rooms: list[Room] = []
+        self.snapshot = Snapshot(self.top)
         self.failed: Work | None = None
         # Crates whose run was killed: each is tried once more, with nothing beside it.
         self.killed: list[str] = []
@@ -66,12 +70,12 @@ class Builder:
     def build(self) -> None:
         """Proves all that isn't proved, and links the program."""
         try:
+            self.snapshot.fill(self.sources)
             self.go_on()
         finally:
             for it in self.work:
                 it.run.stop()
-                it.room.give_up(it.crate)
-            clear_rooms(self.top)
+            self.snapshot.remove()
             self.write_times()
 
     def go_on(self) -> None:
@@ -114,36 +118,23 @@ class Builder:
             self.start(start)
 
     def start(self, start: Start) -> None:
-        crate, room = self.crates[start.name], self.free_room()
-        room.enter(crate, self.libraries[crate.name])
-        log = out_of(self.top, crate.name) / LOG
-        words = ["run"] if crate.name == PROGRAM else ["lib"]
-        words += ["--jobs", str(start.jobs), *(["--", *TRIED] if crate.name == PROGRAM else [])]
-        self.work.append(Work(start, crate, room, Run([self.rt, *words], room.folder(crate), log)))
+        crate = self.crates[start.name]
+        remove_mark(self.top, crate.name)
+        words = [sys.executable, "-B", str(PROVER), self.rt, crate.name, str(start.jobs)]
+        self.work.append(Work(start, crate, Run(words, self.snapshot.at, out_of(self.top, crate.name) / LOG)))
         if crate.name == PROGRAM:
             self.teller.say(f"now the program itself is proved and linked, {self.teller.minutes()}")
 
-    def free_room(self) -> Room:
-        taken = [it.room for it in self.work]
-        for room in self.rooms:
-            if room not in taken:
-                return room
-        room = Room(self.top, rooms_of(self.top) / str(len(self.rooms) + 1))
-        room.fill(self.sources)
-        self.rooms.append(room)
-        return room
-
     def end(self, work: Work, ended: Ended) -> None:
         name = work.crate.name
-        if ended.status == 0:
-            work.room.leave(work.crate, self.sums[name])
+        why = self.fault_of(work, ended)
+        if why is None:
             work.run.log.unlink(missing_ok=True)
             self.proved.add(name)
             self.killed = [it for it in self.killed if it != name]
             self.ended[name] = (work.start, ended)
             self.teller.progress(len(self.proved), len(self.crates), self.at_work(), f"{name} is proved; ")
             return
-        work.room.give_up(work.crate)
         if was_interrupted(ended.status):
             raise KeyboardInterrupt
         if was_killed(ended.status) and name not in self.killed:
@@ -151,11 +142,47 @@ class Builder:
             self.teller.say(f"the proof of {name} was killed, most likely for memory: once more, later and alone")
             return
         self.failed = self.failed or work
-        self.teller.say(f"{name} isn't proved; the last lines of {work.run.log}:")
+        self.teller.say(f"{name} {why}; the last lines of {work.run.log}:")
         for line in work.run.last_lines():
             self.teller.say(f"| {line}")
         if self.work:
             self.teller.say(f"what is at work is proved first ({', '.join(self.at_work())}); Ctrl-C ends it")
+
+    def fault_of(self, work: Work, ended: Ended) -> str | None:
+        """Why the crate doesn't count as proved, or None where it does: its library is there, or its program runs."""
+        if ended.status == UNKNOWN_TOOLCHAIN:
+            return f"can't be built with {self.toolchain}"
+        if ended.status != 0:
+            return "isn't proved"
+        if work.crate.name == PROGRAM:
+            return self.fault_of_program(work.run.log)
+        if not is_library_there(self.top, work.crate.name):
+            return "is proved, as is said, and its library isn't there"
+        put_mark(self.top, work.crate.name, self.sums[work.crate.name])
+        return None
+
+    def fault_of_program(self, log: Path) -> str | None:
+        """Tries what was linked, and puts it in the place of the program. Why it can't be, if so."""
+        out = out_of(self.top, PROGRAM)
+        linked = out / f"{PROGRAM}.new"
+        (out / f"{PROGRAM}.o").unlink(missing_ok=True)
+        with open(log, "ab") as told:
+            try:
+                ran = subprocess.run(
+                    [linked, *TRIED],
+                    cwd=self.snapshot.folder(self.crates[PROGRAM]),
+                    stdin=subprocess.DEVNULL,
+                    stdout=subprocess.DEVNULL,
+                    stderr=told,
+                    timeout=TRIED_FOR,
+                )
+            except (OSError, subprocess.TimeoutExpired) as error:
+                told.write(f"{error}\n".encode(errors="backslashreplace"))
+                return "is linked, and doesn't run"
+        if ran.returncode != 0:
+            return f"is linked, and ends with status {ran.returncode} where it is tried"
+        os.replace(linked, out / PROGRAM)
+        return None
 
     def write_times(self) -> None:
         """Keeps when the proof of each crate began and ended, its jobs and its processor seconds."""

@@ -19,7 +19,7 @@ from pathlib import Path
 import machine
 from builder import builder_for
 from crates import PROGRAM, Fault
-from rooms import clear_rooms, out_of
+from snapshot import out_of
 from sources import Sources, first_difference, read_sources
 from teller import Teller
 
@@ -155,7 +155,6 @@ def build(top: Path, teller: Teller, why: str, sources: Sources) -> None:
             keep(top, sources)
             return
         teller.say("builds the program; what isn't proved yet is proved first")
-        clear_rooms(top)
         builder = builder_for(top, rt, toolchain_of(rt), sources, teller)
         needed, free = machine.disk_for(builder.left(), len(sources.crates)), machine.free_disk(top)
         if free < needed:

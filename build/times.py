@@ -11,7 +11,7 @@ from pathlib import Path
 from builder import TIMES
 from crates import PROGRAM, Crate, Fault, below, read_crates
 from plan import longest_chain
-from rooms import out_of
+from snapshot import out_of
 from sources import LIST
 
 HEAD = "# Processor seconds of the proof of each crate, as bench/build.sh measured them last; who isn't here counts by its lines.\n"

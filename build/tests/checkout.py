@@ -26,6 +26,7 @@ class Checkout:
         self.bin = self.top / "bin"
         self.bin.mkdir()
         shutil.copy2(TOP / "build/tests/fake_rt.py", self.bin / "rt")
+        shutil.copy2(TOP / "build/tests/fake_rtlib.py", self.bin / "rtlib.py")
         self.log = self.top / "rt.log"
         self.log.write_text("", encoding="utf-8")
 

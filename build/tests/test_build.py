@@ -57,8 +57,8 @@ class Builds(unittest.TestCase):
 
     def test_nothing_is_left_behind(self) -> None:
         self.build()
-        kept = [f"{name}/out/{it}" for name in PROVED[:-1] for it in ("incremental", "rlib")]
-        names = ("build.times", "gicstudy", "gicstudy.places", "gicstudy.sources", "incremental")
+        kept = [f"{name}/out/rlib" for name in PROVED[:-1]]
+        names = ("build.times", "gicstudy", "gicstudy.places", "gicstudy.sources")
         self.assertEqual(self.at.left(), sorted([*kept, *(f"gicstudy/out/{it}" for it in names)]))
         self.assertEqual(list(self.at.top.glob("build/**/__pycache__")), [])
 
@@ -204,6 +204,29 @@ class Builds(unittest.TestCase):
         self.assertEqual(self.at.call()[0], 0)
         self.assertEqual(self.at.noted(), ["left", "high", "gicstudy"])
 
+    def test_a_crate_counts_as_proved_only_where_its_library_is_there(self) -> None:
+        self.at.write("left", "left LOST")
+        status, _, said = self.at.call()
+        self.assertEqual(status, 1)
+        self.assertIn("gicstudy: left is proved, as is said, and its library isn't there; the last lines", said)
+        self.assertNotIn("left is proved; ", said)
+
+    def test_a_program_that_ends_with_another_status_takes_no_place(self) -> None:
+        self.build()
+        before = (self.at.top / "crates/gicstudy/out/gicstudy").read_bytes()
+        self.at.write("gicstudy", "gicstudy BROKEN")
+        status, _, said = self.at.call()
+        self.assertEqual(status, 1)
+        self.assertIn("gicstudy: gicstudy is linked, and ends with status 8 where it is tried; the last lines", said)
+        self.assertEqual((self.at.top / "crates/gicstudy/out/gicstudy").read_bytes(), before)
+
+    def test_a_toolchain_of_another_kind_is_told(self) -> None:
+        (self.at.bin / "rtlib.py").write_text("KIT = ''\n", encoding="utf-8")
+        status, _, said = self.at.call()
+        self.assertEqual(status, 1)
+        self.assertIn("gicstudy: low can't be built with a toolchain of the tests; the last lines", said)
+        self.assertIn("isn't laid out as this build expects it", said)
+
     def test_a_killed_proof_is_tried_once_more_alone(self) -> None:
         self.at.write("high", "high KILLED")
         status, _, said = self.at.call()
@@ -220,8 +243,7 @@ class Builds(unittest.TestCase):
             said = started.communicate(timeout=30)[1]
             self.assertEqual(started.returncode, -number)
             self.assertIn("gicstudy: stopped; the next call goes on from here\n", said)
-            self.assertNotIn("gicstudy/out/rooms", self.at.left())
-            self.assertIn("high/out/incremental", self.at.left())
+            self.assertNotIn("gicstudy/out/snapshot", self.at.left())
             self.at.forget()
         self.assertEqual(self.at.call()[0], 0)
         self.assertEqual(self.at.noted(), ["high", "gicstudy"])
@@ -232,12 +254,12 @@ class Builds(unittest.TestCase):
         self.at.wait_for("high")
         started.kill()
         started.communicate(timeout=300)
-        self.assertIn("gicstudy/out/rooms", self.at.left())
+        self.assertIn("gicstudy/out/snapshot", self.at.left())
         self.at.forget()
         shutil.rmtree(self.at.top / "crates/high/out")
         self.assertEqual(self.at.call()[0], 0)
         self.assertEqual(self.at.noted(), ["high", "gicstudy"])
-        self.assertNotIn("gicstudy/out/rooms", self.at.left())
+        self.assertNotIn("gicstudy/out/snapshot", self.at.left())
 
     def test_a_second_call_waits_for_the_first(self) -> None:
         self.at.write("high", "high SLOW")

@@ -1,0 +1,65 @@
+"""Proves one crate from nothing and builds its library, or the program, with the toolchain's own rules for a verdict.
+
+usage: prove_crate.py RT NAME JOBS
+
+It runs at the top of a repository in which the libraries below the crate are built. A library is built for the crates
+above it as its statements, without its proofs, so that each of them loads a fraction of it: the toolchain builds them so
+for its merge gate, and has no word of its command for it. So this calls the toolchain's Python, and the status is 1 where
+the crate isn't proved, and 3 where the toolchain isn't laid out as is expected here."""
+
+import importlib.machinery
+import importlib.util
+import os
+import sys
+from types import ModuleType
+from typing import Any
+
+UNKNOWN_TOOLCHAIN = 3
+
+
+def load(rt: str) -> ModuleType:
+    """The toolchain's module of crates, which stands beside its command."""
+    file = os.path.join(os.path.dirname(os.path.realpath(rt)), "rtlib.py")
+    loader = importlib.machinery.SourceFileLoader("rtlib", file)
+    spec = importlib.util.spec_from_loader("rtlib", loader)
+    if spec is None:
+        raise ImportError(file)
+    found = importlib.util.module_from_spec(spec)
+    sys.modules["rtlib"] = found
+    loader.exec_module(found)
+    return found
+
+
+def build_program(crate: Any, kit: str, jobs: str) -> int:
+    """Proves the program, compiles it and links it as out/NAME.new."""
+    words = crate.words(["--jobs", jobs], keeps=False)
+    made = f"out/{crate.name}.o"
+    compiles = ["--toolchain", f"{kit}/toolchain", "--backend", "llvm", "-o", made]
+    status: int = crate.prove(["build", *words, *compiles])
+    if status == 0:
+        links = ["--target", "x86_64-unknown-linux-gnu", "--toolchain", f"{kit}/toolchain", "-o", f"out/{crate.name}.new", made]
+        status = crate.call(f"{kit}/bin/rattle-link", *links, f"{kit}/c/libos_c.a", f"{kit}/c/liblibc_c.a")
+    return status
+
+
+def main(words: list[str]) -> int:
+    if len(words) != 3:
+        print(__doc__, file=sys.stderr)
+        return 2
+    rt, name, jobs = words
+    sys.dont_write_bytecode = True
+    try:
+        kit: Any = load(rt)
+        kit.Crate.cuts_libraries = True
+        crate = kit.Crate(f"{os.getcwd()}/crates/{name}", os.getcwd(), {})
+        if crate.is_program:
+            return build_program(crate, kit.KIT, jobs)
+        status: int = crate.build_rlib(["--jobs", jobs], anew=True)
+        return status
+    except (ImportError, OSError, AttributeError, TypeError) as error:
+        print(f"the toolchain of {rt} isn't laid out as this build expects it: {error}", flush=True)
+        return UNKNOWN_TOOLCHAIN
+
+
+if __name__ == "__main__":
+    sys.exit(main(sys.argv[1:]))
