@@ -1,4 +1,4 @@
--- Spans close round every loop, since they are differences of places. A line that closes a loop is told where the loop stays open by more than it may.
+-- Round a small loop spans close, since they are differences of places; round a large one meridians converge. A line that closes a loop is told where the loop stays open by more than it may.
 use Rattle.std.specs.Prelude.{ℕ, ◌*◌, ◌<◌, ◌≤◌, ◌≡◌, ◌==◌, List, [], ◌∷◌, ◌++◌, length, slice_index_or, count_by, if◌then◌else◌, ℤ, pos, ◌+ℤ◌, ◌≤ℤ◌}
 use Rattle.gic_base.specs.declared.limits.TheConstants.{MOST_SUBSTATIONS}
 use Rattle.gic_case.specs.declared.item.Bus.{Bus}

@@ -1,4 +1,4 @@
-//! Loops of spans, which close where the spans are right.
+//! Loops of spans, which close or stay open by little where the spans are right and the loop is small.
 ghost use Rattle.std.specs.Prelude.{◌≡◌, ◌<◌, ◌++◌, length, OnOk};
 ghost use Rattle.gic_case.specs.Sound.{IsSoundLine};
 ghost use Rattle.gic_findings.specs.Closures.{position_of_bus, closure_told, told_at_line, places_after, closures_from, closures_of, AreLaidOut};

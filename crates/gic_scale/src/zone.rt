@@ -29,7 +29,7 @@ impl Model for Zone {
 impl Zone {
     ghost use Rattle.gic_scale.specs.ZoneView.{factor_of, IsZone};
 
-    /// Alpha times beta, in thousandths from 1 to 1500.
+    /// Alpha times beta, or the scale that stands in its place, in thousandths from 1 to 1500.
     pub fn factor(&self) -> u16
         ensures value { result ≡ factor_of self.now }
         ensures least { 1 ≤ result }
