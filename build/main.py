@@ -9,6 +9,8 @@ try:
     # (who ignores interrupts, as what runs in the background, goes on so)
     if signal.getsignal(signal.SIGINT) is signal.default_int_handler:
         signal.signal(signal.SIGINT, signal.SIG_DFL)
+    # (the script holds them back until here, where it can)
+    signal.pthread_sigmask(signal.SIG_UNBLOCK, [signal.SIGINT])
 except KeyboardInterrupt:
     sys.exit(130)
 

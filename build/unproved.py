@@ -22,9 +22,8 @@ from crates import PROGRAM, Fault
 from locks import locked
 from record import identity_of, put, read_program
 from rooms import out_of
-from runs import end_with_parent
 from sources import Sources, sum_of
-from stops import STOPS, end_by
+from stops import STOPS, end_by, running
 from teller import Teller
 from trial import TRIAL, run_trial
 
@@ -156,13 +155,13 @@ class Compiler:
 
     def is_whole(self, program: Path, status: int, out: bytes) -> bool:
         """Whether a program that was taken out of its folder does by itself what it did there."""
+        how = {"stdin": subprocess.DEVNULL, "stdout": subprocess.PIPE, "stderr": subprocess.DEVNULL, "env": environment()}
         try:
-            ran = subprocess.run(
-                [program, *TRIAL], stdin=subprocess.DEVNULL, capture_output=True, env=environment(), timeout=60
-            )
+            with running([program, *TRIAL], **how) as ran:
+                printed = ran.communicate(timeout=60)[0]
         except (OSError, subprocess.TimeoutExpired):
             return False
-        return (ran.returncode, ran.stdout) == (status, out)
+        return (ran.returncode, printed) == (status, out)
 
     def refusal(self, told: list[str]) -> Fault:
         for line in told[-LAST_LINES:]:
@@ -198,14 +197,8 @@ def pass_on(told: bytes) -> None:
 
 def run(program: Path, words: list[str]) -> int:
     """Runs the program compiled without proof with the words, the streams and in the folder of the caller."""
-    with subprocess.Popen(
-        [program, *words], stderr=subprocess.PIPE, env=environment(), close_fds=False, preexec_fn=end_with_parent
-    ) as ran:
-        try:
-            told = ran.communicate()[1]
-        except BaseException:
-            ran.terminate()
-            raise
+    with running([program, *words], stderr=subprocess.PIPE, env=environment(), close_fds=False) as ran:
+        told = ran.communicate()[1]
     return answered(ran.returncode, told)
 
 
