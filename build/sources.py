@@ -79,15 +79,16 @@ class Sources:
         return found
 
 
-def read_sources(top: Path) -> Sources:
-    """Reads the sources of the program's crates."""
+def read_sources(top: Path, parts: tuple[str, ...] = PARTS) -> Sources:
+    """Reads the sources of the program's crates, or these parts of them alone."""
     # A save within the last moments may bear the time of now: one second back it counts as later, and is looked at.
     read_at = time.time() - 1
     listed = read_crates(read_text(top / LIST))
     crates = (*below(listed, PROGRAM), listed[PROGRAM])
     files: dict[str, bytes] = {}
     for crate in crates:
-        for part in (*PARTS, *(TRIED_ON if crate.name == PROGRAM else ())):
+        tried_on = TRIED_ON if crate.name == PROGRAM and parts == PARTS else ()
+        for part in (*parts, *tried_on):
             for path in files_of(top / "crates" / crate.name / part):
                 files[str(path.relative_to(top))] = path.read_bytes()
     return Sources(read_at, crates, files)

@@ -27,6 +27,7 @@ class Checkout:
         self.bin.mkdir()
         shutil.copy2(TOP / "build/tests/fake_rt.py", self.bin / "rt")
         shutil.copy2(TOP / "build/tests/fake_rtlib.py", self.bin / "rtlib.py")
+        self.out = self.top / "crates/gicstudy/out"
         self.log = self.top / "rt.log"
         self.log.write_text("", encoding="utf-8")
 
@@ -48,27 +49,37 @@ class Checkout:
         path = f"{self.bin}:{path}" if has_rt else path
         return {"PATH": path, "FAKE_RT_LOG": str(self.log)}
 
-    def start(self, *words: str, has_rt: bool = True) -> subprocess.Popen[str]:
+    def start(
+        self, *words: str | bytes, has_rt: bool = True, cwd: str | Path = "/", given: int = subprocess.DEVNULL, **more: str
+    ) -> subprocess.Popen[str]:
+        """A call in a process group of its own, as a terminal starts one."""
         return subprocess.Popen(
             [self.top / "gicstudy", *words],
-            cwd="/",
-            env=self.environment(has_rt),
-            stdin=subprocess.DEVNULL,
+            cwd=cwd,
+            env={**self.environment(has_rt), **more},
+            stdin=given,
             stdout=subprocess.PIPE,
             stderr=subprocess.PIPE,
             text=True,
+            process_group=0,
         )
 
-    def call(self, *words: str, has_rt: bool = True) -> tuple[int, str, str]:
+    def call(
+        self, *words: str | bytes, has_rt: bool = True, cwd: str | Path = "/", **more: str
+    ) -> tuple[int, str, str]:
         """Status, output and what was said of a call that was waited for."""
-        started = self.start(*words, has_rt=has_rt)
+        started = self.start(*words, has_rt=has_rt, cwd=cwd, **more)
         out, said = started.communicate(timeout=300)
         return started.returncode, out, said
 
+    def prove(self, *words: str | bytes, has_rt: bool = True) -> tuple[int, str, str]:
+        """The same of a call that proves and builds first."""
+        return self.call("--prove", *words, has_rt=has_rt)
+
     def build_again(self) -> tuple[int, str]:
         """Status and what was said of a build that begins where the program is built already."""
-        words = "import sys; sys.path.insert(0, sys.argv[1]); import main; top = main.Path(sys.argv[1]).parent"
-        words += "; main.build(top, main.Teller(), 'it was looked at before', main.read_sources(top))"
+        words = "import sys; sys.path.insert(0, sys.argv[1]); import proving; top = proving.Path(sys.argv[1]).parent"
+        words += "; proving.build(top, proving.Teller(), 'it was looked at before', proving.read_sources(top))"
         ran = subprocess.run(
             [sys.executable, "-B", "-c", words, self.top / "build"], env=self.environment(), capture_output=True, text=True
         )
@@ -77,7 +88,7 @@ class Checkout:
     def noted(self, verb: str = "begin") -> list[str]:
         """The crates at which `rt` was called since the last look, or has ended, in their order."""
         lines = [it.split() for it in self.log.read_text(encoding="utf-8").splitlines()]
-        return [it[1] for it in lines if it[0] == verb]
+        return [" ".join(it[1:2]) for it in lines if it[0] == verb]
 
     def forget(self) -> None:
         self.log.write_text("", encoding="utf-8")
@@ -112,6 +123,6 @@ class Checkout:
         tools = self.top / "tools"
         if not tools.is_dir():
             tools.mkdir()
-            for it in ("bash", "sh", "find", "readlink", "env"):
+            for it in ("bash", "sh", "cat", "find", "readlink", "env"):
                 os.symlink(shutil.which(it) or f"/bin/{it}", tools / it)
         return str(tools)

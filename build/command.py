@@ -1,0 +1,117 @@
+"""What the script `gicstudy` is asked for: a proof, an answer, or what is here.
+
+The script calls this where a proved program isn't there, where it can't see that no source and no folder of sources has
+changed since the program's sources were read, and where a word in front of MODE asks for it. Whether sources differ is told
+by their contents; a checkout whose files are only newer has its proved program."""
+
+import errno
+import os
+import shutil
+import signal
+from contextlib import suppress
+from pathlib import Path
+from typing import NoReturn
+
+import unproved
+from crates import Fault
+from proving import build
+from record import Look, is_there, keep, look, program_of
+from sources import read_sources
+from stops import Stopped, end_by, stop_on_signals
+from teller import Teller
+from version import version
+
+USAGE = "usage: words"
+HELP = "./gicstudy --help shows the modes and options"
+
+
+def become(program: Path, words: list[str]) -> NoReturn:
+    """Runs the program in the place of this process."""
+    # (Python ignores these, and the program would inherit it)
+    for it in (signal.SIGPIPE, signal.SIGXFSZ):
+        signal.signal(it, signal.SIG_DFL)
+    os.execv(program, [str(program), *words])
+
+
+def looked_at(top: Path) -> Look:
+    """A look at the proved program; where it is that of the sources, what the script looks at is kept anew."""
+    sources = read_sources(top)
+    found = look(top, sources)
+    if found.identity is not None:
+        with suppress(OSError):
+            keep(top, sources, found.identity)
+    return found
+
+
+def prove(top: Path, teller: Teller, words: list[str]) -> int:
+    """Proves and builds the program where it isn't, and runs it where there are words for it."""
+    sources = read_sources(top)
+    found = look(top, sources)
+    if found.identity is None:
+        build(top, teller, found.why or "", sources)
+    else:
+        with suppress(OSError):
+            keep(top, sources, found.identity)
+        if not words:
+            teller.say("the program is proved and built already")
+    if words:
+        become(program_of(top), words)
+    return 0
+
+
+def proved(top: Path, words: list[str]) -> NoReturn:
+    """Runs the proved program, or refuses."""
+    found = looked_at(top)
+    if found.identity is None:
+        raise Fault(f"{found.why}, and without a proof --proved has no answer; {unproved.PROVE} ({unproved.TAKES})")
+    become(program_of(top), words)
+
+
+def answer(top: Path, teller: Teller, words: list[str]) -> int:
+    """Answers by the proved program, or else by one compiled without proof."""
+    head = ""
+    if is_there(top):
+        found = looked_at(top)
+        if found.identity is not None:
+            become(program_of(top), words)
+        head = f"{found.why}; "
+    if not words:
+        # (which needs no program)
+        teller.say(USAGE)
+        return 2
+    return unproved.answer(top, teller, read_sources(top, unproved.PARTS), words, head)
+
+
+def words_of(error: OSError) -> str:
+    """What is the matter, in a line. Of a folder that can't be copied it is the first file of it."""
+    if isinstance(error, shutil.Error):
+        return str(error.args[0][0][2])
+    return f"{error.strerror}: {error.filename}" if error.filename else str(error.strerror)
+
+
+def called(top: Path, teller: Teller, words: list[str]) -> int:
+    first, behind = words[:1], words[1:]
+    if first == ["--version"]:
+        print("\n".join(version(top)))
+        return 0
+    if first == ["--prove"]:
+        return prove(top, teller, behind)
+    if first == ["--proved"]:
+        proved(top, behind)
+    return answer(top, teller, words)
+
+
+def main(words: list[str]) -> int:
+    top, teller = Path(__file__).resolve().parent.parent, Teller()
+    try:
+        stop_on_signals()
+        return called(top, teller, words)
+    except Fault as fault:
+        teller.say(str(fault))
+    except Stopped as stopped:
+        end_by(stopped.number)
+    except OSError as error:
+        told = words_of(error)
+        space = " (remove what isn't needed, and call it again)" if os.strerror(errno.ENOSPC) in told else ""
+        teller.say(f"no answer: {told}{space}")
+    return 1

@@ -1,0 +1,375 @@
+"""Answers without proof in a small checkout with a toolchain that only looks like one, and what stands in front of MODE."""
+
+import os
+import random
+import shutil
+import signal
+import subprocess
+import sys
+import tempfile
+import time
+import unittest
+from pathlib import Path
+
+sys.path.insert(0, str(Path(__file__).resolve().parent))
+sys.path.insert(1, str(Path(__file__).resolve().parent.parent))
+
+from checkout import TOP, Checkout
+from copies import with_copies
+from unproved import COMPILES, PROVE, UNPROVED
+
+FIRST = f"gicstudy: {COMPILES}{UNPROVED}\n"
+LATER = f"gicstudy: {UNPROVED}\n"
+HINT = "gicstudy: ./gicstudy --help shows the modes and options\n"
+
+
+def setUpModule() -> None:
+    # What runs in the background ignores an interrupt, and behind nohup a hangup; so would the calls started here.
+    for number in (signal.SIGINT, signal.SIGHUP):
+        if signal.getsignal(number) is signal.SIG_IGN:
+            signal.signal(number, signal.SIG_DFL)
+
+
+class First(unittest.TestCase):
+    def setUp(self) -> None:
+        self.at = Checkout()
+        self.addCleanup(self.at.remove)
+        self.work = Path(tempfile.mkdtemp(prefix="gicstudy-test-"))
+        self.addCleanup(shutil.rmtree, self.work, True)
+        self.shelf = self.at.out / "unproved"
+
+    def kept(self) -> Path:
+        (found,) = self.shelf.glob("*/gicstudy")
+        return found
+
+    def is_tidy(self) -> None:
+        """Nothing but the kept program and the toolchain lies there, and nothing of `rt try` is left."""
+        if self.shelf.is_dir():
+            self.assertLessEqual({it.name for it in self.shelf.iterdir() if it.is_file()}, {"toolchain"})
+            self.assertLessEqual(len([it for it in self.shelf.iterdir() if it.is_dir()]), 1)
+            self.assertEqual(list(self.shelf.glob("scratch-*")), [])
+        for folder in self.at.noted("in"):
+            self.assertFalse(os.path.exists(folder))
+
+    def test_the_first_call_compiles_and_the_second_runs_what_was_kept(self) -> None:
+        out = "gicstudy without proof: screen --case=a b\n"
+        self.assertEqual(self.at.call("screen", "--case=a b"), (0, out, FIRST))
+        self.assertEqual(self.at.call("screen", "--case=a b"), (0, out, LATER))
+        self.assertEqual(self.at.noted("try"), ["make"])
+        self.assertEqual(len(self.at.noted("version")), 1)
+        self.assertEqual(self.at.noted(), [])
+        self.is_tidy()
+
+    def test_status_and_line_are_the_programs_own(self) -> None:
+        self.at.call("screen")
+        for status in (0, *range(2, 14)):
+            self.assertEqual(self.at.call("status", str(status)), (status, "", f"{LATER}gicstudy: line {status}\n"))
+
+    def test_a_first_call_that_ends_with_a_status_of_rt_try_ends_with_its_own(self) -> None:
+        self.assertEqual(self.at.call("status", "6"), (6, "", f"{FIRST}gicstudy: line 6\n"))
+
+    def test_files_are_those_of_the_caller(self) -> None:
+        for name in (b"plain", b"a b", b"two\nlines", b"--case", b"-n", b"\xff\xfe", "ö".encode(), b"--case=x"):
+            (Path(os.fsdecode(os.fsencode(self.work) + b"/" + name))).write_text(f"text of {len(name)}\n", encoding="utf-8")
+            for word in (name, os.fsencode(self.work) + b"/" + name):
+                answer = self.at.call("show", b"--case=" + word, cwd=self.work)
+                self.assertEqual(answer[:2], (0, f"text of {len(name)}\n"), word)
+        status, out, said = self.at.call("show", "--case=nothing", cwd=self.work)
+        self.assertEqual((status, out, said), (3, "", f"{LATER}gicstudy: cannot read case\n"))
+        self.assertEqual(self.at.noted("try"), ["make"])
+
+    def test_pipes_are_read_by_the_program(self) -> None:
+        for words in ("echo of a pipe | {0} show --case=/dev/stdin", "{0} show --case=<(echo of a pipe)"):
+            ran = subprocess.run(
+                ["bash", "-c", words.format(self.at.top / "gicstudy")], env=self.at.environment(), capture_output=True, text=True
+            )
+            self.assertEqual((ran.returncode, ran.stdout), (0, "of a pipe\n"), ran.stderr)
+
+    def test_a_report_may_be_long(self) -> None:
+        for _ in range(2):
+            status, out, _ = self.at.call("big")
+            self.assertEqual((status, len(out)), (0, 2000000))
+
+    def test_a_fault_of_the_program_is_no_answer(self) -> None:
+        self.at.call("screen")
+        for word, why in (("fault", "AddressSanitizer: stack-overflow on address 1"), ("crash", "signal 11")):
+            status, _, said = self.at.call(word)
+            self.assertEqual(status, 1)
+            self.assertRegex(said.removeprefix(LATER), rf"\Agicstudy: no answer, .* was stopped \({why}\); .*{PROVE}\n\Z")
+        self.assertEqual(self.at.call("pipe")[0], -signal.SIGPIPE)
+        self.assertEqual(self.at.call("environment", ASAN_OPTIONS="detect_leaks=1")[:2], (0, ""))
+
+    def test_a_program_that_cannot_be_compiled_is_told(self) -> None:
+        self.at.write("gicstudy", "REFUSED")
+        status, out, said = self.at.call("screen")
+        self.assertEqual((status, out), (1, ""))
+        self.assertIn("gicstudy: | src/main.rt:1:1: error: no such name\n", said)
+        self.assertTrue(said.splitlines()[-1].startswith("gicstudy: no answer: "))
+        self.is_tidy()
+
+    def test_what_a_signal_stops_leaves_nothing(self) -> None:
+        for number in (signal.SIGINT, signal.SIGTERM, signal.SIGHUP):
+            self.at.write("gicstudy", f"WAITS {number}")
+            self.at.forget()
+            for ends in (os.kill, os.killpg):
+                started = self.at.start("screen")
+                while not self.at.noted("in"):
+                    time.sleep(0.05)
+                ends(started.pid, number)
+                out, said = started.communicate(timeout=30)
+                self.assertEqual((started.returncode, out, said), (-number, "", FIRST))
+                self.is_tidy()
+                self.at.forget()
+
+    def test_a_run_that_a_signal_stops_is_ended(self) -> None:
+        self.at.call("screen")
+        note = self.work / "process"
+        for number in (signal.SIGINT, signal.SIGTERM, signal.SIGHUP, signal.SIGKILL):
+            started = self.at.start("wait", str(note))
+            while not (note.is_file() and note.read_text(encoding="utf-8").endswith("\n")):
+                time.sleep(0.02)
+            process = int(note.read_text(encoding="utf-8"))
+            note.unlink()
+            started.send_signal(number)
+            self.assertEqual(started.communicate(timeout=30), ("", LATER))
+            self.assertEqual(started.returncode, -number)
+            with self.assertRaises(ProcessLookupError):
+                for _ in range(100):
+                    os.kill(process, 0)
+                    time.sleep(0.02)
+
+    def test_what_a_killed_call_left_is_removed(self) -> None:
+        self.at.write("gicstudy", "WAITS")
+        started = self.at.start("screen")
+        while not self.at.noted("in"):
+            time.sleep(0.05)
+        os.killpg(started.pid, signal.SIGKILL)
+        started.communicate(timeout=30)
+        self.assertEqual(len(list(self.shelf.glob("scratch-*"))), 1)
+        self.at.write("gicstudy", "gicstudy")
+        self.assertEqual(self.at.call("screen")[0], 0)
+        self.is_tidy()
+
+    def test_an_early_interrupt_prints_no_traceback(self) -> None:
+        chance = random.Random(1)
+        for moment in [chance.uniform(0, 0.4) for _ in range(40)]:
+            started = self.at.start("screen")
+            time.sleep(moment)
+            os.killpg(started.pid, signal.SIGINT)
+            said = started.communicate(timeout=30)[1]
+            self.assertNotIn("Traceback", said, moment)
+
+    def test_two_calls_at_once_both_answer_and_compile_once(self) -> None:
+        both = [self.at.start("screen", word) for word in ("one", "two")]
+        for started, word in zip(both, ("one", "two")):
+            self.assertEqual(started.communicate(timeout=60)[0], f"gicstudy without proof: screen {word}\n")
+            self.assertEqual(started.returncode, 0)
+        self.assertEqual(self.at.noted("try"), ["make"])
+        self.is_tidy()
+
+    def test_another_source_or_toolchain_has_it_compiled_again(self) -> None:
+        self.at.call("screen")
+        self.at.write("low", "low again")
+        self.assertEqual(self.at.call("screen")[2], FIRST)
+        rt = self.at.bin / "rt"
+        rt.write_text(rt.read_text(encoding="utf-8").replace("a toolchain of", "another toolchain of"), encoding="utf-8")
+        self.assertEqual(self.at.call("screen")[2], FIRST)
+        os.utime(rt)
+        self.assertEqual(self.at.call("screen")[2], LATER)
+        self.assertEqual(len(self.at.noted("try")), 3)
+        self.is_tidy()
+
+    def test_a_kept_program_that_was_swapped_is_not_run(self) -> None:
+        self.at.call("screen")
+        before = self.kept().stat()
+        text = self.kept().read_text(encoding="utf-8")
+        self.kept().write_text(text.replace("without proof", "without truth"), encoding="utf-8")
+        os.utime(self.kept(), ns=(before.st_atime_ns, before.st_mtime_ns))
+        self.assertEqual(self.at.call("screen"), (0, "gicstudy without proof: screen\n", FIRST))
+        copy = self.work / "copy"
+        shutil.copy2(self.kept(), copy)
+        shutil.move(copy, self.kept())
+        for _ in range(2):
+            self.assertEqual(self.at.call("screen")[2], LATER)
+
+    def test_without_the_toolchain_only_a_kept_program_answers(self) -> None:
+        status, out, said = self.at.call("screen", has_rt=False)
+        self.assertEqual((status, out), (1, ""))
+        self.assertRegex(said, r"\Agicstudy: no proved program is here, and the command rt, .* on the path\n\Z")
+        self.at.call("screen")
+        self.assertEqual(self.at.call("screen", has_rt=False), (0, "gicstudy without proof: screen\n", LATER))
+        self.at.write("low", "low again")
+        self.assertEqual(self.at.call("screen", has_rt=False)[0], 1)
+
+    def test_where_nothing_can_be_kept_it_answers_all_the_same(self) -> None:
+        self.at.out.mkdir()
+        self.shelf.write_bytes(b"")
+        for _ in range(2):
+            answer = self.at.call("show", f"--case={__file__}", TMPDIR=str(self.work))
+            self.assertEqual(answer, (0, Path(__file__).read_text(encoding="utf-8"), FIRST))
+            self.assertEqual(list(self.work.iterdir()), [])
+        self.assertEqual(self.at.noted("try"), ["make", "make"])
+
+    def test_a_toolchain_with_other_folders_answers_on_copies(self) -> None:
+        self.at.write("gicstudy", "ELSEWHERE")
+        name = self.work / "a b"
+        name.write_text("of a file\n", encoding="utf-8")
+        self.assertEqual(self.at.call("show", "--case=a b", cwd=self.work, TMPDIR=str(self.work)), (0, "of a file\n", FIRST))
+        self.assertEqual(self.at.noted("try"), ["make", "show"])
+        self.assertEqual(self.at.call("status", "6"), (6, "", f"{FIRST}gicstudy: line 6\n"))
+        self.assertEqual(self.at.noted("try"), ["make", "show", "status"])
+        status, out, said = self.at.call("big")
+        self.assertEqual((status, out), (1, ""))
+        self.assertRegex(said.removeprefix(FIRST), rf"\Agicstudy: no answer: .*1 MiB.*; {PROVE}\n\Z")
+        self.assertEqual(list(self.work.iterdir()), [name])
+        self.is_empty_but_for_the_mark()
+
+    def is_empty_but_for_the_mark(self) -> None:
+        self.assertEqual([it.name for it in self.shelf.glob("*/*")], ["not-kept"])
+
+    def test_copies_have_names_that_rt_takes(self) -> None:
+        (self.work / "a b").write_text("text", encoding="utf-8")
+        for words, wanted in (
+            (["screen", f"--case={self.work}/a b"], ["screen", "--case=given-1"]),
+            (["screen", "--case", f"{self.work}/a b"], ["screen", "--case", "given-2"]),
+            (["--case", "--case", f"--storm={self.work}"], ["--case", "given-1", "--storm=given-2"]),
+            (["--case=", "--case", "", "--width=9"], ["--case=", "--case", "", "--width=9"]),
+        ):
+            scratch = Path(tempfile.mkdtemp(dir=self.work))
+            found, data = with_copies(words, scratch)
+            self.assertEqual(found, wanted)
+            copied = [it.name for it in scratch.iterdir()]
+            self.assertEqual(data, [it for name in copied for it in ("--data", f"{name}={scratch / name}")])
+            self.assertEqual(len(copied), sum(f"{self.work}/a b" in word for word in words))
+
+    def test_proved_refuses_where_no_proof_is_there(self) -> None:
+        status, out, said = self.at.call("--proved", "screen")
+        self.assertEqual((status, out), (1, ""))
+        self.assertRegex(said, rf"\Agicstudy: no proved program is here, .*; {PROVE} .*\n\Z")
+        self.assertEqual(self.at.call("--prove")[:2], (0, ""))
+        self.at.settle()
+        for words in (["screen"], ["--proved", "screen"], ["--prove", "screen"]):
+            self.assertEqual(self.at.call(*words, has_rt=False), (0, "gicstudy: screen\n", ""))
+        self.assertEqual(self.at.call("--prove", has_rt=False)[2], "gicstudy: the program is proved and built already\n")
+        self.assertEqual(self.at.noted(), [])
+
+    def test_a_proof_says_when_it_is_done(self) -> None:
+        self.assertRegex(self.at.call("--prove")[2].splitlines()[-1], r"\Agicstudy: the program is proved and built, 0 min\Z")
+        self.assertEqual(self.at.noted("try"), [])
+
+    def test_a_changed_source_is_answered_without_proof_until_it_is_proved(self) -> None:
+        self.at.prove()
+        self.at.settle()
+        self.at.write("right", "right again")
+        differs = "crates/right/src/lib.rt isn't as it was when the program was built; "
+        said = f"gicstudy: {differs}{COMPILES}{UNPROVED}\n"
+        self.assertEqual(self.at.call("screen"), (0, "gicstudy without proof: screen\n", said))
+        self.assertEqual(self.at.noted(), [])
+        status, _, said = self.at.call("--proved", "screen")
+        self.assertEqual(status, 1)
+        self.assertRegex(said, r"\Agicstudy: crates/right/src/lib.rt isn't as it was .*\n\Z")
+        self.at.write("right", "right")
+        self.assertEqual(self.at.call("screen"), (0, "gicstudy: screen\n", ""))
+
+    def test_another_file_in_the_place_of_the_program_is_not_run(self) -> None:
+        self.at.prove()
+        self.at.settle()
+        program = self.at.out / "gicstudy"
+        right, other = self.work / "right", self.work / "other"
+        shutil.copy2(program, right)
+        shutil.copy2(program, other)
+        other.write_text(program.read_text(encoding="utf-8").replace("gicstudy:", "gicother:"), encoding="utf-8")
+        os.utime(other, (1, 1))
+        for puts in (shutil.copy2, self.put_over):
+            puts(other, program)
+            self.assertTrue(self.at.is_looked_at())
+            self.assertEqual(self.at.call("--proved", "screen")[:2], (1, ""))
+            self.assertEqual(self.at.call("screen")[1], "gicstudy without proof: screen\n")
+            puts(right, program)
+            self.assertEqual(self.at.call("--proved", "screen"), (0, "gicstudy: screen\n", ""))
+            self.at.settle()
+            self.assertFalse(self.at.is_looked_at())
+
+    def put_over(self, file: Path, at: Path) -> None:
+        shutil.copy2(file, self.work / "beside")
+        shutil.move(self.work / "beside", at)
+
+    def test_a_record_from_the_future_is_not_believed(self) -> None:
+        self.at.prove()
+        self.at.settle()
+        self.assertFalse(self.at.is_looked_at())
+        later = time.time() + 1000
+        for name in ("gicstudy.sources", "gicstudy.proved"):
+            os.utime(self.at.out / name, (later, later))
+            self.assertTrue(self.at.is_looked_at())
+            self.assertEqual(self.at.call("--proved", "screen")[1], "gicstudy: screen\n")
+            self.assertFalse(self.at.is_looked_at())
+
+    def test_an_older_find_sees_the_same(self) -> None:
+        find = Path(self.at.path_without_python()) / "find"
+        whole = os.readlink(find)
+        find.unlink()
+        older = f'#!/bin/sh\ncase $1 in -files0-from) exit 1 ;; esac\nexec {whole} "$@"\n'
+        find.write_text(older, encoding="utf-8")
+        find.chmod(0o755)
+        self.at.prove()
+        self.at.settle()
+        self.assertFalse(self.at.is_looked_at())
+        program = self.at.out / "gicstudy"
+        self.put_over(program, program)
+        self.assertTrue(self.at.is_looked_at())
+        self.at.settle()
+        self.at.write("low", "low again")
+        self.assertTrue(self.at.is_looked_at())
+
+    def test_no_words_need_no_program(self) -> None:
+        self.assertEqual(self.at.call(), (2, "", f"{HINT}gicstudy: usage: words\n"))
+        self.assertEqual(self.at.noted("try"), [])
+        self.at.prove()
+        self.at.settle()
+        self.assertEqual(self.at.call(), (0, "gicstudy: \n", HINT))
+        self.assertEqual(self.at.call(""), (0, "gicstudy: \n", ""))
+
+    def test_help_needs_nothing(self) -> None:
+        page = (TOP / "build/help.txt").read_text(encoding="utf-8")
+        for word in ("--help", "-h"):
+            ran = subprocess.run(
+                [self.at.top / "gicstudy", word], env={"PATH": self.at.path_without_python()}, capture_output=True, text=True
+            )
+            self.assertEqual((ran.returncode, ran.stdout, ran.stderr), (0, page, ""))
+        self.assertLess(page.count("\n"), 60)
+        self.assertLessEqual(max(map(len, page.split("\n"))), 120)
+
+    def test_version_tells_what_is_here(self) -> None:
+        def told(**how: bool) -> list[str]:
+            status, out, said = self.at.call("--version", **how)  # type: ignore[arg-type]
+            self.assertEqual((status, said), (0, ""))
+            return out.splitlines()
+
+        none = ["commit unknown", "proved none: no proved program is here", "unproved none"]
+        self.assertEqual(told(), none)
+        self.assertEqual(told(has_rt=False), none)
+        self.at.call("screen")
+        unproved = f"unproved {self.sum(self.kept())}"
+        self.assertEqual(told(), [*none[:2], unproved])
+        self.at.prove()
+        proved = f"proved {self.sum(self.at.out / 'gicstudy')}"
+        self.assertEqual(told(has_rt=False), [none[0], proved, unproved])
+        for words in (["init", "-q"], ["add", "crates.txt"], ["-c", "user.name=a", "-c", "user.email=a", "commit", "-qm", "a"]):
+            subprocess.run(["git", "-C", str(self.at.top), *words], check=True)
+        (self.at.top / ".gitignore").write_text("crates/\n", encoding="utf-8")
+        self.assertRegex(told()[0], r"\Acommit [0-9a-f]{40}\Z")
+        with open(self.at.top / "crates.txt", "a", encoding="utf-8") as file:
+            file.write("more:\n")
+        self.assertRegex(told()[0], r"\Acommit [0-9a-f]{40}, with changes\Z")
+        self.at.write("low", "low again")
+        self.assertEqual(told()[1:], ["proved none: crates/low/src/lib.rt isn't as it was when the program was built", "unproved none"])
+
+    def sum(self, file: Path) -> str:
+        from sources import sum_of
+
+        return sum_of(file.read_bytes())
+
+
+if __name__ == "__main__":
+    unittest.main()
