@@ -85,7 +85,7 @@ fn entries_of(vector: &BoundVector) -> [u16; 4]
 
 /// The least bound vector. In siemens the row of A, whose bus has 2 more, is 1·(31 - 1) + 10·(31 - 33 - 1), which is 0.
 #[test]
-fn bound_of_the_loop(rt: HostRuntime) -> Result<(), Fail> {
+fn bound_of_p(rt: HostRuntime) -> Result<(), Fail> {
     let net = worked_net(rt.alloc())?;
     let mut vector = BoundVector::new(rt.alloc(), 4)?;
     bound(&net, &mut vector)?;
@@ -96,7 +96,7 @@ fn bound_of_the_loop(rt: HostRuntime) -> Result<(), Fail> {
 
 /// With 30 at A its row is 29 - 40, and with all ones 0 - 10.
 #[test]
-fn tells_vectors_that_are_too_small(rt: HostRuntime) -> Result<(), Fail> {
+fn vector_too_small(rt: HostRuntime) -> Result<(), Fail> {
     let net = worked_net(rt.alloc())?;
     let table = [
         ([31, 31, 33, 33], true),
@@ -122,7 +122,7 @@ fn holds_at_a(potentials: &Potentials) -> bool
 /// 100 volts in the line, and guesses of 0: its 100 amperes enter the bus b, and none flows at A. Whatever the guesses are,
 /// the interval at A holds the potential there.
 #[test]
-fn residual_and_enclosure_at_guesses_of_0(rt: HostRuntime) -> Result<(), Fail> {
+fn residual_and_enclosure_at_zero(rt: HostRuntime) -> Result<(), Fail> {
     let elements = worked_loop(rt.alloc())?;
     let net = Net::build(rt.alloc(), &elements)?;
     let mut volts = Volts::new(rt.alloc(), &elements)?;
