@@ -20,8 +20,9 @@ fn is_one_of(word: &str, wanted: &str) -> bool {
     wanted.split('|').any(|one| one == word)
 }
 
-/// What is behind the words and an interval that holds the fraction and is at most so wide, as `FRACTION WORDS` asks.
-fn behind<'a>(line: &'a str, wanted: &str, width: i64) -> Option<&'a str> {
+/// The low end of an interval behind the words that holds the fraction and is at most so wide, as `FRACTION WORDS` asks, and
+/// what is behind it.
+fn behind<'a>(line: &'a str, wanted: &str, width: i64) -> Option<(i64, &'a str)> {
     let (fraction, words) = wanted.split_once(' ')?;
     let (numerator, denominator) = fraction.split_once('/').unwrap_or((fraction, "1"));
     let (numerator, denominator) = (
@@ -30,25 +31,40 @@ fn behind<'a>(line: &'a str, wanted: &str, width: i64) -> Option<&'a str> {
     );
     let (low, high, rest) = interval(line, words)?;
     if holds(low, high, numerator, denominator, width) {
-        Some(rest)
+        Some((low, rest))
     } else {
         None
     }
 }
 
-/// The same where one or two such demands stand behind one another, with ` ~ ` between them.
-fn behind_two<'a>(line: &'a str, wanted: &str, width: i64) -> Option<&'a str> {
+/// The same where one or two such demands stand behind one another, with ` ~ ` between them: the last low end.
+fn behind_two<'a>(line: &'a str, wanted: &str, width: i64) -> Option<(i64, &'a str)> {
     match wanted.split_once(" ~ ") {
         None => behind(line, wanted, width),
-        Some((first, second)) => behind(behind(line, first, width)?, second, width),
+        Some((first, second)) => {
+            let (_, rest) = behind(line, first, width)?;
+            behind(rest, second, width)
+        }
     }
 }
 
 /// The same of up to three.
-fn behind_all<'a>(line: &'a str, wanted: &str, width: i64) -> Option<&'a str> {
+fn behind_all<'a>(line: &'a str, wanted: &str, width: i64) -> Option<(i64, &'a str)> {
     match wanted.split_once(" ~ ") {
         None => behind(line, wanted, width),
-        Some((first, others)) => behind_two(behind(line, first, width)?, others, width),
+        Some((first, others)) => {
+            let (_, rest) = behind(line, first, width)?;
+            behind_two(rest, others, width)
+        }
+    }
+}
+
+/// Whether a word is the verdict on a current that is just the threshold, in an interval that begins at `low`.
+fn is_verdict_at(word: &str, low: i64, threshold: &str) -> bool {
+    match threshold.parse::<i64>() {
+        Ok(threshold) if threshold <= low => word == "reaches",
+        Ok(_) => word == "undecided",
+        Err(_) => false,
     }
 }
 
@@ -56,8 +72,9 @@ fn behind_all<'a>(line: &'a str, wanted: &str, width: i64) -> Option<&'a str> {
 /// WORD` asks, with intervals that hold the fractions and are at most so wide. It isn't where a number can't be read.
 pub(crate) fn is_enclosure(line: &str, wanted: &str, width: i64) -> bool {
     let (parts, verdict) = wanted.split_once(" : ").unwrap_or((wanted, ""));
-    match behind_all(line, parts, width) {
-        Some(word) => is_one_of(word, verdict),
-        None => false,
+    match (behind_all(line, parts, width), verdict.strip_prefix("at ")) {
+        (Some((low, word)), Some(threshold)) => is_verdict_at(word, low, threshold),
+        (Some((_, word)), None) => is_one_of(word, verdict),
+        (None, _) => false,
     }
 }

@@ -195,8 +195,8 @@ impl Script {
             .nth(self.compared)
     }
 
-    /// Whether what a line wants came out: `status N`, `> LINE`, `~ FRACTION WORDS`, `skip N` lines, or `! LINE` on the
-    /// error sink.
+    /// Whether what a line wants came out: `status N`, `> LINE`, `~ FRACTION WORDS`, `= NAME`, `skip N` lines, or `! LINE`
+    /// on the error sink.
     fn comes_out(&mut self, word: &str, rest: &str) -> bool {
         match word {
             "status" => rest.parse::<u8>() == Ok(self.ended.status),
@@ -204,6 +204,10 @@ impl Script {
                 let is_told = self.ended.err.strip_suffix(b"\n") == Some(rest.as_bytes());
                 self.ended.err.clear();
                 is_told
+            }
+            "=" => {
+                let wanted = bytes_of(self.files.as_slice(), rest);
+                !wanted.is_empty() && self.ended.out.as_slice() == wanted
             }
             ">" => {
                 let is_line = self.next_line() == Some(rest);

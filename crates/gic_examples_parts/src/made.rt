@@ -1,66 +1,64 @@
-//! Cases made from the seed 7, with the most sites and with the fewest.
-ghost use Rattle.std.specs.Prelude.{◌≤◌};
-
-use gic_base::{MemorySink, OutOfMemory};
-use gic_case::Kind;
-use gic_make::{LEAST_SIZE, MOST_SIZE, make_case};
-use gic_make_mode::{make, make_room};
-use gic_winding::elements;
+//! Cases made from the seed 7, as they were worked out by hand.
+use gic_base::{Name, OutOfMemory};
+use gic_case::{Case, Kind};
+use gic_make::make_case;
 use std::alloc::Global;
 use std::test::Fail;
 
-/// Whether the whole report of a made case was written.
-fn is_written(
-    alloc: Global,
-    seed: u32,
-    size: u16,
-    out: &mut MemorySink,
-) -> Result<bool, OutOfMemory>
-    requires least { LEAST_SIZE ≤ size }
-    requires most { size ≤ MOST_SIZE }
-{
-    let mut room = make_room(alloc, seed, size)?;
-    Ok(make(seed, size, &mut room, out).is_ok())
+/// The ground of a substation of this name at a place of a case, in micro-ohms, where it has one.
+fn ground_of(case: &Case, place: usize, name: &[u8]) -> Option<u32> {
+    let substation = case.substations().get(place)?;
+    if substation.name.as_bytes() == name {
+        substation.ground
+    } else {
+        None
+    }
 }
 
-/// The seed 7 and a thousand sites.
+/// The resistance of the high winding of a delta-wye unit of this name at a place of a case, in micro-ohms a phase.
+fn resistance_of(case: &Case, place: usize, name: &[u8]) -> Option<u32> {
+    let transformer = case.transformers().get(place)?;
+    match transformer.kind {
+        Kind::DeltaWye {
+            high_resistance,
+            ..
+        } if transformer.name.as_bytes() == name => Some(high_resistance),
+        _ => None,
+    }
+}
+
+/// The name of a bus.
+fn name_of_bus(case: &Case, place: u16) -> Option<Name> {
+    Some(case.buses().get(place as usize)?.name)
+}
+
+/// Whether the line at a place of a case has this name, and joins the buses of these names.
+fn is_line(case: &Case, place: usize, name: &[u8], from: &[u8], to: &[u8]) -> bool {
+    let Some(line) = case.lines().get(place) else {
+        return false;
+    };
+    let (first, second) = (name_of_bus(case, line.from), name_of_bus(case, line.to));
+    line.name.as_bytes() == name && first == Name::read(from) && second == Name::read(to)
+}
+
+/// Two sites, and the one line between them.
 #[test]
-fn make_large(rt: HostRuntime) -> Result<(), Fail> {
-    let alloc = rt.alloc();
-    let case = make_case(alloc, 7, 1000)?;
-    let elements = elements(alloc, &case)?;
-    assert_eq!(rt; elements.nodes(), 2000);
-    assert_eq!(rt; elements.list().len(), 2999);
-    let grounds = case
-        .substations()
-        .first()
-        .map(|substation| substation.ground);
-    assert_eq!(rt; grounds, Some(Some(448_000)));
-    let kinds = case
-        .transformers()
-        .first()
-        .map(|transformer| transformer.kind);
-    let high_resistance = 366_000;
-    assert_eq!(rt;
-        kinds,
-        Some(Kind::DeltaWye {
-            high: 0,
-            high_resistance
-        })
-    );
+fn make_small(rt: HostRuntime) -> Result<(), Fail> {
+    let case = make_case(rt.alloc(), 7, 2)?;
+    assert_eq!(rt; case.substations().len(), 2);
+    assert_eq!(rt; ground_of(&case, 0, b"S0"), Some(448_000));
+    assert_eq!(rt; ground_of(&case, 1, b"S1"), Some(640_000));
+    assert_eq!(rt; resistance_of(&case, 0, b"T0"), Some(366_000));
+    assert_eq!(rt; case.lines().len(), 1);
+    assert!(rt; is_line(&case, 0, b"L1", b"B0", b"B1"));
     Ok(())
 }
 
-/// The case of two sites from the seed 7 has two nodes a site, and three elements a site but one.
+/// A thousand sites: the draws of the first one don't hang on how many there are.
 #[test]
-fn make_two_sites(rt: HostRuntime) -> Result<(), Fail> {
-    let alloc = rt.alloc();
-    let mut out = MemorySink::new(alloc, Vec::new(alloc));
-    let written = is_written(alloc, 7, 2, &mut out)?;
-    assert!(rt; written);
-    assert!(rt;
-        out.bytes()
-            .starts_with(b"make\nseed 7 size 2\nnodes 4 elements 5\nwalk ")
-    );
+fn make_large(rt: HostRuntime) -> Result<(), Fail> {
+    let case = make_case(rt.alloc(), 7, 1000)?;
+    assert_eq!(rt; ground_of(&case, 0, b"S0"), Some(448_000));
+    assert_eq!(rt; resistance_of(&case, 0, b"T0"), Some(366_000));
     Ok(())
 }

@@ -1,7 +1,8 @@
-//! Effective currents worked by hand.
+//! Effective currents and a worst current, worked by hand.
 use gic_base::ElementId;
 use gic_effective::signed_effective;
 use gic_fixed::Interval;
+use gic_screen::worst;
 use gic_winding::Weights;
 
 /// 30 A in the high winding and -60 A in the low one of a wye-wye unit of 345/138 kV.
@@ -34,34 +35,10 @@ fn effective_auto(rt: HostRuntime) {
     assert_eq!(rt; (effective.lo, effective.hi), (19_533, 19_534));
 }
 
-/// 30 A in the high winding, -60 A in the low one and 15 A in the third one of a wye-wye-wye unit of 345/138/20 kV:
-/// 2370000/1035000 A.
+/// 50 A for the field to the north, and 66.666 A to 66.667 A for the field to the east.
 #[test]
-fn effective_three_windings(rt: HostRuntime) {
-    let weights = Weights {
-        first: Some((ElementId(0), 345_000)),
-        second: Some((ElementId(1), 138_000)),
-        third: Some((ElementId(2), 20_000)),
-        high_volts: 345_000,
-    };
-    let high = Interval::point(30_000_000_000);
-    let low = Interval::point(-60_000_000_000);
-    let third = Interval::point(15_000_000_000);
-    let effective = signed_effective(&weights, high, low, third);
-    assert_eq!(rt; (effective.lo, effective.hi), (2_289, 2_290));
-}
-
-/// 30 A in the winding of a reactor, which weighs nothing.
-#[test]
-fn effective_reactor(rt: HostRuntime) {
-    let weights = Weights {
-        first: Some((ElementId(0), 0)),
-        second: None,
-        third: None,
-        high_volts: 345_000,
-    };
-    let high = Interval::point(30_000_000_000);
-    let none = Interval::point(0);
-    let effective = signed_effective(&weights, high, none, none);
-    assert_eq!(rt; (effective.lo, effective.hi), (0, 0));
+fn worst_of_two_intervals(rt: HostRuntime) {
+    let north = Interval::point(50_000);
+    let east = Interval::new(66_666, 66_667);
+    assert_eq!(rt; worst(north, east), Interval::new(83_332, 83_334));
 }
