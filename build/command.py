@@ -17,7 +17,7 @@ from crates import Fault
 from proving import build
 from record import Look, is_there, keep, look, program_of
 from sources import read_sources
-from stops import Stopped, end_by, stop_on_signals
+from stops import Stopped, end_by, go_on_without, stop_on_signals
 from teller import Teller
 from version import version
 
@@ -92,7 +92,7 @@ def words_of(error: OSError) -> str:
 def called(top: Path, teller: Teller, words: list[str]) -> int:
     first, behind = words[:1], words[1:]
     if first == ["--version"]:
-        print("\n".join(version(top)))
+        unproved.write(1, "".join(f"{line}\n" for line in version(top)).encode())
         return 0
     if first == ["--prove"]:
         return prove(top, teller, behind)
@@ -101,17 +101,25 @@ def called(top: Path, teller: Teller, words: list[str]) -> int:
     return answer(top, teller, words)
 
 
-def main(words: list[str]) -> int:
-    top, teller = Path(__file__).resolve().parent.parent, Teller()
+def told(top: Path, teller: Teller, words: list[str]) -> int:
+    """The status of a call; where there is no answer, a line says why."""
     try:
-        stop_on_signals()
         return called(top, teller, words)
     except Fault as fault:
         teller.say(str(fault))
+    except OSError as error:
+        why = words_of(error)
+        space = " (remove what isn't needed, and call it again)" if os.strerror(errno.ENOSPC) in why else ""
+        teller.say(f"no answer: {why}{space}")
+    return 1
+
+
+def main(words: list[str]) -> int:
+    top = Path(__file__).resolve().parent.parent
+    try:
+        stop_on_signals()
+        status = told(top, Teller(), words)
+        go_on_without()
+        return status
     except Stopped as stopped:
         end_by(stopped.number)
-    except OSError as error:
-        told = words_of(error)
-        space = " (remove what isn't needed, and call it again)" if os.strerror(errno.ENOSPC) in told else ""
-        teller.say(f"no answer: {told}{space}")
-    return 1

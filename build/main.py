@@ -17,7 +17,8 @@ except KeyboardInterrupt:
 OLDEST = (3, 11)
 
 
-def main(words, version=sys.version_info[:2]):  # type: ignore[no-untyped-def]
+# (in quotes, an older Python reads the types too)
+def main(words: "list[str]", version: "tuple[int, ...]" = sys.version_info[:2]) -> int:
     if version < OLDEST:
         sys.stderr.write("gicstudy: it may have to be compiled or built, and the python3 on the path isn't 3.11 or later\n")
         return 1

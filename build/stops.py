@@ -35,6 +35,13 @@ def stop_on_signals() -> None:
             signal.signal(it, stop)
 
 
+def go_on_without() -> None:
+    """From here on a signal ends this process at once, as there is nothing left to remove."""
+    for it in STOPS:
+        if signal.getsignal(it) is not signal.SIG_IGN:
+            signal.signal(it, signal.SIG_DFL)
+
+
 def end_by(number: int) -> NoReturn:
     """Ends this process by a signal, as if nothing had caught it."""
     signal.signal(number, signal.SIG_DFL)
@@ -45,9 +52,7 @@ def end_by(number: int) -> NoReturn:
 
 def begin_as_child() -> None:
     """Between its fork and its own words a run has no handler of ours."""
-    for it in STOPS:
-        if signal.getsignal(it) is not signal.SIG_IGN:
-            signal.signal(it, signal.SIG_DFL)
+    go_on_without()
     end_with_parent()
     signal.pthread_sigmask(signal.SIG_UNBLOCK, STOPS)
 

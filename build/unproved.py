@@ -10,7 +10,6 @@ import re
 import shutil
 import signal
 import subprocess
-import sys
 import tempfile
 from collections.abc import Iterator
 from contextlib import ExitStack, contextmanager, suppress
@@ -44,6 +43,8 @@ TOOLCHAIN = "toolchain"
 NOT_KEPT = "not-kept"
 SCRATCH = "scratch-"
 LAST_LINES = 20
+# The program's line, with status 4, where its output takes no more.
+CANNOT_WRITE = b"gicstudy: cannot write\n"
 # The statuses of the program.
 ANSWERS = (0, *range(2, 14))
 SANITIZER = re.compile(rb"^==[0-9]+==\s*(?:ERROR: )?(.*Sanitizer.*)$", re.M)
@@ -177,8 +178,11 @@ class Compiler:
                 last = trial.told[-2:-1] or trial.told
                 why = f" ({last[0]})" if last else ""
                 raise Fault(f"no answer: rt try gives none of a long run or a report above 1 MiB{why}; {PROVE}")
-            sys.stdout.buffer.write(trial.out)
-            sys.stdout.flush()
+            try:
+                write(1, trial.out)
+            except OSError:
+                pass_on(CANNOT_WRITE)
+                return 4
             pass_on(trial.err)
             return trial.status
 
@@ -188,11 +192,15 @@ def environment() -> dict[str, str]:
     return {name: value for name, value in os.environ.items() if not name.endswith("SAN_OPTIONS")}
 
 
+def write(stream: int, content: bytes) -> None:
+    while content:
+        content = content[os.write(stream, content) :]
+
+
 def pass_on(told: bytes) -> None:
     """Writes to the error stream; what nobody reads ends nothing."""
     with suppress(OSError):
-        while told:
-            told = told[os.write(2, told) :]
+        write(2, told)
 
 
 def run(program: Path, words: list[str]) -> int:

@@ -3,9 +3,10 @@
 #
 #     examples/documents.sh [--write] [PROGRAM]
 #
-# PROGRAM is the built program; where it is not given it is ../gicstudy, which builds it first where that is needed. With
-# --write what is printed is put into the documents. `documents.py` says how a block of a document is tied to a command.
-# The last line is `N blocks, M differ`, and the status is 0 only where M is 0. It needs bash and Python 3.11 or later.
+# PROGRAM is the built program; where it is not given it is that of this repository, proved and built first where that is
+# needed. With --write what is printed is put into the documents. `documents.py` says how a block of a document is tied
+# to a command. The last line is `N blocks, M differ`, and the status is 0 only where M is 0. It needs bash and Python 3.11
+# or later.
 set -eu
 here=$(cd "$(dirname "$(readlink -f "$0")")" && pwd)
 
@@ -23,6 +24,6 @@ case $#${1:-} in
     0 | 1[!-]*) ;;
     *) usage >&2; exit 2 ;;
 esac
-program=$(readlink -f "${1:-$here/../gicstudy}")
-"$program" check --case="$here/valley.toml" >/dev/null
+[ $# -gt 0 ] || "$here/../gicstudy" --prove
+program=$(readlink -f "${1:-$here/../crates/gicstudy/out/gicstudy}")
 exec python3 -B "$here/documents.py" $write "$program"

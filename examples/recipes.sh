@@ -5,10 +5,10 @@
 #     examples/recipes.sh [PROGRAM [PICTURES]]
 #     examples/recipes.sh --write PROGRAM
 #
-# PROGRAM is the built program; where it is not given, ../gicstudy, which builds it first where that is needed. The
-# pictures are left in the folder PICTURES, where one is given. The second form puts what is printed today into the
-# document and into the reports, and its pictures into docs/pictures. Besides the program this needs awk, python3 and, for
-# pictures, gnuplot: where that isn't there, each recipe that draws one is named and left out. A recipe that differs is
+# PROGRAM is the built program; where it is not given, that of this repository, proved and built first where that is
+# needed. The pictures are left in the folder PICTURES, where one is given. The second form puts what is printed today into
+# the document and into the reports, and its pictures into docs/pictures. Besides the program this needs awk, python3 and,
+# for pictures, gnuplot: where that isn't there, each recipe that draws one is named and left out. A recipe that differs is
 # shown; the last line is `N recipes, M differ`, and behind it how many were left out, if any. The status is 0 only where
 # nothing differs.
 set -u
@@ -30,13 +30,12 @@ case $#${1:-} in
     0 | [12][!-]*) ;;
     *) usage >&2; exit 2 ;;
 esac
-program=$(readlink -f "${1:-$here/../gicstudy}")
+[ $# -gt 0 ] || "$here/../gicstudy" --prove || exit
+program=$(readlink -f "${1:-$here/../crates/gicstudy/out/gicstudy}")
 pictures=${2:-}
 if "$write"; then
     pictures=$here/../docs/pictures
 fi
-# The first call builds the program where that is needed, and says so on its error stream, which is no part of a recipe.
-"$program" check --case="$here/valley.toml" >/dev/null || exit
 scratch=$(mktemp -d)
 trap 'rm -rf "$scratch"' EXIT
 mkdir "$scratch/bin" "$scratch/work" "$scratch/recipes"

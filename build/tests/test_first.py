@@ -16,6 +16,7 @@ sys.path.insert(1, str(Path(__file__).resolve().parent.parent))
 
 from checkout import TOP, Checkout
 from copies import with_copies
+from sources import sum_of
 from unproved import COMPILES, PROVE, UNPROVED
 
 FIRST = f"gicstudy: {COMPILES}{UNPROVED}\n"
@@ -48,6 +49,7 @@ class First(unittest.TestCase):
             self.assertLessEqual({it.name for it in self.shelf.iterdir() if it.is_file()}, {"toolchain"})
             self.assertLessEqual(len([it for it in self.shelf.iterdir() if it.is_dir()]), 1)
             self.assertEqual(list(self.shelf.glob("scratch-*")), [])
+        # (where it is told to end, `rt` takes a moment)
         for folder in self.at.noted("in"):
             self.assertFalse(os.path.exists(folder))
 
@@ -218,6 +220,10 @@ class First(unittest.TestCase):
         self.assertEqual(self.at.noted("try"), ["make", "show"])
         self.assertEqual(self.at.call("status", "6"), (6, "", f"{FIRST}gicstudy: line 6\n"))
         self.assertEqual(self.at.noted("try"), ["make", "show", "status"])
+        self.at.forget()
+        words = f"{self.at.top / 'gicstudy'} status 0 && {self.at.top / 'gicstudy'} screen >/dev/full"
+        ran = subprocess.run(["bash", "-c", words], env=self.at.environment(), capture_output=True, text=True)
+        self.assertEqual((ran.returncode, ran.stderr.splitlines()[-1]), (4, "gicstudy: cannot write"))
         status, out, said = self.at.call("big")
         self.assertEqual((status, out), (1, ""))
         self.assertRegex(said.removeprefix(FIRST), rf"\Agicstudy: no answer: .*1 MiB.*; {PROVE}\n\Z")
@@ -365,9 +371,17 @@ class First(unittest.TestCase):
         self.at.write("low", "low again")
         self.assertEqual(told()[1:], ["proved none: crates/low/src/lib.rt isn't as it was when the program was built", "unproved none"])
 
-    def sum(self, file: Path) -> str:
-        from sources import sum_of
+    def test_a_version_that_cannot_be_written_is_told(self) -> None:
+        ran = subprocess.run(
+            ["bash", "-c", f"{self.at.top / 'gicstudy'} --version >/dev/full"],
+            env=self.at.environment(),
+            capture_output=True,
+            text=True,
+        )
+        self.assertEqual(ran.returncode, 1)
+        self.assertRegex(ran.stderr, r"\Agicstudy: no answer: No space left on device.*\n\Z")
 
+    def sum(self, file: Path) -> str:
         return sum_of(file.read_bytes())
 
 
