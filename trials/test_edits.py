@@ -27,7 +27,7 @@ KINDS = ("headline", "mode", "law", "call", "width of", "text of", "order of")
 SENTENCES = range(1, 16)
 MODES = ("volts", "list", "review", "check", "field", "screen", "outage", "study", "series", "make", "certify", "recheck")
 WITH_A_WIDTH = ("field", "screen", "outage", "study", "series", "make")
-ORDERS = ("the words", "the files", "the case", "switchings", "the certificate")
+ORDERS = ("the files", "the case", "switchings", "the certificate")
 
 
 class Row(NamedTuple):
@@ -82,7 +82,7 @@ class Table(unittest.TestCase):
     def test_table_and_folders_agree(self) -> None:
         told = sorted(f"crates/{it.crate}/{FOLDERS[it.place]}/{it.name}.edit" for it in self.rows)
         found = sorted(str(it.relative_to(TOP)) for it in TOP.glob("crates/*/*/*.edit"))
-        self.assertEqual(told, found)
+        self.assertEqual((sorted({*told} - {*found}), sorted({*found} - {*told})), ([], []), "told and not there, there and not told")
 
     def test_crates_and_names_rise(self) -> None:
         names = [(it.crate, it.name) for it in self.rows]
