@@ -5,6 +5,7 @@ three phases together, and two lines K and L of 1 ohm between them. In 8 V/km to
 With both the loop has 2.7 ohm, so 296.3 A flow, 98.765 A a phase; with one it has 3.2 ohm, and a phase has 83.333 A.
 """
 
+import contextlib
 import csv
 import os
 import pathlib
@@ -75,6 +76,8 @@ class OutagesTest(DeskTest):
         patch = mock.patch.dict(os.environ, {"FAKE_REPORTS": str(self.reports)})
         patch.start()
         self.addCleanup(patch.stop)
+        self.enterContext(contextlib.chdir(self.folder))
+        self.file("case.toml", "")
         self.prints("list", LIST)
         self.prints("volts", VOLTS)
         self.prints("outage", OUTAGE)
