@@ -128,7 +128,7 @@ class Set:
             stops.look()
             with stops.held(), locked(self.folder):
                 new = {name: identity(self.scratch / NEW / name) for name in self.targets}
-                write_synced(self.scratch / PUBLISHING, json.dumps(new).encode())
+                write_file(self.scratch / PUBLISHING, json.dumps(new).encode(), False)
                 try:
                     for name, shown in self.targets.items():
                         self.set_aside(name, shown)
@@ -149,7 +149,7 @@ class Set:
         if self.is_tree:
             tree /= next(iter(self.targets))
         (tree / name).parent.mkdir(parents=True, exist_ok=True)
-        write_synced(tree / name, bytes_of(text))
+        write_file(tree / name, bytes_of(text), not self.is_tree)
 
     def set_aside(self, name: str, shown: str) -> None:
         """Brings what gives way for a target into the scratch, where it is looked at once more."""
@@ -180,11 +180,13 @@ class Set:
                 os.close(self.owner)
 
 
-def write_synced(path: pathlib.Path, data: bytes) -> None:
+def write_file(path: pathlib.Path, data: bytes, is_synced: bool) -> None:
+    """Writes a file, and perhaps waits until the disk has it, which the many of a tree would take long for."""
     with open(path, "wb") as file:
         file.write(data)
         file.flush()
-        os.fsync(file.fileno())
+        if is_synced:
+            os.fsync(file.fileno())
 
 
 def take_back(scratch: pathlib.Path, folder: pathlib.Path, new: Mapping[str, list[int] | None]) -> list[str]:
