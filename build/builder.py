@@ -111,7 +111,7 @@ class Builder:
     def begin(self) -> None:
         if self.failed is not None:
             return
-        begun = starts(self.ready(), [it.start for it in self.work], self.processors, self.proofs)
+        begun = starts(self.ready(), [it.start for it in self.work], self.processors, self.proofs, self.behind)
         if not begun and not self.work and self.killed:
             begun = [Start(self.killed[0], 1)]
         for start in begun:

@@ -7,7 +7,7 @@ from pathlib import Path
 # The memory that the proof of a crate is given.
 PROOF_MEMORY = 2_500_000_000
 # A build from nothing needs this on the disk, and one of a few crates its share of it, but no less than the second.
-DISK = 9_000_000_000
+DISK = 3_000_000_000
 LEAST_DISK = 300_000_000
 
 GROUP = Path("/sys/fs/cgroup")

@@ -65,9 +65,12 @@ def memory_of(jobs: int) -> float:
     return 1 + FURTHER_JOB * (jobs - 1)
 
 
-def starts(ready: Iterable[str], running: Sequence[Start], processors: int, proofs: float) -> list[Start]:
-    """Which of the ready crates begin now, in their order. `proofs` is how many proofs of one job the memory holds.
-    A crate has the processors that no other ready crate waits for. One is always at work, however little there is."""
+def starts(
+    ready: Iterable[str], running: Sequence[Start], processors: int, proofs: float, behind: Mapping[str, float]
+) -> list[Start]:
+    """Which of the ready crates begin now, in their order. `proofs` is how many proofs of one job the memory holds, and
+    `behind` what the longest chain weighs that begins with a crate. A crate has the processors that no other ready crate
+    waits for, and the one with the longest chain of all half of them. One is always at work, however little there is."""
     left, begun = list(ready), []
     while left:
         at_work = [*running, *begun]
@@ -75,6 +78,8 @@ def starts(ready: Iterable[str], running: Sequence[Start], processors: int, proo
         room = proofs - sum(memory_of(it.jobs) for it in at_work)
         if at_work and (idle < 1 or room < 1):
             break
-        jobs = min(MOST_JOBS, idle // len(left), 1 + int((room - 1) / FURTHER_JOB))
+        is_longest = all(behind[left[0]] > behind[it.name] for it in at_work)
+        share = max(idle // len(left), processors // 2 if is_longest else 1)
+        jobs = min(MOST_JOBS, share, idle, 1 + int((room - 1) / FURTHER_JOB))
         begun.append(Start(left.pop(0), max(jobs, 1)))
     return begun

@@ -51,6 +51,8 @@ def main(words: list[str]) -> int:
     try:
         kit: Any = load(rt)
         kit.Crate.cuts_libraries = True
+        # (its first call sets a signal's handler, which only the main thread may)
+        kit.guarded()
         crate = kit.Crate(f"{os.getcwd()}/crates/{name}", os.getcwd(), {})
         if crate.is_program:
             return build_program(crate, kit.KIT, jobs)

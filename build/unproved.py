@@ -28,7 +28,7 @@ from trial import TRIAL, run_trial
 
 PROVE = "./gicstudy --prove proves and builds it"
 # What a first build takes, as bench/README.md has it.
-TAKES = "about half an hour on four processors, an hour on two"
+TAKES = "about twenty minutes on four processors, forty on two"
 UNPROVED = f"this answer is of the program compiled without proof here, and nothing is promised of it; {PROVE} ({TAKES})"
 COMPILES = "compiles the program first, which takes a minute or two; "
 NO_RT = (

@@ -197,14 +197,19 @@ def stop(number: int, _: FrameType | None) -> NoReturn:
 
 @contextmanager
 def scratch() -> Iterator[Path]:
-    """A folder that is gone behind the trial, however that ends."""
+    """A folder that is gone behind the trial, however that ends, with what the toolchain keeps for a while."""
     for it in (signal.SIGINT, signal.SIGTERM, signal.SIGHUP):
         signal.signal(it, stop)
-    folder = Path(tempfile.mkdtemp(prefix="edits-"))
+    folder, before = Path(tempfile.mkdtemp(prefix="edits-")), os.environ.get("TMPDIR")
+    os.environ["TMPDIR"] = str(folder)
     try:
         yield folder
     finally:
         shutil.rmtree(folder, ignore_errors=True)
+        if before is None:
+            del os.environ["TMPDIR"]
+        else:
+            os.environ["TMPDIR"] = before
 
 
 def chosen(clone: Path, crates: dict[str, Crate], names: list[str], folders: list[str]) -> dict[str, list[Path]]:

@@ -18,6 +18,10 @@ def note(text: str) -> None:
         log.write(f"{text}\n")
 
 
+def guarded() -> list[str]:
+    return []
+
+
 class Crate:
     """A crate in a repository, as the toolchain sees it."""
 

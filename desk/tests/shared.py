@@ -7,6 +7,7 @@ import pathlib
 import sys
 import tempfile
 import unittest
+from unittest import mock
 
 TESTS = pathlib.Path(__file__).resolve().parent
 TOP = TESTS.parents[1]
@@ -55,6 +56,10 @@ class DeskTest(unittest.TestCase):
         scratch = tempfile.TemporaryDirectory()
         self.addCleanup(scratch.cleanup)
         self.folder = pathlib.Path(scratch.name)
+        # (a disk at work takes seconds for it)
+        synced = mock.patch("os.fsync")
+        synced.start()
+        self.addCleanup(synced.stop)
 
     def file(self, name: str, text: str | bytes) -> pathlib.Path:
         """A file of the folder with this text."""

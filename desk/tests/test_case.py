@@ -447,7 +447,7 @@ class Output(CaseTest):
 
     def test_a_case_that_is_stopped_leaves_nothing_beside_it(self) -> None:
         self.out.write_text("mine")
-        with mock.patch("os.replace", side_effect=KeyboardInterrupt):
+        with mock.patch("os.link", side_effect=KeyboardInterrupt):
             status, out, err = desk(*self.words("--force"))
         self.assertEqual((status, out, err), (130, "", "gicdesk: stopped\n"))
         self.assertEqual(sorted(path.name for path in self.folder.iterdir()), ["case.toml", "tables"])

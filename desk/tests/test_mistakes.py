@@ -1,6 +1,7 @@
 """Mistakes in tables, files and reports, over the desk's commands: each is refused with its place, its value and what is
 allowed, or told as a finding, or named in desk/README.md as one that nothing here can see. None ends in a traceback."""
 
+import contextlib
 import os
 import re
 import unittest
@@ -667,6 +668,8 @@ class Outages(DeskTest):
         patch = mock.patch.dict(os.environ, {"FAKE_REPORTS": str(self.folder)})
         patch.start()
         self.addCleanup(patch.stop)
+        self.enterContext(contextlib.chdir(self.folder))
+        self.file("case.toml", "")
         reports = {"list": LIST, "volts": VOLTS, "outage": OUTAGE, "screen": screen(BOTH, BOTH)}
         for name, text in {**reports, "screen+K": screen(ONE, ONE)}.items():
             self.file(f"{name}.txt", text)

@@ -5,18 +5,14 @@ three phases together, and two lines K and L of 1 ohm between them. In 8 V/km to
 With both the loop has 2.7 ohm, so 296.3 A flow, 98.765 A a phase; with one it has 3.2 ohm, and a phase has 83.333 A.
 """
 
+import contextlib
 import csv
 import os
-import pathlib
-import signal
-import subprocess
 import sys
-import time
 import unittest
-from collections.abc import Callable
 from unittest import mock
 
-from shared import BUILT, EXAMPLES, FAKE, REPORTS, TESTS, DeskTest, desk
+from shared import BUILT, EXAMPLES, FAKE, REPORTS, DeskTest, desk
 
 from gicdesk.events import BaseSwitchings, one_event
 from gicdesk.outages import Worst, worst_of
@@ -53,8 +49,6 @@ end
 """
 BOTH, ONE, NONE = "98765 98767 reaches", "83333 83335 reaches", "0 2 below"
 HEADS = "event,item,action\n"
-DESK = TESTS.parent / "gicdesk"
-LONG = 60  # seconds: no run of a test takes so long
 
 
 def screen(first: str, second: str) -> str:
@@ -75,6 +69,8 @@ class OutagesTest(DeskTest):
         patch = mock.patch.dict(os.environ, {"FAKE_REPORTS": str(self.reports)})
         patch.start()
         self.addCleanup(patch.stop)
+        self.enterContext(contextlib.chdir(self.folder))
+        self.file("case.toml", "")
         self.prints("list", LIST)
         self.prints("volts", VOLTS)
         self.prints("outage", OUTAGE)
@@ -378,40 +374,6 @@ class Refusals(OutagesTest):
             status, out, err = desk(*words)
             self.assertEqual((status, out), (2, ""))
             self.assertIn("usage: gicdesk", err)
-
-
-class Stopped(OutagesTest):
-    def test_all_runs_end_and_a_line_tells_it_on_a_terminal(self) -> None:
-        self.stopped(os.killpg)
-
-    def test_all_runs_end_and_a_line_tells_it_where_the_desk_alone_is_stopped(self) -> None:
-        self.stopped(os.kill)
-
-    def stopped(self, stop: Callable[[int, int], None]) -> None:
-        begun = self.folder / "begun"
-        slow = self.file(
-            "slow", f'#!/bin/sh\ncase "$*" in screen*--switch=*) echo $$ >>{begun}; exec sleep 600 ;; esac\nexec {FAKE} "$@"\n'
-        )
-        slow.chmod(0o755)
-        words = [sys.executable, "-B", DESK, "outages", "case.toml", f"--program={slow}"]
-        process = subprocess.Popen(
-            words,
-            stdout=subprocess.DEVNULL,
-            stderr=subprocess.PIPE,
-            text=True,
-            start_new_session=True,
-            preexec_fn=lambda: signal.signal(signal.SIGINT, signal.SIG_DFL),  # (a shell's background ignores it)
-        )
-        self.addCleanup(process.kill)
-        end = time.monotonic() + LONG
-        while not (begun.exists() and begun.read_text().endswith("\n")):
-            self.assertLess(time.monotonic(), end, "no run has begun")
-            time.sleep(0.02)
-        stop(process.pid, signal.SIGINT)
-        _, err = process.communicate(timeout=LONG)
-        self.assertEqual((process.returncode, err), (130, "gicdesk: stopped\n"))
-        for number in begun.read_text().split():
-            self.assertFalse(pathlib.Path("/proc", number).exists(), number)
 
 
 class Bars(unittest.TestCase):

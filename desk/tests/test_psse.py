@@ -220,7 +220,8 @@ class Small(PsseTest):
         self.assertEqual(
             names,
             [
-                "net.gic line 4: EAST_STATION has no ground: RG is empty",
+                "net.gic line 4: EAST_STATION: RG is empty, which is taken as no ground; see whether the file means that, or "
+                "else write its ohm",
                 # 0.0001 per unit on 100 MVA at 345 kV are 0.119025 ohm.
                 "net.raw line 20: the branch 4-5 '1' of 0.119025 ohm ties two buses of one substation: they are one "
                 "bus, 4",

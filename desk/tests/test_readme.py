@@ -9,6 +9,7 @@ prints. The folder has the desk, the examples and the program under the names th
 import os
 import pathlib
 import re
+import shlex
 import shutil
 import subprocess
 import sys
@@ -33,8 +34,10 @@ def furnish(folder: pathlib.Path, program: pathlib.Path) -> None:
     (folder / "examples").symlink_to(TOP / "examples")
     built = folder / "crates" / "gicstudy" / "out" / "gicstudy"
     built.parent.mkdir(parents=True)
-    for place in (built, folder / "gicstudy"):
-        place.symlink_to(program)
+    built.symlink_to(program)
+    script = folder / "gicstudy"
+    script.write_text(f"""#!/bin/sh\n[ "$1" = --proved ] && shift\nexec {shlex.quote(str(program))} "$@"\n""")
+    script.chmod(0o755)
 
 
 def printed(commands: str, folder: pathlib.Path) -> str:

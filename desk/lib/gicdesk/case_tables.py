@@ -155,6 +155,11 @@ def read_named(file: str, table: str, findings: list[Finding], taken: dict[str, 
     return rows
 
 
+def files_of(folder: str) -> list[str]:
+    """The names of the tables in a folder."""
+    return [str(pathlib.Path(folder, name)) for name in (*(f"{table}.csv" for table in COLUMNS), POLYGONS)]
+
+
 def read_tables(folder: str) -> Tables:
     """The tables of a folder. What can't be read of any of them is refused at once; what is wrong with names is among
     the findings."""

@@ -2,19 +2,23 @@
 
 import argparse
 import contextlib
+import dataclasses
 import os
 import sys
-from collections.abc import Sequence
+from collections.abc import Iterator, Sequence
 from typing import Any
 
 from . import case, case_tables, compare, layouts, outages, psse, psse_units, reports, zones
-from .files import refuse_folder, refuse_taken, write_folder, write_whole
-from .findings import Refused, refuse
-from .program import find_program
-from .study import OPTIONS, Request, make_study, sum_text
-from .study_files import page_of, refuse_study, write_study
+from .findings import Refused, refuse, visible
+from .inputs import Copies, copied
+from .outputs import Set, files_set, folder_set, study_set
+from .program import BUILT, Program, find_program
+from .stops import Stopped, taken
+from .study import FILES, OPTIONS, Request, make_study, sum_text
+from .study_files import files_of, page_of
+from .tell import tell
 
-DONE, REFUSED, USAGE, STOPPED = 0, 1, 2, 130
+DONE, REFUSED, USAGE, INTERRUPTED = 0, 1, 2, 130
 
 
 class Words(argparse.ArgumentParser):
@@ -37,13 +41,6 @@ def show(text: str) -> None:
     sys.stdout.buffer.flush()
 
 
-def tell(words: str) -> None:
-    """Writes a line to the error stream, where there is one."""
-    if sys.stderr is not None:
-        with contextlib.suppress(OSError):
-            print(f"gicdesk: {words}", file=sys.stderr)
-
-
 def add_output(words: argparse.ArgumentParser, help_text: str) -> None:
     words.add_argument("--out", metavar="FILE", help=help_text)
     words.add_argument("--force", action="store_true", help="replace what is there already under the name of --out")
@@ -53,44 +50,70 @@ def add_comma(words: argparse.ArgumentParser) -> None:
     words.add_argument("--comma", action="store_true", help="semicolons between cells, and decimal commas")
 
 
+def table_set(options: argparse.Namespace, inputs: Sequence[str]) -> contextlib.AbstractContextManager[Set | None]:
+    """The file of --out, where there is one."""
+    return contextlib.nullcontext() if options.out is None else files_set([options.out], options.force, inputs)
+
+
 def run_csv(options: argparse.Namespace) -> None:
-    if options.out is not None:
-        refuse_taken([options.out], options.force)
-    mode, report = reports.read_report(options.report)
-    text = layouts.table_of(options.report, mode, report, options.part).csv(options.comma)
-    if options.out is None:
+    with table_set(options, [options.report]) as out:
+        mode, report = reports.read_report(options.report)
+        text = layouts.table_of(options.report, mode, report, options.part).csv(options.comma)
+        if out is not None:
+            out.publish({os.path.basename(options.out): text})
+    if out is None:
         show(text)
-    else:
-        write_whole(options.out, text, options.force)
 
 
 def run_compare(options: argparse.Namespace) -> None:
-    if options.out is not None:
-        refuse_taken([options.out], options.force)
     names = (options.before, options.after)
-    read = compare.read_compared(names)
-    comparison = compare.compare(read[0][1], read[1][1])
-    if options.out is not None:
-        write_whole(options.out, compare.comparison_table(comparison).csv(options.comma), options.force)
+    with table_set(options, names) as out:
+        read = compare.read_compared(names)
+        comparison = compare.compare(read[0][1], read[1][1])
+        if out is not None:
+            out.publish({os.path.basename(options.out): compare.comparison_table(comparison).csv(options.comma)})
     show(compare.report_text(names, read, comparison))
 
 
+@contextlib.contextmanager
+def program_and_copies(options: argparse.Namespace, roles: Sequence[str]) -> Iterator[tuple[Program, Copies]]:
+    """The program, and copies of the files of these options as far as they are given."""
+    with copied(given_files(options, roles)) as copies:
+        yield find_program(options.program, copies.folder), copies
+
+
+def given_files(options: argparse.Namespace, roles: Sequence[str]) -> dict[str, str]:
+    files = {role: getattr(options, role) for role in roles}
+    return {role: name for role, name in files.items() if name is not None}
+
+
+def read_names(options: argparse.Namespace, roles: Sequence[str]) -> list[str]:
+    """The names of all files that are read, the program among them."""
+    return [*given_files(options, roles).values(), options.program or str(BUILT)]
+
+
 def run_outages(options: argparse.Namespace) -> None:
+    roles, names = ("case", "switch", "events"), [outages.UNITS, outages.EVENTS, outages.CURRENTS]
+    folder: contextlib.AbstractContextManager[Set | None] = contextlib.nullcontext()
     if options.out is not None:
-        refuse_folder(options.out, [outages.UNITS, outages.EVENTS, outages.CURRENTS], options.force)
+        folder = folder_set(options.out, names, options.force, read_names(options, roles))
     words = [f"--{name}={value}" for name in ("event", "width") if (value := getattr(options, name)) is not None]
-    asked = outages.Asked(find_program(options.program), options.case, options.switch, tuple(words))
-    found = outages.find_outages(asked, options.events)
-    if options.out is not None:
-        write_folder(options.out, outages.files_of(found, options.comma), options.force)
+    with folder as out, program_and_copies(options, roles) as (program, copies):
+        asked = outages.Asked(program, copies, options.case, options.switch, tuple(words))
+        found = outages.find_outages(asked, options.events)
+        if out is not None:
+            out.publish(outages.files_of(found, options.comma))
     show(outages.report_text(asked, found, options.events is not None))
 
 
 def run_study(options: argparse.Namespace) -> None:
-    refuse_study(options.out, options.force)
     given = {name: getattr(options, name) for name in OPTIONS}
-    made = make_study(Request(find_program(options.program), options.case, **given))
-    write_study(made, options.out, options.force, options.comma)
+    with (
+        study_set(options.out, options.force, read_names(options, FILES)) as out,
+        program_and_copies(options, FILES) as (program, copies),
+    ):
+        made = make_study(Request(program, copies, options.case, **given))
+        out.publish(files_of(made, options.comma))
     show(sum_text(made, page_of(options.out)))
 
 
@@ -112,20 +135,20 @@ def add_study(commands: Any) -> None:
 
 def run_psse(options: argparse.Namespace) -> None:
     names = f"{os.path.splitext(options.out)[0]}.names.csv"
-    refuse_taken([options.out, names], options.force)
     tables = zones.ZoneFiles(options.zones, options.substations, options.polygons, options.lines)
-    made = psse.make_case(options.raw, options.gic, tables, psse.Choices(options.beyond, options.vector))
-    write_whole(names, made.names, options.force)
-    write_whole(options.out, made.case, options.force)
+    read = [options.raw, options.gic, *(name for name in dataclasses.astuple(tables) if name is not None)]
+    with files_set([options.out, names], options.force, read) as out:
+        made = psse.make_case(options.raw, options.gic, tables, psse.Choices(options.beyond, options.vector))
+        out.publish({os.path.basename(options.out): made.case, os.path.basename(names): made.names})
     told = "".join(f"{note}\n" for note in made.notes)
-    show(f"{told}{options.out} is made, and {names} says what its names stand for\n")
+    show(told + visible(f"{options.out} is made, and {names} says what its names stand for") + "\n")
 
 
 def run_case(options: argparse.Namespace) -> None:
-    refuse_taken([options.out], options.force)
-    made = case.make_case(options.tables, case.Choices(options.alpha, tuple(options.accept)))
-    write_whole(options.out, made.case, options.force)
-    show("".join(f"{note}\n" for note in made.notes) + f"{options.out} is made\n")
+    with files_set([options.out], options.force, case_tables.files_of(options.tables)) as out:
+        made = case.make_case(options.tables, case.Choices(options.alpha, tuple(options.accept)))
+        out.publish({os.path.basename(options.out): made.case})
+    show("".join(f"{note}\n" for note in made.notes) + visible(f"{options.out} is made") + "\n")
 
 
 def add_case(commands: Any) -> None:
@@ -199,6 +222,15 @@ def command_words() -> argparse.ArgumentParser:
 def main(arguments: Sequence[str]) -> int:
     """Runs the command of the words; what it refuses is told on the error stream, a line for each finding."""
     try:
+        with taken():
+            return run(arguments)
+    except (Stopped, KeyboardInterrupt) as stopped:
+        tell("stopped")
+        return stopped.status if isinstance(stopped, Stopped) else INTERRUPTED
+
+
+def run(arguments: Sequence[str]) -> int:
+    try:
         options = command_words().parse_args(arguments)
         options.run(options)
         return DONE
@@ -217,6 +249,3 @@ def main(arguments: Sequence[str]) -> int:
     except MemoryError:
         tell("there is too little memory; give it more, or leave out what isn't needed")
         return REFUSED
-    except KeyboardInterrupt:
-        tell("stopped")
-        return STOPPED

@@ -9,7 +9,7 @@ from collections.abc import Sequence
 
 from .counts import plural
 from .decimals import MILLI, shifted, signed
-from .findings import Finding, Refused
+from .findings import Finding, Refused, visible
 from .forms import Interval
 from .reports import VERDICTS, Outage, Outcome, Screen, Unit, read_report
 from .tables import Table
@@ -149,7 +149,7 @@ def head_text(names: Sequence[str], reports: Sequence[tuple[str, Compared]]) -> 
     facts = [head_facts(mode, report) for mode, report in reports]
     text = ""
     for place, name, fact in zip(("before", "after"), names, facts):
-        text += f"{place}: {name}: " + ", ".join(f"{key} {value}" for key, value in fact.items()) + "\n"
+        text += f"{place}: {visible(name)}: " + ", ".join(f"{key} {value}" for key, value in fact.items()) + "\n"
     for key in facts[0]:
         if facts[0][key] != facts[1][key]:
             text += f"the head lines differ: {key} {facts[0][key]} before, {facts[1][key]} after\n"

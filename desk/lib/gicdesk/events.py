@@ -7,12 +7,12 @@ from .findings import Finding, Hints, Refused, shown
 from .forms import NAME
 from .records import read_table
 from .storms import records
+from .tables import is_formula
 
 HEADS = ["event", "item", "action"]
 SWITCHINGS = ["time", "item", "action"]  # the heads of a file of switchings
 ACTIONS = ("open", "close", "block", "unblock")
 LONGEST_EVENT_NAME = 64
-FORMULAS = ("=", "+", "-", "@")  # what a cell begins with that a spreadsheet works out
 MOST_ROWS = 4096  # of a file of switchings
 
 
@@ -61,7 +61,7 @@ def name_fault(name: str) -> str | None:
         return "it is empty; give each event a name"
     if len(name) > LONGEST_EVENT_NAME or not name.isprintable():
         return f"{shown(name)} is no name; allowed are 1 to {LONGEST_EVENT_NAME} printable letters"
-    if name.startswith(FORMULAS):
+    if is_formula(name):
         return f"{shown(name)} is a formula to a spreadsheet; begin it with another letter"
     return None
 
@@ -78,12 +78,13 @@ def item_fault(item: str, action: str, items: Items, hints: Hints) -> str | None
     return f"{shown(item)} isn't {what}, as {action} takes; {hints.ways(item, allowed, action)}"
 
 
-def read_events(file: str, items: Items) -> list[Event]:
-    """The events of a table in the order of their first rows; all that is wrong with it is told at once."""
+def read_events(file: str, items: Items, given: bytes | None = None) -> list[Event]:
+    """The events of a table in the order of their first rows; all that is wrong with it is told at once. `given` is what
+    it holds, where it has been read already."""
     events: dict[str, dict[str, Switching]] = {}
     findings: list[Finding] = []
     hints = Hints()
-    for at in read_table(file, HEADS, findings):
+    for at in read_table(file, HEADS, findings, given=given):
         name, item, action = at.text("event"), at.text("item"), at.text("action")
         earlier = events.setdefault(name, {}).get(item)
         faults = {"event": name_fault(name)}

@@ -44,12 +44,15 @@ class Factor:
         return self.mvar(1000)
 
 
-def read_factors(file: str, volts: Mapping[str, int], findings: list[Finding]) -> dict[str, Factor]:
-    """The factors of a table by the names of their units; all that is wrong with it becomes findings."""
+def read_factors(
+    file: str, volts: Mapping[str, int], findings: list[Finding], data: bytes | None = None
+) -> dict[str, Factor]:
+    """The factors of a table by the names of their units; all that is wrong with it becomes findings. `data` is what it
+    holds, where it has been read already."""
     factors: dict[str, Factor] = {}
     lines: dict[str, int] = {}
     hints = Hints()
-    for at in read_table(file, HEADS, findings):
+    for at in read_table(file, HEADS, findings, given=data):
         name, given = at.text("transformer"), at.number("mvar_per_ampere")
         at_kv = at.number("at_kv", str(USUAL_KV))
         if name not in volts:

@@ -23,7 +23,7 @@ class Finding:
             place += f" line {self.line}"
         if self.column is not None:
             place += f", {self.column}"
-        return f"{place}: {self.words}"
+        return visible(f"{place}: {self.words}")
 
 
 @dataclasses.dataclass
@@ -75,4 +75,16 @@ def refuse(file: str, words: str, line: int | None = None, column: str | None = 
 def shown(value: str, longest: int = 60) -> str:
     """A value of a file as findings tell it: in quotes, cut where it is longer, and printable."""
     cut = value if len(value) <= longest else value[: longest - 3] + ".."
-    return '"' + "".join(letter if letter.isprintable() else f"\\x{ord(letter):02x}" for letter in cut) + '"'
+    return f'"{visible(cut)}"'
+
+
+def visible(text: str) -> str:
+    """A text of one line in which each letter is seen: a line feed, a control character and what else has no shape as its
+    number."""
+    if text.isprintable():
+        return text
+    return "".join(letter if letter.isprintable() else numbered(ord(letter)) for letter in text)
+
+
+def numbered(letter: int) -> str:
+    return f"\\x{letter:02x}" if letter < 0x100 else f"\\u{letter:04x}" if letter < 0x10000 else f"\\U{letter:08x}"

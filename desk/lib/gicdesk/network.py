@@ -73,11 +73,14 @@ def degrees_in(at: Record, column: str, most: int) -> float:
     return float(number)
 
 
-def read_places(file: str, stations: Iterable[str], findings: list[Finding]) -> dict[str, Place]:
-    """Where the stations of a table lie, from its first one. Names that the case doesn't have are left out."""
+def read_places(
+    file: str, stations: Iterable[str], findings: list[Finding], data: bytes | None = None
+) -> dict[str, Place]:
+    """Where the stations of a table lie, from its first one. Names that the case doesn't have are left out. `data` is what
+    it holds, where it has been read already."""
     wanted = set(stations)
     found: dict[str, tuple[float, float]] = {}
-    for at in read_table(file, PLACE_HEADS, findings, None):
+    for at in read_table(file, PLACE_HEADS, findings, None, data):
         name, degrees = at.text("name"), (degrees_in(at, "latitude", 90), degrees_in(at, "longitude", 360))
         if name in found:
             at.wrong("name", f"{shown(name)} stands in the table already; leave one of the two")

@@ -14,8 +14,8 @@ from .compare import ends_or_nothing, interval_text, outcome_text, verdict_text
 from .counts import plural
 from .decimals import MILLI, shifted
 from .events import MOST_ROWS, BaseSwitchings, Event, Items, one_event, read_events
-from .files import read_bytes
-from .findings import Finding, Refused, refuse
+from .findings import Finding, Refused, refuse, visible
+from .inputs import Copies, no_room
 from .layouts import LAYOUTS, screen_rows
 from .program import Program, Run, ending
 from .progress import Progress
@@ -99,20 +99,35 @@ def worst_of(rows: Sequence[tuple[str, ScreenUnit]]) -> Worst:
 
 @dataclasses.dataclass(frozen=True)
 class Asked:
-    """What the runs are made of."""
+    """What the runs are made of: the files have the names that were given, and each run gets their copies."""
 
     program: Program
+    copies: Copies
     case: str
     switch: str | None
     words: tuple[str, ...]  # --event and --width, as far as they are given
 
     def run(self, mode: str, switch: str | None) -> Run:
         switched = () if switch is None else (f"--switch={switch}",)
-        return self.program.run(mode, f"--case={self.case}", *switched, *self.words)
+        return self.program.run(*self.copies.words((mode, f"--case={self.case}", *switched, *self.words)))
 
     def read(self, mode: str, kind: type[Kind]) -> Kind:
         """The report of a mode of the case alone."""
-        return checked(kind, self.program.report(mode, f"--case={self.case}"), mode)
+        words = (mode, f"--case={self.case}")
+        run = self.program.run(*self.copies.words(words))
+        if run.status != 0:
+            raise refuse(" ".join(["gicstudy", *words]), ending(run))
+        return checked(kind, run.report, mode)
+
+    @property
+    def base(self) -> BaseSwitchings:
+        """The switchings of --switch, which the program has taken, with room for those of an event behind them."""
+        if self.switch is None:
+            return BaseSwitchings()
+        base = BaseSwitchings(self.copies.inputs["switch"].data)
+        if len(base.rows) >= MOST_ROWS:
+            raise refuse(self.switch, f"it has {MOST_ROWS} rows, and none is left for what is taken out; take fewer")
+        return base
 
 
 def checked(kind: type[Kind], data: bytes, mode: str) -> Kind:
@@ -146,16 +161,6 @@ def whole_result(asked: Asked) -> Result:
         file = asked.switch if asked.switch is not None and run.file == "switch" else asked.case
         raise refuse(file, ending(run))
     return result
-
-
-def base_switchings(switch: str | None) -> BaseSwitchings:
-    """The switchings of --switch, which the program has taken, with room for those of an event behind them."""
-    if switch is None:
-        return BaseSwitchings()
-    base = BaseSwitchings(read_bytes(switch))
-    if len(base.rows) >= MOST_ROWS:
-        raise refuse(switch, f"it has {MOST_ROWS} rows, and none is left for what is taken out; take fewer")
-    return base
 
 
 def known_items(asked: Asked, whole: Result) -> Items:
@@ -201,12 +206,11 @@ class Runner:
 
     def run(self, event: Event) -> Run:
         try:
-            with tempfile.NamedTemporaryFile(prefix="gicdesk.", suffix=".csv") as switchings:
+            with tempfile.NamedTemporaryFile(suffix=".csv", dir=self.asked.copies.folder) as switchings:
                 pathlib.Path(switchings.name).write_bytes(self.base.with_event(event))
                 return self.asked.run("screen", switchings.name)
         except OSError as error:
-            words = f"the switchings of a run can't be written there ({error.strerror}); look at TMPDIR"
-            raise refuse("the temporary folder", words) from None
+            raise no_room(error, "the switchings of a run") from None
 
     def runs(self, events: Sequence[Event], next_piece: Step) -> Iterator[tuple[Event, Run]]:
         """Each event with its run, in their order; several run at once."""
@@ -266,7 +270,7 @@ def outage_report(asked: Asked) -> Outage:
 def find_outages(asked: Asked, file: str | None) -> Outages:
     """The outages of the events of a file; or, without one, of each single line and each single transformer."""
     whole = whole_result(asked)
-    base = base_switchings(asked.switch)
+    base = asked.base
     runner = Runner(asked, base, file or asked.case)
     if file is None:
         with Progress(1) as progress:
@@ -275,17 +279,20 @@ def find_outages(asked: Asked, file: str | None) -> Outages:
         with Progress(len(solved_items(outage))) as progress:
             results = single_results(runner, outage, progress.next)
     else:
-        events = read_events(file, known_items(asked, whole))
+        events = read_events(file, known_items(asked, whole), asked.copies.inputs["events"].data)
         look_for_room(file, base, events)
         with Progress(len(events)) as progress:
             results = listed_results(runner, events, progress.next)
+    asked.program.look_for_change()
     return Outages(whole, results)
 
 
 def head_text(asked: Asked, outages: Outages) -> str:
     screens = [outages.whole.screen, *(screen for _, screen in outages.solved())]
     first = next((screen for screen in screens if screen is not None), None)
-    text = f"case {asked.case}" + (f", switchings {asked.switch}" if asked.switch is not None else "")
+    text = f"case {visible(asked.case)}"
+    if asked.switch is not None:
+        text += f", switchings {visible(asked.switch)}"
     if first is not None:
         text += f", threshold {shifted(first.threshold, MILLI)} A, field {shifted(first.field, MILLI)} V/km"
         text += f", width {shifted(first.width, MILLI)} A"

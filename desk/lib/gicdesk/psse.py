@@ -90,7 +90,8 @@ class Making:
         self.substation_names[substation.number] = name
         fields = []
         if substation.ground is None:
-            self.tell(substation.record, f"{name} has no ground: RG is empty")
+            words = "RG is empty, which is taken as no ground; see whether the file means that, or else write its ohm"
+            self.tell(substation.record, f"{name}: {words}")
         else:
             ways = "write ohm, or nothing where it has no ground"
             micro = micro_ohm(substation.record, "RG", substation.ground, ways)

@@ -52,7 +52,8 @@ def question_text(question: Question) -> str:
             north, east = (moved(metres, 1000) for metres in question.gap)
             return (
                 f"The loop that {question.name} closes stays open by {north} km to the north and {east} km to the "
-                "east: which of its lines has a wrong span?"
+                "east: has one of its lines a wrong span? Right ones round a large loop don't close either, since meridians "
+                "converge: by some 7 km for two degrees by two at a latitude of 60."
             )
         case "value" if question.number is not None:
             what = f"{question.list} {question.name}: {named(question.field)} is"

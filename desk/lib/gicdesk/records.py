@@ -87,12 +87,16 @@ def heads_fault(top: str, first: list[str], heads: Sequence[str], optional: Sequ
 
 
 def read_table(
-    file: str, heads: Sequence[str], findings: list[Finding], optional: Sequence[str] | None = ("note",)
+    file: str,
+    heads: Sequence[str],
+    findings: list[Finding],
+    optional: Sequence[str] | None = ("note",),
+    given: bytes | None = None,
 ) -> list[Record]:
     """The rows of a table of commas with these heads, in any order, and perhaps some of the optional ones, or where
     that is None any others. Empty rows are none. Where the heads have semicolons between them the rows have, and
-    numbers have decimal commas."""
-    text = read_text(file)
+    numbers have decimal commas. `given` is what the file holds, where it has been read already."""
+    text = read_text(file, given=given)
     top = text.partition("\n")[0]
     semicolons = ";" in top and "," not in top
     reader = csv.reader(io.StringIO(text, newline=""), delimiter=";" if semicolons else ",", strict=True)

@@ -3,7 +3,6 @@
 import contextlib
 import dataclasses
 import datetime
-import hashlib
 import math
 from collections.abc import Iterable, Iterator, Mapping
 from typing import TypeVar
@@ -12,12 +11,12 @@ from . import outages
 from .counts import plural
 from .events import BaseSwitchings, Event, Items, read_events
 from .factors import Factor, read_factors, size, total
-from .files import read_bytes
-from .findings import Finding, Refused, refuse
+from .findings import Finding, Refused, refuse, visible
 from .forms import Interval
+from .inputs import Copies, Input
 from .network import Network, Place, laid_out, network_of, read_places
 from .outages import Asked, Outages, Result, Worst, worst_of
-from .program import Program, Run, ending
+from .program import Program, Run, commit_of, ending
 from .progress import Progress
 from .questions import question_text
 from .reports import (
@@ -40,16 +39,17 @@ from .together import together
 
 Kind = TypeVar("Kind")
 OPTIONS = ("storm", "switch", "factors", "events", "places", "width")
+FILES = ("case", *OPTIONS[:-1])
 SHOWN = 40  # units and questions on the terminal
 MUST = ("reaches", "undecided")  # the verdicts of a unit that must be assessed
-CHANGED = "it has changed while the study ran, so the reports are of several files; run it again"
 
 
 @dataclasses.dataclass(frozen=True)
 class Request:
-    """What is asked: the program, and the names of the files as they were given."""
+    """What is asked: the program, and the names of the files as they were given; each run gets their copies."""
 
     program: Program
+    copies: Copies
     case: str
     storm: str | None = None
     switch: str | None = None
@@ -64,12 +64,21 @@ class Request:
 
     def run(self, mode: str, *words: str) -> Run:
         """A run of the case."""
-        return self.program.run(mode, self.case_word, *words)
+        return self.program.run(*self.copies.words((mode, self.case_word, *words)))
+
+    def data(self, role: str) -> bytes:
+        """What the file of an option holds that was given."""
+        return self.copies.inputs[role].data
 
     @property
     def standing_switch(self) -> str | None:
         """The switchings that are in force in every report. Those of a storm have their times in it alone."""
         return self.switch if self.storm is None else None
+
+    @property
+    def asked(self) -> Asked:
+        """What screens of outages are made of."""
+        return Asked(self.program, self.copies, self.case, self.standing_switch, self.words)
 
     @property
     def words(self) -> tuple[str, ...]:
@@ -89,20 +98,6 @@ class Request:
         given = {"storm": self.storm, "switch": self.switch}.get(run.file or "")
         return self.case if given is None else given
 
-    def files(self) -> dict[str, str]:
-        names = {name: getattr(self, name) for name in ("case", *OPTIONS) if name != "width"}
-        return {name: file for name, file in names.items() if file is not None}
-
-
-@dataclasses.dataclass(frozen=True)
-class Input:
-    role: str
-    name: str
-    data: bytes
-
-    @property
-    def checksum(self) -> str:
-        return hashlib.sha256(self.data).hexdigest()
 
 
 @dataclasses.dataclass(frozen=True)
@@ -282,32 +277,6 @@ class Runs:
         return last.report
 
 
-def file_name(name: str) -> str:
-    """The name of a file as the program takes it: to it `-` is a file as any other."""
-    return "./-" if name == "-" else name
-
-
-def read_inputs(request: Request) -> list[Input]:
-    """The files, with what they hold; all that can't be read are told at once."""
-    inputs: list[Input] = []
-    findings: list[Finding] = []
-    for role, name in request.files().items():
-        try:
-            inputs.append(Input(role, name, read_bytes(file_name(name))))
-        except Refused as refused:
-            findings += refused.findings
-    if findings:
-        raise Refused(findings)
-    return inputs
-
-
-def look_for_changes(inputs: Iterable[Input]) -> None:
-    """Refuses a study of which a file has changed since it began."""
-    changed = [given for given in inputs if read_bytes(file_name(given.name)) != given.data]
-    if changed:
-        raise Refused([Finding(given.name, CHANGED) for given in changed])
-
-
 def first_screen(runs: Runs, words: tuple[str, ...], review: Review) -> Screen:
     """The screen of the benchmark event. Where the network can't be solved, what the review asks is told beside it."""
     try:
@@ -337,17 +306,17 @@ def read_tables(request: Request, network: Network | None, items: Items) -> Tabl
     unread = "it needs the case, which is in TOML 1.1; write the case without what only TOML 1.1 has"
     with collected(findings):
         if request.events is not None:
-            events = read_events(request.events, items)
+            events = read_events(request.events, items, request.data("events"))
     with collected(findings):
         if request.factors is not None and network is None:
             raise refuse(request.factors, unread)
         if request.factors is not None and network is not None:
-            factors = read_factors(request.factors, network.volts, findings)
+            factors = read_factors(request.factors, network.volts, findings, request.data("factors"))
     with collected(findings):
         if request.places is not None and network is None:
             raise refuse(request.places, unread)
         if request.places is not None and network is not None:
-            places = read_places(request.places, network.stations, findings)
+            places = read_places(request.places, network.stations, findings, request.data("places"))
     if findings:
         raise Refused(findings)
     return Tables(events, factors, places)
@@ -504,8 +473,7 @@ def run_outages(
     """The events of the list, and the worst single outage of each transformer."""
     request = runs.request
     runs.progress.total -= sum(outcome.word != "solved" for outcome in outage.outcomes)
-    asked = Asked(request.program, request.case, request.standing_switch, request.words)
-    runner = outages.Runner(asked, base, request.events or request.case)
+    runner = outages.Runner(request.asked, base, request.events or request.case)
     found = None
     if request.events is not None:
         outages.look_for_room(request.events, base, events)
@@ -514,43 +482,40 @@ def run_outages(
     return found, worst_outages(runner, outage, runs.progress)
 
 
-def look_for_one_case(inputs: Iterable[Input], reports: Iterable[Screen | Outage | StormReport | None]) -> None:
-    """Refuses reports of several cases: their transformers are the same ones, unless a file has changed meanwhile."""
+def look_for_one_case(reports: Iterable[Screen | Outage | StormReport | None]) -> None:
+    """Refuses reports of several cases: their transformers are the same ones, unless the program is another one."""
     names = {tuple(unit.name for unit in report.units) for report in reports if report is not None}
-    look_for_changes(inputs)
     if len(names) > 1:
         raise refuse("the reports of gicstudy", "they are of several cases; is --program another program?")
 
 
 def make_study(request: Request) -> Study:
     """Runs all that is asked, in the order in which faults of the files come early."""
-    began, commit, checksum = datetime.datetime.now().astimezone(), request.program.commit(), request.program.checksum()
-    inputs = {given.role: given for given in read_inputs(request)}
+    began, commit = datetime.datetime.now().astimezone(), commit_of(request.program.checksum)
+    inputs = request.copies.inputs
     with Progress(7) as progress:
         runs = Runs(request, progress)
         basis = look_at_case(runs, inputs["case"])
         network, screen, supplemental = basis.network, basis.screen, basis.supplemental
         tables = read_tables(request, network, basis.items)
-        base = outages.base_switchings(request.standing_switch)
+        base = request.asked.base
         expected = expect_runs(runs, basis, tables)
         storm = run_storm(runs, request, inputs, network.zones if network is not None else ["*"])
         outage = runs.report(Outage, "outage", "outage", *request.screen_words)
-        look_for_one_case(inputs.values(), (screen, supplemental, outage, None if storm is None else storm.report))
+        look_for_one_case((screen, supplemental, outage, None if storm is None else storm.report))
         losses = run_losses(runs, tables.factors, screen, request.screen_words)
         events, worst = run_outages(runs, basis, base, tables.events, outage)
         units = facts_of(screen, supplemental, outage, worst, events, storm)
         progress.total -= expected
         run_series(runs, storm, [unit.name for unit in units if wants_series(unit) or unit.name in tables.factors])
         units = facts_of(screen, supplemental, outage, worst, events, storm)
-    look_for_changes(inputs.values())
-    if request.program.checksum() != checksum:
-        raise refuse(request.program.path, CHANGED)
+    request.program.look_for_change()
     places, parts = ({}, 0) if network is None else laid_out(network, tables.places)
     return Study(
         request=request,
         began=began,
         commit=commit,
-        program_checksum=checksum,
+        program_checksum=request.program.checksum,
         inputs=list(inputs.values()),
         kept=runs.kept,
         review=basis.review,
@@ -597,4 +562,4 @@ def sum_text(study: Study, page: str) -> str:
         more = [f"and {len(names) - SHOWN} more"] if len(names) > SHOWN else []
         if names:
             lines.append(f"{len(names)} {when}: {' '.join([*names[:SHOWN], *more])}")
-    return "\n".join([*lines, f"{page} is made"]) + "\n"
+    return "\n".join([*lines, f"{visible(page)} is made"]) + "\n"

@@ -6,10 +6,11 @@ import os
 import shlex
 from collections.abc import Mapping
 
-from . import outages
+from . import earlier, outages
 from .compare import ends_or_nothing
 from .decimals import MILLI, shifted
-from .files import bytes_of, refuse_tree, write_tree
+from .files import bytes_of
+from .findings import visible
 from .forms import Interval
 from .layouts import table_of
 from .outages import Worst
@@ -17,7 +18,7 @@ from .study import Study, UnitFacts
 from .study_page import page
 from .tables import Table
 
-PAGE, UNITS, LOSSES, COMMANDS, CHECKSUMS = "study.html", "units.csv", "losses.csv", "commands.txt", "checksums.txt"
+PAGE, UNITS, LOSSES, COMMANDS = "study.html", "units.csv", "losses.csv", "commands.txt"
 
 
 def interval_heads(name: str) -> list[str]:
@@ -33,16 +34,6 @@ def worst_cells(worst: Worst | None) -> list[str]:
 def page_of(folder: str) -> str:
     """The name of the page in a folder."""
     return os.path.join(folder, PAGE)
-
-
-def refuse_study(folder: str, force: bool) -> None:
-    """Refuses a folder that a study can't be written as, before any work."""
-    refuse_tree(folder, force, CHECKSUMS)
-
-
-def write_study(study: Study, folder: str, force: bool, comma: bool) -> None:
-    """Makes the folder, whole or not at all."""
-    write_tree(folder, files_of(study, comma), force, CHECKSUMS)
 
 
 def unit_cells(study: Study, unit: UnitFacts) -> list[str]:
@@ -111,10 +102,20 @@ def commands_text(study: Study) -> str:
     """Each run: its status, the name of its report, and its words as a shell takes them."""
     lines = []
     for kept in study.kept:
-        told = f"  # {kept.run.line}" if kept.run.line else ""
-        lines.append(f"{kept.run.status} {kept.name} {shlex.join(('gicstudy', *kept.words))}{told}")
+        told = f"  # {visible(kept.run.line)}" if kept.run.line else ""
+        words = " ".join(map(shell_word, ("gicstudy", *kept.words)))
+        lines.append(f"{kept.run.status} {kept.name} {words}{told}")
     heads = "# status, report, words; files in reports/ lie in this folder, and others are named as they were given"
     return "\n".join([heads, *lines]) + "\n"
+
+
+def shell_word(word: str) -> str:
+    """A word as a shell takes it, on one line: one with letters that have no shape stands in `$'..'`, these as numbers."""
+    if word.isprintable():
+        return shlex.quote(word)
+    letters = [f"\\{letter}" if letter in "'\\" else letter for letter in word]
+    numbers = ["".join(f"\\{byte:03o}" for byte in os.fsencode(letter)) for letter in word]
+    return "$'" + "".join(one if one.isprintable() else other for one, other in zip(letters, numbers)) + "'"
 
 
 def files_of(study: Study, comma: bool) -> dict[str, str | bytes]:
@@ -128,11 +129,12 @@ def files_of(study: Study, comma: bool) -> dict[str, str | bytes]:
             files[f"reports/{kept.name}.txt"] = kept.run.report
             files[f"tables/{kept.name}.csv"] = table_of(kept.name, kept.mode, kept.report).csv(comma)
     if study.events is not None:
-        base = outages.base_switchings(study.request.standing_switch)
+        base = study.request.asked.base
         for number, result in enumerate(study.events.results, 1):
             files[f"reports/event_{number}.csv"] = base.with_event(result.event)
         files["tables/events.csv"] = outages.events_table(study.events).csv(comma)
-    return files | {CHECKSUMS: checksums_text(files)}
+    sums = checksums_text(files)
+    return files | {earlier.SUMS: sums, earlier.MARKER: earlier.marker_text(sums.encode())}
 
 
 def checksums_text(files: Mapping[str, str | bytes]) -> str:

@@ -7,6 +7,7 @@ from collections.abc import Iterable, Sequence
 from .compare import outcome_text
 from .counts import plural
 from .decimals import MILLI, shifted
+from .findings import visible
 from .markup import Markup, joined, table, tag
 from .outages import Worst
 from .questions import question_text
@@ -31,7 +32,10 @@ from .study_words import (
 
 # A browser that reads it asks for nothing, whatever stands in the page.
 POLICY = "default-src 'none'; style-src 'unsafe-inline'; img-src data:"
-COMMIT_UNKNOWN = "not known: this command didn't build the program itself, in a repository with its history"
+COMMIT_UNKNOWN = (
+    "not known: no record of a build is known of the program with the sum below, in a repository with its sources and its "
+    "history; so whether it is a proved one isn't known here either"
+)
 UNSOLVED = {
     "unearthed": "without the item a part is live and hangs in the air, and nothing is said of any current",
     "unresolved": "without the item a part is earthed too poorly, and nothing is said of any current",
@@ -47,6 +51,7 @@ PROVED_NOTE = (
     "of this page is proved. Each of its numbers is one that the program printed, with its point moved, or is said to be "
     "made of such."
 )
+UNKNOWN_NOTE = " Whether the program that was run is a proved one isn't known here: there is no record of a build with its sum."
 
 
 def event_text(name: str, screen: Screen, what: str) -> str:
@@ -76,8 +81,8 @@ def asked_section(study: Study) -> Markup:
         "Width of intervals": f"{shifted(study.screen.width, MILLI)} A at most",
         "Switchings": switch_text(study),
     }
-    rows = [(given.role, given.name, str(len(given.data)), given.checksum) for given in study.inputs]
-    rows.append(("program", study.request.program.path, "", study.program_checksum))
+    rows = [(given.role, visible(given.name), str(len(given.data)), given.checksum) for given in study.inputs]
+    rows.append(("program", visible(study.request.program.path), "", study.program_checksum))
     return section(
         "asked",
         tag("table", *[tag("tr", tag("td", name, class_="name"), tag("td", words)) for name, words in facts.items()]),
@@ -280,7 +285,8 @@ def made_section(study: Study) -> Markup:
     for kept in study.kept:
         if kept.mode != "series":
             digest = ABSENT if kept.report is None else hashlib.sha256(kept.run.report).hexdigest()[:32]
-            rows.append((kept.name, words_of(("gicstudy", *kept.words)), str(kept.run.status), digest))
+            words = words_of(map(visible, ("gicstudy", *kept.words)))
+            rows.append((kept.name, words, str(kept.run.status), digest))
     single = plural(sum(outcome.word == "solved" for outcome in study.outage.outcomes), "screen")
     more = f"The worst outages have their names from {single}, each with one item open, whose reports aren't kept."
     if series:
@@ -292,13 +298,13 @@ def made_section(study: Study) -> Markup:
         table(heads, rows, ("name", "wrap", "n", "sum")),
         tag("p", more),
         *events_table(study),
-        tag("p", PROVED_NOTE),
+        tag("p", PROVED_NOTE + ("" if study.commit else UNKNOWN_NOTE)),
     )
 
 
 def page(study: Study) -> str:
     """The page as one text."""
-    title = f"Study of {pathlib.PurePath(study.request.case).name}"
+    title = visible(f"Study of {pathlib.PurePath(study.request.case).name}")
     head = tag(
         "head",
         tag("meta", charset="utf-8"),

@@ -1,6 +1,6 @@
 """What the sections of a study's page share: their titles, and how currents, verdicts and names stand in them."""
 
-from collections.abc import Sequence
+from collections.abc import Iterable, Sequence
 
 from .decimals import MILLI, shifted
 from .forms import Interval
@@ -39,7 +39,7 @@ def verdict(word: str) -> Markup:
     return tag("span", word, class_=f"v {word}")
 
 
-def words_of(words: Sequence[str]) -> Markup:
+def words_of(words: Iterable[str]) -> Markup:
     """Words of a command, none of which goes over two lines where it has room in one."""
     pieces = [tag("span", word, class_="w") for word in words]
     return Markup(" ".join(pieces))

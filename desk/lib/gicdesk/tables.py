@@ -4,10 +4,29 @@ import csv
 import dataclasses
 import io
 import re
+import unicodedata
 from collections.abc import Sequence
+
+from .findings import visible
+from .forms import NAME
 
 # The heads of columns with decimal points.
 DECIMAL = re.compile(r"(^|_)(A|A_per_phase|V|V_or_A|V_per_km|var|ohm|kV|Mvar|mvar_per_ampere)$")
+FORMULAS = ("=", "+", "-", "@")  # what a cell begins with that a spreadsheet works out
+NUMBER = re.compile(r"[+-]?[0-9]+(\.[0-9]+)?")
+
+
+def is_formula(text: str) -> bool:
+    """Whether a text begins as a formula does, perhaps in the wide or the small form of a sign."""
+    return unicodedata.normalize("NFKC", text.lstrip()[:1]).startswith(FORMULAS)
+
+
+def guarded(cell: str) -> str:
+    """A cell that no spreadsheet works out and that is one line: a formula has a `'` in front, and letters without a shape
+    stand as their numbers. A number and a name of a case stay as they are."""
+    if NUMBER.fullmatch(cell) or NAME.fullmatch(cell):
+        return cell
+    return f"'{visible(cell)}" if is_formula(cell) else visible(cell)
 
 
 @dataclasses.dataclass(frozen=True)
@@ -25,7 +44,8 @@ class Table:
         writer.writerow(self.heads)
         decimal = [comma and DECIMAL.search(head) is not None for head in self.heads]
         for row in self.rows:
-            writer.writerow([cell.replace(".", ",") if here else cell for cell, here in zip(row, decimal)])
+            cells = map(guarded, row)
+            writer.writerow([cell.replace(".", ",") if here else cell for cell, here in zip(cells, decimal)])
         return text.getvalue()
 
     def columns(self, right: Sequence[str] = ()) -> str:

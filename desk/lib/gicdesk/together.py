@@ -9,14 +9,14 @@ from collections.abc import Callable, Iterable, Iterator
 from typing import TypeVar
 
 from .findings import refuse
-from .program import STOPPING, stop_running
+from .running import STOPPING, stop_running, taken
+from .stops import TAKEN
 
 Question = TypeVar("Question")
 Answer = TypeVar("Answer")
 
 MOST_AT_ONCE = 8
 ONE_RUN = 600_000_000  # bytes, as over a case at every limit; most take a sixth of that and less
-MOMENT = 0.2  # seconds
 MEMORY = pathlib.Path("/proc/meminfo")
 
 
@@ -50,17 +50,10 @@ def together(run: Callable[[Question], Answer], questions: Iterable[Question]) -
                 pool.shutdown(wait=False, cancel_futures=True)
                 raise
     except (Exception, GeneratorExit):
-        # (behind an interrupt nothing is to run any more)
-        STOPPING.clear()
+        # (behind a signal nothing is to run any more)
+        if not TAKEN:
+            STOPPING.clear()
         raise
-
-
-def taken(future: concurrent.futures.Future[Answer]) -> Answer:
-    """What a run brings, once it has ended. That is looked for every moment: an interrupt just before a wait without an end
-    would be seen behind it alone."""
-    while not future.done():
-        concurrent.futures.wait([future], MOMENT)
-    return future.result()
 
 
 def begun(

@@ -1,0 +1,374 @@
+"""Files that are written as a set: all of them come, or none.
+
+A set has a scratch folder beside its targets from before any work on, so that what can't be written there is told at once.
+In it `new/` has what is written and `old/` what gives way. The file `owner` is locked by the command at work, and
+`publishing` stands there while one target after another comes to its place: behind a command that was ended amid that, the
+next one with a target in the same folder puts back what stood there.
+"""
+
+import contextlib
+import errno
+import fcntl
+import json
+import os
+import pathlib
+import shutil
+import stat
+import tempfile
+import time
+from collections.abc import Iterable, Iterator, Mapping, Sequence
+
+from . import earlier, stops
+from .files import bytes_of
+from .findings import Finding, Refused, refuse
+from .tell import tell
+
+SCRATCH = ".gicdesk."
+OWNER, PUBLISHING, NEW, OLD = "owner", "publishing", "new", "old"
+HEAD = b"gicdesk: the scratch of a command\n"
+LONGEST_WAIT = 5.0  # seconds for another command that publishes in the same folder
+MOMENT = 0.02
+NO_LINKS = (errno.EPERM, errno.EOPNOTSUPP, errno.ENOSYS, errno.EMLINK)
+
+Text = str | bytes
+
+
+def unwritten(error: OSError) -> str:
+    return f"it can't be written ({error.strerror}); nothing of it was"
+
+
+def identity(path: pathlib.Path) -> list[int] | None:
+    """Which file or folder a path leads to, without following a link; None where there is none."""
+    try:
+        found = os.lstat(path)
+    except OSError:
+        return None
+    return [found.st_dev, found.st_ino]
+
+
+@contextlib.contextmanager
+def locked(folder: pathlib.Path) -> Iterator[None]:
+    """Keeps other commands from publishing in a folder, where the file system has locks."""
+    try:
+        held = os.open(folder, os.O_RDONLY | os.O_CLOEXEC)
+    except OSError:
+        yield
+        return
+    try:
+        end = time.monotonic() + LONGEST_WAIT
+        while has_lock(held) is False and time.monotonic() < end:
+            time.sleep(MOMENT)
+        yield
+    finally:
+        os.close(held)
+
+
+def has_lock(held: int) -> bool | None:
+    """Whether the file is locked from now on; None where the file system has no locks."""
+    try:
+        fcntl.flock(held, fcntl.LOCK_EX | fcntl.LOCK_NB)
+    except BlockingIOError:
+        return False
+    except OSError:
+        return None
+    return True
+
+
+def link_new(source: pathlib.Path, target: pathlib.Path) -> None:
+    """Gives a file another name, which must not be there yet."""
+    try:
+        os.link(source, target, follow_symlinks=False)
+    except OSError as error:
+        if error.errno not in NO_LINKS:
+            raise
+        # Where there are no links a new name is taken first, and then the file moved there.
+        os.close(os.open(target, os.O_CREAT | os.O_EXCL | os.O_WRONLY))
+        os.replace(source, target)
+
+
+class Set:
+    """Targets of one folder, and the scratch beside them. With a tree there is one target, a folder of files."""
+
+    def __init__(self, folder: pathlib.Path, targets: Mapping[str, str], force: bool, is_tree: bool) -> None:
+        self.folder, self.targets, self.force, self.is_tree = folder, dict(targets), force, is_tree
+        self.made: pathlib.Path | None = None
+        self.owner: int | None = None
+
+    @property
+    def scratch(self) -> pathlib.Path:
+        assert self.made is not None
+        return self.made
+
+    def begin(self) -> None:
+        """Makes the scratch with each target as an empty one in it, and puts back what others have left."""
+        shown = next(iter(self.targets.values()))
+        try:
+            with stops.held(), locked(self.folder):
+                recover(self.folder)
+                self.made = pathlib.Path(tempfile.mkdtemp(prefix=SCRATCH, dir=self.folder))
+                self.owner = os.open(self.made / OWNER, os.O_RDWR | os.O_CREAT | os.O_EXCL | os.O_CLOEXEC, 0o600)
+                has_lock(self.owner)
+                os.write(self.owner, HEAD)
+                for name in (NEW, OLD):
+                    (self.made / name).mkdir()
+                for name, shown in self.targets.items():
+                    if self.is_tree:
+                        (self.made / NEW / name).mkdir()
+                    else:
+                        (self.made / NEW / name).touch(exist_ok=False)
+        except OSError as error:
+            raise refuse(shown, unwritten(error)) from None
+
+    def publish(self, texts: Mapping[str, Text]) -> None:
+        """Writes the set, and brings it to its place: whole, or not at all."""
+        shown = next(iter(self.targets.values()))
+        try:
+            for name, text in texts.items():
+                self.write(name, text)
+            stops.look()
+            with stops.held(), locked(self.folder):
+                new = {name: identity(self.scratch / NEW / name) for name in self.targets}
+                write_file(self.scratch / PUBLISHING, json.dumps(new).encode(), False)
+                try:
+                    for name, shown in self.targets.items():
+                        self.set_aside(name, shown)
+                        self.place(name)
+                except BaseException:
+                    take_back(self.scratch, self.folder, new)
+                    raise
+                (self.scratch / PUBLISHING).unlink()
+        except FileExistsError:
+            words = "it is there already, and wasn't when the command began; choose another name"
+            raise refuse(shown, words) from None
+        except OSError as error:
+            raise refuse(shown, unwritten(error)) from None
+
+    def write(self, name: str, text: Text) -> None:
+        """Writes a file of the set into the scratch; of a tree its name is that in the folder."""
+        tree = self.scratch / NEW
+        if self.is_tree:
+            tree /= next(iter(self.targets))
+        (tree / name).parent.mkdir(parents=True, exist_ok=True)
+        write_file(tree / name, bytes_of(text), not self.is_tree)
+
+    def set_aside(self, name: str, shown: str) -> None:
+        """Brings what gives way for a target into the scratch, where it is looked at once more."""
+        target, old = self.folder / name, self.scratch / OLD / name
+        if not (self.force and os.path.lexists(target)):
+            return
+        os.rename(target, old)
+        if self.is_tree and not old.is_symlink() and old.is_dir():
+            earlier.refuse_other(old, shown)
+        elif self.is_tree or not stat.S_ISREG(os.lstat(old).st_mode):
+            raise refuse(shown, "it is another thing than it was when the command began; look at it")
+
+    def place(self, name: str) -> None:
+        source, target = self.scratch / NEW / name, self.folder / name
+        if not self.is_tree:
+            link_new(source, target)
+        elif os.path.lexists(target):
+            raise FileExistsError(errno.EEXIST, os.strerror(errno.EEXIST), str(target))
+        else:
+            os.rename(source, target)
+
+    def end(self) -> None:
+        """Takes the scratch away, and with it what gave way."""
+        with stops.held():
+            if self.made is not None:
+                clear(self.made)
+            if self.owner is not None:
+                os.close(self.owner)
+
+
+def write_file(path: pathlib.Path, data: bytes, is_synced: bool) -> None:
+    """Writes a file, and perhaps waits until the disk has it, which the many of a tree would take long for."""
+    with open(path, "wb") as file:
+        file.write(data)
+        file.flush()
+        if is_synced:
+            os.fsync(file.fileno())
+
+
+def take_back(scratch: pathlib.Path, folder: pathlib.Path, new: Mapping[str, list[int] | None]) -> list[str]:
+    """Takes new targets away again, and puts back what gave way for them; the answer are the names of that. What somebody
+    else has put in a target's place stays, and so does what gave way, in the scratch, which is told."""
+    back = []
+    is_whole = True
+    for name in reversed(new):
+        target, old = folder / name, scratch / OLD / name
+        if new[name] is not None and identity(target) == new[name]:
+            with contextlib.suppress(FileNotFoundError):
+                (scratch / NEW / name).unlink()  # (the other name of the same file)
+            os.rename(target, scratch / NEW / name)
+        if os.path.lexists(old):
+            if os.path.lexists(target):
+                is_whole = False
+                tell(f"{target}: something else is in its place; what stood there before lies in {old}")
+            else:
+                os.rename(old, target)
+                back.append(str(target))
+    if is_whole:
+        (scratch / PUBLISHING).unlink(missing_ok=True)
+    return back
+
+
+def recover(folder: pathlib.Path) -> None:
+    """Ends what commands that were ended amid their work have left in a folder, and tells what is put back."""
+    for scratch in sorted(folder.glob(f"{SCRATCH}*")):
+        try:
+            owner = os.open(scratch / OWNER, os.O_RDWR | os.O_CLOEXEC | os.O_NOFOLLOW)
+        except OSError:
+            continue
+        try:
+            if has_lock(owner) and os.pread(owner, len(HEAD), 0) == HEAD:
+                recover_one(scratch, folder)
+        except OSError as error:
+            tell(f"{scratch}: it is left by a command that was ended, and can't be cleared ({error.strerror})")
+        finally:
+            os.close(owner)
+
+
+def recover_one(scratch: pathlib.Path, folder: pathlib.Path) -> None:
+    if (scratch / PUBLISHING).is_file():
+        try:
+            new = json.loads((scratch / PUBLISHING).read_bytes())
+        except ValueError:
+            new = {}  # it was being written: nothing has moved yet
+        if not new or any(identity(folder / name) != new[name] for name in new):
+            for name in take_back(scratch, folder, new):
+                tell(f"{name}: a command was ended before all that it wrote was in its place; what stood there is put back")
+        else:
+            (scratch / PUBLISHING).unlink()
+    clear(scratch)
+
+
+def clear(scratch: pathlib.Path) -> None:
+    """Takes a scratch away. What gave way is taken away with it; but what came into a folder meanwhile stays, and is
+    told, and so does what gave way where it couldn't be put back."""
+    try:
+        shutil.rmtree(scratch / NEW, ignore_errors=True)
+        if not (scratch / PUBLISHING).exists():
+            for old in (scratch / OLD).iterdir():
+                if old.is_dir() and not old.is_symlink():
+                    earlier.take_away(old, str(old))
+                else:
+                    old.unlink()
+        (scratch / OLD).rmdir()
+        for name in (PUBLISHING, OWNER):
+            (scratch / name).unlink(missing_ok=True)
+        scratch.rmdir()
+    except (OSError, Refused) as error:
+        reason = error.strerror if isinstance(error, OSError) else error.lines()[0]
+        tell(f"{scratch}: something of what gave way is left there ({reason}); look at it, and take it away")
+
+
+def is_same_file(one: str, other: str) -> bool:
+    """Whether two names lead to one file; `-` is the standard input."""
+    try:
+        found = [os.fstat(0) if name == "-" else os.stat(name) for name in (one, other)]
+    except OSError:
+        return False
+    return os.path.samestat(*found)
+
+
+def refuse_files(names: Sequence[str], force: bool, inputs: Iterable[str]) -> None:
+    """Refuses names of files that can't be written, before any work: what isn't a file never gives way, a file only by
+    force, and never one that is read."""
+    findings = [finding for name in names if (finding := file_fault(name, force, inputs)) is not None]
+    if findings:
+        raise Refused(findings)
+
+
+def file_fault(name: str, force: bool, inputs: Iterable[str]) -> Finding | None:
+    path = pathlib.Path(name)
+    if path.name in ("", ".."):
+        return Finding(name, "it is there already, and no plain file; choose another name")
+    try:
+        mode = os.lstat(path).st_mode
+    except (FileNotFoundError, NotADirectoryError):
+        if path.parent.is_dir():
+            return None
+        return Finding(name, "there is no such folder; make the folder first")
+    except OSError as error:
+        return Finding(name, unwritten(error))
+    if stat.S_ISLNK(mode):
+        return Finding(name, "it is a symbolic link, and no plain file; choose another name")
+    if not stat.S_ISREG(mode):
+        return Finding(name, "it is there already, and no plain file; choose another name")
+    if any(is_same_file(name, given) for given in inputs):
+        return Finding(name, "it is read by this command, too; choose another name")
+    if not force:
+        return Finding(name, "it is there already; choose another name, or give --force to replace it")
+    return None
+
+
+def refuse_folder(folder: str, force: bool, inputs: Iterable[str], replaced: str) -> None:
+    """Refuses a folder that can't be written, before any work; by force one that is there is taken, and never one that a
+    file is read of, or in which the command runs."""
+    path = pathlib.Path(folder)
+    try:
+        mode = os.lstat(path).st_mode
+    except (FileNotFoundError, NotADirectoryError):
+        if not path.parent.is_dir():
+            raise refuse(folder, "there is no folder to make it in; make that first") from None
+        return
+    except OSError as error:
+        raise refuse(folder, unwritten(error)) from None
+    if not stat.S_ISDIR(mode):
+        raise refuse(folder, "it is there already, and no folder; choose another name")
+    real = path.resolve()
+    if pathlib.Path.cwd().is_relative_to(real):
+        raise refuse(folder, "it is the folder that you are in, or one above it; choose another name")
+    for given in inputs:
+        if pathlib.Path(given).resolve().is_relative_to(real):
+            raise refuse(folder, f"{given}, which this command reads, lies in it; choose another name")
+    if not force:
+        words = f"it is there already; choose another name, or give --force to replace {replaced}"
+        raise refuse(folder, words)
+
+
+@contextlib.contextmanager
+def opened(made: Set) -> Iterator[Set]:
+    try:
+        made.begin()
+        yield made
+    finally:
+        made.end()
+
+
+def files_set(names: Sequence[str], force: bool, inputs: Iterable[str]) -> contextlib.AbstractContextManager[Set]:
+    """A set of files of one folder."""
+    refuse_files(names, force, list(inputs))
+    folder = pathlib.Path(names[0]).parent.resolve()
+    return opened(Set(folder, {pathlib.Path(name).name: name for name in names}, force, False))
+
+
+def folder_set(
+    folder: str, names: Sequence[str], force: bool, inputs: Iterable[str]
+) -> contextlib.AbstractContextManager[Set]:
+    """A set of files of these names in a new folder; or, by force, in one that is there, with all else that is in it."""
+    inputs = list(inputs)
+    if os.path.isdir(folder) and force:
+        there = [os.path.join(folder, name) for name in names]
+        refuse_folder(folder, True, [], "")
+        return files_set(there, force, inputs)
+    refuse_folder(folder, force, inputs, "what the command writes in it")
+    return tree_of(folder, False)
+
+
+def study_set(folder: str, force: bool, inputs: Iterable[str]) -> contextlib.AbstractContextManager[Set]:
+    """A folder with files and folders of files in it. With force an earlier study gives way as a whole."""
+    refuse_folder(folder, force, inputs, "an earlier study there")
+    path = pathlib.Path(folder)
+    if path.is_dir():
+        if os.path.ismount(path) or not os.access(path, os.W_OK):
+            raise refuse(folder, "it can't be moved, so --force can't replace it; choose another name")
+        earlier.refuse_other(path, folder)
+    return tree_of(folder, force)
+
+
+def tree_of(folder: str, force: bool) -> contextlib.AbstractContextManager[Set]:
+    path = pathlib.Path(folder)
+    if path.name in ("", ".."):
+        raise refuse(folder, "it is the folder that you are in, or one above it; choose another name")
+    return opened(Set(path.parent.resolve(), {path.name: folder}, force, True))
