@@ -43,6 +43,9 @@ TOOLCHAIN = "toolchain"
 NOT_KEPT = "not-kept"
 SCRATCH = "scratch-"
 LAST_LINES = 20
+# A call of a moment, and the seconds that it may have.
+SMALL = ("make", "--seed=1", "--size=2")
+LONGEST = 60.0
 # The program's line, with status 4, where its output takes no more.
 CANNOT_WRITE = b"gicstudy: cannot write\n"
 # The statuses of the program.
@@ -141,28 +144,18 @@ class Compiler:
     rt: str
     teller: Teller
 
-    def compile(self, scratch: Path) -> Path | None:
-        """The compiled program in the scratch, or None where `rt try` runs it and it isn't where it is expected."""
+    def compile(self, scratch: Path) -> tuple[Path | None, bool]:
+        """The compiled program in the scratch, where `rt try` lets it be caught; and whether another try may catch it."""
         trial = run_trial(self.rt, self.top, scratch, list(TRIAL), [], catches=True)
         if trial.status is None:
             raise self.refusal(trial.told)
         if trial.program is None:
-            return None
+            return None, trial.has_place
         program = scratch / "kept" / PROGRAM
         program.parent.mkdir()
         program.write_bytes(trial.program)
         program.chmod(0o755)
-        return program if self.is_whole(program, trial.status, trial.out) else None
-
-    def is_whole(self, program: Path, status: int, out: bytes) -> bool:
-        """Whether a program that was taken out of its folder does by itself what it did there."""
-        how = {"stdin": subprocess.DEVNULL, "stdout": subprocess.PIPE, "stderr": subprocess.DEVNULL, "env": environment()}
-        try:
-            with running([program, *TRIAL], **how) as ran:
-                printed = ran.communicate(timeout=60)[0]
-        except (OSError, subprocess.TimeoutExpired):
-            return False
-        return (ran.returncode, printed) == (status, out)
+        return program if runs(program) else None, True
 
     def refusal(self, told: list[str]) -> Fault:
         for line in told[-LAST_LINES:]:
@@ -185,6 +178,16 @@ class Compiler:
                 return 4
             pass_on(trial.err)
             return trial.status
+
+
+def runs(program: Path) -> bool:
+    """Whether a program that was taken out of its folder runs by itself."""
+    streams = {"stdin": subprocess.DEVNULL, "stdout": subprocess.DEVNULL, "stderr": subprocess.DEVNULL}
+    try:
+        with running([program, *SMALL], env=environment(), **streams) as ran:
+            return ran.wait(LONGEST) == 0
+    except (OSError, subprocess.TimeoutExpired):
+        return False
 
 
 def environment() -> dict[str, str]:
@@ -253,7 +256,7 @@ def answer(top: Path, teller: Teller, sources: Sources, words: list[str], head: 
         if can_write(shelf):
             program = compile_kept(compiler, shelf, folder, toolchain)
         else:
-            program = compiler.compile(stack.enter_context(scratch_in(None)))
+            program, _ = compiler.compile(stack.enter_context(scratch_in(None)))
         return compiler.answer(words) if program is None else run(program, words)
 
 
@@ -269,9 +272,10 @@ def compile_kept(compiler: Compiler, shelf: Path, folder: Path, toolchain: Toolc
             shutil.rmtree(it, ignore_errors=True)
         put(shelf / TOOLCHAIN, json.dumps(asdict(toolchain)).encode())
         with scratch_in(shelf) as scratch:
-            program = compiler.compile(scratch)
+            program, may_be_caught = compiler.compile(scratch)
             if program is not None:
                 return publish(program, folder)
-        folder.mkdir(exist_ok=True)
-        (folder / NOT_KEPT).write_bytes(b"")
+        if not may_be_caught:
+            folder.mkdir(exist_ok=True)
+            (folder / NOT_KEPT).write_bytes(b"")
         return None

@@ -21,6 +21,8 @@ from unproved import COMPILES, PROVE, UNPROVED
 
 FIRST = f"gicstudy: {COMPILES}{UNPROVED}\n"
 LATER = f"gicstudy: {UNPROVED}\n"
+# What a call may take on a machine with much to do.
+WAIT = 300
 HINT = "gicstudy: ./gicstudy --help shows the modes and options\n"
 
 
@@ -118,7 +120,7 @@ class First(unittest.TestCase):
                 while not self.at.noted("in"):
                     time.sleep(0.05)
                 ends(started.pid, number)
-                out, said = started.communicate(timeout=30)
+                out, said = started.communicate(timeout=WAIT)
                 self.assertEqual((started.returncode, out, said), (-number, "", FIRST))
                 self.is_tidy()
                 self.at.forget()
@@ -133,7 +135,7 @@ class First(unittest.TestCase):
             process = int(note.read_text(encoding="utf-8"))
             note.unlink()
             started.send_signal(number)
-            self.assertEqual(started.communicate(timeout=30), ("", LATER))
+            self.assertEqual(started.communicate(timeout=WAIT), ("", LATER))
             self.assertEqual(started.returncode, -number)
             with self.assertRaises(ProcessLookupError):
                 for _ in range(100):
@@ -146,7 +148,7 @@ class First(unittest.TestCase):
         while not self.at.noted("in"):
             time.sleep(0.05)
         os.killpg(started.pid, signal.SIGKILL)
-        started.communicate(timeout=30)
+        started.communicate(timeout=WAIT)
         self.assertEqual(len(list(self.shelf.glob("scratch-*"))), 1)
         self.at.write("gicstudy", "gicstudy")
         self.assertEqual(self.at.call("screen")[0], 0)
@@ -158,13 +160,13 @@ class First(unittest.TestCase):
             started = self.at.start("screen")
             time.sleep(moment)
             os.killpg(started.pid, signal.SIGINT)
-            said = started.communicate(timeout=30)[1]
+            said = started.communicate(timeout=WAIT)[1]
             self.assertNotIn("Traceback", said, moment)
 
     def test_two_calls_at_once_both_answer_and_compile_once(self) -> None:
         both = [self.at.start("screen", word) for word in ("one", "two")]
         for started, word in zip(both, ("one", "two")):
-            self.assertEqual(started.communicate(timeout=60)[0], f"gicstudy without proof: screen {word}\n")
+            self.assertEqual(started.communicate(timeout=WAIT)[0], f"gicstudy without proof: screen {word}\n")
             self.assertEqual(started.returncode, 0)
         self.assertEqual(self.at.noted("try"), ["make"])
         self.is_tidy()
@@ -229,6 +231,14 @@ class First(unittest.TestCase):
         self.assertRegex(said.removeprefix(FIRST), rf"\Agicstudy: no answer: .*1 MiB.*; {PROVE}\n\Z")
         self.assertEqual(list(self.work.iterdir()), [name])
         self.is_empty_but_for_the_mark()
+
+    def test_a_program_that_was_missed_is_looked_for_again(self) -> None:
+        self.at.write("gicstudy", "MISSED")
+        for _ in range(2):
+            self.at.forget()
+            self.assertEqual(self.at.call("status", "6"), (6, "", f"{FIRST}gicstudy: line 6\n"))
+            self.assertEqual(self.at.noted("try"), ["make", "status"])
+        self.is_tidy()
 
     def is_empty_but_for_the_mark(self) -> None:
         self.assertEqual([it.name for it in self.shelf.glob("*/*")], ["not-kept"])
