@@ -252,13 +252,14 @@ def clear(scratch: pathlib.Path) -> None:
     told, and so does what gave way where it couldn't be put back."""
     try:
         shutil.rmtree(scratch / NEW, ignore_errors=True)
-        if not (scratch / PUBLISHING).exists():
-            for old in (scratch / OLD).iterdir():
-                if old.is_dir() and not old.is_symlink():
-                    earlier.take_away(old, str(old))
-                else:
-                    old.unlink()
-        (scratch / OLD).rmdir()
+        if (scratch / OLD).is_dir():
+            if not (scratch / PUBLISHING).exists():
+                for old in (scratch / OLD).iterdir():
+                    if old.is_dir() and not old.is_symlink():
+                        earlier.take_away(old, str(old))
+                    else:
+                        old.unlink()
+            (scratch / OLD).rmdir()
         for name in (PUBLISHING, OWNER):
             (scratch / name).unlink(missing_ok=True)
         scratch.rmdir()
