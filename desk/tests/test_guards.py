@@ -20,7 +20,9 @@ FORMULAS = (
     "=1+1", "+1+1", "-1+1", "@SUM(A1)", " =1+1", '=HYPERLINK("http://x";"y")', "\uff1d1+1", "\uff0b1+1", "\uff0d1+1",
     "\uff20SUM(A1)", "\ufe661+1", "\ufe62a b", "\ufe63a b", "\ufe6ba b",
 )  # fmt: skip
-PLAIN = ("", "1", "-42.139", "+5", "0.5", "KS-A2", "-T1", "1-2", "a=b", "bus \"west\"", "a; b", "Z\xfcrich", "\u6771\u4eac", "5 - 3")
+PLAIN = (
+    "", "1", "-42.139", "+5", "0.5", "KS-A2", "-T1", "1-2", "a=b", "bus \"west\"", "a; b", "Z\xfcrich", "\u6771\u4eac", "5 - 3",
+)  # fmt: skip
 
 
 def rows(text: str) -> list[list[str]]:

@@ -117,6 +117,13 @@ class Single(DeskTest):
             (line,) = self.refused(*self.words())
         self.assertEqual(line, f"{self.out}: it can't be written (Permission denied); nothing of it was")
 
+    def test_a_disk_without_room_for_the_scratch_leaves_nothing(self) -> None:
+        for name, number in (("tempfile.mkdtemp", 1), ("os.write", 1), ("os.mkdir", 2), ("os.mkdir", 3)):
+            with self.subTest(name, number=number), failing(name, number):
+                (line,) = self.refused(*self.words())
+                self.assertEqual(line, f"{self.out}: it can't be written (No space left on device); nothing of it was")
+                self.assertEqual(left(self.place), [])
+
     def test_a_full_disk_leaves_what_stood_there(self) -> None:
         self.out.write_text("mine")
         for name in (WRITE, "os.link", "os.rename"):
@@ -375,10 +382,11 @@ class Whole(StudyTest):
         (self.out / "thesis.tex").write_text("years of work")
         (self.out / "checksums.txt").write_text(f"{earlier.sum_of(b'years of work')}  thesis.tex\n")
         (line,) = self.force()
-        self.assertEqual(line, ": it has no .gicdesk, so it is no earlier study, and --force doesn't replace it; choose another name")
+        other = "choose another name"
+        self.assertEqual(line, f": it has no .gicdesk, so it is no earlier study, and --force doesn't replace it; {other}")
         (self.out / ".gicdesk").write_text("a study of gicdesk\n")
         (line,) = self.force()
-        self.assertEqual(line, ": its .gicdesk isn't that of its checksums.txt, so --force doesn't replace it; choose another name")
+        self.assertEqual(line, f": its .gicdesk isn't that of its checksums.txt, so --force doesn't replace it; {other}")
 
     def test_all_that_is_not_of_the_study_is_told_and_kept(self) -> None:
         self.page()

@@ -1,6 +1,7 @@
 """Signals that end a command: each run of the program and each scratch ends with it, and one line tells it, whenever the
 signal comes."""
 
+import contextlib
 import os
 import pathlib
 import random
@@ -28,6 +29,17 @@ def defaults() -> None:
         signal.signal(number, signal.SIG_DFL)
 
 
+def alive(group: int) -> list[str]:
+    """The processes of a group that haven't ended."""
+    found = []
+    for path in pathlib.Path("/proc").glob("[0-9]*/stat"):
+        with contextlib.suppress(OSError):
+            fields = path.read_text().rpartition(") ")[2].split()
+            if int(fields[2]) == group and fields[0] != "Z":
+                found.append(path.parent.name)
+    return found
+
+
 class Runs(OutagesTest):
     def setUp(self) -> None:
         super().setUp()
@@ -38,7 +50,7 @@ class Runs(OutagesTest):
     def stopped(self, number: int, stop: Callable[[int, int], None], *words: str) -> None:
         """The desk is stopped while runs of the program wait."""
         slow = self.file(
-            "slow", f'#!/bin/sh\ncase "$*" in screen*) echo $$ >>{self.begun}; exec sleep 600 ;; esac\nexec {FAKE} "$@"\n'
+            "slow", f'#!/bin/sh\ncase "$*" in screen*) echo $$ >>{self.begun}; sleep 600; exit ;; esac\nexec {FAKE} "$@"\n'
         )
         slow.chmod(0o755)
         process = subprocess.Popen(
@@ -62,8 +74,8 @@ class Runs(OutagesTest):
         stop(process.pid, number)
         _, err = process.communicate(timeout=LONG)
         self.assertEqual((process.returncode, err), (128 + number, "gicdesk: stopped\n"))
-        for run in self.begun.read_text().split():
-            self.assertFalse(pathlib.Path("/proc", run).exists(), run)
+        for group in self.begun.read_text().split():  # (of a script and of what it has started)
+            self.assertEqual(alive(int(group)), [])
         self.assertEqual((os.listdir(self.passing), os.listdir(self.out.parent)), ([], there))
         self.begun.unlink()
 

@@ -416,7 +416,8 @@ class Refusals(StudyTest):
         other = self.file("other", f'#!/bin/sh\n[ $1 = volts ] && echo "# more" >>"$0"\nexec {FAKE} "$@"\n')
         other.chmod(0o755)
         (line,) = self.refused(*self.words(), f"--program={other}")
-        self.assertEqual(line, f"{other}: it has changed while the command ran, so its reports are of several programs; run it again")
+        words = "it has changed while the command ran, so its reports are of several programs; run it again"
+        self.assertEqual(line, f"{other}: {words}")
 
     def test_switchings_without_room_for_an_outage(self) -> None:
         rows = "".join("5,K,close\n" for _ in range(4096))

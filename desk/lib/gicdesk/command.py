@@ -4,6 +4,7 @@ import argparse
 import contextlib
 import dataclasses
 import os
+import pathlib
 import sys
 from collections.abc import Iterator, Sequence
 from typing import Any
@@ -50,6 +51,10 @@ def add_comma(words: argparse.ArgumentParser) -> None:
     words.add_argument("--comma", action="store_true", help="semicolons between cells, and decimal commas")
 
 
+def file_name(path: str) -> str:
+    return pathlib.PurePath(path).name
+
+
 def table_set(options: argparse.Namespace, inputs: Sequence[str]) -> contextlib.AbstractContextManager[Set | None]:
     """The file of --out, where there is one."""
     return contextlib.nullcontext() if options.out is None else files_set([options.out], options.force, inputs)
@@ -60,7 +65,7 @@ def run_csv(options: argparse.Namespace) -> None:
         mode, report = reports.read_report(options.report)
         text = layouts.table_of(options.report, mode, report, options.part).csv(options.comma)
         if out is not None:
-            out.publish({os.path.basename(options.out): text})
+            out.publish({file_name(options.out): text})
     if out is None:
         show(text)
 
@@ -71,7 +76,7 @@ def run_compare(options: argparse.Namespace) -> None:
         read = compare.read_compared(names)
         comparison = compare.compare(read[0][1], read[1][1])
         if out is not None:
-            out.publish({os.path.basename(options.out): compare.comparison_table(comparison).csv(options.comma)})
+            out.publish({file_name(options.out): compare.comparison_table(comparison).csv(options.comma)})
     show(compare.report_text(names, read, comparison))
 
 
@@ -139,7 +144,7 @@ def run_psse(options: argparse.Namespace) -> None:
     read = [options.raw, options.gic, *(name for name in dataclasses.astuple(tables) if name is not None)]
     with files_set([options.out, names], options.force, read) as out:
         made = psse.make_case(options.raw, options.gic, tables, psse.Choices(options.beyond, options.vector))
-        out.publish({os.path.basename(options.out): made.case, os.path.basename(names): made.names})
+        out.publish({file_name(options.out): made.case, file_name(names): made.names})
     told = "".join(f"{note}\n" for note in made.notes)
     show(told + visible(f"{options.out} is made, and {names} says what its names stand for") + "\n")
 
@@ -147,7 +152,7 @@ def run_psse(options: argparse.Namespace) -> None:
 def run_case(options: argparse.Namespace) -> None:
     with files_set([options.out], options.force, case_tables.files_of(options.tables)) as out:
         made = case.make_case(options.tables, case.Choices(options.alpha, tuple(options.accept)))
-        out.publish({os.path.basename(options.out): made.case})
+        out.publish({file_name(options.out): made.case})
     show("".join(f"{note}\n" for note in made.notes) + visible(f"{options.out} is made") + "\n")
 
 

@@ -78,7 +78,7 @@ def scratch() -> Iterator[str]:
     """A folder for what is passing."""
     try:
         with stops.held():
-            folder = tempfile.TemporaryDirectory(prefix="gicdesk.")
+            folder = tempfile.TemporaryDirectory(prefix="gicdesk.", ignore_cleanup_errors=True)
     except OSError as error:
         raise no_room(error, "a folder") from None
     try:

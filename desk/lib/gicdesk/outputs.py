@@ -100,11 +100,10 @@ class Set:
         return self.made
 
     def begin(self) -> None:
-        """Makes the scratch with each target as an empty one in it, and puts back what others have left."""
+        """Makes the scratch with each target as an empty one in it."""
         shown = next(iter(self.targets.values()))
         try:
             with stops.held(), locked(self.folder):
-                recover(self.folder)
                 self.made = pathlib.Path(tempfile.mkdtemp(prefix=SCRATCH, dir=self.folder))
                 self.owner = os.open(self.made / OWNER, os.O_RDWR | os.O_CREAT | os.O_EXCL | os.O_CLOEXEC, 0o600)
                 has_lock(self.owner)
@@ -214,6 +213,12 @@ def take_back(scratch: pathlib.Path, folder: pathlib.Path, new: Mapping[str, lis
 
 def recover(folder: pathlib.Path) -> None:
     """Ends what commands that were ended amid their work have left in a folder, and tells what is put back."""
+    if os.path.isdir(folder):
+        with stops.held(), locked(folder):
+            recover_all(folder)
+
+
+def recover_all(folder: pathlib.Path) -> None:
     for scratch in sorted(folder.glob(f"{SCRATCH}*")):
         try:
             owner = os.open(scratch / OWNER, os.O_RDWR | os.O_CLOEXEC | os.O_NOFOLLOW)
@@ -247,13 +252,14 @@ def clear(scratch: pathlib.Path) -> None:
     told, and so does what gave way where it couldn't be put back."""
     try:
         shutil.rmtree(scratch / NEW, ignore_errors=True)
-        if not (scratch / PUBLISHING).exists():
-            for old in (scratch / OLD).iterdir():
-                if old.is_dir() and not old.is_symlink():
-                    earlier.take_away(old, str(old))
-                else:
-                    old.unlink()
-        (scratch / OLD).rmdir()
+        if (scratch / OLD).is_dir():
+            if not (scratch / PUBLISHING).exists():
+                for old in (scratch / OLD).iterdir():
+                    if old.is_dir() and not old.is_symlink():
+                        earlier.take_away(old, str(old))
+                    else:
+                        old.unlink()
+            (scratch / OLD).rmdir()
         for name in (PUBLISHING, OWNER):
             (scratch / name).unlink(missing_ok=True)
         scratch.rmdir()
@@ -338,8 +344,9 @@ def opened(made: Set) -> Iterator[Set]:
 
 def files_set(names: Sequence[str], force: bool, inputs: Iterable[str]) -> contextlib.AbstractContextManager[Set]:
     """A set of files of one folder."""
-    refuse_files(names, force, list(inputs))
     folder = pathlib.Path(names[0]).parent.resolve()
+    recover(folder)
+    refuse_files(names, force, list(inputs))
     return opened(Set(folder, {pathlib.Path(name).name: name for name in names}, force, False))
 
 
@@ -347,8 +354,10 @@ def folder_set(
     folder: str, names: Sequence[str], force: bool, inputs: Iterable[str]
 ) -> contextlib.AbstractContextManager[Set]:
     """A set of files of these names in a new folder; or, by force, in one that is there, with all else that is in it."""
-    inputs = list(inputs)
-    if os.path.isdir(folder) and force:
+    inputs, path = list(inputs), pathlib.Path(folder)
+    for place in (path.parent, path):
+        recover(place)
+    if os.path.isdir(path) and force:
         there = [os.path.join(folder, name) for name in names]
         refuse_folder(folder, True, [], "")
         return files_set(there, force, inputs)
@@ -358,8 +367,9 @@ def folder_set(
 
 def study_set(folder: str, force: bool, inputs: Iterable[str]) -> contextlib.AbstractContextManager[Set]:
     """A folder with files and folders of files in it. With force an earlier study gives way as a whole."""
-    refuse_folder(folder, force, inputs, "an earlier study there")
     path = pathlib.Path(folder)
+    recover(path.parent)
+    refuse_folder(folder, force, inputs, "an earlier study there")
     if path.is_dir():
         if os.path.ismount(path) or not os.access(path, os.W_OK):
             raise refuse(folder, "it can't be moved, so --force can't replace it; choose another name")

@@ -76,7 +76,8 @@ class Program:
     def look_for_change(self) -> None:
         """Refuses what was run where it isn't what it was when the command began; a copy stays as it is."""
         if self.file == self.path and sum_of(self.path) != self.checksum:
-            raise refuse(self.path, "it has changed while the command ran, so its reports are of several programs; run it again")
+            words = "it has changed while the command ran, so its reports are of several programs; run it again"
+            raise refuse(self.path, words)
 
 
 def sum_of(path: str) -> str:
@@ -91,9 +92,9 @@ def read_program(path: str) -> bytes:
 
 
 def taken_program(path: str, folder: str) -> Program:
-    """The program at a path, with its sum. What is run is a copy in the folder, so that it stays the same whatever becomes of
-    the file; but a script is run where it lies, since it may look for what lies beside it, and so is a program of which a
-    copy in that folder can't be run."""
+    """The program at a path, with its sum. What is run is a copy in the folder, so that it stays the same whatever becomes
+    of the file; but a script is run where it lies, since it may look for what lies beside it, and so is a program of which
+    a copy in that folder can't be run."""
     data = read_program(path)
     checksum = hashlib.sha256(data).hexdigest()
     if not data.startswith(ELF):

@@ -2,7 +2,10 @@
 main thread alone, so that none falls between the start of a process and the note of it."""
 
 import concurrent.futures
+import contextlib
 import dataclasses
+import os
+import signal
 import subprocess
 import threading
 from collections.abc import Callable, Sequence
@@ -37,7 +40,14 @@ def stop_running() -> None:
     """Ends each run that goes on, and each that begins while `STOPPING` is set."""
     STOPPING.set()
     for process in list(RUNNING):
-        process.kill()
+        end(process)
+
+
+def end(process: "subprocess.Popen[bytes]") -> None:
+    """Ends a process, and those that it has started itself."""
+    if process.poll() is None:
+        with contextlib.suppress(OSError):
+            os.killpg(process.pid, signal.SIGKILL)
 
 
 def taken(future: "concurrent.futures.Future[Answer]") -> Answer:
@@ -70,16 +80,21 @@ def run_process(
 
     def run() -> tuple[int, bytes, bytes]:
         process = subprocess.Popen(
-            words, executable=executable, stdin=subprocess.DEVNULL, stdout=subprocess.PIPE, stderr=error
+            words,
+            executable=executable,
+            stdin=subprocess.DEVNULL,
+            stdout=subprocess.PIPE,
+            stderr=error,
+            process_group=0,
         )
         with process:
             RUNNING.add(process)
             try:
                 if STOPPING.is_set():
-                    process.kill()
+                    end(process)
                 out, told = process.communicate()
             except BaseException:
-                process.kill()
+                end(process)
                 raise
             finally:
                 RUNNING.discard(process)
