@@ -8,7 +8,7 @@ from dataclasses import dataclass, field
 from pathlib import Path
 
 import machine
-from crates import PROGRAM, Crate, Fault, read_text
+from crates import PROGRAM, Crate, Fault, below, read_text
 from plan import Start, chains, read_table, starts, weigh
 from prove_crate import UNKNOWN_TOOLCHAIN
 from runs import Ended, Run, was_interrupted, was_killed
@@ -23,6 +23,8 @@ PROVER = Path(__file__).with_name("prove_crate.py")
 TRIED = ("volts", "--case=data/p.toml", "--north=1000")
 # So many seconds it may take.
 TRIED_FOR = 60
+# Each job of a proof loads all libraries below the crate: above so many of them, one job is as fast as several.
+MANY_LIBRARIES = 40
 # How long the builder sleeps before it looks again at what runs.
 LOOK = 0.1
 
@@ -54,6 +56,7 @@ class Builder:
         self.sums = self.sources.sums(self.toolchain)
         weights = weigh({name: self.sources.lines(name) for name in self.crates}, self.table)
         self.behind = chains(self.sources.crates, weights)
+        self.single = {name for name in self.crates if len(below(self.crates, name)) > MANY_LIBRARIES}
         self.proved = {name for name in self.crates if name != PROGRAM and is_proved(self.top, name, self.sums[name])}
         self.before = len(self.proved)
         self.work: list[Work] = []
@@ -111,7 +114,8 @@ class Builder:
     def begin(self) -> None:
         if self.failed is not None:
             return
-        begun = starts(self.ready(), [it.start for it in self.work], self.processors, self.proofs, self.behind)
+        at_work = [it.start for it in self.work]
+        begun = starts(self.ready(), at_work, self.processors, self.proofs, self.behind, self.single)
         if not begun and not self.work and self.killed:
             begun = [Start(self.killed[0], 1)]
         for start in begun:

@@ -1,7 +1,7 @@
 """The plan: which crate is proved next, and with how many jobs."""
 
 import re
-from collections.abc import Iterable, Mapping, Sequence
+from collections.abc import Container, Iterable, Mapping, Sequence
 from dataclasses import dataclass
 
 from crates import Crate, Fault
@@ -66,11 +66,17 @@ def memory_of(jobs: int) -> float:
 
 
 def starts(
-    ready: Iterable[str], running: Sequence[Start], processors: int, proofs: float, behind: Mapping[str, float]
+    ready: Iterable[str],
+    running: Sequence[Start],
+    processors: int,
+    proofs: float,
+    behind: Mapping[str, float],
+    single: Container[str] = (),
 ) -> list[Start]:
     """Which of the ready crates begin now, in their order. `proofs` is how many proofs of one job the memory holds, and
     `behind` what the longest chain weighs that begins with a crate. A crate has the processors that no other ready crate
-    waits for, and the one with the longest chain of all half of them. One is always at work, however little there is."""
+    waits for, and the one with the longest chain of all half of them; those in `single` have one job all the same. One is
+    always at work, however little there is."""
     left, begun = list(ready), []
     while left:
         at_work = [*running, *begun]
@@ -80,6 +86,7 @@ def starts(
             break
         is_longest = all(behind[left[0]] > behind[it.name] for it in at_work)
         share = max(idle // len(left), processors // 2 if is_longest else 1)
-        jobs = min(MOST_JOBS, share, idle, 1 + int((room - 1) / FURTHER_JOB))
+        most = 1 if left[0] in single else MOST_JOBS
+        jobs = min(most, share, idle, 1 + int((room - 1) / FURTHER_JOB))
         begun.append(Start(left.pop(0), max(jobs, 1)))
     return begun

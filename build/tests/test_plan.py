@@ -26,6 +26,9 @@ class Starts(unittest.TestCase):
         self.assertEqual(starts(["last"], [], 4, MUCH, BEHIND), [Start("last", 4)])
         self.assertEqual(starts(["short"], [Start("long", 2)], 4, MUCH, BEHIND), [Start("short", 2)])
 
+    def test_a_crate_over_many_libraries_has_one_job(self) -> None:
+        self.assertEqual(starts(["last"], [], 4, MUCH, BEHIND, {"last"}), [Start("last", 1)])
+
     def test_two_processors_prove_two_crates(self) -> None:
         self.assertEqual(starts(["long", "middle"], [], 2, MUCH, BEHIND), [Start("long", 1), Start("middle", 1)])
 
