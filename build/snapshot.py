@@ -1,6 +1,6 @@
 """The snapshot of the sources, in which crates are proved.
 
-A build takes as long as half an hour, and a source may be saved meanwhile. So what is proved is a copy of all sources as
+A build takes many minutes, and a source may be saved meanwhile. So what is proved is a copy of all sources as
 they were read at one time. What is made of a crate goes into the crate's own folder out/, to which the snapshot links."""
 
 import os
