@@ -9,8 +9,8 @@ from pathlib import Path
 
 import machine
 from crates import PROGRAM, Crate, Fault, below, read_text
+from kit import UNKNOWN_TOOLCHAIN
 from plan import Start, chains, read_table, starts, weigh
-from prove_crate import UNKNOWN_TOOLCHAIN
 from runs import Ended, Run, was_interrupted, was_killed
 from snapshot import Snapshot, is_library_there, is_proved, out_of, put_mark, remove_mark
 from sources import Sources

@@ -7,27 +7,11 @@ above it as its statements, without its proofs, so that each of them loads a fra
 for its merge gate, and has no word of its command for it. So this calls the toolchain's Python, and the status is 1 where
 the crate isn't proved, and 3 where the toolchain isn't laid out as is expected here."""
 
-import importlib.machinery
-import importlib.util
 import os
 import sys
-from types import ModuleType
 from typing import Any
 
-UNKNOWN_TOOLCHAIN = 3
-
-
-def load(rt: str) -> ModuleType:
-    """The toolchain's module of crates, which stands beside its command."""
-    file = os.path.join(os.path.dirname(os.path.realpath(rt)), "rtlib.py")
-    loader = importlib.machinery.SourceFileLoader("rtlib", file)
-    spec = importlib.util.spec_from_loader("rtlib", loader)
-    if spec is None:
-        raise ImportError(file)
-    found = importlib.util.module_from_spec(spec)
-    sys.modules["rtlib"] = found
-    loader.exec_module(found)
-    return found
+from kit import UNKNOWN_TOOLCHAIN, load
 
 
 def build_program(crate: Any, kit: str, jobs: str) -> int:
@@ -49,7 +33,7 @@ def main(words: list[str]) -> int:
     rt, name, jobs = words
     sys.dont_write_bytecode = True
     try:
-        kit: Any = load(rt)
+        kit: Any = load(os.path.join(os.path.dirname(os.path.realpath(rt)), "rtlib.py"), "rtlib")
         kit.Crate.cuts_libraries = True
         # (its first call sets a signal's handler, which only the main thread may)
         kit.guarded()

@@ -9,27 +9,15 @@ the prover refuses it, and with `failed: ` where it doesn't; the status is 0 onc
 words for either over such libraries, so this calls its Python, and the status is 3 where that isn't laid out as is expected
 here."""
 
-import importlib.machinery
-import importlib.util
 import os
 import sys
-from types import ModuleType
+from pathlib import Path
 from typing import Any
 
-UNKNOWN_TOOLCHAIN = 3
+sys.path[:0] = [str(Path(__file__).resolve().parent.parent / "build")]
+from kit import UNKNOWN_TOOLCHAIN, load  # noqa: E402
+
 PASSED, FAILED = "passed: ", "failed: "
-
-
-def load(rt: str) -> ModuleType:
-    """The toolchain's command, which is Python, as a module."""
-    file = os.path.realpath(rt)
-    loader = importlib.machinery.SourceFileLoader("rt_of_toolchain", file)
-    spec = importlib.util.spec_from_loader("rt_of_toolchain", loader)
-    if spec is None:
-        raise ImportError(f"there is no Python in {file}")
-    found = importlib.util.module_from_spec(spec)
-    loader.exec_module(found)
-    return found
 
 
 def prove(crate: Any) -> int:
@@ -55,7 +43,7 @@ def main(words: list[str]) -> int:
     rt, verb, name, *edits = words
     sys.dont_write_bytecode = True
     try:
-        kit: Any = load(rt)
+        kit: Any = load(os.path.realpath(rt), "rt_of_toolchain")
         kit.rtlib.guarded()
         kit.rtlib.Crate.cuts_libraries = True
         crate = kit.rtlib.Crate(f"{os.getcwd()}/crates/{name}", os.getcwd(), {})

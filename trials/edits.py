@@ -22,7 +22,8 @@ TOP = HERE.parent
 sys.path[:0] = [str(TOP / "build")]
 import machine  # noqa: E402
 from crates import Crate, Fault, below, read_crates, read_text  # noqa: E402
-from edit_kit import FAILED, PASSED, UNKNOWN_TOOLCHAIN  # noqa: E402
+from edit_kit import FAILED, PASSED  # noqa: E402
+from kit import UNKNOWN_TOOLCHAIN  # noqa: E402
 from plan import chains, read_table, weigh  # noqa: E402
 from runs import Ended, Run  # noqa: E402
 from sources import read_sources  # noqa: E402
