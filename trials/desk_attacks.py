@@ -19,6 +19,7 @@ import pathlib
 import random
 import re
 import resource
+import shlex
 import shutil
 import signal
 import subprocess
@@ -33,7 +34,7 @@ STOPS = (signal.SIGINT, signal.SIGTERM, signal.SIGHUP)
 MARK = "DESK_ATTACK"  # the variable by which processes of an attack are found
 SLOW = 120.0  # seconds: no command takes so long
 SOON = 2.0  # seconds, in which a process that was killed is gone
-LARGEST = 400_000  # bytes that a disk has room for, where it is full sooner or later
+LARGEST = 60_000  # bytes that a disk has room for, where it is full sooner or later
 COMMANDS = ("csv", "psse", "outages", "study")
 Tree = dict[str, str]  # the sums of files by their names; folders have the sum of nothing
 
@@ -268,8 +269,11 @@ def at_once(trial: Trial) -> None:
 
 
 def full(trial: Trial) -> None:
-    """The disk is full: by a limit on files, and where the system lets a small disk be made, by that."""
-    desk = trial.desk
+    """The disk is full, by a limit on the size of files. The program is called by a script, which the desk doesn't copy."""
+    script = trial.desk.top / "script"
+    script.write_text(f'#!/bin/sh\nexec {shlex.quote(trial.desk.program)} "$@"\n')
+    script.chmod(0o755)
+    desk = dataclasses.replace(trial.desk, program=str(script))
     for command in COMMANDS:
         whole = [expected(desk, command, number) for number in (1, 2)]
         for _ in trial.times():
@@ -287,7 +291,7 @@ def full(trial: Trial) -> None:
 
 
 def small_disk(trial: Trial) -> None:
-    """The same with a disk in memory that has room for some of the files."""
+    """The same by a disk in memory that has room for some of the files, where the system lets one be made."""
     desk = trial.desk
     for command in COMMANDS:
         whole = [expected(desk, command, number) for number in (1, 2)]

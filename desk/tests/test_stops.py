@@ -20,6 +20,7 @@ from gicdesk.running import RUNNING, STOPPING
 
 DESK = TESTS.parent / "gicdesk"
 LONG = 60  # seconds: no run of a test takes so long
+SOON = 5  # seconds, in which what was killed is gone
 MOMENTS = 12  # signals at moments of the start
 
 
@@ -75,6 +76,9 @@ class Runs(OutagesTest):
         _, err = process.communicate(timeout=LONG)
         self.assertEqual((process.returncode, err), (128 + number, "gicdesk: stopped\n"))
         for group in self.begun.read_text().split():  # (of a script and of what it has started)
+            end = time.monotonic() + SOON
+            while alive(int(group)) and time.monotonic() < end:
+                time.sleep(0.02)
             self.assertEqual(alive(int(group)), [])
         self.assertEqual((os.listdir(self.passing), os.listdir(self.out.parent)), ([], there))
         self.begun.unlink()
