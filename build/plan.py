@@ -47,9 +47,10 @@ def longest_chain(crates: Sequence[Crate], weights: Mapping[str, float]) -> list
     """The crates of the longest chain, the lowest first."""
     best: dict[str, tuple[float, list[str]]] = {}
     for crate in crates:
-        behind = max((best[name] for name in crate.names), default=(0.0, []))
+        nothing: tuple[float, list[str]] = (0.0, [])
+        behind = max((best[name] for name in crate.names), default=nothing)
         best[crate.name] = (behind[0] + weights[crate.name], [*behind[1], crate.name])
-    return max(best.values(), default=(0.0, []))[1]
+    return max(best.values())[1] if best else []
 
 
 @dataclass(frozen=True)
@@ -77,7 +78,7 @@ def starts(
     `behind` what the longest chain weighs that begins with a crate. A crate has the processors that no other ready crate
     waits for, and the one with the longest chain of all half of them; those in `single` have one job all the same. One is
     always at work, however little there is."""
-    left, begun = list(ready), []
+    left, begun = list(ready), list[Start]()
     while left:
         at_work = [*running, *begun]
         idle = processors - sum(it.jobs for it in at_work)

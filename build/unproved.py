@@ -12,7 +12,7 @@ import signal
 import subprocess
 import tempfile
 from collections.abc import Iterator
-from contextlib import ExitStack, contextmanager, suppress
+from contextlib import contextmanager, suppress
 from dataclasses import asdict, dataclass
 from pathlib import Path
 
@@ -252,12 +252,15 @@ def answer(top: Path, teller: Teller, sources: Sources, words: list[str], head: 
         raise Fault(NO_RT)
     teller.say(head + COMPILES + UNPROVED)
     compiler = Compiler(top, rt, teller)
-    with ExitStack() as stack:
-        if can_write(shelf):
-            program = compile_kept(compiler, shelf, folder, toolchain)
-        else:
-            program, _ = compiler.compile(stack.enter_context(scratch_in(None)))
-        return compiler.answer(words) if program is None else run(program, words)
+    if can_write(shelf):
+        return answer_by(compiler, compile_kept(compiler, shelf, folder, toolchain), words)
+    with scratch_in(None) as scratch:
+        return answer_by(compiler, compiler.compile(scratch)[0], words)
+
+
+def answer_by(compiler: Compiler, program: Path | None, words: list[str]) -> int:
+    """Answers by a compiled program, or by a run of `rt try` where none can be kept."""
+    return compiler.answer(words) if program is None else run(program, words)
 
 
 def compile_kept(compiler: Compiler, shelf: Path, folder: Path, toolchain: Toolchain) -> Path | None:
