@@ -57,7 +57,11 @@ class Builder:
         weights = weigh({name: self.sources.lines(name) for name in self.crates}, self.table)
         self.behind = chains(self.sources.crates, weights)
         self.single = {name for name in self.crates if len(below(self.crates, name)) > MANY_LIBRARIES}
-        self.proved = {name for name in self.crates if name != PROGRAM and is_proved(self.top, name, self.sums[name])}
+        self.proved: set[str] = set()
+        for name, crate in self.crates.items():
+            # (statements fit only the libraries that they were built over)
+            if name != PROGRAM and self.proved.issuperset(crate.names) and is_proved(self.top, name, self.sums[name]):
+                self.proved.add(name)
         self.before = len(self.proved)
         self.work: list[Work] = []
         self.snapshot = Snapshot(self.top)
@@ -79,6 +83,8 @@ class Builder:
             for it in self.work:
                 it.run.stop()
             self.snapshot.remove()
+            for made in (f"{PROGRAM}.o", f"{PROGRAM}.new"):
+                (out_of(self.top, PROGRAM) / made).unlink(missing_ok=True)
             self.write_times()
 
     def go_on(self) -> None:
@@ -169,7 +175,6 @@ class Builder:
         """Tries what was linked, and puts it in the place of the program. Why it can't be, if so."""
         out = out_of(self.top, PROGRAM)
         linked = out / f"{PROGRAM}.new"
-        (out / f"{PROGRAM}.o").unlink(missing_ok=True)
         with open(log, "ab") as told:
             try:
                 ran = subprocess.run(

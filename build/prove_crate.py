@@ -1,17 +1,19 @@
-"""Proves one crate from nothing and builds its library, or the program, with the toolchain's own rules for a verdict.
+"""Proves one crate from nothing and builds its library, or the program.
 
 usage: prove_crate.py RT NAME JOBS
 
-It runs at the top of a repository in which the libraries below the crate are built. A library is built for the crates
-above it as its statements, without its proofs, so that each of them loads a fraction of it: the toolchain builds them so
-for its merge gate, and has no word of its command for it. So this calls the toolchain's Python, and the status is 1 where
-the crate isn't proved, and 3 where the toolchain isn't laid out as is expected here."""
+It runs at the top of a repository in which the libraries below the crate are built. The proof is held to what the toolchain
+asks of a verdict: the crate's text has no tactic in a clause, nothing is taken from earlier work, and the last line has no
+word on which a verdict may not rest. A library is built for the crates above it as its statements, without its proofs, so
+that each of them loads a fraction of it: the toolchain builds them so for its merge gate, and its command has no word for
+it. So this calls the toolchain's Python. The status is 0 where the crate is proved and built, and 77 where the toolchain
+isn't laid out as is expected here."""
 
 import os
 import sys
 from typing import Any
 
-from kit import UNKNOWN_TOOLCHAIN, load
+from kit import UNKNOWN_TOOLCHAIN, UnknownToolchain, crate_of, load
 
 
 def build_program(crate: Any, kit: str, jobs: str) -> int:
@@ -33,19 +35,20 @@ def main(words: list[str]) -> int:
     rt, name, jobs = words
     sys.dont_write_bytecode = True
     try:
-        kit: Any = load(os.path.join(os.path.dirname(os.path.realpath(rt)), "rtlib.py"), "rtlib")
-        kit.Crate.cuts_libraries = True
-        # (its first call sets a signal's handler, which only the main thread may)
-        kit.guarded()
-        crate = kit.Crate(f"{os.getcwd()}/crates/{name}", os.getcwd(), {})
-        if crate.is_program:
-            return build_program(crate, kit.KIT, jobs)
-        status: int = crate.build_rlib(["--jobs", jobs], anew=True)
-        return status
-    except (ImportError, OSError, AttributeError, TypeError) as error:
+        rtlib: Any = load(os.path.join(os.path.dirname(os.path.realpath(rt)), "rtlib.py"), "rtlib")
+        crate = crate_of(rtlib, os.getcwd(), name)
+    except UnknownToolchain as error:
         print(f"the toolchain of {rt} isn't laid out as this build expects it: {error}", flush=True)
         return UNKNOWN_TOOLCHAIN
+    rtlib.stop_on_text(crate, "verdict")
+    if crate.is_program:
+        return build_program(crate, rtlib.KIT, jobs)
+    status: int = crate.build_rlib(["--jobs", jobs], anew=True)
+    return status
 
 
 if __name__ == "__main__":
-    sys.exit(main(sys.argv[1:]))
+    try:
+        sys.exit(main(sys.argv[1:]))
+    except OSError as error:
+        sys.exit(f"{error.strerror}: {error.filename}" if error.filename else str(error))

@@ -10,6 +10,8 @@ from crates import PROGRAM, Crate, below, read_crates, read_text
 
 LIST = "crates.txt"
 PARTS = ("src", "specs", "proofs")
+# How libraries are built: one that was built in another form is built again.
+FORM = "as statements"
 # What a run of the program in its crate's folder reads.
 TRIED_ON = ("data", "args", "status")
 
@@ -55,7 +57,8 @@ class Sources:
         found: dict[str, str] = {}
         for crate in self.crates:
             own = [(path, sum_of(content)) for path, content in self.of(crate.name).items()]
-            found[crate.name] = sum_of(repr((toolchain, crate.line, own, [found[it] for it in crate.names])).encode())
+            told = (FORM, toolchain, crate.line, own, [found[it] for it in crate.names])
+            found[crate.name] = sum_of(repr(told).encode())
         return found
 
     def record(self, program: bytes) -> str:

@@ -6,8 +6,8 @@ It runs at the top of a repository in which the libraries below the crate are bu
 where it is a library, builds it as its statements, as the toolchain does for its merge gate; the status is 0 only where it is
 proved. `try` tries the edits in these files, each as `rt ci` does, and prints a line an edit that begins with `passed: ` where
 the prover refuses it, and with `failed: ` where it doesn't; the status is 0 once all are tried. The toolchain's command has no
-words for either over such libraries, so this calls its Python, and the status is 3 where that isn't laid out as is expected
-here."""
+words for either over such libraries, so this calls its Python, and the status is 77 where that isn't laid out as is
+expected here."""
 
 import os
 import sys
@@ -15,7 +15,7 @@ from pathlib import Path
 from typing import Any
 
 sys.path[:0] = [str(Path(__file__).resolve().parent.parent / "build")]
-from kit import UNKNOWN_TOOLCHAIN, load  # noqa: E402
+from kit import UNKNOWN_TOOLCHAIN, UnknownToolchain, crate_of, load  # noqa: E402
 
 PASSED, FAILED = "passed: ", "failed: "
 
@@ -44,14 +44,12 @@ def main(words: list[str]) -> int:
     sys.dont_write_bytecode = True
     try:
         kit: Any = load(os.path.realpath(rt), "rt_of_toolchain")
-        kit.rtlib.guarded()
-        kit.rtlib.Crate.cuts_libraries = True
-        crate = kit.rtlib.Crate(f"{os.getcwd()}/crates/{name}", os.getcwd(), {})
-        os.makedirs(f"{crate.folder}/out", exist_ok=True)
-        return prove(crate) if verb == "prove" else try_edits(kit, crate, edits)
-    except (ImportError, SyntaxError, OSError, AttributeError, TypeError, ValueError) as error:
+        crate = crate_of(kit.rtlib, os.getcwd(), name)
+    except (UnknownToolchain, AttributeError) as error:
         print(f"the toolchain of {rt} isn't laid out as the trial of edits expects it: {error}", flush=True)
         return UNKNOWN_TOOLCHAIN
+    os.makedirs(f"{crate.folder}/out", exist_ok=True)
+    return prove(crate) if verb == "prove" else try_edits(kit, crate, edits)
 
 
 if __name__ == "__main__":

@@ -22,6 +22,10 @@ def guarded() -> list[str]:
     return []
 
 
+def stop_on_text(crate: object, verb: str) -> None:
+    pass
+
+
 class Crate:
     """A crate in a repository, as the toolchain sees it."""
 
