@@ -357,7 +357,7 @@ class First(unittest.TestCase):
         self.assertLessEqual(max(map(len, page.split("\n"))), 120)
 
     def test_version_tells_what_is_here(self) -> None:
-        def told(**how: bool) -> list[str]:
+        def told(**how: bool | str) -> list[str]:
             status, out, said = self.at.call("--version", **how)  # type: ignore[arg-type]
             self.assertEqual((status, said), (0, ""))
             return out.splitlines()
@@ -375,6 +375,8 @@ class First(unittest.TestCase):
             subprocess.run(["git", "-C", str(self.at.top), *words], check=True)
         (self.at.top / ".gitignore").write_text("crates/\n", encoding="utf-8")
         self.assertRegex(told()[0], r"\Acommit [0-9a-f]{40}\Z")
+        subprocess.run(["git", "init", "-q", self.work], check=True)
+        self.assertEqual(told(GIT_DIR=str(self.work / ".git"))[0], told()[0])
         with open(self.at.top / "crates.txt", "a", encoding="utf-8") as file:
             file.write("more:\n")
         self.assertRegex(told()[0], r"\Acommit [0-9a-f]{40}, with changes\Z")
