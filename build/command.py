@@ -110,7 +110,8 @@ def told(top: Path, teller: Teller, words: list[str]) -> int:
     except OSError as error:
         why = words_of(error)
         space = " (remove what isn't needed, and call it again)" if os.strerror(errno.ENOSPC) in why else ""
-        teller.say(f"no answer: {why}{space}")
+        head = "the build failed" if words[:1] == ["--prove"] else "no answer"
+        teller.say(f"{head}: {why}{space}")
     return 1
 
 

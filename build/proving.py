@@ -51,7 +51,7 @@ def build(top: Path, teller: Teller, why: str, sources: Sources) -> None:
     try:
         build_locked(top, teller, found_rt(top, why), sources)
     except (Stopped, KeyboardInterrupt) as stopped:
-        teller.say("stopped; the next call goes on from here")
+        teller.say("stopped; the next ./gicstudy --prove goes on from here")
         raise stopped if isinstance(stopped, Stopped) else Stopped(signal.SIGINT) from None
 
 
