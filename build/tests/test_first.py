@@ -1,5 +1,6 @@
 """Answers without proof in a small checkout with a toolchain that only looks like one, and what stands in front of MODE."""
 
+import fcntl
 import os
 import random
 import shutil
@@ -16,7 +17,8 @@ sys.path.insert(1, str(Path(__file__).resolve().parent.parent))
 
 from checkout import TOP, Checkout
 from copies import with_copies
-from sources import sum_of
+from record import keep_found, look
+from sources import read_sources, sum_of
 from unproved import COMPILES, PROVE, UNPROVED
 
 FIRST = f"gicstudy: {COMPILES}{UNPROVED}\n"
@@ -320,6 +322,53 @@ class First(unittest.TestCase):
             self.assertTrue(self.at.is_looked_at())
             self.assertEqual(self.at.call("--proved", "screen")[1], "gicstudy: screen\n")
             self.assertFalse(self.at.is_looked_at())
+
+    def test_a_record_from_the_future_is_not_believed_later_either(self) -> None:
+        self.at.prove()
+        self.at.settle()
+        later = time.time() + 5
+        os.utime(self.at.out / "gicstudy.sources", (later, later))
+        self.at.write("right", "right again")
+        for _ in range(2):
+            self.assertEqual(self.at.call("screen")[:2], (0, "gicstudy without proof: screen\n"))
+            self.assertEqual(self.at.call("--proved", "screen")[:2], (1, ""))
+            time.sleep(max(later + 0.1 - time.time(), 0))
+        self.at.write("right", "right")
+        self.at.settle()
+        self.assertFalse(self.at.is_looked_at())
+        self.assertEqual(self.at.call("--proved", "screen"), (0, "gicstudy: screen\n", ""))
+
+    def test_while_a_build_works_nothing_is_kept_for_the_script(self) -> None:
+        self.at.prove()
+        self.at.settle()
+        os.utime(self.at.source("low"))
+        time.sleep(1.1)
+        lock = os.open(self.at.top / "crates", os.O_RDONLY)
+        self.addCleanup(os.close, lock)
+        fcntl.flock(lock, fcntl.LOCK_EX)
+        before = self.record()
+        for words in (["screen"], ["--proved", "screen"], ["--prove", "screen"]):
+            self.assertEqual(self.at.call(*words), (0, "gicstudy: screen\n", ""))
+            self.assertEqual(self.record(), before)
+        fcntl.flock(lock, fcntl.LOCK_UN)
+        self.assertEqual(self.at.call("screen"), (0, "gicstudy: screen\n", ""))
+        self.assertNotEqual(self.record(), before)
+        self.assertFalse(self.at.is_looked_at())
+
+    def test_what_a_build_has_kept_since_a_look_stays(self) -> None:
+        self.at.prove()
+        sources = read_sources(self.at.top)
+        found = look(self.at.top, sources)
+        self.at.write("low", "low again")
+        self.at.prove()
+        before = self.record()
+        keep_found(self.at.top, sources, found)
+        self.assertEqual(self.record(), before)
+
+    def record(self) -> list[tuple[bytes, int, int]]:
+        """What the script looks at beside the program, and which files it is."""
+        files = [self.at.out / f"gicstudy.{it}" for it in ("sources", "places", "proved")]
+        return [(it.read_bytes(), it.stat().st_ino, it.stat().st_mtime_ns) for it in files]
 
     def test_an_older_find_sees_the_same(self) -> None:
         find = Path(self.at.path_without_python()) / "find"
