@@ -64,17 +64,17 @@ def proved(top: Path, words: list[str]) -> NoReturn:
 
 def answer(top: Path, teller: Teller, words: list[str]) -> int:
     """Answers by the proved program, or else by one compiled without proof."""
-    head = ""
+    why = None
     if is_there(top):
         found = looked_at(top)
         if found.identity is not None:
             become(program_of(top), words)
-        head = f"{found.why}; "
+        why = found.why
     if not words:
         # (which needs no program)
         teller.say(USAGE)
         return 2
-    return unproved.answer(top, teller, read_sources(top, unproved.PARTS), words, head)
+    return unproved.answer(top, teller, read_sources(top, unproved.PARTS), words, why)
 
 
 def words_of(error: OSError) -> str:

@@ -79,6 +79,15 @@ def look(top: Path, sources: Sources) -> Look:
     return Look(None, identity, sum_of(content))
 
 
+def no_toolchain(top: Path, why: str) -> Fault:
+    """What is told where something has to be compiled or built, for this reason, and the toolchain isn't there."""
+    other = f", or run the program as it is, {program_of(top)}" if is_there(top) else ""
+    return Fault(
+        f"{why}, and the command rt, which compiles and proves it, isn't on the path: "
+        f"put the folder bin of the Rattle toolchain on the path{other}"
+    )
+
+
 def text_of(record: Path) -> str | None:
     """The record that is kept, or None where there is none, or another file in its place."""
     try:

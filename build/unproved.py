@@ -19,7 +19,7 @@ from pathlib import Path
 from copies import with_copies
 from crates import PROGRAM, Fault
 from locks import locked
-from record import identity_of, put, read_program
+from record import identity_of, no_toolchain, put, read_program
 from snapshot import out_of
 from sources import Sources, sum_of
 from stops import STOPS, end_by, running
@@ -31,10 +31,6 @@ PROVE = "./gicstudy --prove proves and builds it"
 TAKES = "about twenty minutes on four processors, forty on two"
 UNPROVED = f"this answer is of the program compiled without proof here, and nothing is promised of it; {PROVE} ({TAKES})"
 COMPILES = "compiles the program first, which takes a minute or two; "
-NO_RT = (
-    "no proved program is here, and the command rt, which compiles and proves it, isn't on the path: "
-    "put the folder bin of the Rattle toolchain on the path"
-)
 
 PARTS = ("src",)
 RECORD = "record"
@@ -51,6 +47,10 @@ CANNOT_WRITE = b"gicstudy: cannot write\n"
 # The statuses of the program.
 ANSWERS = (0, *range(2, 14))
 SANITIZER = re.compile(rb"^==[0-9]+==\s*(?:ERROR: )?(.*Sanitizer.*)$", re.M)
+
+
+class Gone(Exception):
+    """The kept program was removed before it could be run."""
 
 
 def shelf_of(top: Path) -> Path:
@@ -208,8 +208,11 @@ def pass_on(told: bytes) -> None:
 
 def run(program: Path, words: list[str]) -> int:
     """Runs the program compiled without proof with the words, the streams and in the folder of the caller."""
-    with running([program, *words], stderr=subprocess.PIPE, env=environment(), close_fds=False) as ran:
-        told = ran.communicate()[1]
+    try:
+        with running([program, *words], stderr=subprocess.PIPE, env=environment(), close_fds=False) as ran:
+            told = ran.communicate()[1]
+    except FileNotFoundError:
+        raise Gone from None
     return answered(ran.returncode, told)
 
 
@@ -237,19 +240,29 @@ def publish(program: Path, folder: Path) -> Path:
     return folder / PROGRAM
 
 
-def answer(top: Path, teller: Teller, sources: Sources, words: list[str], head: str = "") -> int:
-    """Answers the words without proof, and says so in a line, which begins with what has changed."""
+def answer(top: Path, teller: Teller, sources: Sources, words: list[str], why: str | None = None) -> int:
+    """Answers the words without proof, and says so in a line, which begins with what has changed. A call of other sources
+    may take the program from the shelf before it runs; it is looked for, and compiled, once more then."""
+    for _ in range(2):
+        with suppress(Gone):
+            return answer_once(top, teller, sources, words, why)
+    raise Fault(f"no answer: calls of other sources remove the program compiled without proof; {PROVE}")
+
+
+def answer_once(top: Path, teller: Teller, sources: Sources, words: list[str], why: str | None) -> int:
     shelf, rt = shelf_of(top), shutil.which("rt")
+    head = f"{why}; " if why else ""
+    lacking = no_toolchain(top, why or "no proved program is here")
     toolchain = find_toolchain(shelf, rt)
     if toolchain is None:
-        raise Fault(NO_RT)
+        raise lacking
     folder = shelf / key_of(sources, toolchain)
     program = kept_program(folder)
     if program is not None:
         teller.say(head + UNPROVED)
         return run(program, words)
     if rt is None:
-        raise Fault(NO_RT)
+        raise lacking
     teller.say(head + COMPILES + UNPROVED)
     compiler = Compiler(top, rt, teller)
     if can_write(shelf):

@@ -23,6 +23,37 @@ from unproved import COMPILES, PROVE, UNPROVED
 
 FIRST = f"gicstudy: {COMPILES}{UNPROVED}\n"
 LATER = f"gicstudy: {UNPROVED}\n"
+WAITS = "gicstudy: waits for another call, which compiles the program\n"
+# A change by which the first program that is found on the shelf is gone before it runs.
+GONE = """
+import shutil, unproved
+found = unproved.kept_program
+def found_once(folder):
+    program = found(folder)
+    if program is not None:
+        unproved.kept_program = found
+        shutil.rmtree(folder)
+    return program
+unproved.kept_program = found_once
+"""
+# Changes by which a signal comes as soon as a folder of ours is made, and before it is removed.
+AT_ITS_MAKING = """
+import os, tempfile
+made = tempfile.mkdtemp
+def interrupted(**how):
+    folder = made(**how)
+    os.kill(os.getpid(), NUMBER)
+    return folder
+tempfile.mkdtemp = interrupted
+"""
+AT_ITS_END = """
+import os, shutil
+removed = shutil.rmtree
+def interrupted(*words, **how):
+    os.kill(os.getpid(), NUMBER)
+    removed(*words, **how)
+shutil.rmtree = interrupted
+"""
 # What a call may take on a machine with much to do.
 WAIT = 300
 HINT = "gicstudy: ./gicstudy --help shows the modes and options\n"
@@ -206,6 +237,16 @@ class First(unittest.TestCase):
         self.assertEqual(self.at.call("screen", has_rt=False), (0, "gicstudy without proof: screen\n", LATER))
         self.at.write("low", "low again")
         self.assertEqual(self.at.call("screen", has_rt=False)[0], 1)
+        self.at.write("low", "low")
+        self.at.prove()
+        self.at.write("low", "low again")
+        status, out, said = self.at.call("screen", has_rt=False)
+        self.assertEqual((status, out), (1, ""))
+        self.assertRegex(
+            said,
+            r"\Agicstudy: crates/low/src/lib.rt isn't as it was when the program was built, and the command rt, .* on the path, "
+            rf"or run the program as it is, {self.at.out / 'gicstudy'}\n\Z",
+        )
 
     def test_where_nothing_can_be_kept_it_answers_all_the_same(self) -> None:
         self.at.out.mkdir()
