@@ -118,4 +118,6 @@ def main(words: list[str]) -> int:
         go_on_without()
         return status
     except Stopped as stopped:
-        end_by(stopped.number)
+        number = stopped.number
+    # (behind the block, so that what the stop has cut off on its way into a block of its own is left and removed too)
+    end_by(number)

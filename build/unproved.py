@@ -22,9 +22,9 @@ from locks import locked
 from record import identity_of, no_toolchain, put, read_program
 from snapshot import out_of
 from sources import Sources, sum_of
-from stops import STOPS, end_by, running
+from stops import STOPS, Stopped, held_back, let_in, running
 from teller import Teller
-from trial import TRIAL, run_trial
+from trial import TRIAL, copy_in, run_trial
 
 PROVE = "./gicstudy --prove proves and builds it"
 # What a first build takes, as bench/README.md has it.
@@ -120,11 +120,13 @@ def record_text(program: Path, sum: str) -> str:
 @contextmanager
 def scratch_in(place: Path | None) -> Iterator[Path]:
     """A folder that is there for a while, in this place or among what is temporary."""
-    folder = Path(tempfile.mkdtemp(prefix=SCRATCH if place else "gicstudy-", dir=place))
-    try:
-        yield folder
-    finally:
-        shutil.rmtree(folder, ignore_errors=True)
+    with held_back():
+        folder = Path(tempfile.mkdtemp(prefix=SCRATCH if place else "gicstudy-", dir=place))
+        try:
+            with let_in():
+                yield folder
+        finally:
+            shutil.rmtree(folder, ignore_errors=True)
 
 
 def can_write(shelf: Path) -> bool:
@@ -141,14 +143,15 @@ class Compiler:
     """Compiles the program of these sources by this toolchain without proof."""
 
     top: Path
+    sources: Sources
     rt: str
     teller: Teller
 
     def compile(self, scratch: Path) -> tuple[Path | None, bool]:
         """The compiled program in the scratch, where `rt try` lets it be caught; and whether another try may catch it."""
-        trial = run_trial(self.rt, self.top, scratch, list(TRIAL), [], catches=True)
+        trial = run_trial(self.rt, self.sources, scratch, list(TRIAL), [], catches=True)
         if trial.status is None:
-            raise self.refusal(trial.told)
+            raise self.refusal(trial.told, copy_in(scratch))
         if trial.program is None:
             return None, trial.has_place
         program = scratch / "kept" / PROGRAM
@@ -157,27 +160,28 @@ class Compiler:
         program.chmod(0o755)
         return program if runs(program) else None, True
 
-    def refusal(self, told: list[str]) -> Fault:
+    def refusal(self, told: list[str], copy: Path) -> Fault:
         for line in told[-LAST_LINES:]:
-            self.teller.say(f"| {line}")
+            self.teller.say(f"| {line.replace(str(copy), str(self.top))}")
         return Fault("no answer: rt try, whose last lines stand above, can't compile and run the program")
 
     def answer(self, words: list[str]) -> int:
         """Answers by a run of `rt try` itself, on copies of the files."""
         with scratch_in(None) as scratch:
             with_copy, data = with_copies(words, scratch)
-            trial = run_trial(self.rt, self.top, scratch, with_copy, data)
-            if trial.status is None:
-                last = trial.told[-2:-1] or trial.told
-                why = f" ({last[0]})" if last else ""
-                raise Fault(f"no answer: rt try gives none of a long run or a report above 1 MiB{why}; {PROVE}")
-            try:
-                write(1, trial.out)
-            except OSError:
-                pass_on(CANNOT_WRITE)
-                return 4
-            pass_on(trial.err)
-            return trial.status
+            trial = run_trial(self.rt, self.sources, scratch, with_copy, data)
+        if trial.status is None:
+            last = trial.told[-2:-1] or trial.told
+            why = f" ({last[0]})" if last else ""
+            raise Fault(f"no answer: rt try gives none of a long run or a report above 1 MiB{why}; {PROVE}")
+        try:
+            write(1, trial.out)
+        except BrokenPipeError:
+            raise Stopped(signal.SIGPIPE) from None
+        except OSError:
+            pass_on(CANNOT_WRITE)
+            return 4
+        return answered(trial.status, trial.err)
 
 
 def runs(program: Path) -> bool:
@@ -223,7 +227,7 @@ def answered(status: int, told: bytes) -> int:
         return status
     if -status in (*STOPS, signal.SIGPIPE, signal.SIGXFSZ):
         pass_on(told)
-        end_by(-status)
+        raise Stopped(-status)
     found = SANITIZER.search(told)
     why = found[1].decode(errors="replace") if found else f"status {status}" if status > 0 else f"signal {-status}"
     raise Fault(f"no answer, also where a report has begun: the program compiled without proof was stopped ({why}); {PROVE}")
@@ -264,7 +268,7 @@ def answer_once(top: Path, teller: Teller, sources: Sources, words: list[str], w
     if rt is None:
         raise lacking
     teller.say(head + COMPILES + UNPROVED)
-    compiler = Compiler(top, rt, teller)
+    compiler = Compiler(top, sources, rt, teller)
     if can_write(shelf):
         return answer_by(compiler, compile_kept(compiler, shelf, folder, toolchain), words)
     with scratch_in(None) as scratch:

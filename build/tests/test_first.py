@@ -175,6 +175,15 @@ class First(unittest.TestCase):
                     os.kill(process, 0)
                     time.sleep(0.02)
 
+    def test_a_signal_at_the_making_or_the_end_of_a_folder_leaves_nothing(self) -> None:
+        self.at.out.mkdir()
+        self.shelf.write_bytes(b"")
+        for change in (AT_ITS_MAKING, AT_ITS_END):
+            for number in (signal.SIGINT, signal.SIGTERM, signal.SIGHUP):
+                code = change.replace("NUMBER", str(int(number)))
+                self.assertEqual(self.at.call_with(code, "screen", TMPDIR=str(self.work))[0], -number)
+                self.assertEqual(list(self.work.iterdir()), [])
+
     def test_what_a_killed_call_left_is_removed(self) -> None:
         self.at.write("gicstudy", "WAITS")
         started = self.at.start("screen")
@@ -190,11 +199,15 @@ class First(unittest.TestCase):
     def test_an_early_interrupt_prints_no_traceback(self) -> None:
         chance = random.Random(1)
         for moment in [chance.uniform(0, 0.4) for _ in range(40)]:
-            started = self.at.start("screen")
+            started = self.at.start("screen", TMPDIR=str(self.work))
             time.sleep(moment)
             os.killpg(started.pid, signal.SIGINT)
             said = started.communicate(timeout=WAIT)[1]
             self.assertNotIn("Traceback", said, moment)
+            # (130 where Python is interrupted in its own start)
+            self.assertIn(started.returncode, (-signal.SIGINT, 128 + signal.SIGINT), moment)
+            self.is_tidy()
+            self.assertEqual(list(self.work.iterdir()), [], moment)
 
     def test_two_calls_at_once_both_answer_and_compile_once(self) -> None:
         both = [self.at.start("screen", word) for word in ("one", "two")]
@@ -214,6 +227,28 @@ class First(unittest.TestCase):
         os.utime(rt)
         self.assertEqual(self.at.call("screen")[2], LATER)
         self.assertEqual(len(self.at.noted("try")), 3)
+        self.is_tidy()
+
+    def test_a_source_saved_while_another_call_compiles_is_not_mixed_up(self) -> None:
+        self.at.out.mkdir()
+        self.shelf.mkdir()
+        lock = os.open(self.shelf, os.O_RDONLY)
+        self.addCleanup(os.close, lock)
+        fcntl.flock(lock, fcntl.LOCK_EX)
+        started = self.at.start("screen")
+        assert started.stderr is not None
+        self.assertEqual((started.stderr.readline(), started.stderr.readline()), (FIRST, WAITS))
+        self.at.write("gicstudy", "another program")
+        fcntl.flock(lock, fcntl.LOCK_UN)
+        self.assertEqual(started.communicate(timeout=WAIT)[0], "gicstudy without proof: screen\n")
+        for _ in range(2):
+            self.assertEqual(self.at.call("screen")[1], "another program without proof: screen\n")
+        self.at.write("gicstudy", "gicstudy")
+        self.assertEqual(self.at.call("screen")[1], "gicstudy without proof: screen\n")
+
+    def test_a_kept_program_that_vanishes_is_compiled_again(self) -> None:
+        self.at.call("screen")
+        self.assertEqual(self.at.call_with(GONE, "screen"), (0, "gicstudy without proof: screen\n", LATER + FIRST))
         self.is_tidy()
 
     def test_a_kept_program_that_was_swapped_is_not_run(self) -> None:
@@ -256,6 +291,8 @@ class First(unittest.TestCase):
             self.assertEqual(answer, (0, Path(__file__).read_text(encoding="utf-8"), FIRST))
             self.assertEqual(list(self.work.iterdir()), [])
         self.assertEqual(self.at.noted("try"), ["make", "make"])
+        self.assertEqual(self.at.call("pipe", TMPDIR=str(self.work))[0], -signal.SIGPIPE)
+        self.assertEqual(list(self.work.iterdir()), [])
 
     def test_a_toolchain_with_other_folders_answers_on_copies(self) -> None:
         self.at.write("gicstudy", "ELSEWHERE")
@@ -274,6 +311,19 @@ class First(unittest.TestCase):
         self.assertRegex(said.removeprefix(FIRST), rf"\Agicstudy: no answer: .*1 MiB.*; {PROVE}\n\Z")
         self.assertEqual(list(self.work.iterdir()), [name])
         self.is_empty_but_for_the_mark()
+
+    def test_on_copies_a_fault_is_no_answer_and_a_closed_pipe_ends_it(self) -> None:
+        self.at.write("gicstudy", "ELSEWHERE")
+        status, _, said = self.at.call("fault", TMPDIR=str(self.work))
+        self.assertEqual(status, 1)
+        why = "AddressSanitizer: stack-overflow on address 1"
+        self.assertRegex(said.removeprefix(FIRST), rf"\Agicstudy: no answer, .* was stopped \({why}\); {PROVE}\n\Z")
+        started = self.at.start("screen", TMPDIR=str(self.work))
+        assert started.stdout is not None and started.stderr is not None
+        started.stdout.close()
+        self.assertEqual((started.stderr.read(), started.wait(WAIT)), (FIRST, -signal.SIGPIPE))
+        started.stderr.close()
+        self.assertEqual(list(self.work.iterdir()), [])
 
     def test_a_program_that_was_missed_is_looked_for_again(self) -> None:
         self.at.write("gicstudy", "MISSED")
