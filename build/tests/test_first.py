@@ -140,7 +140,8 @@ class First(unittest.TestCase):
         self.at.write("gicstudy", "REFUSED")
         status, out, said = self.at.call("screen")
         self.assertEqual((status, out), (1, ""))
-        self.assertIn("gicstudy: | src/main.rt:1:1: error: no such name\n", said)
+        below = self.at.top / "crates/low/src/lib.rt"
+        self.assertIn(f"gicstudy: | src/main.rt:1:1: error: no such name\ngicstudy: | {below}:2:1: error: nor there\n", said)
         self.assertTrue(said.splitlines()[-1].startswith("gicstudy: no answer: "))
         self.is_tidy()
 
