@@ -210,6 +210,18 @@ class First(unittest.TestCase):
             self.is_tidy()
             self.assertEqual(list(self.work.iterdir()), [], moment)
 
+    def test_an_interrupt_before_python_is_begun_is_not_lost(self) -> None:
+        note, env = self.work / "note", self.at.bin / "env"
+        whole = shutil.which("env")
+        env.write_text(f'#!/bin/sh\n[ "$2" = true ] || exec {whole} "$@"\necho >{note}\nexec {whole} "$1" sleep 1\n', encoding="utf-8")
+        env.chmod(0o755)
+        started = self.at.start("screen")
+        while not note.exists():
+            time.sleep(0.01)
+        time.sleep(0.2)
+        os.killpg(started.pid, signal.SIGINT)
+        self.assertEqual((*started.communicate(timeout=WAIT), started.returncode), ("", "", -signal.SIGINT))
+
     def test_two_calls_at_once_both_answer_and_compile_once(self) -> None:
         both = [self.at.start("screen", word) for word in ("one", "two")]
         for started, word in zip(both, ("one", "two")):
