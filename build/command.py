@@ -8,14 +8,13 @@ import errno
 import os
 import shutil
 import signal
-from contextlib import suppress
 from pathlib import Path
 from typing import NoReturn
 
 import unproved
 from crates import Fault
 from proving import build
-from record import Look, is_there, keep, look, program_of
+from record import Look, is_there, keep_found, look, program_of
 from sources import read_sources
 from stops import Stopped, end_by, go_on_without, stop_on_signals
 from teller import Teller
@@ -34,12 +33,10 @@ def become(program: Path, words: list[str]) -> NoReturn:
 
 
 def looked_at(top: Path) -> Look:
-    """A look at the proved program; where it is that of the sources, what the script looks at is kept anew."""
+    """A look at the proved program, which is kept for the script."""
     sources = read_sources(top)
     found = look(top, sources)
-    if found.identity is not None:
-        with suppress(OSError):
-            keep(top, sources, found.identity)
+    keep_found(top, sources, found)
     return found
 
 
@@ -47,13 +44,11 @@ def prove(top: Path, teller: Teller, words: list[str]) -> int:
     """Proves and builds the program where it isn't, and runs it where there are words for it."""
     sources = read_sources(top)
     found = look(top, sources)
+    keep_found(top, sources, found)
     if found.identity is None:
         build(top, teller, found.why or "", sources)
-    else:
-        with suppress(OSError):
-            keep(top, sources, found.identity)
-        if not words:
-            teller.say("the program is proved and built already")
+    elif not words:
+        teller.say("the program is proved and built already")
     if words:
         become(program_of(top), words)
     return 0
@@ -69,17 +64,17 @@ def proved(top: Path, words: list[str]) -> NoReturn:
 
 def answer(top: Path, teller: Teller, words: list[str]) -> int:
     """Answers by the proved program, or else by one compiled without proof."""
-    head = ""
+    why = None
     if is_there(top):
         found = looked_at(top)
         if found.identity is not None:
             become(program_of(top), words)
-        head = f"{found.why}; "
+        why = found.why
     if not words:
         # (which needs no program)
         teller.say(USAGE)
         return 2
-    return unproved.answer(top, teller, read_sources(top, unproved.PARTS), words, head)
+    return unproved.answer(top, teller, read_sources(top, unproved.PARTS), words, why)
 
 
 def words_of(error: OSError) -> str:
@@ -110,7 +105,8 @@ def told(top: Path, teller: Teller, words: list[str]) -> int:
     except OSError as error:
         why = words_of(error)
         space = " (remove what isn't needed, and call it again)" if os.strerror(errno.ENOSPC) in why else ""
-        teller.say(f"no answer: {why}{space}")
+        head = "the build failed" if words[:1] == ["--prove"] else "no answer"
+        teller.say(f"{head}: {why}{space}")
     return 1
 
 
@@ -122,4 +118,6 @@ def main(words: list[str]) -> int:
         go_on_without()
         return status
     except Stopped as stopped:
-        end_by(stopped.number)
+        number = stopped.number
+    # (behind the block, so that what the stop has cut off on its way into a block of its own is left and removed too)
+    end_by(number)

@@ -11,7 +11,7 @@ import machine
 from builder import builder_for
 from crates import PROGRAM, Fault
 from locks import locked
-from record import is_there, keep, look, program_of, read_program
+from record import keep, look, no_toolchain, program_of, read_program
 from snapshot import out_of
 from sources import Sources, read_sources
 from stops import Stopped
@@ -26,11 +26,7 @@ def toolchain_of(rt: str) -> str:
 def found_rt(top: Path, why: str) -> str:
     rt = shutil.which("rt")
     if rt is None:
-        other = f", or run the program as it is, {program_of(top)}" if is_there(top) else ""
-        raise Fault(
-            f"{why}, and the command rt, which builds it, isn't on the path: "
-            f"put the folder bin of the Rattle toolchain on the path{other}"
-        )
+        raise no_toolchain(top, why)
     return rt
 
 
@@ -51,7 +47,7 @@ def build(top: Path, teller: Teller, why: str, sources: Sources) -> None:
     try:
         build_locked(top, teller, found_rt(top, why), sources)
     except (Stopped, KeyboardInterrupt) as stopped:
-        teller.say("stopped; the next call goes on from here")
+        teller.say("stopped; the next ./gicstudy --prove goes on from here")
         raise stopped if isinstance(stopped, Stopped) else Stopped(signal.SIGINT) from None
 
 

@@ -6,10 +6,12 @@ three other files, and each place whose change is one of the sources. `gicstudy.
 the time of its last change: a file that takes its place, also one with an old time or from a copy of itself, has another."""
 
 import os
+from contextlib import suppress
 from dataclasses import dataclass
 from pathlib import Path
 
-from crates import PROGRAM
+from crates import PROGRAM, Fault
+from locks import locked_if_free
 from snapshot import out_of
 from sources import Sources, first_difference, sum_of
 
@@ -77,6 +79,15 @@ def look(top: Path, sources: Sources) -> Look:
     return Look(None, identity, sum_of(content))
 
 
+def no_toolchain(top: Path, why: str) -> Fault:
+    """What is told where something has to be compiled or built, for this reason, and the toolchain isn't there."""
+    other = f", or run the program as it is, {program_of(top)}" if is_there(top) else ""
+    return Fault(
+        f"{why}, and the command rt, which compiles and proves it, isn't on the path: "
+        f"put the folder bin of the Rattle toolchain on the path{other}"
+    )
+
+
 def text_of(record: Path) -> str | None:
     """The record that is kept, or None where there is none, or another file in its place."""
     try:
@@ -110,3 +121,16 @@ def keep(top: Path, sources: Sources, identity: Identity, record: str | None = N
     else:
         put(record_of(top), record.encode(), read_at)
     put(stamp_of(top), f"{identity.inode} {identity.size}\n".encode(), identity.changed)
+
+
+def keep_found(top: Path, sources: Sources, found: Look) -> None:
+    """Keeps for the script what a look has found. Where the program isn't that of the sources, the script has to look each
+    time: without this it would believe a record from the future once that time has come. Where it is, what the script looks
+    at is kept anew, unless a build is at work, or has put another program there since the look."""
+    with suppress(OSError):
+        if found.identity is None:
+            stamp_of(top).unlink()
+            return
+        with locked_if_free(top / "crates") as is_free:
+            if is_free and identity_of(program_of(top)) == found.identity:
+                keep(top, sources, found.identity)

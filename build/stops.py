@@ -45,8 +45,9 @@ def go_on_without() -> None:
 def end_by(number: int) -> NoReturn:
     """Ends this process by a signal, as if nothing had caught it."""
     signal.signal(number, signal.SIG_DFL)
+    signal.pthread_sigmask(signal.SIG_UNBLOCK, [number])
     os.kill(os.getpid(), number)
-    # (a signal that is blocked comes later, or never)
+    # (the first process of a container has no such end)
     os._exit(128 + number)
 
 
@@ -58,18 +59,35 @@ def begin_as_child() -> None:
 
 
 @contextmanager
-def running(words: Sequence[str | Path], **how: Any) -> Iterator["subprocess.Popen[bytes]"]:
-    """Runs the words. Where the block is left before they have ended, they are ended; no signal comes between."""
-    signal.pthread_sigmask(signal.SIG_BLOCK, STOPS)
+def held_back() -> Iterator[None]:
+    """Within the block no signal ends the call; one that comes there ends it behind the block."""
     try:
-        ran = subprocess.Popen(words, preexec_fn=begin_as_child, **how)
-        try:
-            signal.pthread_sigmask(signal.SIG_UNBLOCK, STOPS)
-            yield ran
-        finally:
-            end(ran)
+        signal.pthread_sigmask(signal.SIG_BLOCK, STOPS)
+        yield
     finally:
         signal.pthread_sigmask(signal.SIG_UNBLOCK, STOPS)
+
+
+@contextmanager
+def let_in() -> Iterator[None]:
+    """Within the block, which lies in one of `held_back`, signals end the call."""
+    try:
+        signal.pthread_sigmask(signal.SIG_UNBLOCK, STOPS)
+        yield
+    finally:
+        signal.pthread_sigmask(signal.SIG_BLOCK, STOPS)
+
+
+@contextmanager
+def running(words: Sequence[str | Path], **how: Any) -> Iterator["subprocess.Popen[bytes]"]:
+    """Runs the words. Where the block is left before they have ended, they are ended; no signal comes between."""
+    with held_back():
+        ran = subprocess.Popen(words, preexec_fn=begin_as_child, **how)
+        try:
+            with let_in():
+                yield ran
+        finally:
+            end(ran)
 
 
 def end(ran: "subprocess.Popen[bytes]") -> None:

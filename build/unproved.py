@@ -19,22 +19,18 @@ from pathlib import Path
 from copies import with_copies
 from crates import PROGRAM, Fault
 from locks import locked
-from record import identity_of, put, read_program
+from record import identity_of, no_toolchain, put, read_program
 from snapshot import out_of
 from sources import Sources, sum_of
-from stops import STOPS, end_by, running
+from stops import STOPS, Stopped, held_back, let_in, running
 from teller import Teller
-from trial import TRIAL, run_trial
+from trial import TRIAL, copy_in, run_trial
 
 PROVE = "./gicstudy --prove proves and builds it"
 # What a first build takes, as bench/README.md has it.
 TAKES = "about twenty minutes on four processors, forty on two"
 UNPROVED = f"this answer is of the program compiled without proof here, and nothing is promised of it; {PROVE} ({TAKES})"
 COMPILES = "compiles the program first, which takes a minute or two; "
-NO_RT = (
-    "no proved program is here, and the command rt, which compiles and proves it, isn't on the path: "
-    "put the folder bin of the Rattle toolchain on the path"
-)
 
 PARTS = ("src",)
 RECORD = "record"
@@ -51,6 +47,10 @@ CANNOT_WRITE = b"gicstudy: cannot write\n"
 # The statuses of the program.
 ANSWERS = (0, *range(2, 14))
 SANITIZER = re.compile(rb"^==[0-9]+==\s*(?:ERROR: )?(.*Sanitizer.*)$", re.M)
+
+
+class Gone(Exception):
+    """The kept program was removed before it could be run."""
 
 
 def shelf_of(top: Path) -> Path:
@@ -120,11 +120,13 @@ def record_text(program: Path, sum: str) -> str:
 @contextmanager
 def scratch_in(place: Path | None) -> Iterator[Path]:
     """A folder that is there for a while, in this place or among what is temporary."""
-    folder = Path(tempfile.mkdtemp(prefix=SCRATCH if place else "gicstudy-", dir=place))
-    try:
-        yield folder
-    finally:
-        shutil.rmtree(folder, ignore_errors=True)
+    with held_back():
+        folder = Path(tempfile.mkdtemp(prefix=SCRATCH if place else "gicstudy-", dir=place))
+        try:
+            with let_in():
+                yield folder
+        finally:
+            shutil.rmtree(folder, ignore_errors=True)
 
 
 def can_write(shelf: Path) -> bool:
@@ -141,14 +143,15 @@ class Compiler:
     """Compiles the program of these sources by this toolchain without proof."""
 
     top: Path
+    sources: Sources
     rt: str
     teller: Teller
 
     def compile(self, scratch: Path) -> tuple[Path | None, bool]:
         """The compiled program in the scratch, where `rt try` lets it be caught; and whether another try may catch it."""
-        trial = run_trial(self.rt, self.top, scratch, list(TRIAL), [], catches=True)
+        trial = run_trial(self.rt, self.sources, scratch, list(TRIAL), [], catches=True)
         if trial.status is None:
-            raise self.refusal(trial.told)
+            raise self.refusal(trial.told, copy_in(scratch))
         if trial.program is None:
             return None, trial.has_place
         program = scratch / "kept" / PROGRAM
@@ -157,27 +160,28 @@ class Compiler:
         program.chmod(0o755)
         return program if runs(program) else None, True
 
-    def refusal(self, told: list[str]) -> Fault:
+    def refusal(self, told: list[str], copy: Path) -> Fault:
         for line in told[-LAST_LINES:]:
-            self.teller.say(f"| {line}")
+            self.teller.say(f"| {line.replace(str(copy), str(self.top))}")
         return Fault("no answer: rt try, whose last lines stand above, can't compile and run the program")
 
     def answer(self, words: list[str]) -> int:
         """Answers by a run of `rt try` itself, on copies of the files."""
         with scratch_in(None) as scratch:
             with_copy, data = with_copies(words, scratch)
-            trial = run_trial(self.rt, self.top, scratch, with_copy, data)
-            if trial.status is None:
-                last = trial.told[-2:-1] or trial.told
-                why = f" ({last[0]})" if last else ""
-                raise Fault(f"no answer: rt try gives none of a long run or a report above 1 MiB{why}; {PROVE}")
-            try:
-                write(1, trial.out)
-            except OSError:
-                pass_on(CANNOT_WRITE)
-                return 4
-            pass_on(trial.err)
-            return trial.status
+            trial = run_trial(self.rt, self.sources, scratch, with_copy, data)
+        if trial.status is None:
+            last = trial.told[-2:-1] or trial.told
+            why = f" ({last[0]})" if last else ""
+            raise Fault(f"no answer: rt try gives none of a long run or a report above 1 MiB{why}; {PROVE}")
+        try:
+            write(1, trial.out)
+        except BrokenPipeError:
+            raise Stopped(signal.SIGPIPE) from None
+        except OSError:
+            pass_on(CANNOT_WRITE)
+            return 4
+        return answered(trial.status, trial.err)
 
 
 def runs(program: Path) -> bool:
@@ -208,8 +212,11 @@ def pass_on(told: bytes) -> None:
 
 def run(program: Path, words: list[str]) -> int:
     """Runs the program compiled without proof with the words, the streams and in the folder of the caller."""
-    with running([program, *words], stderr=subprocess.PIPE, env=environment(), close_fds=False) as ran:
-        told = ran.communicate()[1]
+    try:
+        with running([program, *words], stderr=subprocess.PIPE, env=environment(), close_fds=False) as ran:
+            told = ran.communicate()[1]
+    except FileNotFoundError:
+        raise Gone from None
     return answered(ran.returncode, told)
 
 
@@ -220,7 +227,7 @@ def answered(status: int, told: bytes) -> int:
         return status
     if -status in (*STOPS, signal.SIGPIPE, signal.SIGXFSZ):
         pass_on(told)
-        end_by(-status)
+        raise Stopped(-status)
     found = SANITIZER.search(told)
     why = found[1].decode(errors="replace") if found else f"status {status}" if status > 0 else f"signal {-status}"
     raise Fault(f"no answer, also where a report has begun: the program compiled without proof was stopped ({why}); {PROVE}")
@@ -237,21 +244,31 @@ def publish(program: Path, folder: Path) -> Path:
     return folder / PROGRAM
 
 
-def answer(top: Path, teller: Teller, sources: Sources, words: list[str], head: str = "") -> int:
-    """Answers the words without proof, and says so in a line, which begins with what has changed."""
+def answer(top: Path, teller: Teller, sources: Sources, words: list[str], why: str | None = None) -> int:
+    """Answers the words without proof, and says so in a line, which begins with what has changed. A call of other sources
+    may take the program from the shelf before it runs; it is looked for, and compiled, once more then."""
+    for _ in range(2):
+        with suppress(Gone):
+            return answer_once(top, teller, sources, words, why)
+    raise Fault(f"no answer: calls of other sources remove the program compiled without proof; {PROVE}")
+
+
+def answer_once(top: Path, teller: Teller, sources: Sources, words: list[str], why: str | None) -> int:
     shelf, rt = shelf_of(top), shutil.which("rt")
+    head = f"{why}; " if why else ""
+    lacking = no_toolchain(top, why or "no proved program is here")
     toolchain = find_toolchain(shelf, rt)
     if toolchain is None:
-        raise Fault(NO_RT)
+        raise lacking
     folder = shelf / key_of(sources, toolchain)
     program = kept_program(folder)
     if program is not None:
         teller.say(head + UNPROVED)
         return run(program, words)
     if rt is None:
-        raise Fault(NO_RT)
+        raise lacking
     teller.say(head + COMPILES + UNPROVED)
-    compiler = Compiler(top, rt, teller)
+    compiler = Compiler(top, sources, rt, teller)
     if can_write(shelf):
         return answer_by(compiler, compile_kept(compiler, shelf, folder, toolchain), words)
     with scratch_in(None) as scratch:

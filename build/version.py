@@ -1,5 +1,6 @@
 """What is here: the commit, the proved program by its sum, and the one compiled without proof."""
 
+import os
 import shutil
 import subprocess
 from pathlib import Path
@@ -10,9 +11,10 @@ from unproved import PARTS, find_toolchain, kept_program, key_of, shelf_of
 
 
 def git(top: Path, *words: str) -> str:
-    """What git says of this repository."""
+    """What git says of this repository, also where the environment names another one, as a hook's does."""
     asked = ["git", "-C", str(top), "--no-optional-locks", *words]
-    done = subprocess.run(asked, stdin=subprocess.DEVNULL, capture_output=True, check=True)
+    environment = {name: value for name, value in os.environ.items() if not name.startswith("GIT_")}
+    done = subprocess.run(asked, env=environment, stdin=subprocess.DEVNULL, capture_output=True, check=True)
     return done.stdout.decode(errors="replace")
 
 
@@ -43,6 +45,6 @@ def without_proof(top: Path) -> str:
 
 
 def version(top: Path) -> list[str]:
-    """A line each: the commit, the sum of the program that is proved here of the sources as they are now, and the sum of the
-    one that is compiled of them without proof."""
+    """A line each: the commit, the sum of the proved program where a record of a proof of the sources as they are now stands
+    beside it, and the sum of the one that is compiled of them without proof."""
     return [f"commit {commit(top)}", f"proved {proved(top)}", f"unproved {without_proof(top)}"]

@@ -85,6 +85,19 @@ class Checkout:
         )
         return ran.returncode, ran.stderr
 
+    def call_with(self, change: str, *words: str, **more: str) -> tuple[int, str, str]:
+        """Status, output and what was said of a call with a change of the build's Python, as of what comes at a bad moment."""
+        text = f"import sys; sys.path.insert(0, sys.argv.pop(1))\n{change}\nimport command\nsys.exit(command.main(sys.argv[1:]))"
+        ran = subprocess.run(
+            [sys.executable, "-B", "-c", text, self.top / "build", *words],
+            cwd="/",
+            env={**self.environment(), **more},
+            stdin=subprocess.DEVNULL,
+            capture_output=True,
+            text=True,
+        )
+        return ran.returncode, ran.stdout, ran.stderr
+
     def noted(self, verb: str = "begin") -> list[str]:
         """The crates at which `rt` was called since the last look, or has ended, in their order."""
         lines = [it.split() for it in self.log.read_text(encoding="utf-8").splitlines()]

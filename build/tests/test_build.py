@@ -246,7 +246,7 @@ class Builds(unittest.TestCase):
             started.send_signal(number)
             said = started.communicate(timeout=30)[1]
             self.assertEqual(started.returncode, -number)
-            self.assertIn("gicstudy: stopped; the next call goes on from here\n", said)
+            self.assertIn("gicstudy: stopped; the next ./gicstudy --prove goes on from here\n", said)
             self.assertNotIn("gicstudy/out/snapshot", self.at.left())
             self.at.forget()
         self.assertEqual(self.at.prove()[0], 0)
@@ -289,6 +289,12 @@ class Builds(unittest.TestCase):
         self.assertEqual(status, 1)
         out = self.at.top / "crates/low/out"
         self.assertIn(f"gicstudy: the program has to be built, and {out} can't be written: ", said)
+
+    def test_a_disk_without_room_fails_the_build(self) -> None:
+        full = "import errno, os, snapshot\ndef fill(*_): raise OSError(errno.ENOSPC, os.strerror(errno.ENOSPC))\n"
+        status, _, said = self.at.call_with(f"{full}snapshot.Snapshot.fill = fill", "--prove")
+        self.assertEqual(status, 1)
+        self.assertRegex(said.splitlines()[-1], r"\Agicstudy: the build failed: No space left on device \(remove .*\)\Z")
 
     def test_folders_are_locked_in_the_order_of_rt(self) -> None:
         folders = {name: os.open(self.at.top / "crates" / name, os.O_RDONLY) for name in PROVED}

@@ -1,5 +1,6 @@
 """Answers without proof in a small checkout with a toolchain that only looks like one, and what stands in front of MODE."""
 
+import fcntl
 import os
 import random
 import shutil
@@ -16,11 +17,43 @@ sys.path.insert(1, str(Path(__file__).resolve().parent.parent))
 
 from checkout import TOP, Checkout
 from copies import with_copies
-from sources import sum_of
+from record import keep_found, look
+from sources import read_sources, sum_of
 from unproved import COMPILES, PROVE, UNPROVED
 
 FIRST = f"gicstudy: {COMPILES}{UNPROVED}\n"
 LATER = f"gicstudy: {UNPROVED}\n"
+WAITS = "gicstudy: waits for another call, which compiles the program\n"
+# A change by which the first program that is found on the shelf is gone before it runs.
+GONE = """
+import shutil, unproved
+found = unproved.kept_program
+def found_once(folder):
+    program = found(folder)
+    if program is not None:
+        unproved.kept_program = found
+        shutil.rmtree(folder)
+    return program
+unproved.kept_program = found_once
+"""
+# Changes by which a signal comes as soon as a folder of ours is made, and before it is removed.
+AT_ITS_MAKING = """
+import os, tempfile
+made = tempfile.mkdtemp
+def interrupted(**how):
+    folder = made(**how)
+    os.kill(os.getpid(), NUMBER)
+    return folder
+tempfile.mkdtemp = interrupted
+"""
+AT_ITS_END = """
+import os, shutil
+removed = shutil.rmtree
+def interrupted(*words, **how):
+    os.kill(os.getpid(), NUMBER)
+    removed(*words, **how)
+shutil.rmtree = interrupted
+"""
 # What a call may take on a machine with much to do.
 WAIT = 300
 HINT = "gicstudy: ./gicstudy --help shows the modes and options\n"
@@ -107,7 +140,8 @@ class First(unittest.TestCase):
         self.at.write("gicstudy", "REFUSED")
         status, out, said = self.at.call("screen")
         self.assertEqual((status, out), (1, ""))
-        self.assertIn("gicstudy: | src/main.rt:1:1: error: no such name\n", said)
+        below = self.at.top / "crates/low/src/lib.rt"
+        self.assertIn(f"gicstudy: | src/main.rt:1:1: error: no such name\ngicstudy: | {below}:2:1: error: nor there\n", said)
         self.assertTrue(said.splitlines()[-1].startswith("gicstudy: no answer: "))
         self.is_tidy()
 
@@ -142,6 +176,15 @@ class First(unittest.TestCase):
                     os.kill(process, 0)
                     time.sleep(0.02)
 
+    def test_a_signal_at_the_making_or_the_end_of_a_folder_leaves_nothing(self) -> None:
+        self.at.out.mkdir()
+        self.shelf.write_bytes(b"")
+        for change in (AT_ITS_MAKING, AT_ITS_END):
+            for number in (signal.SIGINT, signal.SIGTERM, signal.SIGHUP):
+                code = change.replace("NUMBER", str(int(number)))
+                self.assertEqual(self.at.call_with(code, "screen", TMPDIR=str(self.work))[0], -number)
+                self.assertEqual(list(self.work.iterdir()), [])
+
     def test_what_a_killed_call_left_is_removed(self) -> None:
         self.at.write("gicstudy", "WAITS")
         started = self.at.start("screen")
@@ -157,11 +200,27 @@ class First(unittest.TestCase):
     def test_an_early_interrupt_prints_no_traceback(self) -> None:
         chance = random.Random(1)
         for moment in [chance.uniform(0, 0.4) for _ in range(40)]:
-            started = self.at.start("screen")
+            started = self.at.start("screen", TMPDIR=str(self.work))
             time.sleep(moment)
             os.killpg(started.pid, signal.SIGINT)
             said = started.communicate(timeout=WAIT)[1]
             self.assertNotIn("Traceback", said, moment)
+            # (130 where Python is interrupted in its own start)
+            self.assertIn(started.returncode, (-signal.SIGINT, 128 + signal.SIGINT), moment)
+            self.is_tidy()
+            self.assertEqual(list(self.work.iterdir()), [], moment)
+
+    def test_an_interrupt_before_python_is_begun_is_not_lost(self) -> None:
+        note, env = self.work / "note", self.at.bin / "env"
+        whole = shutil.which("env")
+        env.write_text(f'#!/bin/sh\n[ "$2" = true ] || exec {whole} "$@"\necho >{note}\nexec {whole} "$1" sleep 1\n', encoding="utf-8")
+        env.chmod(0o755)
+        started = self.at.start("screen")
+        while not note.exists():
+            time.sleep(0.01)
+        time.sleep(0.2)
+        os.killpg(started.pid, signal.SIGINT)
+        self.assertEqual((*started.communicate(timeout=WAIT), started.returncode), ("", "", -signal.SIGINT))
 
     def test_two_calls_at_once_both_answer_and_compile_once(self) -> None:
         both = [self.at.start("screen", word) for word in ("one", "two")]
@@ -181,6 +240,28 @@ class First(unittest.TestCase):
         os.utime(rt)
         self.assertEqual(self.at.call("screen")[2], LATER)
         self.assertEqual(len(self.at.noted("try")), 3)
+        self.is_tidy()
+
+    def test_a_source_saved_while_another_call_compiles_is_not_mixed_up(self) -> None:
+        self.at.out.mkdir()
+        self.shelf.mkdir()
+        lock = os.open(self.shelf, os.O_RDONLY)
+        self.addCleanup(os.close, lock)
+        fcntl.flock(lock, fcntl.LOCK_EX)
+        started = self.at.start("screen")
+        assert started.stderr is not None
+        self.assertEqual((started.stderr.readline(), started.stderr.readline()), (FIRST, WAITS))
+        self.at.write("gicstudy", "another program")
+        fcntl.flock(lock, fcntl.LOCK_UN)
+        self.assertEqual(started.communicate(timeout=WAIT)[0], "gicstudy without proof: screen\n")
+        for _ in range(2):
+            self.assertEqual(self.at.call("screen")[1], "another program without proof: screen\n")
+        self.at.write("gicstudy", "gicstudy")
+        self.assertEqual(self.at.call("screen")[1], "gicstudy without proof: screen\n")
+
+    def test_a_kept_program_that_vanishes_is_compiled_again(self) -> None:
+        self.at.call("screen")
+        self.assertEqual(self.at.call_with(GONE, "screen"), (0, "gicstudy without proof: screen\n", LATER + FIRST))
         self.is_tidy()
 
     def test_a_kept_program_that_was_swapped_is_not_run(self) -> None:
@@ -204,6 +285,16 @@ class First(unittest.TestCase):
         self.assertEqual(self.at.call("screen", has_rt=False), (0, "gicstudy without proof: screen\n", LATER))
         self.at.write("low", "low again")
         self.assertEqual(self.at.call("screen", has_rt=False)[0], 1)
+        self.at.write("low", "low")
+        self.at.prove()
+        self.at.write("low", "low again")
+        status, out, said = self.at.call("screen", has_rt=False)
+        self.assertEqual((status, out), (1, ""))
+        self.assertRegex(
+            said,
+            r"\Agicstudy: crates/low/src/lib.rt isn't as it was when the program was built, and the command rt, .* on the path, "
+            rf"or run the program as it is, {self.at.out / 'gicstudy'}\n\Z",
+        )
 
     def test_where_nothing_can_be_kept_it_answers_all_the_same(self) -> None:
         self.at.out.mkdir()
@@ -213,6 +304,8 @@ class First(unittest.TestCase):
             self.assertEqual(answer, (0, Path(__file__).read_text(encoding="utf-8"), FIRST))
             self.assertEqual(list(self.work.iterdir()), [])
         self.assertEqual(self.at.noted("try"), ["make", "make"])
+        self.assertEqual(self.at.call("pipe", TMPDIR=str(self.work))[0], -signal.SIGPIPE)
+        self.assertEqual(list(self.work.iterdir()), [])
 
     def test_a_toolchain_with_other_folders_answers_on_copies(self) -> None:
         self.at.write("gicstudy", "ELSEWHERE")
@@ -231,6 +324,19 @@ class First(unittest.TestCase):
         self.assertRegex(said.removeprefix(FIRST), rf"\Agicstudy: no answer: .*1 MiB.*; {PROVE}\n\Z")
         self.assertEqual(list(self.work.iterdir()), [name])
         self.is_empty_but_for_the_mark()
+
+    def test_on_copies_a_fault_is_no_answer_and_a_closed_pipe_ends_it(self) -> None:
+        self.at.write("gicstudy", "ELSEWHERE")
+        status, _, said = self.at.call("fault", TMPDIR=str(self.work))
+        self.assertEqual(status, 1)
+        why = "AddressSanitizer: stack-overflow on address 1"
+        self.assertRegex(said.removeprefix(FIRST), rf"\Agicstudy: no answer, .* was stopped \({why}\); {PROVE}\n\Z")
+        started = self.at.start("screen", TMPDIR=str(self.work))
+        assert started.stdout is not None and started.stderr is not None
+        started.stdout.close()
+        self.assertEqual((started.stderr.read(), started.wait(WAIT)), (FIRST, -signal.SIGPIPE))
+        started.stderr.close()
+        self.assertEqual(list(self.work.iterdir()), [])
 
     def test_a_program_that_was_missed_is_looked_for_again(self) -> None:
         self.at.write("gicstudy", "MISSED")
@@ -321,6 +427,53 @@ class First(unittest.TestCase):
             self.assertEqual(self.at.call("--proved", "screen")[1], "gicstudy: screen\n")
             self.assertFalse(self.at.is_looked_at())
 
+    def test_a_record_from_the_future_is_not_believed_later_either(self) -> None:
+        self.at.prove()
+        self.at.settle()
+        later = time.time() + 5
+        os.utime(self.at.out / "gicstudy.sources", (later, later))
+        self.at.write("right", "right again")
+        for _ in range(2):
+            self.assertEqual(self.at.call("screen")[:2], (0, "gicstudy without proof: screen\n"))
+            self.assertEqual(self.at.call("--proved", "screen")[:2], (1, ""))
+            time.sleep(max(later + 0.1 - time.time(), 0))
+        self.at.write("right", "right")
+        self.at.settle()
+        self.assertFalse(self.at.is_looked_at())
+        self.assertEqual(self.at.call("--proved", "screen"), (0, "gicstudy: screen\n", ""))
+
+    def test_while_a_build_works_nothing_is_kept_for_the_script(self) -> None:
+        self.at.prove()
+        self.at.settle()
+        os.utime(self.at.source("low"))
+        time.sleep(1.1)
+        lock = os.open(self.at.top / "crates", os.O_RDONLY)
+        self.addCleanup(os.close, lock)
+        fcntl.flock(lock, fcntl.LOCK_EX)
+        before = self.record()
+        for words in (["screen"], ["--proved", "screen"], ["--prove", "screen"]):
+            self.assertEqual(self.at.call(*words), (0, "gicstudy: screen\n", ""))
+            self.assertEqual(self.record(), before)
+        fcntl.flock(lock, fcntl.LOCK_UN)
+        self.assertEqual(self.at.call("screen"), (0, "gicstudy: screen\n", ""))
+        self.assertNotEqual(self.record(), before)
+        self.assertFalse(self.at.is_looked_at())
+
+    def test_what_a_build_has_kept_since_a_look_stays(self) -> None:
+        self.at.prove()
+        sources = read_sources(self.at.top)
+        found = look(self.at.top, sources)
+        self.at.write("low", "low again")
+        self.at.prove()
+        before = self.record()
+        keep_found(self.at.top, sources, found)
+        self.assertEqual(self.record(), before)
+
+    def record(self) -> list[tuple[bytes, int, int]]:
+        """What the script looks at beside the program, and which files it is."""
+        files = [self.at.out / f"gicstudy.{it}" for it in ("sources", "places", "proved")]
+        return [(it.read_bytes(), it.stat().st_ino, it.stat().st_mtime_ns) for it in files]
+
     def test_an_older_find_sees_the_same(self) -> None:
         find = Path(self.at.path_without_python()) / "find"
         whole = os.readlink(find)
@@ -357,7 +510,7 @@ class First(unittest.TestCase):
         self.assertLessEqual(max(map(len, page.split("\n"))), 120)
 
     def test_version_tells_what_is_here(self) -> None:
-        def told(**how: bool) -> list[str]:
+        def told(**how: bool | str) -> list[str]:
             status, out, said = self.at.call("--version", **how)  # type: ignore[arg-type]
             self.assertEqual((status, said), (0, ""))
             return out.splitlines()
@@ -375,6 +528,8 @@ class First(unittest.TestCase):
             subprocess.run(["git", "-C", str(self.at.top), *words], check=True)
         (self.at.top / ".gitignore").write_text("crates/\n", encoding="utf-8")
         self.assertRegex(told()[0], r"\Acommit [0-9a-f]{40}\Z")
+        subprocess.run(["git", "init", "-q", self.work], check=True)
+        self.assertEqual(told(GIT_DIR=str(self.work / ".git"))[0], told()[0])
         with open(self.at.top / "crates.txt", "a", encoding="utf-8") as file:
             file.write("more:\n")
         self.assertRegex(told()[0], r"\Acommit [0-9a-f]{40}, with changes\Z")
