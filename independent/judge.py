@@ -179,7 +179,7 @@ def counting_windings(network: Network, unit: Row) -> list[Element]:
 
 
 def root(pair: list[Interval], parts: int) -> Interval:
-    """The root of the sum of the squares of two currents, outward to so many parts of a milliampere."""
+    """The root of the sum of the squares of two currents, outward to parts of a milliampere of this number."""
     sizes = [current.size() for current in pair]
     low = parts**2 * sum(size.low**2 for size in sizes)
     high = parts**2 * sum(size.high**2 for size in sizes)
@@ -298,7 +298,7 @@ class Judge:
         return adds_up and holds, not (adds_up and may_hold)
 
     def fit(self, below: int, reaches: int, lows: list[Fraction], highs: list[Fraction]) -> bool:
-        """Whether so many can be below the threshold, and so many reach it, with these ends of the currents."""
+        """Whether these counts of transformers below the threshold, and at it, go with these ends of the currents."""
         limit, width = self.threshold, self.width
         must_be_below, can_be_below = sum(low < limit - width for low in lows), sum(high < limit for high in highs)
         must_reach, can_reach = sum(high > limit + width - 1 for high in highs), sum(low >= limit for low in lows)
@@ -408,7 +408,7 @@ def outage_certificates(network: Network, folder: str, field: int, name: str) ->
 
 
 def greatest(currents: list[Interval]) -> Interval:
-    """The greatest of some currents."""
+    """The greatest current."""
     if all(exact is NOTHING for exact in currents):
         return NOTHING
     return Interval(max(exact.low for exact in currents), max(exact.high for exact in currents))

@@ -113,7 +113,7 @@ def neutral_devices(units: list[tuple[Row, str]]) -> Iterator[Element]:
 
 
 def siemens(paths: int, resistance: int) -> Fraction:
-    """The conductance of so many parallel paths (one a phase, or one for all), each of this resistance in micro-ohm."""
+    """The conductance of parallel paths (one a phase, or one for all), each of this resistance in micro-ohm."""
     return Fraction(paths * 10**6, resistance)
 
 
@@ -151,7 +151,7 @@ def open_items(records: Iterable[Record]) -> set[str]:
 
 
 class Network:
-    """The elements that stand in a case while some items are open."""
+    """The elements that stand in a case while these items are open."""
 
     def __init__(self, case: Case, elements: list[Element], switched_off: set[str]) -> None:
         self.case, self.elements, self.switched_off = case, elements, switched_off
