@@ -14,134 +14,23 @@ import os
 import re
 import signal
 import sys
-from collections.abc import Iterable
+from collections.abc import Iterable, Sequence
 from fractions import Fraction
 from math import ceil, floor
 from typing import Any, NamedTuple
 
-from rules import CASE, USAGE, Refused, Table, file_bytes, read_case, read_switchings
+from network import Branch, Network, Node, crowded_node, elements_of, open_items
+from rules import (CANNOT_WRITE, CASE, OUT_OF_MEMORY, REFUSED, USAGE, Case, Record, Refused, bytes_of, read_case,
+                   read_switchings)
 
-Node = str  # a node by its name: a substation, a bus, or the transformer whose neutral node it is
-EARTH = None  # remote earth, where grounds end; it is no node
-Numbers = dict[Node | None, int]  # a number for each live node
+Numbers = dict[Node, int]  # a number for each live node
 GRAIN = 2**36  # grains in a nanovolt
 MILLIVOLT = 10**6 * GRAIN  # grains in a millivolt
-# Latitudes in hundredths of a degree, each with the scaling alpha, in tenths, of a zone up to there.
-ALPHA = [(4000, 1), (4500, 2), (5000, 3), (5400, 5), (5600, 6), (5700, 7), (5800, 8), (5900, 9), (6000, 10)]
-MOST_ENDS = 256  # elements that may end at one node
-CANNOT_WRITE, OUT_OF_MEMORY, REFUSED = 4, 11, 13  # statuses; the others stand in rules.py
 
 
 def refused(words: str) -> Refused:
     """The certificate breaks a rule: the words say which, and where."""
     return Refused(REFUSED, f"cert: {words}")
-
-
-# The network: what stands in it, and what a field induces -------------------------------------------------------------
-
-class Item(NamedTuple):
-    """What is switched as one: a ground, a line, the windings of a transformer, or a transformer's neutral resistor."""
-    name: str
-    is_neutral: bool = False
-
-
-class Element(NamedTuple):
-    """A conductor from one node to another one, or to remote earth."""
-    item: Item
-    start: Node
-    end: Node | None
-    conductance: Fraction  # of all its parallel paths together, in siemens
-
-
-class Branch(NamedTuple):
-    """An element as it leaves one of the nodes at which it ends."""
-    other: Node | None  # the other end
-    conductance: Fraction  # in siemens
-    voltage: int  # induced in it, counted away from the node, in nanovolts
-
-
-def node_order(case: Table) -> list[Node]:
-    """The substations, the buses, and the neutral nodes in the order of their transformers."""
-    neutrals = [unit for unit in case.get("transformer", []) if "neutral" in unit]
-    return [row["name"] for row in [*case.get("substation", []), *case.get("bus", []), *neutrals]]
-
-
-def elements(case: Table) -> list[Element]:
-    """The grounds, the lines that are not blocked, the windings, and the neutral resistors."""
-    found = []
-    for station in case.get("substation", []):
-        if "ground" in station:
-            found.append(Element(Item(station["name"]), station["name"], EARTH, siemens(1, station["ground"])))
-    for line in case.get("line", []):
-        if not line.get("blocked", False):
-            found.append(Element(Item(line["name"]), line["from"], line["to"], siemens(3, line["resistance"])))
-    station_of = {bus["name"]: bus["substation"] for bus in case.get("bus", [])}
-    for unit in case.get("transformer", []):
-        if unit["kind"] != "delta-delta":
-            found += unit_elements(unit, station_of[unit["high"]])
-    return found
-
-
-def unit_elements(unit: Table, station: Node) -> list[Element]:
-    """The windings of a transformer in this substation, and its neutral resistor if it has one."""
-    name, high, low, third = unit["name"], unit["high"], unit.get("low"), unit.get("third")
-    device = unit.get("neutral")
-    neutral = station if device is None else name
-    ends_of = {
-        "high_resistance": (high, neutral),
-        "low_resistance": (low, neutral),
-        "series_resistance": (high, low),
-        "common_resistance": (low, neutral),
-        "third_resistance": (third, neutral),
-    }
-    found = [Element(Item(name), *ends, siemens(3, unit[key])) for key, ends in ends_of.items() if key in unit]
-    if device is not None and device != "blocked":
-        found.append(Element(Item(name, is_neutral=True), name, station, siemens(1, device)))
-    return found
-
-
-def siemens(paths: int, resistance: int) -> Fraction:
-    """The conductance of so many parallel paths (one a phase, or one for all), each of this resistance in micro-ohm."""
-    return Fraction(paths * 10**6, resistance)
-
-
-def open_items(records: Iterable[list[str]]) -> set[Item]:
-    """The items that switchings leave open. Every row is in force, and the last one that names an item decides."""
-    found: set[Item] = set()
-    for _, name, action in [record for record in records if record][1:]:
-        item = Item(name, action in ("block", "unblock"))
-        found = found | {item} if action in ("open", "block") else found - {item}
-    return found
-
-
-def line_voltages(case: Table, north: int, east: int) -> dict[str, int]:
-    """The voltage of each line in a field in mV/km, in nanovolts; it drives current from `from` to `to`."""
-    scaling = {
-        zone["name"]: zone["scale"] if "scale" in zone else alpha(zone["latitude"]) * zone["beta"]
-        for zone in case.get("zone", [])
-    }
-    return {
-        line["name"]: sum(
-            (north * part["north"] + east * part["east"]) * scaling[part["zone"]] for part in line.get("part", [line])
-        )
-        for line in case.get("line", [])
-    }
-
-
-def alpha(latitude: int) -> int:
-    """The scaling by geomagnetic latitude, in tenths. The latitude is in hundredths of a degree."""
-    return next((tenths for most, tenths in ALPHA if latitude <= most), 10)
-
-
-def branches(standing: list[Element], voltages: dict[str, int]) -> dict[Node, list[Branch]]:
-    """The elements that end at each live node. No two names are the same, so only lines have a voltage."""
-    found: dict[Node, list[Branch]] = {}
-    for item, start, end, conductance in standing:
-        voltage = voltages.get(item.name, 0)
-        found.setdefault(start, []).append(Branch(end, conductance, voltage))
-        if end is not EARTH:
-            found.setdefault(end, []).append(Branch(start, conductance, -voltage))
-    return found
 
 
 # The certificate: what its text says ----------------------------------------------------------------------------------
@@ -155,24 +44,26 @@ class Certificate(NamedTuple):
     radii: Numbers  # RADIUS, in grains
 
 
-def read(text: bytes, nodes: list[Node], live: set[Node]) -> Certificate:
+def read(text: bytes, network: Network) -> Certificate:
     """The certificate that a text is. At each row its form, then its numbers, then its node decide."""
     lines = text.split(b"\n")  # what stands behind the last line feed comes last, and is no line
+    nodes = network.nodes
     words_of(lines, 1, "certificate")
     head = words_of(lines, 2, "nodes COUNT north N east E")
     _, north, east = numbers_of(head, 2, (len(nodes), len(nodes)), (-20000, 20000), (-20000, 20000))
-    numbers = {}
+    numbers: dict[Node, list[int]] = {}
     for row, node in enumerate(nodes, 3):
         name, *rest = words_of(lines, row, "cert NAME V X RADIUS", "cert NAME dead")
         if rest:
             numbers[node] = numbers_of(rest, row, (1, 4096), (-(2**95), 2**95), (0, 2**126))
-        if name != node.encode() or (node in numbers) != (node in live):
+        if name != node.encode() or (node in numbers) != (node in network.leaving):
             raise refused(f"node in row {row}")
     last = len(nodes) + 3
     words_of(lines, last, "end")
     if lines[last:] != [b""]:
         raise refused(f"shape in row {last + 1}")
-    return Certificate(north, east, *({node: three[place] for node, three in numbers.items()} for place in range(3)))
+    entries, guesses, radii = ({node: three[place] for node, three in numbers.items()} for place in range(3))
+    return Certificate(north, east, entries, guesses, radii)
 
 
 def words_of(lines: list[bytes], row: int, *forms: str) -> list[bytes]:
@@ -197,27 +88,30 @@ def numbers_of(words: list[bytes], row: int, *ranges: tuple[int, int]) -> list[i
 
 def row_sum(node: Node, ends: list[Branch], entries: Numbers) -> int:
     """How far the entry of a node is above those of its neighbours, weighed by conductance, in 2^-20 siemens."""
-    return sum(floor(2**20 * end.conductance * (entries[node] - entries.get(end.other, 0) - 1)) for end in ends)
+    rises = [(end.element.conductance, entries[node] - entries.get(end.other, 0)) for end in ends]
+    return sum(floor(2**20 * conductance * (rise - 1)) for conductance, rise in rises)
 
 
-def residual(node: Node, ends: list[Branch], guesses: Numbers) -> int:
+def residual(node: Node, ends: list[Branch], certificate: Certificate) -> int:
     """The current that leaves a node under the guesses and must be 0: how much it is at most, in 2^-44 nanoampere."""
-    drops = [guesses[node] - guesses.get(end.other, 0) + GRAIN * end.voltage for end in ends]
-    currents = [2**8 * end.conductance * drop for end, drop in zip(ends, drops)]
-    return max(abs(sum(map(floor, currents))), abs(sum(map(ceil, currents))))
+    guesses, field = certificate.guesses, (certificate.north, certificate.east)
+    drops = [guesses[node] - guesses.get(end.other, 0) + GRAIN * end.voltage(*field) for end in ends]
+    currents = [2**8 * end.element.conductance * drop for end, drop in zip(ends, drops)]
+    return max(abs(sum(floor(current) for current in currents)), abs(sum(ceil(current) for current in currents)))
 
 
 def own_conductance(ends: list[Branch]) -> int:
     """How much a node conducts at least, in 2^-20 siemens."""
-    return sum(floor(2**20 * end.conductance) for end in ends)
+    return sum(floor(2**20 * end.element.conductance) for end in ends)
 
 
-def check(live: dict[Node, list[Branch]], certificate: Certificate) -> None:
+def check(network: Network, certificate: Certificate) -> None:
     """Refuses a certificate that doesn't pass: the first rule that is broken, at the first live node that breaks it."""
+    live = {node: network.leaving[node] for node in network.nodes if node in network.leaving}
     for node, ends in live.items():  # the entries are a bound vector
         if row_sum(node, ends, certificate.entries) < 0:
             raise refused(f"row at node {node}")
-    residuals = {node: residual(node, ends, certificate.guesses) for node, ends in live.items()}
+    residuals = {node: residual(node, ends, certificate) for node, ends in live.items()}
     for node in live:  # no guess is hopelessly off
         if residuals[node] > 2**110:
             raise refused(f"residual at node {node}")
@@ -229,13 +123,11 @@ def check(live: dict[Node, list[Branch]], certificate: Certificate) -> None:
 
 # The whole ------------------------------------------------------------------------------------------------------------
 
-def recheck(case: Table, switchings: Iterable[list[str]], text: bytes) -> str:
+def recheck(case: Case, switchings: Iterable[Record], text: bytes) -> str:
     """The report: what the certificate shows of each live node's potential, rounded outward to millivolts."""
-    nodes, switched_off = node_order(case), open_items(switchings)
-    standing = [element for element in elements(case) if element.item not in switched_off]
-    certificate = read(text, nodes, set(branches(standing, {})))
-    ends = branches(standing, line_voltages(case, certificate.north, certificate.east))
-    check({node: ends[node] for node in nodes if node in ends}, certificate)
+    network = Network(case, elements_of(case), open_items(switchings))
+    certificate = read(text, network)
+    check(network, certificate)
     lines = ["recheck", f"north {certificate.north} east {certificate.east}"]
     for node, guess in certificate.guesses.items():
         low, high = (Fraction(guess + side * certificate.radii[node], MILLIVOLT) for side in (-1, 1))
@@ -243,18 +135,28 @@ def recheck(case: Table, switchings: Iterable[list[str]], text: bytes) -> str:
     return "\n".join([*lines, "end", ""])
 
 
-def check_degrees(case: Table) -> None:
+def check_degrees(case: Case) -> None:
     """Refuses a case where too many elements end at a node, whether they stand or not."""
-    ends = branches(elements(case), {})
-    for node in node_order(case):
-        if len(ends.get(node, [])) > MOST_ENDS:
-            raise Refused(CASE, f"case: degree at node {node}")
+    node = crowded_node(case, elements_of(case))
+    if node is not None:
+        raise Refused(CASE, f"case: degree at node {node}")
+
+
+def file_bytes(name: str, what: str) -> bytes:
+    """All bytes of a file."""
+    return bytes_of(name, f"cannot read {what}", f"too long: {what}")
 
 
 class Once(argparse.Action):
     """An option that may be given once."""
 
-    def __call__(self, parser: argparse.ArgumentParser, namespace: argparse.Namespace, values: Any, _=None) -> None:
+    def __call__(
+        self,
+        parser: argparse.ArgumentParser,
+        namespace: argparse.Namespace,
+        values: str | Sequence[Any] | None,
+        option_string: str | None = None,
+    ) -> None:
         if getattr(namespace, self.dest) is not None:
             raise Refused(USAGE, "usage: words")
         setattr(namespace, self.dest, values)

@@ -1,57 +1,28 @@
-"""The rules that the files of a network keep, and what is told of the first one that is broken.
+"""The rules that the files of a network keep: one table of them, and the questions whether a row keeps them.
 
-`recheck.py` asks it before it looks at a certificate. The rules, their order and the lines are those of
-docs/FORMATS.md, *The case* and *Switchings*.
+Both checkers read a case and switchings by it. What is told of the first rule that is broken, and in which order they
+are looked at, is here as the program has it (docs/FORMATS.md, *The case* and *Switchings*); `recheck.py` tells it so.
+`judge.py` tells the same rules row by row and in words of its own, which stand in `reasons.py`.
 """
 
 import csv
+import functools
 import io
 import re
 import tomllib
+from collections import Counter
 from collections.abc import Iterator
-from typing import Any
+from typing import Any, NamedTuple
 
-Table = dict[str, Any]  # a table of TOML: a whole case, or a row of one of its lists
-Record = list[str]
+Document = dict[str, Any]  # what a text of TOML says
+Row = dict[str, Any]  # a row of a list of a case
+Case = dict[str, list[Row]]  # the five lists of a case
+Record = list[str]  # a row of switchings: a time, the name of an item, and an action
+USAGE, UNREADABLE, CANNOT_WRITE, CASE, SWITCH, TOO_LONG, OUT_OF_MEMORY, REFUSED = 2, 3, 4, 5, 7, 10, 11, 13  # statuses
 LONGEST = 2**24  # bytes of a file
 MOST_SWITCHINGS = 4096
 LATEST = 2**32 - 1  # seconds
-NAME = re.compile(r"[A-Za-z0-9_.-]{1,32}")
-OHM, METRES, VOLTS = (10**3, 10**9), (-(10**6), 10**6), (10**3, 2 * 10**6)  # least and most
-
-MOST_ROWS = {"zone": 256, "substation": 1024, "bus": 3072, "line": 8192, "transformer": 3584}
-MOST_ROWS_3 = {"zone": 256, "substation": 4096, "bus": 12288, "line": 24576, "transformer": 8192}  # in format 3
-PARTS = range(2, 17)  # how many a line in parts has
-# The fields of a row in their order. A value is a name or a reference, a number in a range, true or false, or parts.
-FIELDS: dict[str, dict[str, Any]] = {
-    "zone": {"name": NAME, "latitude": (0, 9000), "beta": (1, 150), "scale": (1, 1500)},
-    "substation": {"name": NAME, "ground": OHM},
-    "bus": {"name": NAME, "substation": NAME},
-    "line": {"name": NAME, "from": NAME, "to": NAME, "zone": NAME, "resistance": OHM, "north": METRES, "east": METRES,
-             "blocked": bool, "part": PARTS},
-    "transformer": {"kind": NAME, "name": NAME, "high_volts": VOLTS, "high": NAME, "low": NAME, "low_volts": VOLTS,
-                    "high_resistance": OHM, "low_resistance": OHM, "series_resistance": OHM, "common_resistance": OHM,
-                    "third": NAME, "third_volts": VOLTS, "third_resistance": OHM, "neutral": OHM},
-}
-OPTIONAL = {"ground", "blocked", "neutral", "scale", "part"}
-# In format 3 a row has all of one of these groups, and nothing of the other. Before it there is the first one alone.
-CHOICES = {"zone": [{"latitude", "beta"}, {"scale"}], "line": [{"zone", "north", "east"}, {"part"}]}
-# What a unit of a kind has beside its kind, its name and the voltage of its high side.
-OF_KIND = {
-    "delta-wye": {"high", "high_resistance", "neutral"},
-    "wye-wye": {"high", "low", "low_volts", "high_resistance", "low_resistance", "neutral"},
-    "auto": {"high", "low", "low_volts", "series_resistance", "common_resistance", "neutral"},
-    "delta-delta": set(),
-}
-THIRD = {"third", "third_volts", "third_resistance"}
-OF_KIND_3 = OF_KIND | {
-    "wye-wye-wye": OF_KIND["wye-wye"] | THIRD,
-    "auto-wye": OF_KIND["auto"] | THIRD,
-    "reactor": OF_KIND["delta-wye"],
-}
-REFERS = {"bus": {"substation": "substation"}, "line": {"from": "bus", "to": "bus", "zone": "zone"},
-          "transformer": {"high": "bus", "low": "bus", "third": "bus"}}
-USAGE, UNREADABLE, CASE, SWITCH, TOO_LONG = 2, 3, 5, 7, 10  # statuses
+NAME = re.compile("[A-Za-z0-9_.-]{1,32}")
 
 
 class Refused(Exception):
@@ -62,132 +33,266 @@ class Refused(Exception):
         self.status = status
 
 
-def file_bytes(name: str, what: str) -> bytes:
-    """All bytes of a file."""
+def bytes_of(name: str, unreadable: str, too_long: str) -> bytes:
+    """All bytes of a file, or one of the two lines."""
     try:
         with open(name, "rb") as file:
             found = file.read(LONGEST + 1)
     except (OSError, ValueError):
-        raise Refused(UNREADABLE, f"cannot read {what}") from None
+        raise Refused(UNREADABLE, unreadable) from None
     if len(found) > LONGEST:
-        raise Refused(TOO_LONG, f"too long: {what}")
+        raise Refused(TOO_LONG, too_long)
     return found
 
 
-# The case -------------------------------------------------------------------------------------------------------------
+# The table ------------------------------------------------------------------------------------------------------------
 
-def read_case(text: bytes) -> Table:
+class Reference(NamedTuple):
+    """The name of a row of a list."""
+
+    of_list: str
+
+
+Allowed = range | type[object] | Reference  # a number of a range, a value of a type, or a reference
+Fields = dict[str, Allowed]
+MOST_ROWS = {"zone": 256, "substation": 1024, "bus": 3072, "line": 8192, "transformer": 3584}
+MOST_ROWS_3 = {"zone": 256, "substation": 4096, "bus": 12288, "line": 24576, "transformer": 8192}  # in format 3
+OHMS, VOLTS, METRES = range(1000, 10**9 + 1), range(1000, 2 * 10**6 + 1), range(-(10**6), 10**6 + 1)
+PARTS = range(2, 17)  # how many a line in parts has
+BUS, ZONE = Reference("bus"), Reference("zone")
+UNIT: Fields = {"name": str, "kind": str, "high_volts": VOLTS}
+ONE_SIDE: Fields = {**UNIT, "high": BUS, "high_resistance": OHMS, "neutral": OHMS}
+TWO_SIDES: Fields = {**UNIT, "high": BUS, "low": BUS, "low_volts": VOLTS, "neutral": OHMS}
+THREE_SIDES: Fields = {**TWO_SIDES, "third": BUS, "third_volts": VOLTS, "third_resistance": OHMS}
+WYE: Fields = {"high_resistance": OHMS, "low_resistance": OHMS}
+AUTO: Fields = {"series_resistance": OHMS, "common_resistance": OHMS}
+KINDS: dict[str, Fields] = {
+    "delta-wye": ONE_SIDE,
+    "wye-wye": {**TWO_SIDES, **WYE},
+    "auto": {**TWO_SIDES, **AUTO},
+    "delta-delta": UNIT,
+    "wye-wye-wye": {**THREE_SIDES, **WYE},
+    "auto-wye": {**THREE_SIDES, **AUTO},
+    "reactor": ONE_SIDE,
+}
+PART: Fields = {"zone": ZONE, "north": METRES, "east": METRES}
+# What a row of a list, or a transformer of a kind, has under each key. `neutral` may also be the word `blocked`.
+FIELDS: dict[str, Fields] = KINDS | {
+    "zone": {"name": str, "latitude": range(9001), "beta": range(1, 151), "scale": range(1, 1501)},
+    "substation": {"name": str, "ground": OHMS},
+    "bus": {"name": str, "substation": Reference("substation")},
+    "line": {"name": str, "from": BUS, "to": BUS, "zone": ZONE, "resistance": OHMS, "north": METRES, "east": METRES,
+             "blocked": bool, "part": list},
+}
+# The order in which the program looks at the fields of a transformer.
+ORDER = ("kind", "name", "high_volts", "high", "low", "low_volts", "high_resistance", "low_resistance",
+         "series_resistance", "common_resistance", "third", "third_volts", "third_resistance", "neutral")
+# Of these groups a row has one whole, and nothing of the other.
+CHOICES: dict[str, list[set[str]]] = {
+    "zone": [{"latitude", "beta"}, {"scale"}],
+    "line": [{"zone", "north", "east"}, {"part"}],
+}
+OPTIONAL = {"ground", "blocked", "neutral"}.union(*CHOICES["zone"], *CHOICES["line"])
+# The first format that has a key or a kind, where it isn't the first one.
+SINCE = {"neutral": 2, "scale": 3, "part": 3, "wye-wye-wye": 3, "auto-wye": 3, "reactor": 3}
+
+
+# A row by itself ------------------------------------------------------------------------------------------------------
+
+def is_format(value: Any) -> bool:
+    """Whether this is a format of cases."""
+    return type(value) is int and value in (1, 2, 3)
+
+
+def most_rows(of_list: str, version: int) -> int:
+    """How many rows a list has at most."""
+    return (MOST_ROWS_3 if version == 3 else MOST_ROWS)[of_list]
+
+
+def is_kind(value: Any, version: int) -> bool:
+    """Whether a format has this kind of transformer."""
+    return type(value) is str and value in KINDS and SINCE.get(value, 1) <= version
+
+
+@functools.cache
+def fields_of(of: str, version: int) -> Fields:
+    """What a row of a list, or a transformer of a kind, may have in a format."""
+    return {field: allowed for field, allowed in FIELDS[of].items() if SINCE.get(field, 1) <= version}
+
+
+def has_one_choice(of: str, row: Row) -> bool:
+    """Whether a row has all of one group of fields, and nothing of another one."""
+    choices = CHOICES.get(of, [set()])
+    return row.keys() & set().union(*choices) in choices
+
+
+def is_of_type(value: Any, field: str, allowed: Allowed) -> bool:
+    """Whether a field may have such a value, a list or a name being of any form."""
+    if isinstance(allowed, range):
+        return (type(value) is int and value in allowed) or (field == "neutral" and value == "blocked")
+    return type(value) is (str if isinstance(allowed, Reference) else allowed)
+
+
+def is_value(value: Any, field: str, allowed: Allowed) -> bool:
+    """Whether a field may have this value."""
+    if not is_of_type(value, field, allowed):
+        return False
+    if allowed is list:
+        return not any(part_reasons(value))
+    return isinstance(allowed, range) or allowed is bool or NAME.fullmatch(value) is not None
+
+
+def part_reasons(parts: list[Any]) -> Iterator[str]:
+    """What is wrong with the parts of a line."""
+    if len(parts) not in PARTS:
+        yield "too few parts, or too many"
+    for part in parts:
+        if type(part) is not dict or part.keys() != PART.keys():
+            yield "another part than it may have"
+        for field, allowed in PART.items():
+            if not is_of_type(part[field], field, allowed):
+                yield f"part: {field} is not what it may be"
+        if not NAME.fullmatch(part["zone"]):
+            yield "part: no name of a zone"
+    for field in ("north", "east"):
+        if sum(abs(part[field]) for part in parts) > METRES[-1]:
+            yield "its parts are too long together"
+
+
+# Rows beside each other -----------------------------------------------------------------------------------------------
+
+def lists_of(document: Document) -> Case:
+    """The five lists of a case."""
+    return {of_list: document.get(of_list, []) for of_list in MOST_ROWS}
+
+
+class Together:
+    """What the rows of a case have to be for each other, where each of them keeps its own rules."""
+
+    def __init__(self, case: Case) -> None:
+        self.times = Counter(row["name"] for rows in case.values() for row in rows)
+        self.names = {of_list: {row["name"] for row in rows} for of_list, rows in case.items()}
+        self.station_of = {bus["name"]: bus["substation"] for bus in case["bus"]}
+
+    def unknown_names(self, of_list: str, row: Row) -> Iterator[tuple[str, str]]:
+        """The references of a row that no row has as its name: their fields, and the lists that they mean."""
+        for field, allowed in FIELDS[row.get("kind", of_list)].items():
+            if isinstance(allowed, Reference) and field in row and row[field] not in self.names[allowed.of_list]:
+                yield field, allowed.of_list
+        if any(part["zone"] not in self.names["zone"] for part in row.get("part", [])):
+            yield "part", "zone"
+
+    def is_apart(self, row: Row) -> bool:
+        """Whether the buses of a transformer are in more than one substation."""
+        return "kind" in row and len({self.station_of[bus] for bus in buses_of(row)}) > 1
+
+
+def buses_of(row: Row) -> list[str]:
+    """The buses at which a line or a transformer ends."""
+    return [row[side] for side in ("from", "to", "high", "low", "third") if side in row]
+
+
+def has_same_ends(row: Row) -> bool:
+    """Whether two ends of a line or a transformer are at one bus."""
+    return len(set(buses_of(row))) < len(buses_of(row))
+
+
+def is_out_of_order(row: Row) -> bool:
+    """Whether a side of a transformer has a higher voltage than its high side."""
+    return "kind" in row and max(row.get("low_volts", 0), row.get("third_volts", 0)) > row["high_volts"]
+
+
+# The case, as the program tells its faults ----------------------------------------------------------------------------
+
+def read_case(text: bytes) -> Case:
     """The case that a text is. What it says of each row, name and reference has been looked at, but no degrees."""
     try:
-        case = tomllib.loads(text.decode("utf-8-sig"))
+        document = tomllib.loads(text.decode("utf-8-sig"))
     except (ValueError, RecursionError):
         raise Refused(CASE, "case: not toml") from None
-    for fault in case_faults(case):
+    for fault in case_faults(document):
         raise Refused(CASE, f"case: {fault}")
-    return case
+    return lists_of(document)
 
 
-def case_faults(case: Table) -> Iterator[str]:
+def case_faults(document: Document) -> Iterator[str]:
     """What is wrong with a case. Each rule is looked at only where the ones before it are kept."""
-    if "format" not in case or not case.keys() <= {"format", *MOST_ROWS}:
+    if "format" not in document or not document.keys() <= {"format", *MOST_ROWS}:
         yield "key in case row 0"
-    if type(case["format"]) is not int or case["format"] not in (1, 2, 3):
+    if not is_format(document["format"]):
         yield "value in case row 0 field format"
-    for of_list, most in (MOST_ROWS_3 if case["format"] == 3 else MOST_ROWS).items():
-        yield from list_faults(of_list, case.get(of_list, []), most, case["format"])
-    rows = [(of_list, number, row) for of_list in MOST_ROWS for number, row in enumerate(case.get(of_list, []), 1)]
+    for of_list, rows in lists_of(document).items():
+        yield from list_faults(of_list, rows, document["format"])
+    yield from faults_together(lists_of(document))
+
+
+def list_faults(of_list: str, rows: Any, version: int) -> Iterator[str]:
+    """What is wrong with the form of a list and of its rows."""
+    if type(rows) is not list:
+        yield f"key in {of_list} row 0"
+    if len(rows) > most_rows(of_list, version):
+        yield f"too many in {of_list}"
+    for number, row in enumerate(rows, 1):
+        for fault, field in row_faults(of_list, row, version):
+            yield f"{fault} in {of_list} row {number}" + (f" field {field}" if field else "")
+
+
+def row_faults(of_list: str, row: Any, version: int) -> Iterator[tuple[str, str]]:
+    """What is wrong with the form of a row, and in which field where it is one."""
+    is_unit = of_list == "transformer"
+    if type(row) is not dict or (is_unit and "kind" not in row):
+        yield "key", ""
+    if is_unit and not is_kind(row["kind"], version):
+        yield "value", "kind"
+    fields = fields_of(row["kind"] if is_unit else of_list, version)
+    if not fields.keys() - OPTIONAL <= row.keys() <= fields.keys() or not has_one_choice(of_list, row):
+        yield "key", ""
+    for field in ORDER if is_unit else fields:
+        if field in row and not is_value(row[field], field, fields[field]):
+            yield "value", field
+
+
+def faults_together(case: Case) -> Iterator[str]:
+    """What is wrong with rows beside each other."""
+    rows = [(of_list, number, row) for of_list in case for number, row in enumerate(case[of_list], 1)]
+    together = Together(case)
     taken: set[str] = set()
     for of_list, number, row in rows:
         if row["name"] in taken:
             yield f"duplicate name in {of_list} row {number}"
         taken.add(row["name"])
-    names = {of_list: {row["name"] for row in case.get(of_list, [])} for of_list in MOST_ROWS}
     for of_list, number, row in rows:
-        for field, other in REFERS.get(of_list, {}).items():
-            if field in row and row[field] not in names[other]:
-                yield f"unknown name in {of_list} row {number} field {field}"
-        if any(part["zone"] not in names["zone"] for part in row.get("part", [])):
-            yield f"unknown name in {of_list} row {number} field part"
-    for of_list, number, row in rows:
-        ends = [row[field] for field, other in REFERS.get(of_list, {}).items() if other == "bus" and field in row]
-        if len(set(ends)) < len(ends):
-            yield f"same ends in {of_list} row {number}"
-    station_of = {bus["name"]: bus["substation"] for bus in case.get("bus", [])}
-    units = list(enumerate(case.get("transformer", []), 1))
-    for number, unit in units:
-        if len({station_of[unit[side]] for side in REFERS["transformer"] if side in unit}) > 1:
-            yield f"apart in transformer row {number}"
-    for number, unit in units:
-        if max(unit.get("low_volts", 0), unit.get("third_volts", 0)) > unit["high_volts"]:
-            yield f"voltage order in transformer row {number}"
+        for field, _ in together.unknown_names(of_list, row):
+            yield f"unknown name in {of_list} row {number} field {field}"
+    rules = (("same ends", has_same_ends), ("apart", together.is_apart), ("voltage order", is_out_of_order))
+    for fault, is_broken in rules:
+        for of_list, number, row in rows:
+            if is_broken(row):
+                yield f"{fault} in {of_list} row {number}"
 
 
-def list_faults(of_list: str, rows: Any, most: int, case_format: int) -> Iterator[str]:
-    """What is wrong with the form of a list and of its rows."""
-    if type(rows) is not list:
-        yield f"key in {of_list} row 0"
-    if len(rows) > most:
-        yield f"too many in {of_list}"
-    of_kind = OF_KIND_3 if case_format == 3 else OF_KIND
-    choices = CHOICES.get(of_list, [set()])[: 2 if case_format == 3 else 1]
-    chosen = set().union(*choices)
-    for number, row in enumerate(rows, 1):
-        fields = {field: kind for field, kind in FIELDS[of_list].items() if field not in {"scale", "part"} - chosen}
-        if type(row) is not dict or (of_list == "transformer" and "kind" not in row):
-            yield f"key in {of_list} row {number}"
-        if of_list == "transformer":
-            if type(row["kind"]) is not str or row["kind"] not in of_kind:
-                yield f"value in {of_list} row {number} field kind"
-            own = {"kind", "name", "high_volts"} | of_kind[row["kind"]] - ({"neutral"} if case_format == 1 else set())
-            fields = {field: kind for field, kind in fields.items() if field in own}
-        has_needed = fields.keys() - OPTIONAL - chosen <= row.keys() <= fields.keys()
-        if not has_needed or row.keys() & chosen not in choices:
-            yield f"key in {of_list} row {number}"
-        for field, kind in fields.items():
-            if field in row and not is_value(row[field], field, kind):
-                yield f"value in {of_list} row {number} field {field}"
+# Switchings, as the program tells their faults ------------------------------------------------------------------------
+
+HEADS = ["time", "item", "action"]
 
 
-def is_value(value: Any, field: str, kind: Any) -> bool:
-    """Whether a field may have this value."""
-    if kind is NAME:
-        return type(value) is str and NAME.fullmatch(value) is not None
-    if kind is bool:
-        return type(value) is bool
-    if kind is PARTS:
-        return type(value) is list and are_parts(value)
-    return (type(value) is int and kind[0] <= value <= kind[1]) or (field == "neutral" and value == "blocked")
+def records_of(text: str) -> list[Record]:
+    """The records of a comma-separated text that aren't empty, the heads among them."""
+    return [record for record in csv.reader(io.StringIO(text, newline="")) if record]
 
 
-def are_parts(values: list[Any]) -> bool:
-    """Whether these are the parts of a line, each in a zone by its name."""
-    kinds = {"zone": NAME, "north": METRES, "east": METRES}
-    is_each = all(
-        type(part) is dict
-        and part.keys() == kinds.keys()
-        and all(is_value(part[field], field, kind) for field, kind in kinds.items())
-        for part in values
-    )
-    return len(values) in PARTS and is_each and all(
-        sum(abs(part[field]) for part in values) <= METRES[1] for field in ("north", "east")
-    )
-
-
-# Switchings -----------------------------------------------------------------------------------------------------------
-
-def read_switchings(text: bytes, case: Table) -> list[Record]:
-    """The records that a text is, the heads first. Each is three fields: a time, the name of an item, and an action."""
+def read_switchings(text: bytes, case: Case) -> list[Record]:
+    """The records behind the heads."""
     csv.field_size_limit(LONGEST)
-    plain = text.removeprefix(b"\xef\xbb\xbf").decode("utf-8", "surrogateescape")
-    records = [record for record in csv.reader(io.StringIO(plain, newline="")) if record]
+    records = records_of(text.removeprefix(b"\xef\xbb\xbf").decode("utf-8", "surrogateescape"))
     for fault in switching_faults(records, case):
         raise Refused(SWITCH, f"switch: {fault}")
-    return records
+    return records[1:]
 
 
-def switching_faults(records: list[Record], case: Table) -> Iterator[str]:
+def switching_faults(records: list[Record], case: Case) -> Iterator[str]:
     """What is wrong with the records of switchings. Each rule is looked at only where the ones before it are kept."""
-    if not records or records[0] != ["time", "item", "action"]:
+    if not records or records[0] != HEADS:
         yield "shape in row 0"
     items = items_of(case)
     last = 0
@@ -197,7 +302,7 @@ def switching_faults(records: list[Record], case: Table) -> Iterator[str]:
         if len(record) != 3:
             yield f"shape in row {row}"
         time, name, action = record
-        if not re.fullmatch(r"[-+]?[0-9]{1,18}", time) or not 0 <= int(time) <= LATEST:
+        if not is_time(time):
             yield f"number in row {row}"
         if int(time) < last:
             yield f"order in row {row}"
@@ -208,9 +313,14 @@ def switching_faults(records: list[Record], case: Table) -> Iterator[str]:
         last = int(time)
 
 
-def items_of(case: Table) -> dict[str, set[str]]:
+def is_time(word: str) -> bool:
+    """Whether a word is a number of seconds."""
+    return re.fullmatch("[-+]?[0-9]{1,18}", word) is not None and 0 <= int(word) <= LATEST
+
+
+def items_of(case: Case) -> dict[str, set[str]]:
     """The names that each action may have."""
-    switched = {row["name"] for of_list in ("line", "transformer") for row in case.get(of_list, [])}
-    switched |= {row["name"] for row in case.get("substation", []) if "ground" in row}
-    resistors = {row["name"] for row in case.get("transformer", []) if type(row.get("neutral")) is int}
+    switched = {row["name"] for of_list in ("line", "transformer") for row in case[of_list]}
+    switched |= {row["name"] for row in case["substation"] if "ground" in row}
+    resistors = {row["name"] for row in case["transformer"] if type(row.get("neutral")) is int}
     return {"open": switched, "close": switched, "block": resistors, "unblock": resistors}

@@ -10,6 +10,8 @@ import unittest
 from fractions import Fraction
 
 import judge
+import network
+import reasons
 import recheck
 import rules
 
@@ -69,15 +71,15 @@ REFUSED = [
 class Readers(unittest.TestCase):
     def test_the_case_is_read_by_both(self) -> None:
         recheck.check_degrees(rules.read_case(CASE.encode()))
-        judge.read_case(CASE.encode())
+        reasons.read_case(CASE.encode())
 
     def test_what_breaks_a_rule_is_refused_by_both(self) -> None:
         for old, new, line in REFUSED:
             with self.subTest(new):
                 text = CASE.replace(old, new)
                 self.assertNotEqual(text, CASE)
-                with self.assertRaises(judge.Refused):
-                    judge.read_case(text.encode())
+                with self.assertRaises(rules.Refused):
+                    reasons.read_case(text.encode())
                 with self.assertRaises(rules.Refused) as refused:
                     rules.read_case(text.encode())
                 self.assertEqual(str(refused.exception), f"case: {line}")
@@ -85,36 +87,68 @@ class Readers(unittest.TestCase):
     def test_sixteen_parts_are_read_and_seventeen_not(self) -> None:
         for count, is_read in ((15, True), (16, False)):
             text = CASE.replace(PART, ", ".join([PART.replace("80000", "8")] * count))
-            for read, refused in ((rules.read_case, rules.Refused), (judge.read_case, judge.Refused)):
+            for read in (rules.read_case, reasons.read_case):
                 if is_read:
                     read(text.encode())
                 else:
-                    self.assertRaises(refused, read, text.encode())
+                    self.assertRaises(rules.Refused, read, text.encode())
 
 
 class Networks(unittest.TestCase):
+    def setUp(self) -> None:
+        self.case = rules.read_case(CASE.encode())
+        self.elements = network.elements_of(self.case)
+
     def test_the_voltage_of_a_line_is_that_of_its_parts(self) -> None:
-        case = rules.read_case(CASE.encode())
-        wanted = 60000 * 8000 * 1000 + 80000 * 1000 * 500
-        self.assertEqual(recheck.line_voltages(case, 8000, 1000), {"L": wanted})
-        line = next(one for one in judge.elements_of(judge.read_case(CASE.encode())) if one.label == "line L")
+        line = next(one for one in self.elements if one.label == "line L")
         self.assertEqual(line.induced, (60000 * 1000, 80000 * 500))
+        self.assertEqual(line.voltage(8000, 1000), 60000 * 8000 * 1000 + 80000 * 1000 * 500)
+
+    def test_only_a_line_has_a_voltage(self) -> None:
+        self.assertEqual({one.label for one in self.elements if any(one.induced)}, {"line L"})
 
     def test_the_third_winding_comes_last(self) -> None:
-        found = [(one.item.name, one.start, one.end) for one in recheck.elements(rules.read_case(CASE.encode()))]
+        found = [(one.item, one.start, one.end) for one in self.elements]
         self.assertEqual(found[-4:], [("R", "a", "A"), ("T", "b", "B"), ("T", "c", "B"), ("T", "d", "B")])
-        windings = judge.elements_of(judge.read_case(CASE.encode()))[-4:]
+        windings = self.elements[-4:]
         self.assertEqual([one.label.split()[2] for one in windings], ["high", "high", "low", "third"])
-        self.assertEqual(windings[-1].volts, 34500)
+        self.assertEqual([one.volts for one in windings], [345000, 345000, 230000, 34500])
         self.assertEqual(windings[-1].conductance, Fraction(10))
 
     def test_a_reactor_has_no_effective_current(self) -> None:
-        case = judge.read_case(CASE.encode())
-        network = judge.Network(case, judge.elements_of(case), set())
-        reactor, unit = case["transformer"]
-        self.assertEqual((len(network.windings(reactor)), len(network.windings(unit))), (0, 3))
-        self.assertIs(judge.worst(network, [], reactor), judge.NOTHING)
-        self.assertIn("R", network.of_item)
+        standing = network.Network(self.case, self.elements, set())
+        reactor, unit = self.case["transformer"]
+        found = [len(judge.counting_windings(standing, one)) for one in (reactor, unit)]
+        self.assertEqual(found, [0, 3])
+        self.assertIs(judge.worst(standing, [], reactor), judge.NOTHING)
+        self.assertIn("R", standing.of_item)
+
+    def test_an_element_leaves_both_its_ends(self) -> None:
+        leaving = network.Network(self.case, self.elements, set()).leaving
+        for node, other, way in (("a", "b", 1), ("b", "a", -1)):
+            [branch] = [branch for branch in leaving[node] if branch.element.item == "L"]
+            self.assertEqual((branch.other, branch.way, branch.voltage(8000, 1000)), (other, way, way * 520000000000))
+
+
+class Switching(unittest.TestCase):
+    def test_what_is_open_does_not_stand_and_may_part_the_network(self) -> None:
+        case = rules.read_case(CASE.encode())
+        elements = network.elements_of(case)
+        for items, islands, unearthed in (("", 1, None), ("L", 2, None), ("A", 1, None), ("AL", 2, "A")):
+            opened = network.open_items([["0", item, "open"] for item in items])
+            standing = network.Network(case, elements, opened)
+            self.assertEqual((len(standing.islands), standing.unearthed), (islands, unearthed), items)
+
+    def test_the_last_row_of_an_item_decides(self) -> None:
+        rows = [["0", "L", "open"], ["0", "T", "block"], ["1", "L", "close"], ["1", "T", "open"], ["2", "T", "unblock"]]
+        self.assertEqual(network.open_items(rows), {"T"})
+        self.assertEqual(network.open_items(rows[:3]), {"neutral T"})
+
+
+class Alpha(unittest.TestCase):
+    def test_alpha_by_latitude(self) -> None:
+        for latitude, tenths in ((0, 1), (4000, 1), (4001, 2), (5400, 5), (5401, 6), (6000, 10), (9000, 10)):
+            self.assertEqual(network.alpha(latitude), tenths)
 
 
 if __name__ == "__main__":
