@@ -214,6 +214,11 @@ class Transformer(NamedTuple):
         return self.volts["high"]
 
     @property
+    def loss_factor(self) -> int:
+        """What its current is multiplied by in the loss: its first rated voltage in kV, rounded down."""
+        return self.high_volts // 1000
+
+    @property
     def has_current(self) -> bool:
         """Whether it has an effective current."""
         return self.kind not in NO_CURRENT
