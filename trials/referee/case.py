@@ -246,6 +246,11 @@ class Item(NamedTuple):
     place: int
 
 
+# How many micro-ohms an ohm has, and of how many units a row counts.
+MICRO_OHMS = 10**6
+ROW_UNITS = 2**20
+
+
 class Element(NamedTuple):
     """An element between two nodes, or from one to earth, and what it is an element of."""
 
@@ -268,10 +273,6 @@ class Element(NamedTuple):
         return self.paths * MICRO_OHMS * ROW_UNITS
 
 
-MICRO_OHMS = 10**6
-ROW_UNITS = 2**20
-
-
 class Winding(NamedTuple):
     """The element of a winding, and its weight in the effective current."""
 
@@ -282,8 +283,8 @@ class Winding(NamedTuple):
 class Case:
     """The five lists of a case, and the nodes and elements that they stand for.
 
-    `line_element` and `neutral_element` tell the element of a line and of a neutral resistor, `neutral_node` the neutral
-    node of a transformer, and `windings` for each transformer that has an effective current its windings.
+    `line_element` and `neutral_element` tell the element of a line and of a neutral resistor, `neutral_node` the
+    neutral node of a transformer, and `windings` for each transformer that has an effective current its windings.
     """
 
     def __init__(self, lists: Lists) -> None:

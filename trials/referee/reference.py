@@ -3,10 +3,11 @@
 
     python3 trials/referee/reference.py MODE --OPTION=VALUE ..
 
-It writes its reports by itself and not with the checker, but has the status and the line from `outcome`. It shows that
-right reports are accepted, and stands in for the program where a trial itself is to be tried. The environment variable
-REFEREE_MODES names the modes that it has, as `volts,list`; with REFEREE_SLACK=1 its intervals are wider at random, up
-to the width.
+It has the status and the line from `outcome`, and shares with the checker what a report's lines are of (`items`,
+`outages`, `plain_reports`) and the rule of verdicts; each number of a report with intervals it works out by itself. It
+shows that right reports are accepted, and stands in for the program where a trial itself is to be tried. The environment
+variable REFEREE_MODES names the modes that it has, as `volts,list`; with REFEREE_SLACK=1 its intervals are wider at
+random, up to the width.
 """
 
 from __future__ import annotations

@@ -51,7 +51,12 @@ class Solution:
     """
 
     def __init__(
-        self, size: int, elements: Sequence[Element], stand: Sequence[bool], volts: list[list[int]], exactly: bool = False
+        self,
+        size: int,
+        elements: Sequence[Element],
+        stand: Sequence[bool],
+        volts: list[list[int]],
+        exactly: bool = False,
     ) -> None:
         self.elements, self.stand, self.volts = elements, stand, volts
         self.fields = len(volts)

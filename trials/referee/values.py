@@ -13,8 +13,8 @@ class Tie(Exception):
 
 
 class Quantity(NamedTuple):
-    """What is linear in some base fields: for each of them a numerator, and how far that may be off; and the denominator
-    of all."""
+    """What is linear in some base fields: for each of them a numerator, and how far that may be off; and the one
+    denominator."""
 
     numerators: Sequence[int]
     denominator: int

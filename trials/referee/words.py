@@ -72,7 +72,7 @@ EVENTS = {"benchmark": Event(75000, 8000), "supplemental": Event(85000, 12000)}
 
 @dataclass(frozen=True)
 class Asked:
-    """What a command line asks for: its mode, and each option of OPTIONS, with its default or None where it isn't given."""
+    """What a command line asks for: its mode, and each of OPTIONS, which has its default or None where it isn't given."""
 
     mode: str
     case: Optional[bytes]
