@@ -167,9 +167,10 @@ class Report:
         """The intervals of each transformer."""
         study = Study.of_event(self.case, stand, live, self.asked.field, True)
         north, east = (self.effectives(study, step) for step in (1, 2))
-        for place in range(len(self.case.transformers)):
+        for place, unit in enumerate(self.case.transformers):
             low, high = self.root(sum_of_squares(*(study.effective_at(step, place) for step in (1, 2))))
-            yield Worst(north[place], east[place], Interval(max(low, 0), high))
+            worst = Interval(max(low, 0), high) if unit.has_current else NOTHING
+            yield Worst(north[place], east[place], worst)
 
     def say_screen(self) -> None:
         self.say("screen")
