@@ -1,17 +1,18 @@
 """What is wrong of a run: its status, its line, and each line of its report."""
 
+from __future__ import annotations
+
 from checker import Checker
 from outage_checker import OutageChecker
-from outcome import predict
+from outcome import Outcome
 from report_text import ReportText
 from study_checker import StudyChecker
 from values import Tie
-from words import MODES
 
-CHECKERS = {"study": StudyChecker, "outage": OutageChecker}
+CHECKERS: dict[str, type[Checker]] = {"study": StudyChecker, "outage": OutageChecker}
 
 
-def report_faults(outcome, output):
+def report_faults(outcome: Outcome, output: bytes) -> list[str]:
     """The faults of a report, by enclosures, and exactly where these don't decide."""
     checker = CHECKERS.get(outcome.mode, Checker)
     try:
@@ -20,18 +21,13 @@ def report_faults(outcome, output):
         return checker(outcome, ReportText(output), exactly=True).run()
 
 
-def run_faults(outcome, status, output, told):
+def run_faults(outcome: Outcome, status: int, output: bytes, told: bytes) -> list[str]:
     """What is wrong of a run that ended so: its status, its output, and what it told on the error stream."""
     if status != outcome.status:
         wanted = f"{outcome.status} ({outcome.line})" if outcome.line else str(outcome.status)
         return [f"status {status}, expected {wanted}; told {told[:100]!r}"]
-    wanted = b"" if outcome.line is None else outcome.line.encode() + b"\n"
-    faults = [] if told == wanted else [f"told {told[:120]!r}, expected {wanted!r}"]
+    line = b"" if outcome.line is None else outcome.line.encode() + b"\n"
+    faults = [] if told == line else [f"told {told[:120]!r}, expected {line!r}"]
     if outcome.status == 0:
         return faults + report_faults(outcome, output)
     return faults + ([f"status {status}, but the output has {output[:80]!r}"] if output else [])
-
-
-def check(words, folder, status, output, told, built=MODES):
-    """What is wrong of a run with these words in this folder."""
-    return run_faults(predict(words, folder, built), status, output, told)

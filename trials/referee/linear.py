@@ -1,21 +1,55 @@
 """Linear systems of resistance networks, solved exactly or within a proved radius.
 
-A system has `size` nodes, conductances (start, end or None for earth, positive fraction), and some right-hand sides:
-of each node the sum over its conductances g of g·(x - x of the other end) is its right-hand side. Each node has a way
-to earth. Nothing here is taken from the method of the program.
+A system has `size` nodes, conductances, and some right-hand sides: of each node the sum over its conductances g of
+g·(x - x of the other end) is its right-hand side. Each node has a way to earth. Nothing here is taken from the method of
+the program.
 """
 
+from __future__ import annotations
+
 import heapq
+from collections.abc import Callable, Sequence
 from decimal import Context, Decimal, localcontext
 from fractions import Fraction
 from math import lcm
+from typing import NamedTuple, Optional, TypeVar
 
 PRIME = 2**1279 - 1
 BALL_BITS = 640
 BALL_DIGITS = 260
+Number = TypeVar("Number", Fraction, Decimal, float)
+# A matrix of whole numbers: for each row its entries by their columns.
+Matrix = list[dict[int, int]]
+# What a node hands to its neighbours when it is taken out, as (neighbour, weight).
+Shares = list[tuple[int, Number]]
 
 
-def eliminate(weights, earths, sides, zero):
+class Conductance(NamedTuple):
+    """A positive conductance between two nodes, or from one to earth."""
+
+    start: int
+    end: Optional[int]
+    siemens: Fraction
+
+
+class Solved(NamedTuple):
+    """The numerators of each solution and their one denominator, and for each how far a numerator may be off."""
+
+    numerators: list[list[int]]
+    denominator: int
+    radii: list[int]
+
+
+class Fractions(NamedTuple):
+    """Numerators over one denominator."""
+
+    numerators: list[int]
+    denominator: int
+
+
+def eliminate(
+    weights: list[dict[int, Number]], earths: list[Number], sides: list[list[Number]], zero: Number
+) -> list[list[Number]]:
     """Solves the system without a subtraction, so that no digit is lost in it; one solution for each right-hand side.
 
     `weights` has for each node the conductances to others by node, `earths` those to earth. Both are used up.
@@ -23,7 +57,8 @@ def eliminate(weights, earths, sides, zero):
     size = len(weights)
     heap = [(len(weights[node]), node) for node in range(size)]
     heapq.heapify(heap)
-    done, order = [False] * size, []
+    done = [False] * size
+    order: list[tuple[int, Shares[Number], Number]] = []
     while heap:
         degree, node = heapq.heappop(heap)
         if done[node] or degree != len(weights[node]):
@@ -40,7 +75,14 @@ def eliminate(weights, earths, sides, zero):
     return [solve_back(order, side, zero) for side in sides]
 
 
-def take_out(node, row, pivot, weights, earths, sides):
+def take_out(
+    node: int,
+    row: Shares[Number],
+    pivot: Number,
+    weights: list[dict[int, Number]],
+    earths: list[Number],
+    sides: list[list[Number]],
+) -> None:
     """Puts what runs through a node between its neighbours."""
     earth = earths[node]
     for other, weight in row:
@@ -58,7 +100,7 @@ def take_out(node, row, pivot, weights, earths, sides):
                 at_other[third] = added if there is None else there + added
 
 
-def solve_back(order, side, zero):
+def solve_back(order: list[tuple[int, Shares[Number], Number]], side: list[Number], zero: Number) -> list[Number]:
     solution = [zero] * len(order)
     for node, row, pivot in reversed(order):
         total = side[node]
@@ -69,30 +111,37 @@ def solve_back(order, side, zero):
     return solution
 
 
-def tables(size, conductances, number):
+def tables(
+    size: int, conductances: Sequence[Conductance], number: Callable[[Fraction], Number]
+) -> tuple[list[dict[int, Number]], list[Number]]:
     """The conductances between nodes by node, and to earth, as numbers of a type."""
-    weights, earths = [{} for _ in range(size)], [number(0)] * size
-    for start, end, conductance in conductances:
-        conductance = number(conductance)
+    zero = number(Fraction(0))
+    weights: list[dict[int, Number]] = [{} for _ in range(size)]
+    earths = [zero] * size
+    for start, end, siemens in conductances:
+        conductance = number(siemens)
         if end is None:
             earths[start] = earths[start] + conductance
         else:
-            weights[start][end] = weights[start].get(end, number(0)) + conductance
-            weights[end][start] = weights[end].get(start, number(0)) + conductance
+            weights[start][end] = weights[start].get(end, zero) + conductance
+            weights[end][start] = weights[end].get(start, zero) + conductance
     return weights, earths
 
 
-def solve_by_fractions(size, conductances, sides):
-    """The numerators of each solution, and their one denominator."""
+def solve_by_fractions(size: int, conductances: Sequence[Conductance], sides: list[list[Fraction]]) -> Solved:
+    """The exact solutions."""
     weights, earths = tables(size, conductances, Fraction)
     solutions = eliminate(weights, earths, [list(side) for side in sides], Fraction(0))
     denominator = lcm(1, *(number.denominator for solution in solutions for number in solution))
-    return [
+    numerators = [
         [number.numerator * (denominator // number.denominator) for number in solution] for solution in solutions
-    ], denominator
+    ]
+    return Solved(numerators, denominator, [0] * len(sides))
 
 
-def whole_rows(size, conductances, sides):
+def whole_rows(
+    size: int, conductances: Sequence[Conductance], sides: list[list[Fraction]]
+) -> tuple[Matrix, list[list[int]]]:
     """The matrix and the right-hand sides, each row multiplied so that all its numbers are whole."""
     factors = [1] * size
     for start, end, conductance in conductances:
@@ -100,10 +149,10 @@ def whole_rows(size, conductances, sides):
             factors[node] = lcm(factors[node], conductance.denominator)
     for side in sides:
         for node in range(size):
-            factors[node] = lcm(factors[node], Fraction(side[node]).denominator)
-    matrix = [{} for _ in range(size)]
+            factors[node] = lcm(factors[node], side[node].denominator)
+    matrix: Matrix = [{} for _ in range(size)]
 
-    def add(row, column, conductance):
+    def add(row: int, column: int, conductance: Fraction) -> None:
         matrix[row][column] = matrix[row].get(column, 0) + int(conductance * factors[row])
 
     for start, end, conductance in conductances:
@@ -115,7 +164,7 @@ def whole_rows(size, conductances, sides):
     return matrix, [[int(side[node] * factors[node]) for node in range(size)] for side in sides]
 
 
-def fraction_of(residue, modulus):
+def fraction_of(residue: int, modulus: int) -> Optional[tuple[int, int]]:
     """A fraction of small numbers whose numerator is denominator times residue, but for the modulus, or None."""
     bound = 1 << (max(modulus.bit_length() - 2, 2) // 2)
     older, newer, older_factor, factor = modulus, residue % modulus, 0, 1
@@ -131,13 +180,14 @@ def fraction_of(residue, modulus):
 class Lifting:
     """The triangular factors of a whole matrix modulo PRIME, by which digits of solutions to that base are found."""
 
-    def __init__(self, matrix):
+    def __init__(self, matrix: Matrix) -> None:
         self.size = len(matrix)
         self.rows = [list(row.items()) for row in matrix]
-        self.lower, self.upper = [], []
+        self.lower: list[tuple[int, list[tuple[int, int]]]] = []
+        self.upper: list[tuple[int, list[tuple[int, int]], int]] = []
         self.factorise([{column: number % PRIME for column, number in row.items()} for row in matrix])
 
-    def factorise(self, rest):
+    def factorise(self, rest: Matrix) -> None:
         heap = [(len(rest[node]), node) for node in range(self.size)]
         heapq.heapify(heap)
         done = [False] * self.size
@@ -159,9 +209,9 @@ class Lifting:
             for other, _ in row:
                 heapq.heappush(heap, (len(rest[other]), other))
 
-    def digit(self, side):
+    def digit(self, right_hand: list[int]) -> list[int]:
         """The solution modulo PRIME."""
-        side = [number % PRIME for number in side]
+        side = [number % PRIME for number in right_hand]
         for node, steps in self.lower:
             if side[node]:
                 for other, factor in steps:
@@ -172,7 +222,7 @@ class Lifting:
             solution[node] = total * inverse % PRIME
         return solution
 
-    def rest_behind(self, side, digit):
+    def rest_behind(self, side: list[int], digit: list[int]) -> list[int]:
         """What is left of a right-hand side behind a digit, over PRIME."""
         rest = []
         for node in range(self.size):
@@ -183,17 +233,18 @@ class Lifting:
             rest.append(quotient)
         return rest
 
-    def is_solution(self, numerators, denominator, side):
+    def is_solution(self, numerators: list[int], denominator: int, side: list[int]) -> bool:
         return all(
             sum(number * numerators[column] for column, number in self.rows[node]) == denominator * side[node]
             for node in range(self.size)
         )
 
-    def solve(self, side, factor):
-        """The numerators and the denominator of the solution, `factor` being a likely part of the denominator."""
+    def solve(self, side: list[int], factor: int) -> Fractions:
+        """The solution, `factor` being a likely part of the denominator."""
         if not any(side):
-            return [0] * self.size, 1
-        rest, digits, wanted = [number * factor for number in side], [], 2
+            return Fractions([0] * self.size, 1)
+        rest, wanted = [number * factor for number in side], 2
+        digits: list[list[int]] = []
         while True:
             while len(digits) < wanted:
                 digits.append(self.digit(rest))
@@ -202,11 +253,11 @@ class Lifting:
             if found is not None:
                 numerators, denominator = found
                 if self.is_solution(numerators, denominator * factor, side):
-                    return numerators, denominator * factor
+                    return Fractions(numerators, denominator * factor)
             wanted *= 2
 
 
-def joined(digits):
+def joined(digits: list[list[int]]) -> list[int]:
     """The numbers that lists of digits to the base PRIME are."""
     base = PRIME
     while len(digits) > 1:
@@ -220,7 +271,7 @@ def joined(digits):
     return digits[0]
 
 
-def small_fractions(residues, modulus):
+def small_fractions(residues: list[int], modulus: int) -> Optional[Fractions]:
     """Numerators over one denominator that are small beside the modulus, or None."""
     bound = 1 << (modulus.bit_length() // 2 + modulus.bit_length() // 4)
     denominator = 1
@@ -233,7 +284,7 @@ def small_fractions(residues, modulus):
                 break
             numerators.append(number)
         else:
-            return numerators, denominator
+            return Fractions(numerators, denominator)
         fraction = fraction_of(number, modulus)
         if fraction is None or fraction[1] == 1:
             return None
@@ -241,23 +292,24 @@ def small_fractions(residues, modulus):
     return None
 
 
-def solve_by_lifting(size, conductances, sides):
+def solve_by_lifting(size: int, conductances: Sequence[Conductance], sides: list[list[Fraction]]) -> Solved:
     """As `solve_by_fractions`, for larger systems."""
-    matrix, sides = whole_rows(size, conductances, sides)
-    lifting, found, factor = Lifting(matrix), [], 1
-    for side in sides:
+    matrix, whole_sides = whole_rows(size, conductances, sides)
+    lifting, factor = Lifting(matrix), 1
+    found: list[Fractions] = []
+    for side in whole_sides:
         found.append(lifting.solve(side, factor))
-        factor = found[-1][1] if any(side) else factor
+        factor = found[-1].denominator if any(side) else factor
     denominator = lcm(1, *(own for _, own in found))
-    return [[number * (denominator // own) for number in numerators] for numerators, own in found], denominator
+    numerators = [[number * (denominator // own) for number in numerators] for numerators, own in found]
+    return Solved(numerators, denominator, [0] * len(sides))
 
 
-def solve_by_balls(size, conductances, sides):
-    """Numerators over 2^BALL_BITS, that number, and for each right-hand side how far a numerator may be off."""
+def solve_by_balls(size: int, conductances: Sequence[Conductance], sides: list[list[Fraction]]) -> Solved:
+    """Enclosures of the solutions, whose denominator is 2^BALL_BITS."""
     with localcontext(Context(prec=BALL_DIGITS)):
 
-        def number(fraction):
-            fraction = Fraction(fraction)
+        def number(fraction: Fraction) -> Decimal:
             return Decimal(fraction.numerator) / Decimal(fraction.denominator)
 
         weights, earths = tables(size, conductances, number)
@@ -265,16 +317,16 @@ def solve_by_balls(size, conductances, sides):
         *solutions, walks = eliminate(weights, earths, rounded + [[Decimal(1)] * size], Decimal(0))
         scale = Decimal(2) ** BALL_BITS
         centres = [[int((entry * scale).to_integral_value()) for entry in solution] for solution in solutions]
-        walks = [Fraction(walk).limit_denominator(10**12) if walk < 10**9 else Fraction(int(walk)) for walk in walks]
-    greatest = greatest_walk(size, conductances, walks)
+        bounds = [Fraction(walk).limit_denominator(10**12) if walk < 10**9 else Fraction(int(walk)) for walk in walks]
+    greatest = greatest_walk(size, conductances, bounds)
     radii = [
         int(residual(size, conductances, centre, side) * greatest) + 1 for centre, side in zip(centres, sides)
     ]
     assert all(radius < 1 << (BALL_BITS - 300) for radius in radii)
-    return centres, 1 << BALL_BITS, radii
+    return Solved(centres, 1 << BALL_BITS, radii)
 
 
-def greatest_walk(size, conductances, walks):
+def greatest_walk(size: int, conductances: Sequence[Conductance], walks: list[Fraction]) -> Fraction:
     """A bound of what right-hand sides of 1 give. The matrix takes `walks` to at least 1/2 at each node, and has no
     positive entry beside its diagonal, so twice `walks` is a bound."""
     taken = [Fraction(0)] * size
@@ -287,7 +339,7 @@ def greatest_walk(size, conductances, walks):
     return 2 * max(walks)
 
 
-def residual(size, conductances, centre, side):
+def residual(size: int, conductances: Sequence[Conductance], centre: list[int], side: list[Fraction]) -> int:
     """The greatest residual of a solution over 2^BALL_BITS, in these units and rounded outward."""
     sums, slacks = [0] * size, [0] * size
     for start, end, conductance in conductances:
@@ -300,7 +352,7 @@ def residual(size, conductances, centre, side):
             slacks[end] += 1
     worst = 0
     for node in range(size):
-        entry = Fraction(side[node])
+        entry = side[node]
         wanted = (entry.numerator << BALL_BITS) // entry.denominator
         worst = max(worst, abs(wanted - sums[node]) + slacks[node] + 1)
     return worst

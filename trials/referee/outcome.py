@@ -1,14 +1,18 @@
 """How a run must end: its status and its line, and for a report what it is about (docs/FORMATS.md, *Statuses*)."""
 
+from __future__ import annotations
+
 import bisect
 import os
-from typing import NamedTuple
+from collections.abc import Collection, Sequence
+from pathlib import Path
+from typing import NamedTuple, Optional, Union
 
-from case import make_case, read_case
-from certificate import check_certificate, read_certificate
-from earthing import CAP, least_capped, unearthed
-from storm import read_storm, read_switchings, standing
-from words import EARTHED, LIVE, MODES, SOLVED, Refusal, read_words
+from case import Case, Live, Stand, make_case, read_case
+from certificate import Certificate, check_certificate, read_certificate
+from earthing import least_capped, unearthed, unresolved
+from storm import Storm, Switching, read_storm, read_switchings, standing
+from words import EARTHED, LIVE, MODES, SOLVED, Asked, Refusal, read_words
 
 MOST_BYTES = 16777216
 MOST_MADE_WALK = 448
@@ -19,34 +23,56 @@ class Epoch(NamedTuple):
 
     first: int
     last: int
-    stand: tuple
-    live: tuple
+    stand: Stand
+    live: Live
 
 
 class Outcome:
     """The status and the line, if there is one, of a run.
 
-    With status 0 there is more, as far as the mode has it: `asked`, the options; `case`, `storm`, `switchings` and
-    `certificate`, as they were read; `epochs`, and `stand` and `live` of the first; `transformer`, the place of the one
-    that is asked for; and `vector`, the least capped vector of a made case.
+    With status 0 there is more, and each of these is set where the mode has it: `asked`, the options; `case`, `storm`,
+    `switchings` and `certificate`, as they were read; `epochs`, and `stand` and `live` of the first; `transformer`, the
+    place of the one that is asked for; and `vector`, the least capped vector of a made case.
     """
 
-    def __init__(self):
-        self.status, self.line = 0, None
-        self.asked = self.case = self.storm = self.certificate = self.transformer = self.vector = None
-        self.switchings, self.epochs, self.stand, self.live = [], [], None, None
+    asked: Asked
+    case: Case
+    storm: Storm
+    certificate: Certificate
+    stand: Stand
+    live: Live
+    transformer: int
+    vector: tuple[int, ...]
+
+    def __init__(self) -> None:
+        self.status = 0
+        self.line: Optional[str] = None
+        self.switchings: list[Switching] = []
+        self.epochs: list[Epoch] = []
 
     @property
-    def mode(self):
-        return self.asked["mode"]
+    def mode(self) -> str:
+        return self.asked.mode
 
     @property
-    def need(self):
+    def need(self) -> int:
         """What the mode needs of the network."""
         return MODES[self.mode].need
 
 
-def fetch(folder, name):
+# A folder, as trials and tests name it.
+Folder = Union[str, Path]
+
+
+class Period(NamedTuple):
+    """A first and a last step, and how many switchings are in force at them."""
+
+    first: int
+    last: int
+    in_force: int
+
+
+def fetch(folder: Folder, name: bytes) -> Optional[bytes]:
     """The bytes of a file, up to one more than it may have, or None where it can't be read."""
     try:
         with open(os.path.join(os.fsencode(folder), name) if name else b"", "rb") as file:
@@ -58,67 +84,74 @@ def fetch(folder, name):
 class Prediction:
     """Follows what a run does, up to its first refusal."""
 
-    def __init__(self, outcome, folder):
+    def __init__(self, outcome: Outcome, folder: Folder) -> None:
         self.outcome, self.folder = outcome, folder
 
-    def load(self, option):
-        content = fetch(self.folder, self.outcome.asked[option])
+    def load(self, option: str, name: bytes) -> bytes:
+        """The bytes of the file that an option names."""
+        content = fetch(self.folder, name)
         if content is None:
             raise Refusal(3, "gicstudy: cannot read " + option)
         if len(content) > MOST_BYTES:
             raise Refusal(10, "gicstudy: too long: " + option)
         return content
 
-    def run(self):
+    def run(self) -> None:
         outcome, asked = self.outcome, self.outcome.asked
-        if asked["seed"] is not None:
-            self.make()
-            return
-        outcome.case = read_case(self.load("case"))
-        if asked["transformer"] is not None:
-            self.find_transformer()
-        if asked["storm"] is not None:
-            outcome.storm = read_storm(self.load("storm"), outcome.case)
-        if asked["switch"] is not None:
-            outcome.switchings = read_switchings(self.load("switch"), outcome.case)
-        if outcome.need >= LIVE:
-            self.stand()
-        if asked["cert"] is not None:
-            self.recheck()
+        if asked.seed is not None and asked.size is not None:
+            self.make(asked.seed, asked.size)
+        if asked.case is not None:
+            self.read(asked, asked.case)
+            if outcome.need >= LIVE:
+                self.stand()
+        if asked.cert is not None:
+            self.recheck(asked.cert)
 
-    def make(self):
+    def read(self, asked: Asked, case: bytes) -> None:
+        """Reads the files but a certificate, in their order."""
         outcome = self.outcome
-        outcome.case = make_case(outcome.asked["seed"], outcome.asked["size"])
-        outcome.stand = (True,) * len(outcome.case.elements)
+        outcome.case = read_case(self.load("case", case))
+        if asked.transformer is not None:
+            self.find_transformer(asked.transformer)
+        if asked.storm is not None:
+            outcome.storm = read_storm(self.load("storm", asked.storm), outcome.case)
+        if asked.switch is not None:
+            outcome.switchings = read_switchings(self.load("switch", asked.switch), outcome.case)
+
+    def make(self, seed: int, size: int) -> None:
+        outcome = self.outcome
+        outcome.case = make_case(seed, size)
+        outcome.stand = outcome.case.all_stand()
         outcome.live = (True,) * len(outcome.case.nodes)
         outcome.epochs = [Epoch(1, 1, outcome.stand, outcome.live)]
         outcome.vector = least_capped(outcome.case, outcome.stand)
         assert max(outcome.vector) <= MOST_MADE_WALK
 
-    def find_transformer(self):
-        names = [row["name"].encode() for row in self.outcome.case.transformers]
-        if self.outcome.asked["transformer"] not in names:
+    def find_transformer(self, name: bytes) -> None:
+        names = [row.name.encode() for row in self.outcome.case.transformers]
+        if name not in names:
             raise Refusal(12, "gicstudy: unknown transformer")
-        self.outcome.transformer = names.index(self.outcome.asked["transformer"])
+        self.outcome.transformer = names.index(name)
 
-    def periods(self):
-        """The first and the last step of each epoch, and how many switchings are in force."""
+    def periods(self) -> list[Period]:
+        """The steps over which one number of switchings is in force."""
         outcome = self.outcome
-        if outcome.storm is None:
-            return [[1, 1, len(outcome.switchings)]]
+        if outcome.asked.storm is None:
+            return [Period(1, 1, len(outcome.switchings))]
         times = [switching.time for switching in outcome.switchings]
-        periods = []
+        periods: list[Period] = []
         for number, step in enumerate(outcome.storm.steps, 1):
             in_force = bisect.bisect_right(times, step.time)
-            if periods and periods[-1][2] == in_force:
-                periods[-1][1] = number
+            if periods and periods[-1].in_force == in_force:
+                periods[-1] = periods[-1]._replace(last=number)
             else:
-                periods.append([number, number, in_force])
+                periods.append(Period(number, number, in_force))
         return periods
 
-    def stand(self):
+    def stand(self) -> None:
         """Fills the epochs; a Refusal at the first step at which the mode's need isn't met."""
-        outcome, known = self.outcome, {}
+        outcome = self.outcome
+        known: dict[Stand, Live] = {}
         for first, last, in_force in self.periods():
             stand = standing(outcome.case, outcome.switchings[:in_force])
             if stand not in known:
@@ -126,26 +159,26 @@ class Prediction:
             outcome.epochs.append(Epoch(first, last, stand, known[stand]))
         outcome.stand, outcome.live = outcome.epochs[0].stand, outcome.epochs[0].live
 
-    def live_nodes(self, stand, step):
+    def live_nodes(self, stand: Stand, step: int) -> Live:
         case, need = self.outcome.case, self.outcome.need
         node, live = unearthed(case, stand)
         if node is not None and need >= EARTHED:
             raise Refusal(8, f"gicstudy: unearthed: step {step} node {case.nodes[node]}")
         if need == SOLVED:
-            vector = least_capped(case, stand)
-            if CAP in vector:
-                raise Refusal(9, f"gicstudy: unresolved: step {step} node {case.nodes[vector.index(CAP)]}")
+            node = unresolved(case, stand)
+            if node is not None:
+                raise Refusal(9, f"gicstudy: unresolved: step {step} node {case.nodes[node]}")
         return live
 
-    def recheck(self):
+    def recheck(self, name: bytes) -> None:
         outcome = self.outcome
-        certificate = read_certificate(self.load("cert"), outcome.case, outcome.live)
+        certificate = read_certificate(self.load("cert", name), outcome.case, outcome.live)
         volts = outcome.case.element_volts(None, certificate.north, certificate.east)
         check_certificate(outcome.case, outcome.stand, outcome.live, volts, certificate.nodes)
         outcome.certificate = certificate
 
 
-def predict(words, folder, built=MODES):
+def predict(words: Sequence[bytes], folder: Folder, built: Collection[str] = MODES) -> Outcome:
     """The outcome of a run with these words in this folder, of a program that has the modes `built`."""
     outcome = Outcome()
     try:

@@ -16,6 +16,8 @@ that is always full), `timeout` (the seconds of this case) and `note`, for reade
 Failing cases are printed. The last line is `N passed, M failed, K left out`, and the exit status is 1 where M is not 0.
 """
 
+from __future__ import annotations
+
 import argparse
 import concurrent.futures
 import fnmatch
@@ -24,18 +26,22 @@ import shutil
 import subprocess
 import sys
 import tempfile
+from collections.abc import Collection, Sequence
+from pathlib import Path
+from typing import NamedTuple, Optional
 
 HERE = os.path.dirname(os.path.abspath(__file__))
 sys.dont_write_bytecode = True
 sys.path.insert(0, HERE)
 from judge import run_faults  # noqa: E402
-from outcome import predict  # noqa: E402
+from outcome import Folder, Outcome, predict  # noqa: E402
 from words import MODES, mode_of, usage_fault  # noqa: E402
 
+USAGE = (__doc__ or "").split("\n")[2].strip()
 SPECIAL = {"words", "then", "expect", "stdout", "gen", "note", "timeout", "sink"}
 
 
-def read_words_file(folder, name):
+def read_words_file(folder: Folder, name: str) -> Optional[list[bytes]]:
     """The words of a file, one a line, or None where there is none."""
     path = os.path.join(folder, name)
     if not os.path.exists(path):
@@ -44,7 +50,7 @@ def read_words_file(folder, name):
         return file.read().removesuffix(b"\n").split(b"\n") if os.path.getsize(path) else []
 
 
-def read_text(folder, name):
+def read_text(folder: Folder, name: str) -> str:
     path = os.path.join(folder, name)
     if not os.path.exists(path):
         return ""
@@ -52,25 +58,37 @@ def read_text(folder, name):
         return file.read()
 
 
-def is_run_here(words, built):
+def is_run_here(words: Sequence[bytes], built: Collection[str]) -> bool:
     """Whether the words name a mode that is there, or have the same fault whichever modes are there."""
     fault = usage_fault(words)
     return mode_of(words) in built or (fault is not None and fault == usage_fault(words, built))
 
 
-def fill(folder, scratch):
+def fill(folder: Folder, scratch: Folder) -> None:
     """Copies the files of a case, and makes its large ones."""
     for name in os.listdir(folder):
         if name not in SPECIAL:
             source = os.path.join(folder, name)
-            (shutil.copytree if os.path.isdir(source) else shutil.copy)(source, os.path.join(scratch, name))
+            target = os.path.join(scratch, name)
+            if os.path.isdir(source):
+                shutil.copytree(source, target)
+            else:
+                shutil.copy(source, target)
     maker = os.path.join(folder, "gen")
     if os.path.exists(maker):
         subprocess.run([sys.executable, maker], cwd=scratch, check=True, timeout=300)
 
 
-def call(command, scratch, sink, seconds):
-    """The status, the output and what was told; a TimeoutExpired where the program doesn't end."""
+class Ran(NamedTuple):
+    """How a program ended."""
+
+    status: int
+    output: bytes
+    told: bytes
+
+
+def call(command: Sequence[bytes], scratch: Folder, sink: str, seconds: float) -> Ran:
+    """Runs a program; a TimeoutExpired where the program doesn't end."""
     with open("/dev/full" if sink else os.devnull, "wb") as full:
         ran = subprocess.run(
             command,
@@ -81,57 +99,62 @@ def call(command, scratch, sink, seconds):
             timeout=seconds,
             check=False,
         )
-    return ran.returncode, ran.stdout or b"", ran.stderr or b""
+    return Ran(ran.returncode, ran.stdout or b"", ran.stderr or b"")
 
 
-def full_sink_faults(sink, outcome, status, output, told):
+def full_sink_faults(sink: str, outcome: Outcome, ran: Ran) -> list[str]:
     """What is wrong of a run with a full stream: a full output is a failed write, and a full error stream nothing."""
     wanted = 4 if sink == "out" and outcome.status == 0 else outcome.status
     line = b"gicstudy: cannot write\n" if wanted == 4 else (outcome.line or "").encode() + b"\n"
-    faults = [] if status == wanted else [f"with a full stream: status {status}, expected {wanted}"]
-    if sink == "out" and told != line:
-        faults.append(f"with a full output: told {told[:100]!r}")
-    if sink == "err" and wanted != 0 and output:
+    faults = [] if ran.status == wanted else [f"with a full stream: status {ran.status}, expected {wanted}"]
+    if sink == "out" and ran.told != line:
+        faults.append(f"with a full output: told {ran.told[:100]!r}")
+    if sink == "err" and wanted != 0 and ran.output:
         faults.append("with a full error stream: something on the output")
     return faults
 
 
-def expectation_faults(folder, status, output, told):
+def expectation_faults(folder: Folder, ran: Ran) -> list[str]:
     """What is wrong by the files `expect` and `stdout`."""
-    expect, faults = read_text(folder, "expect").split("\n"), []
+    expect = read_text(folder, "expect").split("\n")
+    faults: list[str] = []
     if expect[0]:
         line = expect[1].encode() + b"\n" if len(expect) > 1 and expect[1] else b""
-        if (status, told) != (int(expect[0]), line):
-            faults.append(f"expect: status {status}, told {told[:120]!r}")
+        if (ran.status, ran.told) != (int(expect[0]), line):
+            faults.append(f"expect: status {ran.status}, told {ran.told[:120]!r}")
     if os.path.exists(os.path.join(folder, "stdout")):
         with open(os.path.join(folder, "stdout"), "rb") as file:
-            if file.read() != output:
+            if file.read() != ran.output:
                 faults.append("stdout is not the expected text")
     return faults
 
 
-def run_once(folder, scratch, command, built, seconds, is_first):
+def run_once(
+    folder: Folder, scratch: Folder, command: Sequence[str], built: Collection[str], seconds: float, is_first: bool
+) -> tuple[list[str], bytes]:
     """The faults of one run, and its output."""
-    words = read_words_file(folder, "words" if is_first else "then")
+    words = read_words_file(folder, "words" if is_first else "then") or []
     outcome, sink = predict(words, scratch, built), read_text(folder, "sink").strip()
     try:
-        status, output, told = call([*command, *words], scratch, sink, seconds)
+        ran = call([*map(os.fsencode, command), *words], scratch, sink, seconds)
     except subprocess.TimeoutExpired:
         return [f"no end within {seconds:g} s"], b""
     if sink:
-        return full_sink_faults(sink, outcome, status, output, told), output
-    faults = run_faults(outcome, status, output, told)
+        return full_sink_faults(sink, outcome, ran), ran.output
+    faults = run_faults(outcome, *ran)
     if is_first and usage_fault(words, built) == usage_fault(words):
-        faults += expectation_faults(folder, status, output, told)
-    return faults, output
+        faults += expectation_faults(folder, ran)
+    return faults, ran.output
 
 
-def run_case(folder, command, built, seconds):
+def run_case(folder: Folder, command: Sequence[str], built: Collection[str], seconds: float) -> Optional[list[str]]:
     """The faults of a case, or None where it is left out."""
     second = read_words_file(folder, "then")
     if not all(is_run_here(words, built) for words in [read_words_file(folder, "words"), second] if words is not None):
         return None
-    seconds, faults, first = max(seconds, float(read_text(folder, "timeout") or 0)), [], None
+    seconds = max(seconds, float(read_text(folder, "timeout") or 0))
+    faults: list[str] = []
+    first: Optional[bytes] = None
     for is_first in (True, False) if second is not None else (True,):
         with tempfile.TemporaryDirectory(prefix="referee_") as scratch:
             fill(folder, scratch)
@@ -143,13 +166,13 @@ def run_case(folder, command, built, seconds):
     return faults
 
 
-def command_of(program):
+def command_of(program: str) -> list[str]:
     path = os.path.abspath(program)
     return [sys.executable, path] if path.endswith(".py") else [path]
 
 
-def main():
-    parser = argparse.ArgumentParser(usage=__doc__.split("\n")[2].strip(), allow_abbrev=False)
+def main() -> bool:
+    parser = argparse.ArgumentParser(usage=USAGE, allow_abbrev=False)
     parser.add_argument("program")
     parser.add_argument("--cases", default=os.path.join(HERE, "cases"))
     parser.add_argument("--only", default="*")

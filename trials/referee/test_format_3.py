@@ -28,7 +28,7 @@ class WorkedCases(unittest.TestCase):
     def outcome_of(self, folder: Path) -> Outcome:
         with tempfile.TemporaryDirectory() as scratch:
             fill(folder, scratch)
-            return predict(read_words_file(folder, "words"), scratch)
+            return predict(read_words_file(folder, "words") or [], scratch)
 
     def test_each_ends_as_it_has_to(self) -> None:
         for folder in folders():

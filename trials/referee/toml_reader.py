@@ -1,10 +1,14 @@
 """TOML 1.1 as the program takes it: which bytes are a document, and the table that they are.
 
-Values are bytes (a string), int, float, bool, Date, list and dict, whose keys are bytes. docs/FORMATS.md tells where the
+docs/FORMATS.md tells where the
 program is stricter than TOML 1.1, *The case*.
 """
 
+from __future__ import annotations
+
 import re
+from collections.abc import Callable
+from typing import Union
 
 MOST_PARTS = 80
 MOST_DEPTH = 80
@@ -40,34 +44,47 @@ class Date:
     """A date or a time, of which nothing is kept."""
 
 
+# A string is bytes, and so is each key of a table.
+TomlValue = Union[bytes, int, float, bool, Date, list["TomlValue"], dict[bytes, "TomlValue"]]
+TomlTable = dict[bytes, TomlValue]
+# The parts of a dotted key.
+Key = list[bytes]
+
+
 # Blanks, comments and ends of lines. Each function tells the place behind what it read.
 
 
-def skip_blanks(text, place):
-    return BLANKS.match(text, place).end()
+def end_of(pattern: re.Pattern[bytes], text: bytes, place: int) -> int:
+    """The place behind what is of a pattern that nothing is of too."""
+    found = pattern.match(text, place)
+    return found.end() if found else place
 
 
-def is_line_end(text, place):
+def skip_blanks(text: bytes, place: int) -> int:
+    return end_of(BLANKS, text, place)
+
+
+def is_line_end(text: bytes, place: int) -> bool:
     return text[place : place + 1] == b"\n" or text[place : place + 2] == b"\r\n"
 
 
-def skip_lines(text, place):
+def skip_lines(text: bytes, place: int) -> int:
     """Blanks, ends of lines and comments. It stops in front of a control character in a comment."""
     while True:
-        place = BLANKS_AND_LINES.match(text, place).end()
+        place = end_of(BLANKS_AND_LINES, text, place)
         if place >= len(text):
             return place
         if text[place] == RETURN and is_line_end(text, place):
             place += 2
         elif text[place] == HASH:
-            place = COMMENT.match(text, place).end()
+            place = end_of(COMMENT, text, place)
             if place < len(text) and not is_line_end(text, place):
                 return place
         else:
             return place
 
 
-def expect(text, place, mark):
+def expect(text: bytes, place: int, mark: bytes) -> int:
     if text[place : place + len(mark)] != mark:
         raise Refused
     return place + len(mark)
@@ -76,14 +93,14 @@ def expect(text, place, mark):
 # Strings and keys.
 
 
-def read_escape(text, place, has_lines):
+def read_escape(text: bytes, place: int, has_lines: bool) -> tuple[bytes, int]:
     """The bytes of what stands behind a backslash, and the place behind it."""
     if has_lines and is_line_end(text, skip_blanks(text, place)):
-        return b"", LINES.match(text, place).end()
+        return b"", end_of(LINES, text, place)
     letter = text[place] if place < len(text) else None
-    if letter in ESCAPES:
+    if letter is not None and letter in ESCAPES:
         return bytes([ESCAPES[letter]]), place + 1
-    if letter not in CODE_WIDTHS:
+    if letter is None or letter not in CODE_WIDTHS:
         raise Refused
     width = CODE_WIDTHS[letter]
     digits = text[place + 1 : place + 1 + width]
@@ -95,7 +112,7 @@ def read_escape(text, place, has_lines):
     return chr(code).encode(), place + 1 + width
 
 
-def closing_run(text, place, quote):
+def closing_run(text: bytes, place: int, quote: int) -> int:
     """How many quotes stand here."""
     run = 0
     while text[place + run : place + run + 1] == bytes([quote]):
@@ -103,13 +120,13 @@ def closing_run(text, place, quote):
     return run
 
 
-def read_quoted(text, place, quote, has_lines):
+def read_quoted(text: bytes, place: int, quote: int, has_lines: bool) -> tuple[bytes, int]:
     """The string behind an opening quote, and the place behind the closing one."""
     parts = []
     while True:
-        plain = PLAIN[quote, has_lines].match(text, place)
-        parts.append(plain.group())
-        place = plain.end()
+        end = end_of(PLAIN[quote, has_lines], text, place)
+        parts.append(text[place:end])
+        place = end
         letter = text[place] if place < len(text) else None
         if letter == quote and not has_lines:
             return b"".join(parts), place + 1
@@ -131,7 +148,7 @@ def read_quoted(text, place, quote, has_lines):
             raise Refused
 
 
-def read_string(text, place):
+def read_string(text: bytes, place: int) -> tuple[bytes, int]:
     quote = text[place]
     if text[place + 1 : place + 3] != bytes([quote, quote]):
         return read_quoted(text, place + 1, quote, False)
@@ -141,7 +158,7 @@ def read_string(text, place):
     return read_quoted(text, place, quote, True)
 
 
-def read_key_part(text, place):
+def read_key_part(text: bytes, place: int) -> tuple[bytes, int]:
     if text[place : place + 1] in (b'"', b"'"):
         return read_quoted(text, place + 1, text[place], False)
     bare = BARE_KEY.match(text, place)
@@ -150,7 +167,7 @@ def read_key_part(text, place):
     return bare.group(), bare.end()
 
 
-def read_key(text, place):
+def read_key(text: bytes, place: int) -> tuple[Key, int]:
     """The parts of a dotted key, and the place behind it and its blanks."""
     parts = []
     for _ in range(MOST_PARTS):
@@ -166,13 +183,13 @@ def read_key(text, place):
 # Numbers, dates and times.
 
 
-def read_two_digits(word, place):
+def read_two_digits(word: bytes, place: int) -> tuple[int, int]:
     if not TWO_DIGITS.fullmatch(word[place : place + 2]):
         raise Refused
     return int(word[place : place + 2]), place + 2
 
 
-def read_time(word, place):
+def read_time(word: bytes, place: int) -> int:
     hour, place = read_two_digits(word, place)
     minute, place = read_two_digits(word, expect(word, place, b":"))
     second = 0
@@ -188,12 +205,12 @@ def read_time(word, place):
     return place
 
 
-def days_of(year, month):
+def days_of(year: int, month: int) -> int:
     is_leap = (year % 4 == 0 and year % 100 != 0) or year % 400 == 0
     return [31, 29 if is_leap else 28, 31, 30, 31, 30, 31, 31, 30, 31, 30, 31][month - 1]
 
 
-def read_day(word):
+def read_day(word: bytes) -> int:
     century, place = read_two_digits(word, 0)
     year, place = read_two_digits(word, place)
     month, place = read_two_digits(word, expect(word, place, b"-"))
@@ -203,7 +220,7 @@ def read_day(word):
     return place
 
 
-def read_offset(word, place):
+def read_offset(word: bytes, place: int) -> int:
     if word[place : place + 1] in (b"Z", b"z"):
         return place + 1
     if word[place : place + 1] not in (b"+", b"-"):
@@ -215,7 +232,7 @@ def read_offset(word, place):
     return place
 
 
-def read_date(word):
+def read_date(word: bytes) -> Date:
     if word[2:3] == b":":
         place = read_time(word, 0)
     else:
@@ -231,11 +248,11 @@ def read_date(word):
     return Date()
 
 
-def base_of(word):
+def base_of(word: bytes) -> int:
     return {b"0x": 16, b"0o": 8, b"0b": 2}.get(word[:2], 10)
 
 
-def without_underscores(word):
+def without_underscores(word: bytes) -> bytes:
     """The word without underscores, each of which has to stand between two digits."""
     digits = DIGITS[16 if base_of(word) == 16 else 10]
     for place, letter in enumerate(word):
@@ -246,7 +263,7 @@ def without_underscores(word):
     return word.replace(b"_", b"")
 
 
-def read_based(word, base):
+def read_based(word: bytes, base: int) -> int:
     digits = word[2:]
     if not digits or any(digit not in DIGITS[base] for digit in digits):
         raise Refused
@@ -256,7 +273,7 @@ def read_based(word, base):
     return number
 
 
-def read_integer(word, is_negative):
+def read_integer(word: bytes, is_negative: bool) -> int:
     if len(word) > MOST_INTEGER_DIGITS:
         raise Refused
     number = -int(word) if is_negative else int(word)
@@ -265,7 +282,7 @@ def read_integer(word, is_negative):
     return number
 
 
-def read_number(word):
+def read_number(word: bytes) -> Union[int, float]:
     base, word = base_of(word), without_underscores(word)
     if base != 10:
         return read_based(word, base)
@@ -285,11 +302,11 @@ def read_number(word):
     return -number if is_negative else number
 
 
-def read_unquoted(text, place):
+def read_unquoted(text: bytes, place: int) -> tuple[TomlValue, int]:
     """A boolean, a date or a number; a date may have one space before its time."""
-    end = UNQUOTED.match(text, place).end()
+    end = end_of(UNQUOTED, text, place)
     if text[end : end + 1] == b" " and text[end + 1 : end + 2].isdigit():
-        end = UNQUOTED.match(text, end + 1).end()
+        end = end_of(UNQUOTED, text, end + 1)
     word = text[place:end]
     if not word:
         raise Refused
@@ -305,38 +322,42 @@ def read_unquoted(text, place):
 
 
 class Value:
-    def __init__(self, value):
+    def __init__(self, value: TomlValue) -> None:
         self.value = value
 
-    def closed(self):
+    def closed(self) -> TomlValue:
         return self.value
 
 
 class Table:
     """A table, and what made it: a header, a dotted key, or a header of a table in it (`implicit`)."""
 
-    def __init__(self, origin):
-        self.origin, self.entries = origin, {}
+    def __init__(self, origin: str) -> None:
+        self.origin = origin
+        self.entries: Entries = {}
 
-    def closed(self):
+    def closed(self) -> TomlTable:
         return {key: entry.closed() for key, entry in self.entries.items()}
 
 
 class TableArray:
     """Tables under one header of an array; entries are those of the last."""
 
-    def __init__(self):
+    def __init__(self) -> None:
         self.tables = [Table("header")]
 
     @property
-    def entries(self):
+    def entries(self) -> Entries:
         return self.tables[-1].entries
 
-    def closed(self):
+    def closed(self) -> list[TomlValue]:
         return [table.closed() for table in self.tables]
 
 
-def put_value(entries, parts, value):
+Entries = dict[bytes, Union[Value, Table, TableArray]]
+
+
+def put_value(entries: Entries, parts: Key, value: TomlValue) -> None:
     """Adds what stands behind a dotted key."""
     for part in parts[:-1]:
         entry = entries.setdefault(part, Table("dotted"))
@@ -349,7 +370,7 @@ def put_value(entries, parts, value):
     entries[parts[-1]] = Value(value)
 
 
-def entries_at(entries, parts):
+def entries_at(entries: Entries, parts: Key) -> Entries:
     """The entries of the table that a header names."""
     for part in parts:
         entry = entries.setdefault(part, Table("implicit"))
@@ -359,7 +380,7 @@ def entries_at(entries, parts):
     return entries
 
 
-def open_table(root, parts):
+def open_table(root: Entries, parts: Key) -> None:
     entries = entries_at(root, parts[:-1])
     entry = entries.get(parts[-1])
     if entry is None:
@@ -370,7 +391,7 @@ def open_table(root, parts):
         raise Refused
 
 
-def open_table_of_array(root, parts):
+def open_table_of_array(root: Entries, parts: Key) -> None:
     entries = entries_at(root, parts[:-1])
     entry = entries.get(parts[-1])
     if entry is None:
@@ -381,7 +402,7 @@ def open_table_of_array(root, parts):
         raise Refused
 
 
-def read_items(text, place, closing, read_one):
+def read_items(text: bytes, place: int, closing: bytes, read_one: Callable[[int], int]) -> int:
     """Items between commas up to a closing mark; the last may have a comma behind it."""
     while True:
         place = skip_lines(text, place)
@@ -394,10 +415,10 @@ def read_items(text, place, closing, read_one):
             raise Refused
 
 
-def read_array(text, place, depth):
-    items = []
+def read_array(text: bytes, place: int, depth: int) -> tuple[list[TomlValue], int]:
+    items: list[TomlValue] = []
 
-    def read_one(place):
+    def read_one(place: int) -> int:
         item, place = read_value(text, place, depth)
         items.append(item)
         return place
@@ -406,7 +427,7 @@ def read_array(text, place, depth):
     return items, end
 
 
-def read_value(text, place, depth):
+def read_value(text: bytes, place: int, depth: int) -> tuple[TomlValue, int]:
     """A value, and the place behind it; `depth` is how much deeper values may be nested."""
     letter = text[place : place + 1]
     if letter == b"[" and depth:
@@ -418,10 +439,10 @@ def read_value(text, place, depth):
     return read_unquoted(text, place)
 
 
-def read_inline_table(text, place, depth):
+def read_inline_table(text: bytes, place: int, depth: int) -> tuple[TomlTable, int]:
     table = Table("inline")
 
-    def read_one(place):
+    def read_one(place: int) -> int:
         parts, value, place = read_pair(text, place, depth)
         put_value(table.entries, parts, value)
         return place
@@ -430,7 +451,7 @@ def read_inline_table(text, place, depth):
     return table.closed(), end
 
 
-def read_pair(text, place, depth):
+def read_pair(text: bytes, place: int, depth: int) -> tuple[Key, TomlValue, int]:
     """A key, its value and the place behind them."""
     parts, place = read_key(text, place)
     value, place = read_value(text, skip_blanks(text, expect(text, place, b"=")), depth)
@@ -440,17 +461,21 @@ def read_pair(text, place, depth):
 class Document:
     """A document that is read expression by expression: headers, and keys with values under the last header."""
 
-    def __init__(self, text):
-        self.text, self.root, self.header = text, {}, []
+    def __init__(self, text: bytes) -> None:
+        self.text = text
+        self.root: Entries = {}
+        self.header: Key = []
 
-    def read_header(self, place, opening, closing, open_one):
+    def read_header(
+        self, place: int, opening: bytes, closing: bytes, open_one: Callable[[Entries, Key], None]
+    ) -> int:
         parts, place = read_key(self.text, skip_blanks(self.text, place + len(opening)))
         place = expect(self.text, place, closing)
         open_one(self.root, parts)
         self.header = parts
         return place
 
-    def read_expression(self, place):
+    def read_expression(self, place: int) -> int:
         if self.text[place : place + 2] == b"[[":
             return self.read_header(place, b"[[", b"]]", open_table_of_array)
         if self.text[place : place + 1] == b"[":
@@ -459,7 +484,7 @@ class Document:
         put_value(entries_at(self.root, self.header), parts, value)
         return place
 
-    def read(self):
+    def read(self) -> TomlTable:
         place = skip_lines(self.text, 0)
         while place < len(self.text):
             place = skip_blanks(self.text, self.read_expression(place))
@@ -469,7 +494,7 @@ class Document:
         return {key: entry.closed() for key, entry in self.root.items()}
 
 
-def parse(content):
+def parse(content: bytes) -> TomlTable:
     """The table of the bytes, or Refused."""
     try:
         content.decode("utf-8")
