@@ -78,7 +78,7 @@ class Interconnection(unittest.TestCase):
         self.assertLess(most_ends(self.case), 64)
 
     def test_lines_cross_zones(self) -> None:
-        self.assertTrue(any(len(line.get("part", [])) > 2 for line in self.case.lines))
+        self.assertTrue(any(len(line.parts) > 2 for line in self.case.lines))
 
     def test_parts_add_up_to_the_way_between_the_substations(self) -> None:
         made = interconnection.Network(Fraction(1, 128), 7)
