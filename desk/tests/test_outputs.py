@@ -6,6 +6,7 @@ moment is done by a call that is put in front of one of the desk's.
 
 import contextlib
 import errno
+import json
 import os
 import pathlib
 import shutil
@@ -278,6 +279,60 @@ class Pair(DeskTest):
         (self.place / ".gicdesk.mine" / "owner").write_text("somebody")
         self.done("csv", SCREEN, f"--out={self.place / 'table.csv'}")
         self.assertEqual(left(self.place), [".gicdesk.mine", ".gicdesk.yours", "table.csv"])
+
+
+class Laid(DeskTest):
+    """A scratch that somebody else has laid beside an output."""
+
+    def setUp(self) -> None:
+        super().setUp()
+        self.place = self.folder / "place"
+        self.scratch = self.place / ".gicdesk.b"
+        for name in ("new", "old", "victim"):
+            (self.scratch / name).mkdir(parents=True)
+        (self.scratch / "owner").write_bytes(outputs.HEAD)
+        (self.scratch / "victim" / "planted").write_text("evil")
+        (self.folder / "victim").mkdir()
+        self.precious = self.file("victim/precious", "years of work")
+
+    def run_beside(self, publishing: str) -> str:
+        """What is told by a command whose output lies beside the scratch with this `publishing`."""
+        (self.scratch / "publishing").write_text(publishing)
+        status, _, err = desk("csv", SCREEN, f"--out={self.place / 'x.csv'}", "--force")
+        self.assertEqual(status, 0, err)
+        return err
+
+    def test_nothing_outside_the_folder_is_planted_or_taken_away(self) -> None:
+        found = os.lstat(self.precious)
+        numbers = [found.st_dev, found.st_ino, found.st_size, found.st_mtime_ns]
+        for count in (2, 4):
+            for publishing in (
+                {"../victim/planted": [1] * count},
+                {"x": [1] * count, str(self.precious): numbers[:count]},
+                {"x": [1] * count, "../victim/precious": numbers[:count]},
+                {"..": [1] * count},
+                {"": [1] * count},
+                {"\ud800": [1] * count},
+                {"a\0b": [1] * count},
+            ):
+                with self.subTest(publishing):
+                    err = self.run_beside(json.dumps(publishing))
+                    self.assertIn("its publishing isn't one of the desk", err)
+                    self.assertEqual(left(self.folder / "victim"), ["precious"])
+                    self.assertEqual(left(self.place), [".gicdesk.b", "x.csv"])
+
+    def test_what_is_no_table_of_targets_is_told(self) -> None:
+        for publishing in ("5", "null", "[1]", '"x"', '{"x": 1}', '{"x": [1, "2"]}', '{"x": [1, true]}', '{"x": null}'):
+            with self.subTest(publishing):
+                self.assertIn("its publishing isn't one of the desk", self.run_beside(publishing))
+
+    def test_one_of_another_user_and_a_link_to_one_are_left_alone(self) -> None:
+        with mock.patch("os.geteuid", return_value=os.geteuid() + 1):
+            self.assertEqual(self.run_beside("{}"), "")
+        self.scratch.rename(self.folder / "elsewhere")
+        self.scratch.symlink_to(self.folder / "elsewhere")
+        self.assertEqual(self.run_beside("{}"), "")
+        self.assertTrue((self.folder / "elsewhere" / "owner").exists())
 
 
 class Tables(OutagesTest):

@@ -16,7 +16,7 @@ import shutil
 import stat
 import tempfile
 import time
-from collections.abc import Iterable, Iterator, Mapping, Sequence
+from collections.abc import Callable, Iterable, Iterator, Mapping, Sequence
 
 from . import earlier, stops
 from .files import bytes_of
@@ -28,6 +28,7 @@ OWNER, PUBLISHING, NEW, OLD = "owner", "publishing", "new", "old"
 HEAD = b"gicdesk: the scratch of a command\n"
 LONGEST_WAIT = 5.0  # seconds for another command that publishes in the same folder
 MOMENT = 0.02
+IDENTITY = 2  # numbers that tell one file from another
 NO_LINKS = (errno.EPERM, errno.EOPNOTSUPP, errno.ENOSYS, errno.EMLINK)
 
 Text = str | bytes
@@ -221,11 +222,14 @@ def recover(folder: pathlib.Path) -> None:
 def recover_all(folder: pathlib.Path) -> None:
     for scratch in sorted(folder.glob(f"{SCRATCH}*")):
         try:
-            owner = os.open(scratch / OWNER, os.O_RDWR | os.O_CLOEXEC | os.O_NOFOLLOW)
+            if not is_own(os.lstat(scratch), stat.S_ISDIR):
+                continue
+            owner = os.open(scratch / OWNER, os.O_RDWR | os.O_CLOEXEC | os.O_NOFOLLOW | os.O_NONBLOCK)
         except OSError:
             continue
         try:
-            if has_lock(owner) and os.pread(owner, len(HEAD), 0) == HEAD:
+            is_desks = is_own(os.fstat(owner), stat.S_ISREG) and os.pread(owner, len(HEAD), 0) == HEAD
+            if is_desks and has_lock(owner):
                 recover_one(scratch, folder)
         except OSError as error:
             tell(f"{scratch}: it is left by a command that was ended, and can't be cleared ({error.strerror})")
@@ -233,12 +237,42 @@ def recover_all(folder: pathlib.Path) -> None:
             os.close(owner)
 
 
+def is_own(found: os.stat_result, is_kind: Callable[[int], bool]) -> bool:
+    """Whether a file or folder is of this kind and of the user who runs the command."""
+    return is_kind(found.st_mode) and found.st_uid == os.geteuid()
+
+
+def published(data: bytes) -> dict[str, list[int]] | None:
+    """What `publishing` says: the new targets, which are names in the folder, each with its identity; none where it was
+    being written. None where the desk hasn't written it."""
+    try:
+        new = json.loads(data)
+    except (ValueError, RecursionError):
+        return {}  # (nothing has moved yet)
+    if isinstance(new, dict) and all(is_name(name) and is_identity(found) for name, found in new.items()):
+        return new
+    return None
+
+
+def is_name(name: str) -> bool:
+    """Whether a text is the name of something in a folder, and of nothing outside."""
+    try:
+        letters = os.fsencode(name)
+    except UnicodeEncodeError:
+        return False
+    return letters not in (b"", b".", b"..") and not set(letters) & set(b"/\0")
+
+
+def is_identity(found: object) -> bool:
+    return isinstance(found, list) and len(found) == IDENTITY and all(type(number) is int for number in found)
+
+
 def recover_one(scratch: pathlib.Path, folder: pathlib.Path) -> None:
     if (scratch / PUBLISHING).is_file():
-        try:
-            new = json.loads((scratch / PUBLISHING).read_bytes())
-        except ValueError:
-            new = {}  # it was being written: nothing has moved yet
+        new = published((scratch / PUBLISHING).read_bytes())
+        if new is None:
+            tell(f"{scratch}: its {PUBLISHING} isn't one of the desk, so nothing of it is done; look at it, and take it away")
+            return
         if not new or any(identity(folder / name) != new[name] for name in new):
             for name in take_back(scratch, folder, new):
                 tell(f"{name}: a command was ended before all that it wrote was in its place; what stood there is put back")
