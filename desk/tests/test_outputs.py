@@ -259,6 +259,46 @@ class Pair(DeskTest):
                 self.assertEqual((self.place / "made.names.csv").read_text(), "its names")
                 (self.place / "table.csv").unlink()
 
+    def test_what_a_killed_command_has_written_is_taken_away_and_told(self) -> None:
+        self.killed("link", 2, *self.words())
+        _, _, err = desk("csv", SCREEN, f"--out={self.place / 'table.csv'}")
+        told = "a command was ended before all that it wrote was in its place; it is taken away"
+        self.assertEqual(err, f"gicdesk: {self.place / 'made.toml'}: {told}\n")
+        self.assertEqual(left(self.place), ["table.csv"])
+
+    def test_what_somebody_has_changed_since_a_command_was_killed_stays(self) -> None:
+        made, table = self.place / "made.toml", self.place / "table.csv"
+        for force in ((), ("--force",)):
+            with self.subTest(force):
+                if force:
+                    made.write_text("an earlier case")
+                self.killed("link", 2, *self.words(*force))
+                with open(made, "a") as file:
+                    file.write("# my own line\n")
+                _, _, err = desk("csv", SCREEN, f"--out={table}")
+                self.assertTrue(made.read_text().endswith("# my own line\n"))
+                if force:
+                    told = f"gicdesk: {made}: something else is in its place; what stood there before lies in "
+                    self.assertTrue(err.startswith(told), err)
+                    kept = pathlib.Path(err.splitlines()[0].removeprefix(told))
+                    self.assertEqual(kept.read_text(), "an earlier case")
+                else:
+                    told = "it was changed, so it stays; all else that came with it is taken away"
+                    self.assertEqual(err, f"gicdesk: {made}: {told}\n")
+                    self.assertEqual(left(self.place), ["made.toml", "table.csv"])
+                made.unlink()
+                table.unlink()
+
+    def test_what_was_whole_and_was_changed_then_stays_whole(self) -> None:
+        made = self.place / "made.toml"
+        made.write_text("an earlier case")
+        self.killed("unlink", 1, *self.words("--force"))
+        with open(made, "a") as file:
+            file.write("# my own line\n")
+        self.done("csv", SCREEN, f"--out={self.place / 'table.csv'}")
+        self.assertTrue(made.read_text().endswith("# my own line\n"))
+        self.assertEqual(left(self.place), ["made.names.csv", "made.toml", "table.csv"])
+
     def test_what_was_whole_when_the_command_was_killed_stays(self) -> None:
         (self.place / "made.toml").write_text("an earlier case")
         self.killed("unlink", 1, *self.words("--force"))  # `publishing` is taken away behind all

@@ -28,7 +28,8 @@ OWNER, PUBLISHING, NEW, OLD = "owner", "publishing", "new", "old"
 HEAD = b"gicdesk: the scratch of a command\n"
 LONGEST_WAIT = 5.0  # seconds for another command that publishes in the same folder
 MOMENT = 0.02
-IDENTITY = 2  # numbers that tell one file from another
+IDENTITY = 4  # numbers that tell what a file or folder is: which one, and its size and time
+WHICH = 2  # so many of them tell which one
 NO_LINKS = (errno.EPERM, errno.EOPNOTSUPP, errno.ENOSYS, errno.EMLINK)
 
 Text = str | bytes
@@ -39,12 +40,19 @@ def unwritten(error: OSError) -> str:
 
 
 def identity(path: pathlib.Path) -> list[int] | None:
-    """Which file or folder a path leads to, without following a link; None where there is none."""
+    """Which file or folder a path leads to, without following a link, and its size and time, which another name or place
+    doesn't change; None where there is none."""
     try:
         found = os.lstat(path)
     except OSError:
         return None
-    return [found.st_dev, found.st_ino]
+    return [found.st_dev, found.st_ino, found.st_size, found.st_mtime_ns]
+
+
+def is_there(target: pathlib.Path, new: Sequence[int] | None) -> bool:
+    """Whether a target is the new file or folder, changed meanwhile or not."""
+    there = identity(target)
+    return there is not None and new is not None and there[:WHICH] == new[:WHICH]
 
 
 @contextlib.contextmanager
@@ -189,10 +197,14 @@ def write_file(path: pathlib.Path, data: bytes, is_synced: bool) -> None:
             os.fsync(file.fileno())
 
 
-def take_back(scratch: pathlib.Path, folder: pathlib.Path, new: Mapping[str, list[int] | None]) -> list[str]:
-    """Takes new targets away again, and puts back what gave way for them; the answer are the names of that. What somebody
-    else has put in a target's place stays, and so does what gave way, in the scratch, which is told."""
-    back = []
+def take_back(
+    scratch: pathlib.Path, folder: pathlib.Path, new: Mapping[str, Sequence[int] | None]
+) -> tuple[list[str], list[str]]:
+    """Takes new targets away again, and puts back what gave way for them; the answer are the names of what is back, and of
+    what is away with nothing in its place. What somebody else has put in a target's place stays, and so does a new file
+    that was changed; what gave way stays in the scratch then. Each is told."""
+    back: list[str] = []
+    away: list[str] = []
     is_whole = True
     for name in reversed(new):
         target, old = folder / name, scratch / OLD / name
@@ -200,6 +212,10 @@ def take_back(scratch: pathlib.Path, folder: pathlib.Path, new: Mapping[str, lis
             with contextlib.suppress(FileNotFoundError):
                 (scratch / NEW / name).unlink()  # (the other name of the same file)
             os.rename(target, scratch / NEW / name)
+            if not os.path.lexists(old):
+                away.append(str(target))
+        elif is_there(target, new[name]) and not os.path.lexists(old):
+            tell(f"{target}: it was changed, so it stays; all else that came with it is taken away")
         if os.path.lexists(old):
             if os.path.lexists(target):
                 is_whole = False
@@ -209,7 +225,7 @@ def take_back(scratch: pathlib.Path, folder: pathlib.Path, new: Mapping[str, lis
                 back.append(str(target))
     if is_whole:
         (scratch / PUBLISHING).unlink(missing_ok=True)
-    return back
+    return back, away
 
 
 def recover(folder: pathlib.Path) -> None:
@@ -273,9 +289,13 @@ def recover_one(scratch: pathlib.Path, folder: pathlib.Path) -> None:
         if new is None:
             tell(f"{scratch}: its {PUBLISHING} isn't one of the desk, so nothing of it is done; look at it, and take it away")
             return
-        if not new or any(identity(folder / name) != new[name] for name in new):
-            for name in take_back(scratch, folder, new):
-                tell(f"{name}: a command was ended before all that it wrote was in its place; what stood there is put back")
+        if not new or not all(is_there(folder / name, new[name]) for name in new):
+            ended = "a command was ended before all that it wrote was in its place"
+            back, away = take_back(scratch, folder, new)
+            for name in back:
+                tell(f"{name}: {ended}; what stood there is put back")
+            for name in away:
+                tell(f"{name}: {ended}; it is taken away")
         else:
             (scratch / PUBLISHING).unlink()
     clear(scratch)
