@@ -517,6 +517,43 @@ class Whole(StudyTest):
         self.assertTrue((self.out / "reports" / "screen.txt").exists())
         self.assertEqual(left(self.place), ["out"])
 
+    def test_a_study_that_was_being_taken_away_is_taken_away_from_any_moment_on(self) -> None:
+        self.page()
+        whole = self.folder / "whole"
+        shutil.copytree(self.out, whole)
+        count = len(list(whole.rglob("*")))
+        for call in ("os.unlink", "os.rmdir"):
+            for number in range(1, count + 1):
+                with self.subTest(call, number=number):
+                    rest = self.folder / "rest"
+                    shutil.copytree(whole, rest)
+                    with failing(call, number), contextlib.suppress(OSError):
+                        earlier.take_away(rest, "rest")
+                    if rest.exists():
+                        earlier.take_away(rest, "rest")
+                    self.assertFalse(rest.exists())
+
+    def test_a_study_that_was_killed_while_the_earlier_one_was_cleared_away(self) -> None:
+        self.page()
+        with failing("os.unlink", 4, KeyboardInterrupt()):
+            self.assertEqual(desk(*self.words("--force"))[0], 130)
+        (scratch,) = self.place.glob(".gicdesk.*")
+        self.assertNotEqual(left(scratch / "old"), [])
+        self.assertEqual(desk("csv", SCREEN, f"--out={self.place / 't.csv'}"), (0, "", ""))
+        self.assertEqual(left(self.place), ["out", "t.csv"])
+
+    def test_many_folders_one_in_another_are_told(self) -> None:
+        self.page()
+        deep = self.out
+        for _ in range(1200):
+            deep /= "d"
+            os.mkdir(deep)
+        lines = self.refused(*self.words("--force"))
+        self.assertIn("/d: it is a folder that isn't of the earlier study; move it elsewhere", lines[0])
+        while deep != self.out:
+            os.rmdir(deep)
+            deep = deep.parent
+
     def test_a_link_to_a_study_is_kept(self) -> None:
         self.page()
         study, self.out = self.out, self.place / "link"
