@@ -94,6 +94,28 @@ class Single(DeskTest):
         self.assertEqual(self.out.read_text(), "mine")
         self.assertEqual(left(self.place), ["table.csv"])
 
+    def test_where_there_are_no_links_a_full_disk_leaves_what_stood_there(self) -> None:
+        refused = OSError(errno.EPERM, "Operation not permitted")
+        for stood in (None, "mine"):
+            if stood is not None:
+                self.out.write_text(stood)
+            with self.subTest(stood), mock.patch("os.link", side_effect=refused), failing("os.replace", 1):
+                (line,) = self.refused(*self.words("--force"))
+                self.assertEqual(line, f"{self.out}: it can't be written (No space left on device); nothing of it was")
+                self.assertEqual(left(self.place), [] if stood is None else ["table.csv"])
+        self.assertEqual(self.out.read_text(), "mine")
+
+    def test_links_that_lead_in_a_circle_are_told(self) -> None:
+        loop = self.folder / "loop"
+        loop.symlink_to("loop")
+        (line,) = self.refused("csv", SCREEN, f"--out={loop}/x.csv")
+        self.assertTrue(line.startswith(f"{loop}/x.csv: it can't be written (Too many levels of symbolic links"), line)
+        (line,) = self.refused("study", loop, f"--program={FAKE}", f"--out={self.place}", "--force")
+        self.assertTrue(line.startswith(f"{loop}: it can't be read (Too many levels of symbolic links"), line)
+        for command in ("study", "outages"):
+            (line,) = self.refused(command, SCREEN, f"--program={FAKE}", f"--out={loop}/x")
+            self.assertIn("Too many levels of symbolic links", line)
+
     def test_a_symbolic_link_is_not_followed(self) -> None:
         other = self.folder / "other"
         self.out.symlink_to(other)
@@ -258,6 +280,20 @@ class Pair(DeskTest):
                 self.assertEqual((self.place / "made.toml").read_text(), "an earlier case")
                 self.assertEqual((self.place / "made.names.csv").read_text(), "its names")
                 (self.place / "table.csv").unlink()
+
+    def test_an_empty_file_that_a_killed_command_has_left_gives_way(self) -> None:
+        def no_links(*_: object, **__: object) -> None:
+            raise OSError(errno.EPERM, "Operation not permitted")
+
+        made = self.place / "made.toml"
+        made.write_text("an earlier case")
+        with mock.patch("os.link", no_links):
+            self.killed("replace", 1, *self.words("--force"))
+        self.assertEqual(made.read_text(), "")
+        _, _, err = desk("csv", SCREEN, f"--out={self.place / 'table.csv'}")
+        self.assertIn(f"gicdesk: {made}: a command was ended before", err)
+        self.assertEqual(made.read_text(), "an earlier case")
+        self.assertEqual(left(self.place), ["made.toml", "table.csv"])
 
     def test_what_a_killed_command_has_written_is_taken_away_and_told(self) -> None:
         self.killed("link", 2, *self.words())

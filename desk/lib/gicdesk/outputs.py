@@ -92,7 +92,20 @@ def link_new(source: pathlib.Path, target: pathlib.Path) -> None:
             raise
         # Where there are no links a new name is taken first, and then the file moved there.
         os.close(os.open(target, os.O_CREAT | os.O_EXCL | os.O_WRONLY))
-        os.replace(source, target)
+        try:
+            os.replace(source, target)
+        except BaseException:
+            target.unlink()
+            raise
+
+
+def is_placeholder(source: pathlib.Path, target: pathlib.Path) -> bool:
+    """Whether a target is the empty file that a command was killed behind, where there are no links."""
+    try:
+        found, new = os.lstat(target), os.lstat(source)
+    except OSError:
+        return False
+    return is_own(found, stat.S_ISREG) and found.st_size == 0 and stat.S_ISREG(new.st_mode) and new.st_nlink == 1
 
 
 class Set:
@@ -291,6 +304,9 @@ def recover_one(scratch: pathlib.Path, folder: pathlib.Path) -> None:
             return
         if not new or not all(is_there(folder / name, new[name]) for name in new):
             ended = "a command was ended before all that it wrote was in its place"
+            for name in new:
+                if is_placeholder(scratch / NEW / name, folder / name):
+                    (folder / name).unlink()
             back, away = take_back(scratch, folder, new)
             for name in back:
                 tell(f"{name}: {ended}; what stood there is put back")
@@ -376,11 +392,11 @@ def refuse_folder(folder: str, force: bool, inputs: Iterable[str], replaced: str
         raise refuse(folder, unwritten(error)) from None
     if not stat.S_ISDIR(mode):
         raise refuse(folder, "it is there already, and no folder; choose another name")
-    real = path.resolve()
+    real = os.path.realpath(path)
     if pathlib.Path.cwd().is_relative_to(real):
         raise refuse(folder, "it is the folder that you are in, or one above it; choose another name")
     for given in inputs:
-        if pathlib.Path(given).resolve().is_relative_to(real):
+        if pathlib.Path(os.path.realpath(given)).is_relative_to(real):
             raise refuse(folder, f"{given}, which this command reads, lies in it; choose another name")
     if not force:
         words = f"it is there already; choose another name, or give --force to replace {replaced}"
@@ -398,7 +414,7 @@ def opened(made: Set) -> Iterator[Set]:
 
 def files_set(names: Sequence[str], force: bool, inputs: Iterable[str]) -> contextlib.AbstractContextManager[Set]:
     """A set of files of one folder."""
-    folder = pathlib.Path(names[0]).parent.resolve()
+    folder = pathlib.Path(os.path.realpath(pathlib.Path(names[0]).parent))
     recover(folder)
     refuse_files(names, force, list(inputs))
     return opened(Set(folder, {pathlib.Path(name).name: name for name in names}, force, False))
@@ -435,4 +451,4 @@ def tree_of(folder: str, force: bool) -> contextlib.AbstractContextManager[Set]:
     path = pathlib.Path(folder)
     if path.name in ("", ".."):
         raise refuse(folder, "it is the folder that you are in, or one above it; choose another name")
-    return opened(Set(path.parent.resolve(), {path.name: folder}, force, True))
+    return opened(Set(pathlib.Path(os.path.realpath(path.parent)), {path.name: folder}, force, True))
