@@ -13,8 +13,10 @@ import shutil
 import signal
 import subprocess
 import sys
+import threading
+import time
 import unittest
-from collections.abc import Callable, Iterator
+from collections.abc import Callable, Iterable, Iterator
 from unittest import mock
 
 from shared import FAKE, REPORTS, TESTS, DeskTest, desk
@@ -22,7 +24,8 @@ from test_outages import HEADS, OutagesTest
 from test_psse import GIC, RAW, ZONES
 from test_study import StudyTest
 
-from gicdesk import earlier, outputs
+from gicdesk import earlier, outputs, stops
+from gicdesk.findings import Refused
 
 SCREEN = REPORTS / "region_screen.txt"
 DESK = TESTS.parent / "gicdesk"
@@ -83,6 +86,65 @@ class Single(DeskTest):
         told = [run.communicate(timeout=LONG)[1] for run in runs]
         self.assertEqual(sorted(run.returncode for run in runs), [0, 1, 1, 1], told)
         self.assertEqual(self.out.read_text(), self.done("csv", SCREEN))
+
+    @contextlib.contextmanager
+    def another_at_work(self) -> Iterator[None]:
+        """Within it a process of its own has the lock of the folder."""
+        words = "import fcntl, os, sys; fcntl.flock(os.open(sys.argv[1], os.O_RDONLY), fcntl.LOCK_EX); print(flush=True); input()"
+        other = subprocess.Popen(
+            [sys.executable, "-c", words, self.place], stdin=subprocess.PIPE, stdout=subprocess.PIPE, text=True
+        )
+        with other:
+            assert other.stdout is not None
+            other.stdout.readline()
+            yield
+            other.communicate("\n", timeout=LONG)
+
+    def test_nothing_is_written_while_another_command_is_at_work(self) -> None:
+        with self.another_at_work(), mock.patch.object(outputs, "LONGEST_WAIT", 0.1):
+            (line,) = self.refused(*self.words())
+            self.assertEqual(
+                line, f"{self.place}: another command writes in this folder, and doesn't end; run it again behind that"
+            )
+            with self.assertRaises(Refused), outputs.opened(outputs.Set(self.place, {"x": "x"}, False, False)):
+                self.fail("it has begun")
+        self.assertEqual(left(self.place), [])
+        self.done(*self.words())
+
+    def test_a_signal_ends_the_wait_for_another_command(self) -> None:
+        with self.another_at_work():
+            words = [sys.executable, "-B", DESK, *map(str, self.words())]
+            waiting = subprocess.Popen(words, stderr=subprocess.PIPE, text=True)
+            time.sleep(1)
+            self.assertIsNone(waiting.poll())
+            waiting.send_signal(signal.SIGTERM)
+            self.assertEqual(waiting.communicate(timeout=5)[1], "gicdesk: stopped\n")
+            self.assertEqual(waiting.returncode, 128 + signal.SIGTERM)
+        self.assertEqual(left(self.place), [])
+
+    def test_a_signal_just_before_the_end_leaves_nothing(self) -> None:
+        real = signal.pthread_sigmask
+        for number in range(1, 12):
+            with self.subTest(number):
+                count = 0
+
+                def mask(how: int, signals: Iterable[int]) -> object:
+                    nonlocal count
+                    before = real(how, signals)
+                    if how == signal.SIG_BLOCK and signals and threading.current_thread() is threading.main_thread():
+                        count += 1
+                        if count == number + 1:  # (the first is that of `taken`)
+                            stops.stop(signal.SIGTERM, None)
+                    return before
+
+                with mock.patch("signal.pthread_sigmask", mask):
+                    status, _, err = desk(*self.words())
+                if count <= number:
+                    self.assertEqual(status, 0)
+                    break
+                self.assertIn((status, err), ((143, "gicdesk: stopped\n"), (0, "")))
+                self.assertIn(left(self.place), ([], ["table.csv"]))
+                self.out.unlink(missing_ok=True)
 
     def test_where_there_are_no_links_nothing_is_overwritten_either(self) -> None:
         with mock.patch("os.link", side_effect=OSError(errno.EPERM, "Operation not permitted")):
@@ -471,10 +533,10 @@ class Tables(OutagesTest):
     def test_a_folder_that_comes_meanwhile_is_kept(self) -> None:
         real = outputs.locked
 
-        def come(folder: pathlib.Path) -> contextlib.AbstractContextManager[None]:
+        def come(folder: pathlib.Path, shown: str) -> contextlib.AbstractContextManager[None]:
             if list(folder.glob(".gicdesk.*")):
                 self.out.mkdir(exist_ok=True)
-            return real(folder)
+            return real(folder, shown)
 
         with mock.patch.object(outputs, "locked", come):
             (line,) = self.refused(*self.run_words())
@@ -573,6 +635,7 @@ class Whole(StudyTest):
         self.page()
         with failing("os.unlink", 4, KeyboardInterrupt()):
             self.assertEqual(desk(*self.words("--force"))[0], 130)
+        self.assertEqual(len(left(self.place)), 2)
         (scratch,) = self.place.glob(".gicdesk.*")
         self.assertNotEqual(left(scratch / "old"), [])
         self.assertEqual(desk("csv", SCREEN, f"--out={self.place / 't.csv'}"), (0, "", ""))

@@ -26,7 +26,7 @@ from .tell import tell
 SCRATCH = ".gicdesk."
 OWNER, PUBLISHING, NEW, OLD = "owner", "publishing", "new", "old"
 HEAD = b"gicdesk: the scratch of a command\n"
-LONGEST_WAIT = 5.0  # seconds for another command that publishes in the same folder
+LONGEST_WAIT = 30.0  # seconds for another command that publishes in the same folder
 MOMENT = 0.02
 IDENTITY = 4  # numbers that tell what a file or folder is: which one, and its size and time
 WHICH = 2  # so many of them tell which one
@@ -56,18 +56,23 @@ def is_there(target: pathlib.Path, new: Sequence[int] | None) -> bool:
 
 
 @contextlib.contextmanager
-def locked(folder: pathlib.Path) -> Iterator[None]:
-    """Keeps other commands from publishing in a folder, where the file system has locks."""
+def locked(folder: pathlib.Path, shown: str) -> Iterator[None]:
+    """Keeps other commands from publishing in a folder, where the file system has locks. Signals wait within it, but not
+    while it waits for another command itself; one that takes too long is told."""
     try:
         held = os.open(folder, os.O_RDONLY | os.O_CLOEXEC)
     except OSError:
-        yield
+        with stops.held():
+            yield
         return
     try:
         end = time.monotonic() + LONGEST_WAIT
-        while has_lock(held) is False and time.monotonic() < end:
+        while has_lock(held) is False:
+            if time.monotonic() > end:
+                raise refuse(shown, "another command writes in this folder, and doesn't end; run it again behind that")
             time.sleep(MOMENT)
-        yield
+        with stops.held():
+            yield
     finally:
         os.close(held)
 
@@ -125,7 +130,7 @@ class Set:
         """Makes the scratch with each target as an empty one in it."""
         shown = next(iter(self.targets.values()))
         try:
-            with stops.held(), locked(self.folder):
+            with locked(self.folder, shown):
                 self.made = pathlib.Path(tempfile.mkdtemp(prefix=SCRATCH, dir=self.folder))
                 self.owner = os.open(self.made / OWNER, os.O_RDWR | os.O_CREAT | os.O_EXCL | os.O_CLOEXEC, 0o600)
                 has_lock(self.owner)
@@ -147,7 +152,7 @@ class Set:
             for name, text in texts.items():
                 self.write(name, text)
             stops.look()
-            with stops.held(), locked(self.folder):
+            with locked(self.folder, shown):
                 new = {name: identity(self.scratch / NEW / name) for name in self.targets}
                 write_file(self.scratch / PUBLISHING, json.dumps(new).encode(), False)
                 try:
@@ -195,10 +200,13 @@ class Set:
     def end(self) -> None:
         """Takes the scratch away, and with it what gave way."""
         with stops.held():
-            if self.made is not None:
-                clear(self.made)
-            if self.owner is not None:
-                os.close(self.owner)
+            made, owner, self.made, self.owner = self.made, self.owner, None, None
+            try:
+                if made is not None:
+                    clear(made)
+            finally:
+                if owner is not None:
+                    os.close(owner)
 
 
 def write_file(path: pathlib.Path, data: bytes, is_synced: bool) -> None:
@@ -244,7 +252,7 @@ def take_back(
 def recover(folder: pathlib.Path) -> None:
     """Ends what commands that were ended amid their work have left in a folder, and tells what is put back."""
     if os.path.isdir(folder):
-        with stops.held(), locked(folder):
+        with locked(folder, str(folder)):
             recover_all(folder)
 
 
@@ -409,7 +417,11 @@ def opened(made: Set) -> Iterator[Set]:
         made.begin()
         yield made
     finally:
-        made.end()
+        try:
+            made.end()
+        except stops.Stopped:  # (just before it; no other one comes)
+            made.end()
+            raise
 
 
 def files_set(names: Sequence[str], force: bool, inputs: Iterable[str]) -> contextlib.AbstractContextManager[Set]:
