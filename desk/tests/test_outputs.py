@@ -80,6 +80,37 @@ class Single(DeskTest):
         self.assertEqual(line, f"{self.out}: {told}")
         self.assertEqual((left(self.place), self.out.read_text()), (["table.csv"], "mine"))
 
+    def test_by_force_one_that_comes_or_changes_meanwhile_is_kept(self) -> None:
+        for stood, told in (
+            (None, "it is there already, and wasn't when the command began; choose another name"),
+            ("earlier", "it is another thing than it was when the command began; look at it"),
+        ):
+            for is_new in (True, False):
+                with self.subTest(stood, is_new=is_new):
+                    self.out.unlink(missing_ok=True)
+                    if stood is not None:
+                        self.out.write_text(stood)
+                    with self.assertRaises(Refused) as refused, outputs.files_set([str(self.out)], True, []) as out:
+                        if is_new:
+                            self.out.unlink(missing_ok=True)
+                        self.out.write_text("mine, which is longer")
+                        out.publish({"table.csv": "new"})
+                    self.assertEqual(refused.exception.lines(), [f"{self.out}: {told}"])
+                    self.assertEqual(self.out.read_text(), "mine, which is longer")
+                    self.assertEqual(left(self.place), ["table.csv"])
+
+    def test_a_scratch_without_an_owner_is_taken_away_or_told(self) -> None:
+        empty, begun, other = (self.place / f".gicdesk.{name}" for name in ("abcd_123", "abcd_124", "abcd_125"))
+        for folder in (empty, begun, other):
+            folder.mkdir()
+        (begun / "owner").write_bytes(b"")
+        (other / "mine").write_text("mine")
+        status, _, err = desk(*self.words())
+        told = "it has the name of a command's scratch, and isn't one (Directory not empty); look at it"
+        self.assertEqual((status, err), (0, f"gicdesk: {other}: {told}\n"))
+        self.assertEqual(left(self.place), [other.name, "table.csv"])
+        self.assertEqual(left(other), ["mine"])
+
     def test_of_two_runs_at_once_one_is_done(self) -> None:
         words = [sys.executable, "-B", DESK, *self.words()]
         runs = [subprocess.Popen(words, stdout=subprocess.DEVNULL, stderr=subprocess.PIPE, text=True) for _ in range(4)]
@@ -533,7 +564,7 @@ class Tables(OutagesTest):
     def test_a_folder_that_comes_meanwhile_is_kept(self) -> None:
         real = outputs.locked
 
-        def come(folder: pathlib.Path, shown: str) -> contextlib.AbstractContextManager[None]:
+        def come(folder: pathlib.Path, shown: str) -> contextlib.AbstractContextManager[bool]:
             if list(folder.glob(".gicdesk.*")):
                 self.out.mkdir(exist_ok=True)
             return real(folder, shown)
@@ -607,6 +638,12 @@ class Whole(StudyTest):
                 ]
             ),
         )
+
+    def test_what_replaces_a_study_is_on_the_disk_before_that_goes(self) -> None:
+        with mock.patch("os.sync", side_effect=KeyboardInterrupt):
+            self.page()
+            self.assertEqual(desk(*self.words("--force"))[0], 130)
+        self.assertEqual(left(self.place), ["out"])
 
     def test_a_study_that_lost_a_file_gives_way(self) -> None:
         self.page()

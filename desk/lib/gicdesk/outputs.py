@@ -12,6 +12,7 @@ import fcntl
 import json
 import os
 import pathlib
+import re
 import shutil
 import stat
 import tempfile
@@ -24,6 +25,7 @@ from .findings import Finding, Refused, refuse
 from .tell import tell
 
 SCRATCH = ".gicdesk."
+SCRATCH_NAME = re.compile(r"\.gicdesk\.[a-z0-9_]{8}")  # as `mkdtemp` makes it
 OWNER, PUBLISHING, NEW, OLD = "owner", "publishing", "new", "old"
 HEAD = b"gicdesk: the scratch of a command\n"
 LONGEST_WAIT = 30.0  # seconds for another command that publishes in the same folder
@@ -56,23 +58,23 @@ def is_there(target: pathlib.Path, new: Sequence[int] | None) -> bool:
 
 
 @contextlib.contextmanager
-def locked(folder: pathlib.Path, shown: str) -> Iterator[None]:
-    """Keeps other commands from publishing in a folder, where the file system has locks. Signals wait within it, but not
-    while it waits for another command itself; one that takes too long is told."""
+def locked(folder: pathlib.Path, shown: str) -> Iterator[bool]:
+    """Keeps other commands from publishing in a folder, where the file system has locks, which is what it brings. Signals
+    wait within it, but not while it waits for another command itself; one that takes too long is told."""
     try:
         held = os.open(folder, os.O_RDONLY | os.O_CLOEXEC)
     except OSError:
         with stops.held():
-            yield
+            yield False
         return
     try:
         end = time.monotonic() + LONGEST_WAIT
-        while has_lock(held) is False:
+        while (is_locked := has_lock(held)) is False:
             if time.monotonic() > end:
                 raise refuse(shown, "another command writes in this folder, and doesn't end; run it again behind that")
             time.sleep(MOMENT)
         with stops.held():
-            yield
+            yield is_locked is True
     finally:
         os.close(held)
 
@@ -120,6 +122,7 @@ class Set:
         self.folder, self.targets, self.force, self.is_tree = folder, dict(targets), force, is_tree
         self.made: pathlib.Path | None = None
         self.owner: int | None = None
+        self.stood: dict[str, list[int] | None] = {}
 
     @property
     def scratch(self) -> pathlib.Path:
@@ -127,9 +130,11 @@ class Set:
         return self.made
 
     def begin(self) -> None:
-        """Makes the scratch with each target as an empty one in it."""
+        """Makes the scratch with each target as an empty one in it, and keeps what stands there, which alone may give
+        way."""
         shown = next(iter(self.targets.values()))
         try:
+            self.stood = {name: identity(self.folder / name) for name in self.targets}
             with locked(self.folder, shown):
                 self.made = pathlib.Path(tempfile.mkdtemp(prefix=SCRATCH, dir=self.folder))
                 self.owner = os.open(self.made / OWNER, os.O_RDWR | os.O_CREAT | os.O_EXCL | os.O_CLOEXEC, 0o600)
@@ -152,6 +157,8 @@ class Set:
             for name, text in texts.items():
                 self.write(name, text)
             stops.look()
+            if self.is_tree and any(self.stood.values()):
+                os.sync()  # (what replaces a study is on the disk before that goes)
             with locked(self.folder, shown):
                 new = {name: identity(self.scratch / NEW / name) for name in self.targets}
                 write_file(self.scratch / PUBLISHING, json.dumps(new).encode(), False)
@@ -180,12 +187,16 @@ class Set:
     def set_aside(self, name: str, shown: str) -> None:
         """Brings what gives way for a target into the scratch, where it is looked at once more."""
         target, old = self.folder / name, self.scratch / OLD / name
-        if not (self.force and os.path.lexists(target)):
+        stood = self.stood[name]
+        if not (self.force and stood is not None and os.path.lexists(target)):
             return
         os.rename(target, old)
         if self.is_tree and not old.is_symlink() and old.is_dir():
             earlier.refuse_other(old, shown)
-        elif self.is_tree or not stat.S_ISREG(os.lstat(old).st_mode):
+            is_other = not is_there(old, stood)
+        else:
+            is_other = self.is_tree or not stat.S_ISREG(os.lstat(old).st_mode) or identity(old) != stood
+        if is_other:
             raise refuse(shown, "it is another thing than it was when the command began; look at it")
 
     def place(self, name: str) -> None:
@@ -252,26 +263,41 @@ def take_back(
 def recover(folder: pathlib.Path) -> None:
     """Ends what commands that were ended amid their work have left in a folder, and tells what is put back."""
     if os.path.isdir(folder):
-        with locked(folder, str(folder)):
-            recover_all(folder)
+        with locked(folder, str(folder)) as is_alone:
+            recover_all(folder, is_alone)
 
 
-def recover_all(folder: pathlib.Path) -> None:
+def recover_all(folder: pathlib.Path, is_alone: bool) -> None:
     for scratch in sorted(folder.glob(f"{SCRATCH}*")):
         try:
             if not is_own(os.lstat(scratch), stat.S_ISDIR):
+                continue
+            if is_alone and SCRATCH_NAME.fullmatch(scratch.name) and not os.path.lexists(scratch / OWNER):
+                clear_unowned(scratch)
                 continue
             owner = os.open(scratch / OWNER, os.O_RDWR | os.O_CLOEXEC | os.O_NOFOLLOW | os.O_NONBLOCK)
         except OSError:
             continue
         try:
-            is_desks = is_own(os.fstat(owner), stat.S_ISREG) and os.pread(owner, len(HEAD), 0) == HEAD
-            if is_desks and has_lock(owner):
-                recover_one(scratch, folder)
+            if is_own(os.fstat(owner), stat.S_ISREG) and has_lock(owner):
+                head = os.pread(owner, len(HEAD), 0)
+                if head == HEAD:
+                    recover_one(scratch, folder)
+                elif head == b"" and is_alone and SCRATCH_NAME.fullmatch(scratch.name) and os.listdir(scratch) == [OWNER]:
+                    (scratch / OWNER).unlink()
+                    scratch.rmdir()
         except OSError as error:
             tell(f"{scratch}: it is left by a command that was ended, and can't be cleared ({error.strerror})")
         finally:
             os.close(owner)
+
+
+def clear_unowned(scratch: pathlib.Path) -> None:
+    """Takes away the scratch of a command that was ended as it had just made it, or had just cleared it."""
+    try:
+        scratch.rmdir()
+    except OSError as error:
+        tell(f"{scratch}: it has the name of a command's scratch, and isn't one ({error.strerror}); look at it")
 
 
 def is_own(found: os.stat_result, is_kind: Callable[[int], bool]) -> bool:
@@ -340,7 +366,8 @@ def clear(scratch: pathlib.Path) -> None:
             (scratch / OLD).rmdir()
         for name in (PUBLISHING, OWNER):
             (scratch / name).unlink(missing_ok=True)
-        scratch.rmdir()
+        with contextlib.suppress(FileNotFoundError):  # (without an owner the next command takes it away)
+            scratch.rmdir()
     except (OSError, Refused) as error:
         reason = error.strerror if isinstance(error, OSError) else error.lines()[0]
         tell(f"{scratch}: something of what gave way is left there ({reason}); look at it, and take it away")
