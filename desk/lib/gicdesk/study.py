@@ -16,7 +16,7 @@ from .forms import Interval
 from .inputs import Copies, Input
 from .network import Network, Place, laid_out, network_of, read_places
 from .outages import Asked, Outages, Result, Worst, worst_of
-from .program import Program, Run, commit_of, ending
+from .program import Program, Run, commit_of, ending, is_recorded
 from .progress import Progress
 from .questions import question_text
 from .reports import (
@@ -99,7 +99,6 @@ class Request:
         return self.case if given is None else given
 
 
-
 @dataclasses.dataclass(frozen=True)
 class Kept:
     """A run with its words as they can be given again, and its report where there is one."""
@@ -163,6 +162,7 @@ class Study:
     request: Request
     began: datetime.datetime
     commit: str | None
+    is_recorded: bool  # the program, in the record of a build
     program_checksum: str
     inputs: list[Input]
     kept: list[Kept]
@@ -515,6 +515,7 @@ def make_study(request: Request) -> Study:
         request=request,
         began=began,
         commit=commit,
+        is_recorded=is_recorded(request.program.checksum),
         program_checksum=request.program.checksum,
         inputs=list(inputs.values()),
         kept=runs.kept,
