@@ -395,6 +395,17 @@ class Pair(DeskTest):
         self.assertEqual(err, f"gicdesk: {self.place / 'made.toml'}: {told}\n")
         self.assertEqual(left(self.place), ["table.csv"])
 
+    def test_a_signal_while_they_come_to_their_places_waits(self) -> None:
+        real = os.link
+
+        def link(source: pathlib.Path, target: pathlib.Path, **words: bool) -> None:
+            os.kill(os.getpid(), signal.SIGTERM)
+            real(source, target, **words)
+
+        with mock.patch("os.link", link):
+            self.assertEqual(desk(*self.words())[0], 143)
+        self.assertEqual(left(self.place), ["made.names.csv", "made.toml"])
+
     def test_what_somebody_has_changed_since_a_command_was_killed_stays(self) -> None:
         made, table = self.place / "made.toml", self.place / "table.csv"
         for force in ((), ("--force",)):
@@ -677,6 +688,47 @@ class Whole(StudyTest):
         self.assertNotEqual(left(scratch / "old"), [])
         self.assertEqual(desk("csv", SCREEN, f"--out={self.place / 't.csv'}"), (0, "", ""))
         self.assertEqual(left(self.place), ["out", "t.csv"])
+
+    def test_what_comes_into_the_earlier_study_as_it_is_cleared_away_is_kept(self) -> None:
+        self.page()
+        real = os.rename
+
+        def rename(source: pathlib.Path, target: pathlib.Path) -> None:
+            real(source, target)
+            if pathlib.Path(target) == self.out:
+                ((scratch,),) = (list(self.place.glob(".gicdesk.*")),)
+                (scratch / "old" / "out" / "mine.txt").write_text("mine")
+
+        with mock.patch("os.rename", rename):
+            status, _, err = desk(*self.words("--force"))
+        self.assertEqual(status, 0)
+        (scratch,) = self.place.glob(".gicdesk.*")
+        self.assertIn(f"gicdesk: {scratch}: something of what gave way is left there", err)
+        self.assertEqual((scratch / "old" / "out" / "mine.txt").read_text(), "mine")
+
+    def test_a_study_that_was_killed_between_its_renames_is_put_back_by_the_next(self) -> None:
+        self.page()
+        before = self.tree()
+        process = os.fork()
+        if process == 0:
+            real, count = os.rename, 0
+
+            def die(source: pathlib.Path, target: pathlib.Path) -> None:
+                nonlocal count
+                count += 1
+                if count == 2:
+                    os.kill(os.getpid(), signal.SIGKILL)
+                real(source, target)
+
+            os.rename = die  # type: ignore[assignment]
+            desk(*self.words("--force"))
+            os._exit(0)
+        self.assertEqual(os.waitstatus_to_exitcode(os.waitpid(process, 0)[1]), -signal.SIGKILL)
+        self.assertFalse(self.out.exists())
+        status, _, err = desk(*self.words())
+        self.assertEqual(status, 1)
+        self.assertIn(f"gicdesk: {self.out}: a command was ended before all that it wrote was in its place", err)
+        self.assertEqual((self.tree(), left(self.place)), (before, ["out"]))
 
     def test_many_folders_one_in_another_are_told(self) -> None:
         self.page()
