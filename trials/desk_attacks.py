@@ -23,6 +23,7 @@ import shlex
 import shutil
 import signal
 import subprocess
+import sys
 import time
 from collections.abc import Callable, Iterator, Sequence
 
@@ -36,6 +37,30 @@ SLOW = 120.0  # seconds: no command takes so long
 SOON = 2.0  # seconds, in which a process that was killed is gone
 LARGEST = 60_000  # bytes that a disk has room for, where it is full sooner or later
 COMMANDS = ("csv", "psse", "outages", "study")
+# Runs a desk, and kills it before the call of a number, from 1; the count of the calls goes into a file.
+KILLER = """\
+import atexit, os, pathlib, runpy, signal, sys
+
+number, counted, count = int(sys.argv[1]), pathlib.Path(sys.argv[2]), 0
+atexit.register(lambda: counted.write_text(str(count)))
+
+
+def dying(real):
+    def call(*given, **named):
+        global count
+        count += 1
+        if count == number:
+            os.kill(os.getpid(), signal.SIGKILL)
+        return real(*given, **named)
+
+    return call
+
+
+for name in ("rename", "replace", "link", "unlink", "rmdir", "mkdir"):
+    setattr(os, name, dying(getattr(os, name)))
+sys.argv = sys.argv[3:]
+runpy.run_path(sys.argv[0], run_name="__main__")
+"""
 Tree = dict[str, str]  # the sums of files by their names; folders have the sum of nothing
 
 
@@ -341,32 +366,40 @@ def signals(trial: Trial) -> None:
 
 
 def killed(trial: Trial) -> None:
-    """The command is killed at a moment, and the next one finds what stood there or all of the new."""
+    """The command is killed before one of the calls that make, move and take away files, and the next one finds what stood
+    there or all of the new."""
     desk = trial.desk
+    killer, counted = desk.top / "killer.py", desk.top / "counted"
+    killer.write_text(KILLER)
+
+    def words(command: str, number: int) -> list[str]:
+        begin = [sys.executable, "-B", str(killer), str(number), str(counted)]
+        return [*begin, *desk.words(command, 2, desk.place / "out"), "--force"]
+
     for command in COMMANDS:
         whole = [expected(desk, command, number) for number in (1, 2)]
-        begun = time.monotonic()
-        expected(desk, command, 2)
-        length = time.monotonic() - begun
+        trial.earlier(command)
+        ran = desk.run(words(command, 0))
+        if ran.status != 0:
+            raise SystemExit(f"{command} under {killer.name}: status {ran.status}, {ran.told}")
+        calls = int(counted.read_text())
         for _ in trial.times():
             before = trial.earlier(command)
-            process = desk.start([*desk.words(command, 2, desk.place / "out"), "--force"])
-            time.sleep(length * trial.draw.uniform(0.3, 1.1))
-            process.kill()
-            ended(process)
-            for number in marked(str(desk.top)):
+            number = trial.draw.randint(1, calls)
+            first = ended(desk.start(words(command, number)))
+            for process in marked(str(desk.top)):
                 with contextlib.suppress(OSError):
-                    os.kill(number, signal.SIGKILL)
+                    os.kill(process, signal.SIGKILL)
             shutil.rmtree(desk.passing)
             desk.passing.mkdir()
-            ran = desk.run(desk.words("csv", 1, desk.place / "next"))
-            (desk.place / "next").unlink(missing_ok=True)
-            if command in ("outages",):
+            what = f"{command} killed before the call {number} of {calls}, status {first.status}"
+            if command == "outages":
                 # (its scratch lies in the folder, where the next command with the same output looks)
-                desk.run([*desk.words(command, 1, desk.place / "out"), "--force"])
-                trial.look(f"{command} killed, and again", ran, [whole[0]], (0,))
+                ran, statuses = desk.run(desk.words(command, 1, desk.place / "out")), (1,)
             else:
-                trial.look(f"{command} killed", ran, [before, whole[1]], (0,))
+                ran, statuses = desk.run(desk.words("csv", 1, desk.place / "next")), (0,)
+                (desk.place / "next").unlink(missing_ok=True)
+            trial.look(what, ran, [before, whole[1]], statuses)
 
 
 def folders(trial: Trial) -> None:
