@@ -162,7 +162,6 @@ class Study:
     request: Request
     began: datetime.datetime
     commit: str | None
-    is_recorded: bool  # the program, in the record of a build
     program_checksum: str
     inputs: list[Input]
     kept: list[Kept]
@@ -179,6 +178,7 @@ class Study:
     parts: int  # of the network that were set beside the others on the map
     storm: Storm | None
     losses: Losses | None
+    is_recorded: bool = False  # the program, in the record of a build
 
     @property
     def has_storm_report(self) -> bool:
