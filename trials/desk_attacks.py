@@ -61,6 +61,7 @@ for name in ("rename", "replace", "link", "unlink", "rmdir", "mkdir"):
 sys.argv = sys.argv[3:]
 runpy.run_path(sys.argv[0], run_name="__main__")
 """
+DATE = re.compile(rb"<td>[0-9]{2} [A-Z][a-z]+ [0-9]{4}, [0-9:]{5} [+-][0-9]{4}</td>")
 Tree = dict[str, str]  # the sums of files by their names; folders have the sum of nothing
 
 
@@ -160,18 +161,39 @@ def marked(mark: str) -> list[int]:
     return found
 
 
+def sum_of(data: bytes) -> str:
+    return hashlib.sha256(data).hexdigest()
+
+
 def tree_of(place: pathlib.Path) -> Tree:
-    """What lies in a folder, without what is different in each run: the page tells its time and its own words."""
+    """What lies in a folder, without what is different in each run: the page tells its time, and files of sums have its
+    sum, which `unsummed` looks at."""
     found = {}
     for path in sorted(place.rglob("*")):
         name = str(path.relative_to(place))
-        if path.name in ("study.html", "checksums.txt", ".gicdesk"):
+        if path.name in ("checksums.txt", ".gicdesk"):
             found[name] = "there"
         elif path.is_file() and not path.is_symlink():
-            found[name] = hashlib.sha256(path.read_bytes()).hexdigest()
+            data = path.read_bytes()
+            found[name] = sum_of(DATE.sub(b"", data, count=1) if path.name == "study.html" else data)
         else:
             found[name] = "a link" if path.is_symlink() else "a folder"
     return found
+
+
+def unsummed(place: pathlib.Path) -> list[str]:
+    """The files of the studies in a folder that don't have the sums that a study has of them."""
+    wrong = []
+    for sums in place.rglob("checksums.txt"):
+        study = sums.parent
+        lines = [line.partition("  ") for line in sums.read_text().splitlines()]
+        told = {study / name: digest for digest, _, name in lines}
+        there = {path for path in study.rglob("*") if path.is_file()} - {sums, study / ".gicdesk"}
+        wrong += [str(path) for path in there | set(told) if path not in there or told.get(path) != sum_of(path.read_bytes())]
+        marker = study / ".gicdesk"
+        if not marker.is_file() or sum_of(sums.read_bytes()) not in marker.read_text():
+            wrong.append(str(marker))
+    return sorted(wrong)
 
 
 def furnish(desk: Desk) -> None:
@@ -217,14 +239,16 @@ class Trial:
             self.made += 1
             yield number
 
-    def look(self, what: str, ran: Ran, allowed: Sequence[Tree], statuses: Sequence[int], may_tell: bool = True) -> None:
-        """Looks at what is there behind an attack."""
+    def look(
+        self, what: str, ran: Ran, allowed: Sequence[Tree], statuses: Sequence[int], are_summed: bool = True
+    ) -> None:
+        """Looks at what is there behind an attack, and at the sums of a study in it, where they are to hold."""
         if "Traceback" in ran.told or "Exception ignored" in ran.told:
             self.faults.add(what, "a traceback:", ran.told)
         if ran.status not in statuses:
             self.faults.add(what, f"status {ran.status}:", ran.told)
-        if not may_tell and ran.told:
-            self.faults.add(what, "it told:", ran.told)
+        if are_summed and (wrong := unsummed(self.desk.place)):
+            self.faults.add(what, "it hasn't the sums that are told:", wrong)
         hidden = self.desk.hidden()
         if hidden:
             self.faults.add(what, "there is left:", hidden)
@@ -422,7 +446,7 @@ def folders(trial: Trial) -> None:
         trial.draw.choice(makers)(desk.place / "out")
         before = tree_of(desk.place)
         ran = desk.run([*desk.words("study", 2, desk.place / "out"), "--force"])
-        trial.look("study over a folder that isn't all its own", ran, [before], (1,))
+        trial.look("study over a folder that isn't all its own", ran, [before], (1,), are_summed=False)
 
 
 def of_somebody_else(place: pathlib.Path) -> None:
@@ -430,7 +454,7 @@ def of_somebody_else(place: pathlib.Path) -> None:
     shutil.rmtree(place)
     place.mkdir()
     (place / "thesis.tex").write_text("years of work")
-    (place / "checksums.txt").write_text(f"{hashlib.sha256(b'years of work').hexdigest()}  thesis.tex\n")
+    (place / "checksums.txt").write_text(f"{sum_of(b'years of work')}  thesis.tex\n")
 
 
 def unwritable(trial: Trial) -> None:
