@@ -618,7 +618,8 @@ class Whole(StudyTest):
         (self.out / "checksums.txt").write_text(f"{earlier.sum_of(b'years of work')}  thesis.tex\n")
         (line,) = self.force()
         other = "choose another name"
-        self.assertEqual(line, f": it has no .gicdesk, so it is no earlier study, and --force doesn't replace it; {other}")
+        told = "so it is no earlier study, or one of an earlier desk, and --force doesn't replace it"
+        self.assertEqual(line, f": it has no .gicdesk, {told}; {other}")
         (self.out / ".gicdesk").write_text("a study of gicdesk\n")
         (line,) = self.force()
         self.assertEqual(line, f": its .gicdesk isn't that of its checksums.txt, so --force doesn't replace it; {other}")

@@ -51,8 +51,8 @@ def sums_of(folder: pathlib.Path, shown: str) -> dict[str, str]:
             is_plain = stat.S_ISREG(os.lstat(folder / name).st_mode)
             read[name] = (folder / name).read_bytes() if is_plain else b""
         except FileNotFoundError:
-            words = f"it has no {name}, so it is no earlier study, and --force doesn't replace it; choose another name"
-            raise refuse(shown, words) from None
+            words = f"it has no {name}, so it is no earlier study, or one of an earlier desk, and --force doesn't replace it"
+            raise refuse(shown, f"{words}; choose another name") from None
     if read[MARKER] != marker_text(read[SUMS]).encode():
         words = f"its {MARKER} isn't that of its {SUMS}, so --force doesn't replace it; choose another name"
         raise refuse(shown, words)
