@@ -40,7 +40,7 @@ def left(folder: pathlib.Path) -> list[str]:
 
 
 @contextlib.contextmanager
-def failing(name: str, number: int, error: Exception = FULL) -> Iterator[None]:
+def failing(name: str, number: int, error: BaseException = FULL) -> Iterator[None]:
     """Within it the call of this name that has this number fails, from 1."""
     module, _, function = name.rpartition(".")
     real: Callable[..., object] = getattr(sys.modules[module], function)

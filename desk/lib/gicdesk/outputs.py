@@ -238,7 +238,7 @@ def take_back(
     back: list[str] = []
     away: list[str] = []
     is_whole = True
-    for name in reversed(new):
+    for name in reversed(list(new)):
         target, old = folder / name, scratch / OLD / name
         if new[name] is not None and identity(target) == new[name]:
             with contextlib.suppress(FileNotFoundError):
