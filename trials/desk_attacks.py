@@ -23,6 +23,7 @@ import shlex
 import shutil
 import signal
 import subprocess
+import sys
 import time
 from collections.abc import Callable, Iterator, Sequence
 
@@ -36,6 +37,31 @@ SLOW = 120.0  # seconds: no command takes so long
 SOON = 2.0  # seconds, in which a process that was killed is gone
 LARGEST = 60_000  # bytes that a disk has room for, where it is full sooner or later
 COMMANDS = ("csv", "psse", "outages", "study")
+# Runs a desk, and kills it before the call of a number, from 1; the count of the calls goes into a file.
+KILLER = """\
+import atexit, os, pathlib, runpy, signal, sys
+
+number, counted, count = int(sys.argv[1]), pathlib.Path(sys.argv[2]), 0
+atexit.register(lambda: counted.write_text(str(count)))
+
+
+def dying(real):
+    def call(*given, **named):
+        global count
+        count += 1
+        if count == number:
+            os.kill(os.getpid(), signal.SIGKILL)
+        return real(*given, **named)
+
+    return call
+
+
+for name in ("rename", "replace", "link", "unlink", "rmdir", "mkdir"):
+    setattr(os, name, dying(getattr(os, name)))
+sys.argv = sys.argv[3:]
+runpy.run_path(sys.argv[0], run_name="__main__")
+"""
+DATE = re.compile(rb"<td>[0-9]{2} [A-Z][a-z]+ [0-9]{4}, [0-9:]{5} [+-][0-9]{4}</td>")
 Tree = dict[str, str]  # the sums of files by their names; folders have the sum of nothing
 
 
@@ -135,18 +161,39 @@ def marked(mark: str) -> list[int]:
     return found
 
 
+def sum_of(data: bytes) -> str:
+    return hashlib.sha256(data).hexdigest()
+
+
 def tree_of(place: pathlib.Path) -> Tree:
-    """What lies in a folder, without what is different in each run: the page tells its time and its own words."""
+    """What lies in a folder, without what is different in each run: the page tells its time, and files of sums have its
+    sum, which `unsummed` looks at."""
     found = {}
     for path in sorted(place.rglob("*")):
         name = str(path.relative_to(place))
-        if path.name in ("study.html", "checksums.txt", ".gicdesk"):
+        if path.name in ("checksums.txt", ".gicdesk"):
             found[name] = "there"
         elif path.is_file() and not path.is_symlink():
-            found[name] = hashlib.sha256(path.read_bytes()).hexdigest()
+            data = path.read_bytes()
+            found[name] = sum_of(DATE.sub(b"", data, count=1) if path.name == "study.html" else data)
         else:
             found[name] = "a link" if path.is_symlink() else "a folder"
     return found
+
+
+def unsummed(place: pathlib.Path) -> list[str]:
+    """The files of the studies in a folder that don't have the sums that a study has of them."""
+    wrong = []
+    for sums in place.rglob("checksums.txt"):
+        study = sums.parent
+        lines = [line.partition("  ") for line in sums.read_text().splitlines()]
+        told = {study / name: digest for digest, _, name in lines}
+        there = {path for path in study.rglob("*") if path.is_file()} - {sums, study / ".gicdesk"}
+        wrong += [str(path) for path in there | set(told) if path not in there or told.get(path) != sum_of(path.read_bytes())]
+        marker = study / ".gicdesk"
+        if not marker.is_file() or sum_of(sums.read_bytes()) not in marker.read_text():
+            wrong.append(str(marker))
+    return sorted(wrong)
 
 
 def furnish(desk: Desk) -> None:
@@ -192,14 +239,16 @@ class Trial:
             self.made += 1
             yield number
 
-    def look(self, what: str, ran: Ran, allowed: Sequence[Tree], statuses: Sequence[int], may_tell: bool = True) -> None:
-        """Looks at what is there behind an attack."""
+    def look(
+        self, what: str, ran: Ran, allowed: Sequence[Tree], statuses: Sequence[int], are_summed: bool = True
+    ) -> None:
+        """Looks at what is there behind an attack, and at the sums of a study in it, where they are to hold."""
         if "Traceback" in ran.told or "Exception ignored" in ran.told:
             self.faults.add(what, "a traceback:", ran.told)
         if ran.status not in statuses:
             self.faults.add(what, f"status {ran.status}:", ran.told)
-        if not may_tell and ran.told:
-            self.faults.add(what, "it told:", ran.told)
+        if are_summed and (wrong := unsummed(self.desk.place)):
+            self.faults.add(what, "it hasn't the sums that are told:", wrong)
         hidden = self.desk.hidden()
         if hidden:
             self.faults.add(what, "there is left:", hidden)
@@ -341,32 +390,40 @@ def signals(trial: Trial) -> None:
 
 
 def killed(trial: Trial) -> None:
-    """The command is killed at a moment, and the next one finds what stood there or all of the new."""
+    """The command is killed before one of the calls that make, move and take away files, and the next one finds what stood
+    there or all of the new."""
     desk = trial.desk
+    killer, counted = desk.top / "killer.py", desk.top / "counted"
+    killer.write_text(KILLER)
+
+    def words(command: str, number: int) -> list[str]:
+        begin = [sys.executable, "-B", str(killer), str(number), str(counted)]
+        return [*begin, *desk.words(command, 2, desk.place / "out"), "--force"]
+
     for command in COMMANDS:
         whole = [expected(desk, command, number) for number in (1, 2)]
-        begun = time.monotonic()
-        expected(desk, command, 2)
-        length = time.monotonic() - begun
+        trial.earlier(command)
+        ran = desk.run(words(command, 0))
+        if ran.status != 0:
+            raise SystemExit(f"{command} under {killer.name}: status {ran.status}, {ran.told}")
+        calls = int(counted.read_text())
         for _ in trial.times():
             before = trial.earlier(command)
-            process = desk.start([*desk.words(command, 2, desk.place / "out"), "--force"])
-            time.sleep(length * trial.draw.uniform(0.3, 1.1))
-            process.kill()
-            ended(process)
-            for number in marked(str(desk.top)):
+            number = trial.draw.randint(1, calls)
+            first = ended(desk.start(words(command, number)))
+            for process in marked(str(desk.top)):
                 with contextlib.suppress(OSError):
-                    os.kill(number, signal.SIGKILL)
+                    os.kill(process, signal.SIGKILL)
             shutil.rmtree(desk.passing)
             desk.passing.mkdir()
-            ran = desk.run(desk.words("csv", 1, desk.place / "next"))
-            (desk.place / "next").unlink(missing_ok=True)
-            if command in ("outages",):
+            what = f"{command} killed before the call {number} of {calls}, status {first.status}"
+            if command == "outages":
                 # (its scratch lies in the folder, where the next command with the same output looks)
-                desk.run([*desk.words(command, 1, desk.place / "out"), "--force"])
-                trial.look(f"{command} killed, and again", ran, [whole[0]], (0,))
+                ran, statuses = desk.run(desk.words(command, 1, desk.place / "out")), (1,)
             else:
-                trial.look(f"{command} killed", ran, [before, whole[1]], (0,))
+                ran, statuses = desk.run(desk.words("csv", 1, desk.place / "next")), (0,)
+                (desk.place / "next").unlink(missing_ok=True)
+            trial.look(what, ran, [before, whole[1]], statuses)
 
 
 def folders(trial: Trial) -> None:
@@ -389,7 +446,7 @@ def folders(trial: Trial) -> None:
         trial.draw.choice(makers)(desk.place / "out")
         before = tree_of(desk.place)
         ran = desk.run([*desk.words("study", 2, desk.place / "out"), "--force"])
-        trial.look("study over a folder that isn't all its own", ran, [before], (1,))
+        trial.look("study over a folder that isn't all its own", ran, [before], (1,), are_summed=False)
 
 
 def of_somebody_else(place: pathlib.Path) -> None:
@@ -397,7 +454,7 @@ def of_somebody_else(place: pathlib.Path) -> None:
     shutil.rmtree(place)
     place.mkdir()
     (place / "thesis.tex").write_text("years of work")
-    (place / "checksums.txt").write_text(f"{hashlib.sha256(b'years of work').hexdigest()}  thesis.tex\n")
+    (place / "checksums.txt").write_text(f"{sum_of(b'years of work')}  thesis.tex\n")
 
 
 def unwritable(trial: Trial) -> None:

@@ -52,6 +52,29 @@ class Look(unittest.TestCase):
         (self.desk.passing / "gicdesk.x").mkdir()
         self.assertEqual(self.faults(Ran(0, ""), {}), 1)
 
+    def test_the_page_and_the_sums_of_a_study_are_looked_at(self) -> None:
+        page, sums, marker = (self.desk.place / name for name in ("study.html", "checksums.txt", ".gicdesk"))
+        sums_line = "{}  out\n{}  study.html\n"
+
+        def write(text: bytes) -> None:
+            page.write_bytes(text)
+            sums.write_text(sums_line.format(desk_attacks.sum_of(b"whole"), desk_attacks.sum_of(text)))
+            marker.write_text(f"a study of gicdesk\n{desk_attacks.sum_of(sums.read_bytes())}  checksums.txt\n")
+
+        write(b"<td>01 December 2026, 06:49 +0000</td> 5 A")
+        before = tree_of(self.desk.place)
+        self.assertEqual(desk_attacks.unsummed(self.desk.place), [])
+        write(b"<td>02 December 2026, 06:50 +0100</td> 5 A")
+        self.assertEqual((desk_attacks.unsummed(self.desk.place), tree_of(self.desk.place)), ([], before))
+        write(b"<td>02 December 2026, 06:50 +0100</td> 6 A")
+        self.assertNotEqual(tree_of(self.desk.place), before)
+        page.write_bytes(b"<td>01 December 2026, 06:49 +0000</td> 5 A")
+        self.assertEqual(desk_attacks.unsummed(self.desk.place), [str(page)])
+        (self.desk.place / "more").write_text("")
+        self.assertEqual(desk_attacks.unsummed(self.desk.place), [str(self.desk.place / "more"), str(page)])
+        sums.write_text("")
+        self.assertIn(str(marker), desk_attacks.unsummed(self.desk.place))
+
     def test_a_process_that_goes_on_is(self) -> None:
         desk_attacks.SOON = 0.1
         process = subprocess.Popen(["sleep", "60"], env=os.environ | {MARK: str(self.desk.top)})

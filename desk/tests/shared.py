@@ -57,9 +57,10 @@ class DeskTest(unittest.TestCase):
         self.addCleanup(scratch.cleanup)
         self.folder = pathlib.Path(scratch.name)
         # (a disk at work takes seconds for it)
-        synced = mock.patch("os.fsync")
-        synced.start()
-        self.addCleanup(synced.stop)
+        for name in ("os.fsync", "os.sync"):
+            synced = mock.patch(name)
+            synced.start()
+            self.addCleanup(synced.stop)
 
     def file(self, name: str, text: str | bytes) -> pathlib.Path:
         """A file of the folder with this text."""

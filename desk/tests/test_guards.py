@@ -12,6 +12,7 @@ from test_outages import HEADS
 from test_psse import GIC, RAW, ZONES
 from test_study import STORM, StudyTest
 
+from gicdesk.events import name_fault
 from gicdesk.findings import Finding, visible
 from gicdesk.study_files import shell_word
 from gicdesk.tables import Table, guarded
@@ -40,6 +41,13 @@ class Cells(unittest.TestCase):
         table = Table(["name"], [[cell] for cell in (*PLAIN, *FORMULAS)])
         self.assertEqual([row for [row] in rows(table.csv())[2:]], [*PLAIN[1:], *(f"'{cell}" for cell in FORMULAS)])
 
+    def test_a_formula_behind_another_separator_has_none_before_it(self) -> None:
+        for cell, shown in (
+            ("N;=1+1", "N\\x3b=1+1"), ("A,=1+1", "A\\x2c=1+1"), ("A; @x", "A\\x3b @x"), ("a;-b,+c", "a\\x3b-b\\x2c+c"),
+            ("=1;=2", "'=1\\x3b=2"), ("a; b", "a; b"), ("a,b;", "a,b;"), ("a;;\uff1d1", "a;\\x3b\uff1d1"),
+        ):  # fmt: skip
+            self.assertEqual(guarded(cell), shown)
+
     def test_letters_without_a_shape_are_seen(self) -> None:
         for cell, shown in (
             ("a\nb", "a\\x0ab"), ("a\r\n=1", "a\\x0d\\x0a=1"), ("\t=1+1", "'\\x09=1+1"), ("a\x1b[2Jb", "a\\x1b[2Jb"),
@@ -47,6 +55,13 @@ class Cells(unittest.TestCase):
         ):  # fmt: skip
             self.assertEqual(guarded(cell), shown)
             self.assertNotIn("\n", visible(cell))
+
+    def test_a_name_of_an_event_has_no_formula_behind_a_separator(self) -> None:
+        for name in ("x;=1+1", "A,=1+1", "A, @x"):
+            told = f'"{name}" has a formula behind a separator, to some spreadsheets; write it without that'
+            self.assertEqual(name_fault(name), told)
+        for name in ("x; y", "a,b", "a=b"):
+            self.assertIsNone(name_fault(name))
 
     def test_a_finding_is_one_line(self) -> None:
         self.assertEqual(str(Finding("a\nb.csv", "it \x1b[31m", 5)), "a\\x0ab.csv line 5: it \\x1b[31m")

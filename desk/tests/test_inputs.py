@@ -15,7 +15,7 @@ from test_study import CASE, STORM, StudyTest
 from gicdesk import files, program
 from gicdesk.findings import Refused
 from gicdesk.inputs import copied, scratch
-from gicdesk.program import commit_of, find_program, taken_program
+from gicdesk.program import commit_of, find_program, is_recorded, taken_program
 
 # A program that changes the file CHANGED for others, and itself takes the text of the case into account: with another text
 # each current is 0.
@@ -173,11 +173,13 @@ class Programs(DeskTest):
         self.assertIsNone(commit_of(self.sum), "another source")
         (top / "source").unlink()
         self.assertIsNone(commit_of(self.sum), "no source")
+        self.assertEqual((is_recorded(self.sum), is_recorded("0" * 64)), (True, False))
         (top / "source").write_text("source")
         program.RECORD.write_bytes(b"\xff")
         self.assertIsNone(commit_of(self.sum), "a record that is none")
         program.RECORD.unlink()
         self.assertIsNone(commit_of(self.sum), "no record")
+        self.assertFalse(is_recorded(self.sum))
 
     def test_where_there_is_no_proved_program_it_is_told_how_to_prove_one(self) -> None:
         script = self.file("gicstudy", '#!/bin/sh\n[ "$1" = --proved ] && exit 1\n')

@@ -254,6 +254,19 @@ class Page(StudyTest):
         self.assertIn("stays open by -1.5 km to the north and 0.02 km to the east", asked)
         self.assertIn("question: B has no ground", self.shown)
 
+    def test_meridians_explain_a_gap_to_the_east_alone(self) -> None:
+        for gap, is_told in (((0, 7600), True), ((-2000, -9000), True), ((2001, 9000), False), ((-9000, 0), False)):
+            text = questions.question_text(Question("closure", "K", gap=gap))
+            self.assertIn("has one of its lines a wrong span, or is a bus at another substation?", text)
+            self.assertEqual("don't close to the east either, since meridians converge" in text, is_told, gap)
+
+    def test_a_record_without_a_commit_is_not_told_as_none(self) -> None:
+        with mock.patch("gicdesk.study.is_recorded", return_value=True):
+            page = self.page()
+        self.assertIn("a record of a build is known of the program with the sum below", self.text_of("asked", page))
+        self.assertIn("though there is a record of a build with its sum", self.text_of("made", page))
+        self.assertNotIn("there is no record of a build", page)
+
     def test_which_units_must_be_assessed(self) -> None:
         # The verdicts of TA and TB in the whole network, of TB in the outages and in the event, and the answer.
         below, perhaps = "60000 60002 below", "74999 75001 undecided"

@@ -7,7 +7,7 @@ from .findings import Finding, Hints, Refused, shown
 from .forms import NAME
 from .records import read_table
 from .storms import records
-from .tables import is_formula
+from .tables import has_formula, is_formula
 
 HEADS = ["event", "item", "action"]
 SWITCHINGS = ["time", "item", "action"]  # the heads of a file of switchings
@@ -63,6 +63,8 @@ def name_fault(name: str) -> str | None:
         return f"{shown(name)} is no name; allowed are 1 to {LONGEST_EVENT_NAME} printable letters"
     if is_formula(name):
         return f"{shown(name)} is a formula to a spreadsheet; begin it with another letter"
+    if has_formula(name):
+        return f"{shown(name)} has a formula behind a separator, to some spreadsheets; write it without that"
     return None
 
 

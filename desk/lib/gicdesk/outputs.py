@@ -12,11 +12,12 @@ import fcntl
 import json
 import os
 import pathlib
+import re
 import shutil
 import stat
 import tempfile
 import time
-from collections.abc import Iterable, Iterator, Mapping, Sequence
+from collections.abc import Callable, Iterable, Iterator, Mapping, Sequence
 
 from . import earlier, stops
 from .files import bytes_of
@@ -24,10 +25,13 @@ from .findings import Finding, Refused, refuse
 from .tell import tell
 
 SCRATCH = ".gicdesk."
+SCRATCH_NAME = re.compile(r"\.gicdesk\.[a-z0-9_]{8}")  # as `mkdtemp` makes it
 OWNER, PUBLISHING, NEW, OLD = "owner", "publishing", "new", "old"
 HEAD = b"gicdesk: the scratch of a command\n"
-LONGEST_WAIT = 5.0  # seconds for another command that publishes in the same folder
+LONGEST_WAIT = 30.0  # seconds for another command that publishes in the same folder
 MOMENT = 0.02
+IDENTITY = 4  # numbers that tell what a file or folder is: which one, and its size and time
+WHICH = 2  # so many of them tell which one
 NO_LINKS = (errno.EPERM, errno.EOPNOTSUPP, errno.ENOSYS, errno.EMLINK)
 
 Text = str | bytes
@@ -38,27 +42,39 @@ def unwritten(error: OSError) -> str:
 
 
 def identity(path: pathlib.Path) -> list[int] | None:
-    """Which file or folder a path leads to, without following a link; None where there is none."""
+    """Which file or folder a path leads to, without following a link, and its size and time, which another name or place
+    doesn't change; None where there is none."""
     try:
         found = os.lstat(path)
     except OSError:
         return None
-    return [found.st_dev, found.st_ino]
+    return [found.st_dev, found.st_ino, found.st_size, found.st_mtime_ns]
+
+
+def is_there(target: pathlib.Path, new: Sequence[int] | None) -> bool:
+    """Whether a target is the new file or folder, changed meanwhile or not."""
+    there = identity(target)
+    return there is not None and new is not None and there[:WHICH] == new[:WHICH]
 
 
 @contextlib.contextmanager
-def locked(folder: pathlib.Path) -> Iterator[None]:
-    """Keeps other commands from publishing in a folder, where the file system has locks."""
+def locked(folder: pathlib.Path, shown: str) -> Iterator[bool]:
+    """Keeps other commands from publishing in a folder, where the file system has locks, which is what it brings. Signals
+    wait within it, but not while it waits for another command itself; one that takes too long is told."""
     try:
         held = os.open(folder, os.O_RDONLY | os.O_CLOEXEC)
     except OSError:
-        yield
+        with stops.held():
+            yield False
         return
     try:
         end = time.monotonic() + LONGEST_WAIT
-        while has_lock(held) is False and time.monotonic() < end:
+        while (is_locked := has_lock(held)) is False:
+            if time.monotonic() > end:
+                raise refuse(shown, "another command writes in this folder, and doesn't end; run it again behind that")
             time.sleep(MOMENT)
-        yield
+        with stops.held():
+            yield is_locked is True
     finally:
         os.close(held)
 
@@ -83,7 +99,20 @@ def link_new(source: pathlib.Path, target: pathlib.Path) -> None:
             raise
         # Where there are no links a new name is taken first, and then the file moved there.
         os.close(os.open(target, os.O_CREAT | os.O_EXCL | os.O_WRONLY))
-        os.replace(source, target)
+        try:
+            os.replace(source, target)
+        except BaseException:
+            target.unlink()
+            raise
+
+
+def is_placeholder(source: pathlib.Path, target: pathlib.Path) -> bool:
+    """Whether a target is the empty file that a command was killed behind, where there are no links."""
+    try:
+        found, new = os.lstat(target), os.lstat(source)
+    except OSError:
+        return False
+    return is_own(found, stat.S_ISREG) and found.st_size == 0 and stat.S_ISREG(new.st_mode) and new.st_nlink == 1
 
 
 class Set:
@@ -93,6 +122,7 @@ class Set:
         self.folder, self.targets, self.force, self.is_tree = folder, dict(targets), force, is_tree
         self.made: pathlib.Path | None = None
         self.owner: int | None = None
+        self.stood: dict[str, list[int] | None] = {}
 
     @property
     def scratch(self) -> pathlib.Path:
@@ -100,10 +130,12 @@ class Set:
         return self.made
 
     def begin(self) -> None:
-        """Makes the scratch with each target as an empty one in it."""
+        """Makes the scratch with each target as an empty one in it, and keeps what stands there, which alone may give
+        way."""
         shown = next(iter(self.targets.values()))
         try:
-            with stops.held(), locked(self.folder):
+            self.stood = {name: identity(self.folder / name) for name in self.targets}
+            with locked(self.folder, shown):
                 self.made = pathlib.Path(tempfile.mkdtemp(prefix=SCRATCH, dir=self.folder))
                 self.owner = os.open(self.made / OWNER, os.O_RDWR | os.O_CREAT | os.O_EXCL | os.O_CLOEXEC, 0o600)
                 has_lock(self.owner)
@@ -125,7 +157,9 @@ class Set:
             for name, text in texts.items():
                 self.write(name, text)
             stops.look()
-            with stops.held(), locked(self.folder):
+            if self.is_tree and any(self.stood.values()):
+                os.sync()  # (what replaces a study is on the disk before that goes)
+            with locked(self.folder, shown):
                 new = {name: identity(self.scratch / NEW / name) for name in self.targets}
                 write_file(self.scratch / PUBLISHING, json.dumps(new).encode(), False)
                 try:
@@ -153,12 +187,16 @@ class Set:
     def set_aside(self, name: str, shown: str) -> None:
         """Brings what gives way for a target into the scratch, where it is looked at once more."""
         target, old = self.folder / name, self.scratch / OLD / name
-        if not (self.force and os.path.lexists(target)):
+        stood = self.stood[name]
+        if not (self.force and stood is not None and os.path.lexists(target)):
             return
         os.rename(target, old)
         if self.is_tree and not old.is_symlink() and old.is_dir():
             earlier.refuse_other(old, shown)
-        elif self.is_tree or not stat.S_ISREG(os.lstat(old).st_mode):
+            is_other = not is_there(old, stood)
+        else:
+            is_other = self.is_tree or not stat.S_ISREG(os.lstat(old).st_mode) or identity(old) != stood
+        if is_other:
             raise refuse(shown, "it is another thing than it was when the command began; look at it")
 
     def place(self, name: str) -> None:
@@ -173,10 +211,13 @@ class Set:
     def end(self) -> None:
         """Takes the scratch away, and with it what gave way."""
         with stops.held():
-            if self.made is not None:
-                clear(self.made)
-            if self.owner is not None:
-                os.close(self.owner)
+            made, owner, self.made, self.owner = self.made, self.owner, None, None
+            try:
+                if made is not None:
+                    clear(made)
+            finally:
+                if owner is not None:
+                    os.close(owner)
 
 
 def write_file(path: pathlib.Path, data: bytes, is_synced: bool) -> None:
@@ -188,17 +229,25 @@ def write_file(path: pathlib.Path, data: bytes, is_synced: bool) -> None:
             os.fsync(file.fileno())
 
 
-def take_back(scratch: pathlib.Path, folder: pathlib.Path, new: Mapping[str, list[int] | None]) -> list[str]:
-    """Takes new targets away again, and puts back what gave way for them; the answer are the names of that. What somebody
-    else has put in a target's place stays, and so does what gave way, in the scratch, which is told."""
-    back = []
+def take_back(
+    scratch: pathlib.Path, folder: pathlib.Path, new: Mapping[str, Sequence[int] | None]
+) -> tuple[list[str], list[str]]:
+    """Takes new targets away again, and puts back what gave way for them; the answer are the names of what is back, and of
+    what is away with nothing in its place. What somebody else has put in a target's place stays, and so does a new file
+    that was changed; what gave way stays in the scratch then. Each is told."""
+    back: list[str] = []
+    away: list[str] = []
     is_whole = True
-    for name in reversed(new):
+    for name in reversed(list(new)):
         target, old = folder / name, scratch / OLD / name
         if new[name] is not None and identity(target) == new[name]:
             with contextlib.suppress(FileNotFoundError):
                 (scratch / NEW / name).unlink()  # (the other name of the same file)
             os.rename(target, scratch / NEW / name)
+            if not os.path.lexists(old):
+                away.append(str(target))
+        elif is_there(target, new[name]) and not os.path.lexists(old):
+            tell(f"{target}: it was changed, so it stays; all else that came with it is taken away")
         if os.path.lexists(old):
             if os.path.lexists(target):
                 is_whole = False
@@ -208,40 +257,95 @@ def take_back(scratch: pathlib.Path, folder: pathlib.Path, new: Mapping[str, lis
                 back.append(str(target))
     if is_whole:
         (scratch / PUBLISHING).unlink(missing_ok=True)
-    return back
+    return back, away
 
 
 def recover(folder: pathlib.Path) -> None:
     """Ends what commands that were ended amid their work have left in a folder, and tells what is put back."""
     if os.path.isdir(folder):
-        with stops.held(), locked(folder):
-            recover_all(folder)
+        with locked(folder, str(folder)) as is_alone:
+            recover_all(folder, is_alone)
 
 
-def recover_all(folder: pathlib.Path) -> None:
+def recover_all(folder: pathlib.Path, is_alone: bool) -> None:
     for scratch in sorted(folder.glob(f"{SCRATCH}*")):
         try:
-            owner = os.open(scratch / OWNER, os.O_RDWR | os.O_CLOEXEC | os.O_NOFOLLOW)
+            if not is_own(os.lstat(scratch), stat.S_ISDIR):
+                continue
+            if is_alone and SCRATCH_NAME.fullmatch(scratch.name) and not os.path.lexists(scratch / OWNER):
+                clear_unowned(scratch)
+                continue
+            owner = os.open(scratch / OWNER, os.O_RDWR | os.O_CLOEXEC | os.O_NOFOLLOW | os.O_NONBLOCK)
         except OSError:
             continue
         try:
-            if has_lock(owner) and os.pread(owner, len(HEAD), 0) == HEAD:
-                recover_one(scratch, folder)
+            if is_own(os.fstat(owner), stat.S_ISREG) and has_lock(owner):
+                head = os.pread(owner, len(HEAD), 0)
+                if head == HEAD:
+                    recover_one(scratch, folder)
+                elif head == b"" and is_alone and SCRATCH_NAME.fullmatch(scratch.name) and os.listdir(scratch) == [OWNER]:
+                    (scratch / OWNER).unlink()
+                    scratch.rmdir()
         except OSError as error:
             tell(f"{scratch}: it is left by a command that was ended, and can't be cleared ({error.strerror})")
         finally:
             os.close(owner)
 
 
+def clear_unowned(scratch: pathlib.Path) -> None:
+    """Takes away the scratch of a command that was ended as it had just made it, or had just cleared it."""
+    try:
+        scratch.rmdir()
+    except OSError as error:
+        tell(f"{scratch}: it has the name of a command's scratch, and isn't one ({error.strerror}); look at it")
+
+
+def is_own(found: os.stat_result, is_kind: Callable[[int], bool]) -> bool:
+    """Whether a file or folder is of this kind and of the user who runs the command."""
+    return is_kind(found.st_mode) and found.st_uid == os.geteuid()
+
+
+def published(data: bytes) -> dict[str, list[int]] | None:
+    """What `publishing` says: the new targets, which are names in the folder, each with its identity; none where it was
+    being written. None where the desk hasn't written it."""
+    try:
+        new = json.loads(data)
+    except (ValueError, RecursionError):
+        return {}  # (nothing has moved yet)
+    if isinstance(new, dict) and all(is_name(name) and is_identity(found) for name, found in new.items()):
+        return new
+    return None
+
+
+def is_name(name: str) -> bool:
+    """Whether a text is the name of something in a folder, and of nothing outside."""
+    try:
+        letters = os.fsencode(name)
+    except UnicodeEncodeError:
+        return False
+    return letters not in (b"", b".", b"..") and not set(letters) & set(b"/\0")
+
+
+def is_identity(found: object) -> bool:
+    return isinstance(found, list) and len(found) == IDENTITY and all(type(number) is int for number in found)
+
+
 def recover_one(scratch: pathlib.Path, folder: pathlib.Path) -> None:
     if (scratch / PUBLISHING).is_file():
-        try:
-            new = json.loads((scratch / PUBLISHING).read_bytes())
-        except ValueError:
-            new = {}  # it was being written: nothing has moved yet
-        if not new or any(identity(folder / name) != new[name] for name in new):
-            for name in take_back(scratch, folder, new):
-                tell(f"{name}: a command was ended before all that it wrote was in its place; what stood there is put back")
+        new = published((scratch / PUBLISHING).read_bytes())
+        if new is None:
+            tell(f"{scratch}: its {PUBLISHING} isn't one of the desk, so nothing of it is done; look at it, and take it away")
+            return
+        if not new or not all(is_there(folder / name, new[name]) for name in new):
+            ended = "a command was ended before all that it wrote was in its place"
+            for name in new:
+                if is_placeholder(scratch / NEW / name, folder / name):
+                    (folder / name).unlink()
+            back, away = take_back(scratch, folder, new)
+            for name in back:
+                tell(f"{name}: {ended}; what stood there is put back")
+            for name in away:
+                tell(f"{name}: {ended}; it is taken away")
         else:
             (scratch / PUBLISHING).unlink()
     clear(scratch)
@@ -262,7 +366,8 @@ def clear(scratch: pathlib.Path) -> None:
             (scratch / OLD).rmdir()
         for name in (PUBLISHING, OWNER):
             (scratch / name).unlink(missing_ok=True)
-        scratch.rmdir()
+        with contextlib.suppress(FileNotFoundError):  # (without an owner the next command takes it away)
+            scratch.rmdir()
     except (OSError, Refused) as error:
         reason = error.strerror if isinstance(error, OSError) else error.lines()[0]
         tell(f"{scratch}: something of what gave way is left there ({reason}); look at it, and take it away")
@@ -322,11 +427,11 @@ def refuse_folder(folder: str, force: bool, inputs: Iterable[str], replaced: str
         raise refuse(folder, unwritten(error)) from None
     if not stat.S_ISDIR(mode):
         raise refuse(folder, "it is there already, and no folder; choose another name")
-    real = path.resolve()
+    real = os.path.realpath(path)
     if pathlib.Path.cwd().is_relative_to(real):
         raise refuse(folder, "it is the folder that you are in, or one above it; choose another name")
     for given in inputs:
-        if pathlib.Path(given).resolve().is_relative_to(real):
+        if pathlib.Path(os.path.realpath(given)).is_relative_to(real):
             raise refuse(folder, f"{given}, which this command reads, lies in it; choose another name")
     if not force:
         words = f"it is there already; choose another name, or give --force to replace {replaced}"
@@ -339,12 +444,16 @@ def opened(made: Set) -> Iterator[Set]:
         made.begin()
         yield made
     finally:
-        made.end()
+        try:
+            made.end()
+        except stops.Stopped:  # (just before it; no other one comes)
+            made.end()
+            raise
 
 
 def files_set(names: Sequence[str], force: bool, inputs: Iterable[str]) -> contextlib.AbstractContextManager[Set]:
     """A set of files of one folder."""
-    folder = pathlib.Path(names[0]).parent.resolve()
+    folder = pathlib.Path(os.path.realpath(pathlib.Path(names[0]).parent))
     recover(folder)
     refuse_files(names, force, list(inputs))
     return opened(Set(folder, {pathlib.Path(name).name: name for name in names}, force, False))
@@ -381,4 +490,4 @@ def tree_of(folder: str, force: bool) -> contextlib.AbstractContextManager[Set]:
     path = pathlib.Path(folder)
     if path.name in ("", ".."):
         raise refuse(folder, "it is the folder that you are in, or one above it; choose another name")
-    return opened(Set(path.parent.resolve(), {path.name: folder}, force, True))
+    return opened(Set(pathlib.Path(os.path.realpath(path.parent)), {path.name: folder}, force, True))

@@ -145,6 +145,11 @@ def commit_of(checksum: str) -> str | None:
     return f"{commit}, with changes" if changes else commit
 
 
+def is_recorded(checksum: str) -> bool:
+    """Whether the record of the last build is of the program with this sum, whatever its sources."""
+    return recorded_sums().get(RECORDED) == checksum
+
+
 def recorded_sums() -> dict[str, str]:
     """The sums of the record that a build leaves beside its program, by the paths of the sources and of the program."""
     try:

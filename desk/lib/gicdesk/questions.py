@@ -19,6 +19,11 @@ FIELDS = {
     "ground": "the resistance of the ground",
     "neutral": "the neutral resistor",
 }
+LEAST_GAP = 2000  # metres: no loop is told that stays open by less
+MERIDIANS = (
+    "Right ones round a large loop don't close to the east either, since meridians converge: by some 7 km for two degrees by "
+    "two at a latitude of 60."
+)
 
 
 def moved(number: int, scale: int) -> str:
@@ -50,11 +55,11 @@ def question_text(question: Question) -> str:
             )
         case "closure" if question.gap is not None:
             north, east = (moved(metres, 1000) for metres in question.gap)
-            return (
+            text = (
                 f"The loop that {question.name} closes stays open by {north} km to the north and {east} km to the "
-                "east: has one of its lines a wrong span? Right ones round a large loop don't close either, since meridians "
-                "converge: by some 7 km for two degrees by two at a latitude of 60."
+                "east: has one of its lines a wrong span, or is a bus at another substation?"
             )
+            return text if abs(question.gap[0]) > LEAST_GAP else f"{text} {MERIDIANS}"
         case "value" if question.number is not None:
             what = f"{question.list} {question.name}: {named(question.field)} is"
             return f"{what} {quantity(question.field, question.number)}, as few have it: is it meant?"

@@ -67,9 +67,17 @@ def taken() -> Iterator[None]:
 
 @contextlib.contextmanager
 def held() -> Iterator[None]:
-    """Within it signals wait: for work of a moment that is done whole or not at all."""
-    mask = signal.pthread_sigmask(signal.SIG_BLOCK, STOPS)
+    """Within it signals wait: for work of a moment that is done whole or not at all. One that comes just before it is
+    raised behind it."""
+    mask = signal.pthread_sigmask(signal.SIG_BLOCK, ())
+    stopped = None
+    try:
+        signal.pthread_sigmask(signal.SIG_BLOCK, STOPS)
+    except Stopped as raised:  # (by the call itself, which has blocked them)
+        stopped = raised
     try:
         yield
     finally:
         signal.pthread_sigmask(signal.SIG_SETMASK, mask)
+    if stopped is not None:
+        raise stopped

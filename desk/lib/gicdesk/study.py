@@ -16,7 +16,7 @@ from .forms import Interval
 from .inputs import Copies, Input
 from .network import Network, Place, laid_out, network_of, read_places
 from .outages import Asked, Outages, Result, Worst, worst_of
-from .program import Program, Run, commit_of, ending
+from .program import Program, Run, commit_of, ending, is_recorded
 from .progress import Progress
 from .questions import question_text
 from .reports import (
@@ -99,7 +99,6 @@ class Request:
         return self.case if given is None else given
 
 
-
 @dataclasses.dataclass(frozen=True)
 class Kept:
     """A run with its words as they can be given again, and its report where there is one."""
@@ -179,6 +178,7 @@ class Study:
     parts: int  # of the network that were set beside the others on the map
     storm: Storm | None
     losses: Losses | None
+    is_recorded: bool = False  # the program, in the record of a build
 
     @property
     def has_storm_report(self) -> bool:
@@ -515,6 +515,7 @@ def make_study(request: Request) -> Study:
         request=request,
         began=began,
         commit=commit,
+        is_recorded=is_recorded(request.program.checksum),
         program_checksum=request.program.checksum,
         inputs=list(inputs.values()),
         kept=runs.kept,

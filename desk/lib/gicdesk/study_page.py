@@ -36,6 +36,10 @@ COMMIT_UNKNOWN = (
     "not known: no record of a build is known of the program with the sum below, in a repository with its sources and its "
     "history; so whether it is a proved one isn't known here either"
 )
+COMMIT_UNTOLD = (
+    "not known: a record of a build is known of the program with the sum below, but the sources here aren't those of that "
+    "build, or have no history here"
+)
 UNSOLVED = {
     "unearthed": "without the item a part is live and hangs in the air, and nothing is said of any current",
     "unresolved": "without the item a part is earthed too poorly, and nothing is said of any current",
@@ -52,6 +56,7 @@ PROVED_NOTE = (
     "made of such."
 )
 UNKNOWN_NOTE = " Whether the program that was run is a proved one isn't known here: there is no record of a build with its sum."
+UNTOLD_NOTE = " Of which commit the program is that was run isn't known here, though there is a record of a build with its sum."
 
 
 def event_text(name: str, screen: Screen, what: str) -> str:
@@ -69,6 +74,17 @@ def switch_text(study: Study) -> str:
     return "in force by their times in the storm, and in no other report"
 
 
+def commit_text(study: Study) -> str:
+    return study.commit or (COMMIT_UNTOLD if study.is_recorded else COMMIT_UNKNOWN)
+
+
+def proved_text(study: Study) -> str:
+    """What is proved, and what isn't known of the program."""
+    if study.commit:
+        return PROVED_NOTE
+    return PROVED_NOTE + (UNTOLD_NOTE if study.is_recorded else UNKNOWN_NOTE)
+
+
 def asked_section(study: Study) -> Markup:
     events = (
         event_text("benchmark", study.screen, "for the network, its outages and the events of a list"),
@@ -76,7 +92,7 @@ def asked_section(study: Study) -> Markup:
     )
     facts = {
         "Date": study.began.strftime("%d %B %Y, %H:%M %z"),
-        "Commit of the program": study.commit or COMMIT_UNKNOWN,
+        "Commit of the program": commit_text(study),
         "Events": joined((events[0], tag("br"), events[1])),
         "Width of intervals": f"{shifted(study.screen.width, MILLI)} A at most",
         "Switchings": switch_text(study),
@@ -298,7 +314,7 @@ def made_section(study: Study) -> Markup:
         table(heads, rows, ("name", "wrap", "n", "sum")),
         tag("p", more),
         *events_table(study),
-        tag("p", PROVED_NOTE + ("" if study.commit else UNKNOWN_NOTE)),
+        tag("p", proved_text(study)),
     )
 
 

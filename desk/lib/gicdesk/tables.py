@@ -7,12 +7,13 @@ import re
 import unicodedata
 from collections.abc import Sequence
 
-from .findings import visible
+from .findings import numbered, visible
 from .forms import NAME
 
 # The heads of columns with decimal points.
 DECIMAL = re.compile(r"(^|_)(A|A_per_phase|V|V_or_A|V_per_km|var|ohm|kV|Mvar|mvar_per_ampere)$")
 FORMULAS = ("=", "+", "-", "@")  # what a cell begins with that a spreadsheet works out
+SEPARATOR = re.compile(r"[;,\t]")  # what stands between the cells of some spreadsheet
 NUMBER = re.compile(r"[+-]?[0-9]+(\.[0-9]+)?")
 
 
@@ -21,12 +22,23 @@ def is_formula(text: str) -> bool:
     return unicodedata.normalize("NFKC", text.lstrip()[:1]).startswith(FORMULAS)
 
 
+def begins_cell(found: re.Match[str]) -> bool:
+    """Whether a formula stands behind a separator, with which a spreadsheet of another one begins a cell."""
+    return is_formula(found.string[found.end() :])
+
+
+def has_formula(text: str) -> bool:
+    """Whether a spreadsheet works out a text, or what is behind a separator in it."""
+    return is_formula(text) or any(map(begins_cell, SEPARATOR.finditer(text)))
+
+
 def guarded(cell: str) -> str:
     """A cell that no spreadsheet works out and that is one line: a formula has a `'` in front, and letters without a shape
-    stand as their numbers. A number and a name of a case stay as they are."""
+    stand as their numbers, and so does a separator before a formula. A number and a name of a case stay as they are."""
     if NUMBER.fullmatch(cell) or NAME.fullmatch(cell):
         return cell
-    return f"'{visible(cell)}" if is_formula(cell) else visible(cell)
+    plain = visible(SEPARATOR.sub(lambda found: numbered(ord(found[0])) if begins_cell(found) else found[0], cell))
+    return f"'{plain}" if is_formula(cell) else plain
 
 
 @dataclasses.dataclass(frozen=True)
