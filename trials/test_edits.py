@@ -7,11 +7,15 @@
 from __future__ import annotations
 
 import contextlib
+import fcntl
 import io
 import os
 import re
+import signal
 import subprocess
+import sys
 import tempfile
+import time
 import unittest
 from pathlib import Path
 from typing import NamedTuple
@@ -127,7 +131,7 @@ class Table(unittest.TestCase):
 
 # A crate's source tells how its proof ends, and an edit's text whether it is refused.
 KIT = '''#!/usr/bin/env python3
-import os, sys
+import os, sys, time
 
 
 class Crate:
@@ -173,12 +177,36 @@ def must_fail_all(crate, edits, flags):
             text = file.read()
         if "STOPS" in text:
             sys.exit("stopped")
+        if "SLEEPS" in text:
+            print("it sleeps", flush=True)
+            time.sleep(100)
         name = os.path.basename(it)
         yield ("refused" in text, f"must-fail {crate.name}/{name}: " + ("refused" if "refused" in text else "NOT REFUSED"))
 
 
 if __name__ == "__main__":
     print("kit 1")
+'''
+
+
+# A call of which a second signal comes while it removes what it has made.
+SIGNALLED_TWICE = '''
+import os, shutil, signal, sys
+from pathlib import Path
+
+sys.path[:0] = [sys.argv[1]]
+import edits
+
+removed = shutil.rmtree
+
+
+def remove(*words, **how):
+    os.kill(os.getpid(), signal.SIGINT)
+    removed(*words, **how)
+
+
+shutil.rmtree = remove
+sys.exit(edits.main([], Path(sys.argv[2])))
 '''
 
 
@@ -217,16 +245,19 @@ class Trials(unittest.TestCase):
         rt.write_text(text, encoding="utf-8")
         rt.chmod(0o755)
 
-    def tried(self, *words: str) -> Ended:
+    def commit(self) -> None:
         git = ["git", "-C", str(self.top), "-c", "user.name=T", "-c", "user.email=t@example"]
         for it in (["init", "-q"], ["add", "-A"], ["commit", "-q", "--allow-empty", "-m", "t"]):
             subprocess.run([*git, *it], check=True, stdin=subprocess.DEVNULL)
+
+    def tried(self, *words: str) -> Ended:
+        self.commit()
         path = f"{self.folder / 'bin'}:{os.environ['PATH']}"
         room = self.folder / "room"
         room.mkdir(exist_ok=True)
         out, err = io.StringIO(), io.StringIO()
         with mock.patch.dict(os.environ, {"PATH": path}), mock.patch.object(tempfile, "tempdir", str(room)):
-            with contextlib.redirect_stdout(out), contextlib.redirect_stderr(err), mock.patch.object(edits.signal, "signal"):
+            with contextlib.redirect_stdout(out), contextlib.redirect_stderr(err), mock.patch.object(edits, "stop_on_signals"):
                 status = edits.main(list(words), self.top)
         self.assertEqual(list(room.iterdir()), [])
         return Ended(status, out.getvalue(), err.getvalue())
@@ -268,9 +299,14 @@ class Trials(unittest.TestCase):
         self.assertEqual((ended.status, self.last(ended)), (1, "2 passed, 1 failed"))
         self.assertIn("program: its 1 edits aren't tried, since high isn't proved", ended.out)
 
-    def test_libraries_of_the_same_sources_are_taken(self) -> None:
+    def built(self) -> Path:
+        """Another checkout of the same sources."""
         built = self.folder / "built"
         subprocess.run(["cp", "-r", str(self.top), str(built)], check=True)
+        return built
+
+    def test_libraries_of_the_same_sources_are_taken(self) -> None:
+        built = self.built()
         its_sum = edits.read_sources(self.top).sums("kit 1")["low"]
         for name, text in (("low", its_sum), ("high", "another")):
             (built / f"crates/{name}/out/rlib").mkdir(parents=True)
@@ -281,6 +317,45 @@ class Trials(unittest.TestCase):
         self.assertNotIn("low is proved", ended.out)
         self.assertIn("high is proved", ended.out)
         self.assertEqual([it.name for it in (built / "crates/high/out").iterdir()], ["rlib"])
+
+    def test_no_build_goes_on_in_a_checkout_whose_libraries_are_used(self) -> None:
+        folder = os.open(self.built() / "crates", os.O_RDONLY)
+        self.addCleanup(os.close, folder)
+        began = edits.Trial.run
+        free: list[bool] = []
+
+        def run(trial: edits.Trial) -> None:
+            try:
+                fcntl.flock(folder, fcntl.LOCK_EX | fcntl.LOCK_NB)
+                free.append(True)
+            except BlockingIOError:
+                free.append(False)
+            began(trial)
+
+        with mock.patch.object(edits.Trial, "run", run):
+            self.assertEqual(self.tried("--top", str(self.folder / "built")).status, 0)
+        self.assertEqual(free, [False])
+        fcntl.flock(folder, fcntl.LOCK_EX | fcntl.LOCK_NB)
+
+    def test_a_second_signal_cuts_no_cleaning_up(self) -> None:
+        self.write("crates/low/wrong/one.edit", "SLEEPS")
+        self.commit()
+        room = self.folder / "room"
+        room.mkdir()
+        ran = subprocess.Popen(
+            [sys.executable, "-B", "-c", SIGNALLED_TWICE, str(Path(edits.__file__).parent), str(self.top)],
+            env={**os.environ, "PATH": f"{self.folder / 'bin'}:{os.environ['PATH']}", "TMPDIR": str(room)},
+            stdin=subprocess.DEVNULL,
+            stdout=subprocess.DEVNULL,
+            stderr=subprocess.PIPE,
+            text=True,
+        )
+        until = time.monotonic() + 60
+        while not any(it.read_text() for it in room.glob("*/clone/try-low.log")) and time.monotonic() < until:
+            time.sleep(0.05)
+        ran.send_signal(signal.SIGINT)
+        _, err = ran.communicate(timeout=60)
+        self.assertEqual((ran.returncode, err, list(room.iterdir())), (-signal.SIGINT, "", []))
 
     def test_names_that_are_none(self) -> None:
         for name, why in (("another", "crates.txt doesn't list another"), ("high", "high has no edit in wrong")):
