@@ -31,7 +31,52 @@ KINDS = ("headline", "mode", "law", "call", "width of", "text of", "order of")
 SENTENCES = range(1, 16)
 MODES = ("volts", "list", "review", "check", "field", "screen", "outage", "study", "series", "make", "certify", "recheck")
 WITH_A_WIDTH = ("field", "screen", "outage", "study", "series", "make")
-ORDERS = ("the files", "the case", "switchings", "the certificate")
+ORDERS = ("the words", "the files", "the case", "switchings", "the certificate")
+# The laws of the promises that no edit breaks.
+LAWS_WITHOUT_AN_EDIT = (
+    "autotransformer_terminal",
+    "bound_networks_are_solved",
+    "capped",
+    "certificate",
+    "diagonal",
+    "elimination",
+    "first_share",
+    "greatest_over_all_orientations",
+    "item",
+    "last_row",
+    "least_capped_vector",
+    "limits",
+    "linear_views",
+    "losses_are_bounded",
+    "no_effect",
+    "parts",
+    "passing",
+    "peak_is_absolute",
+    "peak_is_narrow",
+    "potential",
+    "potential_bound",
+    "rounded_residual",
+    "second_share",
+    "settled",
+    "sharp",
+    "square",
+    "starts",
+    "superposed_width",
+    "superposition",
+    "sweeps_converge",
+    "text",
+    "text_determines_potentials",
+    "usage_is_of_words",
+    "worked_case",
+    "worked_cases",
+    "worked_no_ground",
+    "worked_one_ground",
+    "worked_shares",
+    "worked_starts",
+    "worked_step",
+    "worst_interval",
+    "worst_verdict",
+)
 
 
 class Row(NamedTuple):
@@ -106,8 +151,11 @@ class Table(unittest.TestCase):
         for row in self.gate:
             with self.subTest(f"{row.crate} {row.name}"):
                 self.assertTrue(row.guards and row.words)
-                for guard in row.guards:
-                    self.assertTrue(guard.startswith(KINDS), guard)
+
+    def test_what_is_guarded_is_of_a_known_kind(self) -> None:
+        for row in self.rows:
+            with self.subTest(f"{row.crate} {row.name}"):
+                self.assertEqual([it for it in row.guards if not it.startswith(KINDS)], [])
 
     def test_each_sentence_of_the_headline_has_an_edit(self) -> None:
         told = re.findall(r"(?m)^(\d+)\. ", self.promises.partition("## Mode by mode")[0])
@@ -125,8 +173,14 @@ class Table(unittest.TestCase):
         self.assertEqual([it for it in wanted if it not in self.guards], [])
 
     def test_laws_and_calls_are_those_of_the_promises(self) -> None:
-        names = {guard.split()[1] + ("_law" if guard.startswith("law ") else "") for guard in self.guards if guard.startswith(("law ", "call "))}
+        guards = {guard for row in self.rows for guard in row.guards}
+        names = {guard.split()[1] + ("_law" if guard.startswith("law ") else "") for guard in guards if guard.startswith(("law ", "call "))}
         self.assertEqual([it for it in sorted(names) if not re.search(rf"`{it}`", self.promises)], [])
+
+    def test_each_law_of_the_promises_has_an_edit_or_is_listed(self) -> None:
+        told = {it.removesuffix("_law") for it in re.findall(r"`(\w+_law)`", self.promises)}
+        guarded = {guard.removeprefix("law ") for row in self.rows for guard in row.guards}
+        self.assertEqual(sorted(told - guarded), sorted(LAWS_WITHOUT_AN_EDIT))
 
 
 # A crate's source tells how its proof ends, and an edit's text whether it is refused.
