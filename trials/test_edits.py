@@ -31,7 +31,7 @@ KINDS = ("headline", "mode", "law", "call", "width of", "text of", "order of")
 SENTENCES = range(1, 16)
 MODES = ("volts", "list", "review", "check", "field", "screen", "outage", "study", "series", "make", "certify", "recheck")
 WITH_A_WIDTH = ("field", "screen", "outage", "study", "series", "make")
-ORDERS = ("the words", "the files", "the case", "switchings", "the certificate")
+ORDERS = ("the words", "the files", "the case", "the storm", "switchings", "the certificate")
 # The laws of the promises that no edit breaks.
 LAWS_WITHOUT_AN_EDIT = (
     "autotransformer_terminal",
