@@ -11,10 +11,10 @@ clone=$folder/clone
 
 # Runs the words, whose report goes to the file named first, and prints behind a text the seconds from the call to its end.
 timed() {
-    local text=$1 report=$2 began=${EPOCHREALTIME/./} took
+    local text=$1 report=$2 began=${EPOCHREALTIME/[.,]/} took
     shift 2
     "$@" >"$report"
-    took=$((${EPOCHREALTIME/./} - began))
+    took=$((${EPOCHREALTIME/[.,]/} - began))
     printf '%s: %d min %d.%02d s\n' "$text" $((took / 60000000)) $((took / 1000000 % 60)) $((took / 10000 % 100))
 }
 

@@ -5,17 +5,14 @@ A crate is proved before its edits are tried, since of one that isn't any edit i
 import argparse
 import os
 import shutil
-import signal
 import subprocess
 import sys
 import tempfile
 import time
 from collections.abc import Iterator, Sequence
-from contextlib import contextmanager
+from contextlib import AbstractContextManager, contextmanager, nullcontext
 from dataclasses import dataclass, field
 from pathlib import Path
-from types import FrameType
-from typing import NoReturn
 
 HERE = Path(__file__).resolve().parent
 TOP = HERE.parent
@@ -24,9 +21,12 @@ import machine  # noqa: E402
 from crates import Crate, Fault, below, read_crates, read_text  # noqa: E402
 from edit_kit import FAILED, PASSED  # noqa: E402
 from kit import UNKNOWN_TOOLCHAIN  # noqa: E402
+from locks import locked  # noqa: E402
 from plan import chains, read_table, weigh  # noqa: E402
 from runs import Ended, Run  # noqa: E402
 from sources import read_sources  # noqa: E402
+from stops import Stopped, end_by, stop_on_signals  # noqa: E402
+from teller import Teller  # noqa: E402
 
 # The folders of a crate with its wrong edits: what the gate leaves out, and what it tries.
 ON_DEMAND, GATE = "wrong", "must-fail"
@@ -192,15 +192,11 @@ def lanes_for(jobs: int | None) -> int:
     return max(most, 1) if jobs is None else jobs
 
 
-def stop(number: int, _: FrameType | None) -> NoReturn:
-    sys.exit(128 + number)
-
-
 @contextmanager
 def scratch() -> Iterator[Path]:
-    """A folder that is gone behind the trial, however that ends, with what the toolchain keeps for a while."""
-    for it in (signal.SIGINT, signal.SIGTERM, signal.SIGHUP):
-        signal.signal(it, stop)
+    """A folder that is gone behind the trial, however that ends, with what the toolchain keeps for a while. The first signal
+    ends the trial, and no further one its cleaning up."""
+    stop_on_signals()
     folder, before = Path(tempfile.mkdtemp(prefix="edits-")), os.environ.get("TMPDIR")
     os.environ["TMPDIR"] = str(folder)
     try:
@@ -211,6 +207,21 @@ def scratch() -> Iterator[Path]:
             del os.environ["TMPDIR"]
         else:
             os.environ["TMPDIR"] = before
+
+
+class Waiting(Teller):
+    """Says that others are at work in a folder."""
+
+    def say(self, text: str) -> None:
+        self.said = self.clock()
+        print(f"edits.sh: {text}", file=sys.stderr, flush=True)
+
+
+def held(top: Path | None) -> AbstractContextManager[None]:
+    """Keeps builds from a checkout while its libraries are used."""
+    if top is None:
+        return nullcontext()
+    return locked(top / "crates", Waiting(), f"others are at work in {top}; this waits for them")
 
 
 def chosen(clone: Path, crates: dict[str, Crate], names: list[str], folders: list[str]) -> dict[str, list[Path]]:
@@ -252,11 +263,13 @@ def trial_of(said: argparse.Namespace, top: Path, clone: Path) -> Trial:
 def main(words: list[str], top: Path = TOP) -> int:
     said = read_words(words)
     try:
-        with scratch() as folder:
+        with scratch() as folder, held(said.top):
             trial = trial_of(said, top, folder / "clone")
             count = sum(map(len, trial.edits.values()))
             say(f"{count} edits in {len(trial.edits)} crates, {trial.lanes} at a time; {len(trial.proved)} libraries are there")
             trial.run()
+    except Stopped as stopped:
+        end_by(stopped.number)
     except Fault as fault:
         print(f"edits.sh: {fault}", file=sys.stderr)
         say("0 passed, 1 failed")

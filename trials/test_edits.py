@@ -7,11 +7,15 @@
 from __future__ import annotations
 
 import contextlib
+import fcntl
 import io
 import os
 import re
+import signal
 import subprocess
+import sys
 import tempfile
+import time
 import unittest
 from pathlib import Path
 from typing import NamedTuple
@@ -27,7 +31,52 @@ KINDS = ("headline", "mode", "law", "call", "width of", "text of", "order of")
 SENTENCES = range(1, 16)
 MODES = ("volts", "list", "review", "check", "field", "screen", "outage", "study", "series", "make", "certify", "recheck")
 WITH_A_WIDTH = ("field", "screen", "outage", "study", "series", "make")
-ORDERS = ("the files", "the case", "switchings", "the certificate")
+ORDERS = ("the words", "the files", "the case", "the storm", "switchings", "the certificate")
+# The laws of the promises that no edit breaks.
+LAWS_WITHOUT_AN_EDIT = (
+    "autotransformer_terminal",
+    "bound_networks_are_solved",
+    "capped",
+    "certificate",
+    "diagonal",
+    "elimination",
+    "first_share",
+    "greatest_over_all_orientations",
+    "item",
+    "last_row",
+    "least_capped_vector",
+    "limits",
+    "linear_views",
+    "losses_are_bounded",
+    "no_effect",
+    "parts",
+    "passing",
+    "peak_is_absolute",
+    "peak_is_narrow",
+    "potential",
+    "potential_bound",
+    "rounded_residual",
+    "second_share",
+    "settled",
+    "sharp",
+    "square",
+    "starts",
+    "superposed_width",
+    "superposition",
+    "sweeps_converge",
+    "text",
+    "text_determines_potentials",
+    "usage_is_of_words",
+    "worked_case",
+    "worked_cases",
+    "worked_no_ground",
+    "worked_one_ground",
+    "worked_shares",
+    "worked_starts",
+    "worked_step",
+    "worst_interval",
+    "worst_verdict",
+)
 
 
 class Row(NamedTuple):
@@ -102,8 +151,11 @@ class Table(unittest.TestCase):
         for row in self.gate:
             with self.subTest(f"{row.crate} {row.name}"):
                 self.assertTrue(row.guards and row.words)
-                for guard in row.guards:
-                    self.assertTrue(guard.startswith(KINDS), guard)
+
+    def test_what_is_guarded_is_of_a_known_kind(self) -> None:
+        for row in self.rows:
+            with self.subTest(f"{row.crate} {row.name}"):
+                self.assertEqual([it for it in row.guards if not it.startswith(KINDS)], [])
 
     def test_each_sentence_of_the_headline_has_an_edit(self) -> None:
         told = re.findall(r"(?m)^(\d+)\. ", self.promises.partition("## Mode by mode")[0])
@@ -121,13 +173,19 @@ class Table(unittest.TestCase):
         self.assertEqual([it for it in wanted if it not in self.guards], [])
 
     def test_laws_and_calls_are_those_of_the_promises(self) -> None:
-        names = {guard.split()[1] + ("_law" if guard.startswith("law ") else "") for guard in self.guards if guard.startswith(("law ", "call "))}
+        guards = {guard for row in self.rows for guard in row.guards}
+        names = {guard.split()[1] + ("_law" if guard.startswith("law ") else "") for guard in guards if guard.startswith(("law ", "call "))}
         self.assertEqual([it for it in sorted(names) if not re.search(rf"`{it}`", self.promises)], [])
+
+    def test_each_law_of_the_promises_has_an_edit_or_is_listed(self) -> None:
+        told = {it.removesuffix("_law") for it in re.findall(r"`(\w+_law)`", self.promises)}
+        guarded = {guard.removeprefix("law ") for row in self.rows for guard in row.guards}
+        self.assertEqual(sorted(told - guarded), sorted(LAWS_WITHOUT_AN_EDIT))
 
 
 # A crate's source tells how its proof ends, and an edit's text whether it is refused.
 KIT = '''#!/usr/bin/env python3
-import os, sys
+import os, sys, time
 
 
 class Crate:
@@ -156,6 +214,9 @@ class Crate:
             return 1
         return 0
 
+    def call(self, words):
+        raise AssertionError(words)
+
     def build_rlib(self, flags, anew):
         assert anew and self.cuts_libraries
         os.makedirs(f"{self.folder}/out/rlib")
@@ -173,12 +234,36 @@ def must_fail_all(crate, edits, flags):
             text = file.read()
         if "STOPS" in text:
             sys.exit("stopped")
+        if "SLEEPS" in text:
+            print("it sleeps", flush=True)
+            time.sleep(100)
         name = os.path.basename(it)
         yield ("refused" in text, f"must-fail {crate.name}/{name}: " + ("refused" if "refused" in text else "NOT REFUSED"))
 
 
 if __name__ == "__main__":
     print("kit 1")
+'''
+
+
+# A call of which a second signal comes while it removes what it has made.
+SIGNALLED_TWICE = '''
+import os, shutil, signal, sys
+from pathlib import Path
+
+sys.path[:0] = [sys.argv[1]]
+import edits
+
+removed = shutil.rmtree
+
+
+def remove(*words, **how):
+    os.kill(os.getpid(), signal.SIGINT)
+    removed(*words, **how)
+
+
+shutil.rmtree = remove
+sys.exit(edits.main([], Path(sys.argv[2])))
 '''
 
 
@@ -217,16 +302,19 @@ class Trials(unittest.TestCase):
         rt.write_text(text, encoding="utf-8")
         rt.chmod(0o755)
 
-    def tried(self, *words: str) -> Ended:
+    def commit(self) -> None:
         git = ["git", "-C", str(self.top), "-c", "user.name=T", "-c", "user.email=t@example"]
         for it in (["init", "-q"], ["add", "-A"], ["commit", "-q", "--allow-empty", "-m", "t"]):
             subprocess.run([*git, *it], check=True, stdin=subprocess.DEVNULL)
+
+    def tried(self, *words: str) -> Ended:
+        self.commit()
         path = f"{self.folder / 'bin'}:{os.environ['PATH']}"
         room = self.folder / "room"
         room.mkdir(exist_ok=True)
         out, err = io.StringIO(), io.StringIO()
         with mock.patch.dict(os.environ, {"PATH": path}), mock.patch.object(tempfile, "tempdir", str(room)):
-            with contextlib.redirect_stdout(out), contextlib.redirect_stderr(err), mock.patch.object(edits.signal, "signal"):
+            with contextlib.redirect_stdout(out), contextlib.redirect_stderr(err), mock.patch.object(edits, "stop_on_signals"):
                 status = edits.main(list(words), self.top)
         self.assertEqual(list(room.iterdir()), [])
         return Ended(status, out.getvalue(), err.getvalue())
@@ -268,9 +356,14 @@ class Trials(unittest.TestCase):
         self.assertEqual((ended.status, self.last(ended)), (1, "2 passed, 1 failed"))
         self.assertIn("program: its 1 edits aren't tried, since high isn't proved", ended.out)
 
-    def test_libraries_of_the_same_sources_are_taken(self) -> None:
+    def built(self) -> Path:
+        """Another checkout of the same sources."""
         built = self.folder / "built"
         subprocess.run(["cp", "-r", str(self.top), str(built)], check=True)
+        return built
+
+    def test_libraries_of_the_same_sources_are_taken(self) -> None:
+        built = self.built()
         its_sum = edits.read_sources(self.top).sums("kit 1")["low"]
         for name, text in (("low", its_sum), ("high", "another")):
             (built / f"crates/{name}/out/rlib").mkdir(parents=True)
@@ -281,6 +374,45 @@ class Trials(unittest.TestCase):
         self.assertNotIn("low is proved", ended.out)
         self.assertIn("high is proved", ended.out)
         self.assertEqual([it.name for it in (built / "crates/high/out").iterdir()], ["rlib"])
+
+    def test_no_build_goes_on_in_a_checkout_whose_libraries_are_used(self) -> None:
+        folder = os.open(self.built() / "crates", os.O_RDONLY)
+        self.addCleanup(os.close, folder)
+        began = edits.Trial.run
+        free: list[bool] = []
+
+        def run(trial: edits.Trial) -> None:
+            try:
+                fcntl.flock(folder, fcntl.LOCK_EX | fcntl.LOCK_NB)
+                free.append(True)
+            except BlockingIOError:
+                free.append(False)
+            began(trial)
+
+        with mock.patch.object(edits.Trial, "run", run):
+            self.assertEqual(self.tried("--top", str(self.folder / "built")).status, 0)
+        self.assertEqual(free, [False])
+        fcntl.flock(folder, fcntl.LOCK_EX | fcntl.LOCK_NB)
+
+    def test_a_second_signal_cuts_no_cleaning_up(self) -> None:
+        self.write("crates/low/wrong/one.edit", "SLEEPS")
+        self.commit()
+        room = self.folder / "room"
+        room.mkdir()
+        ran = subprocess.Popen(
+            [sys.executable, "-B", "-c", SIGNALLED_TWICE, str(Path(edits.__file__).parent), str(self.top)],
+            env={**os.environ, "PATH": f"{self.folder / 'bin'}:{os.environ['PATH']}", "TMPDIR": str(room)},
+            stdin=subprocess.DEVNULL,
+            stdout=subprocess.DEVNULL,
+            stderr=subprocess.PIPE,
+            text=True,
+        )
+        until = time.monotonic() + 60
+        while not any(it.read_text() for it in room.glob("*/clone/try-low.log")) and time.monotonic() < until:
+            time.sleep(0.05)
+        ran.send_signal(signal.SIGINT)
+        _, err = ran.communicate(timeout=60)
+        self.assertEqual((ran.returncode, err, list(room.iterdir())), (-signal.SIGINT, "", []))
 
     def test_names_that_are_none(self) -> None:
         for name, why in (("another", "crates.txt doesn't list another"), ("high", "high has no edit in wrong")):
