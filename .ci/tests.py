@@ -2,15 +2,26 @@
 
 usage: tests.py FILE"""
 
+import signal
 import sys
 import unittest
 from pathlib import Path
+
+
+def take_signals() -> None:
+    """What runs in the background ignores an interrupt, and behind nohup a hangup; so would all that the tests start."""
+    if signal.getsignal(signal.SIGINT) is signal.SIG_IGN:
+        signal.signal(signal.SIGINT, signal.default_int_handler)
+    if signal.getsignal(signal.SIGHUP) is signal.SIG_IGN:
+        signal.signal(signal.SIGHUP, signal.SIG_DFL)
+
 
 
 def main(words: list[str]) -> int:
     if len(words) != 1:
         print(__doc__, file=sys.stderr)
         return 2
+    take_signals()
     file = Path(words[0]).resolve()
     tests = unittest.TestLoader().discover(str(file.parent), file.name, str(file.parent))
     result = unittest.TextTestRunner(stream=sys.stdout, verbosity=0).run(tests)
