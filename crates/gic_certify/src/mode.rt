@@ -28,7 +28,7 @@ use gic_net::Net;
 use gic_question::Question;
 use gic_stand::{ReportFault, ended};
 use gic_text::LineBuilder;
-use gic_uniform::{expect_solvable, settle_guesses};
+use gic_uniform::{Workspace, expect_solvable, settle_guesses};
 
 /// The certificate of guesses that are settled in these voltages, which are those of the field that is asked for.
 fn settled_certificate(
@@ -36,7 +36,7 @@ fn settled_certificate(
     net: &Net,
     volts: &Volts,
     question: &Question,
-    room: &mut gic_uniform::Room,
+    room: &mut Workspace,
     places: CertRoom,
 ) -> Cert
     requires net { net.now.network ≡ elements_of case.now }
@@ -61,8 +61,8 @@ fn settled_certificate(
         volts,
         question.north,
         question.east,
-        room.solver(),
-        room.vector(),
+        &room.solver,
+        &room.vector,
     );
     certificate.within_ranges();
     certificate
@@ -74,7 +74,7 @@ fn certify_net<S: Sink>(
     net: &Net,
     volts: &Volts,
     question: &Question,
-    room: &mut gic_uniform::Room,
+    room: &mut Workspace,
     places: CertRoom,
     line: &mut LineBuilder,
     out: &mut S,

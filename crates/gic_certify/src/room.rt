@@ -10,7 +10,7 @@ use gic_model::Volts;
 use gic_net::Net;
 use gic_stand::standing_net;
 use gic_text::LineBuilder;
-use gic_uniform::uniform_volts;
+use gic_uniform::{Workspace, uniform_volts, workspace_for};
 use gic_winding::elements;
 use std::alloc::Global;
 
@@ -21,7 +21,7 @@ pub struct Room {
     pub(crate) net: Net,
     /// The voltages of the field that is asked for.
     pub(crate) volts: Volts,
-    pub(crate) solving: gic_uniform::Room,
+    pub(crate) solving: Workspace,
     /// What the certificate is made in.
     pub(crate) certificate: CertRoom,
 }
@@ -37,7 +37,7 @@ pub fn make_room(alloc: Global, inputs: &Inputs) -> Result<Room, OutOfMemory>
     let elements = elements(alloc, case)?;
     let net = standing_net(alloc, &elements, &inputs.switchings)?;
     let volts = uniform_volts(alloc, case, &elements, question.north, question.east)?;
-    let solving = gic_uniform::make_room(alloc, case, &net)?;
+    let solving = workspace_for(alloc, case, &net)?;
     let certificate = make_cert_room(alloc, net.nodes())?;
     Ok(Room {
         line,

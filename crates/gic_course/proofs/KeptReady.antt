@@ -13,6 +13,7 @@ use Rattle.gic_epoch.specs.declared.epoch.Epoch.{Epoch}
 use Rattle.gic_inputs.specs.declared.inputs.StormInputs.{StormInputs}
 use Rattle.gic_inputs.specs.Inputs.{IsStormOf}
 use Rattle.gic_winding.specs.ElementList.{elements_of}
+use Rattle.gic_uniform.specs.declared.workspace.Workspace.{Workspace}
 use Rattle.gic_course.specs.declared.ready.Ready.{Ready}
 use Rattle.gic_course.specs.declared.ready.Way.{Way}
 use Rattle.gic_course.specs.declared.ready.Way.TheVariants.{Solve, Superpose}
@@ -22,7 +23,7 @@ use Rattle.gic_course.specs.Ways.{way_by_count}
 use Rattle.gic_course.specs.Ready.{IsSettledBy, IsReadyAt, IsReady, IsShownBy}
 
 -- a room with the same bound vector and the same base fields has what a way takes
-pub settled_alike : (way : Way) (case : Lists) (net : NetView) (old new : Room) → new.vector ≡ old.vector → new.bases ≡ old.bases → IsSettledBy way case net old → IsSettledBy way case net new
+pub settled_alike : (way : Way) (case : Lists) (net : NetView) (old new : Room) → new.workspace.vector ≡ old.workspace.vector → new.bases ≡ old.bases → IsSettledBy way case net old → IsSettledBy way case net new
 settled_alike Solve case net old new vector bases settled = subst (λ (v : List ℕ). IsBoundWithin (standing net) MOST_WALK (slice_index v)) (sym vector) settled
 settled_alike Superpose case net old new vector bases settled = record {
   bound = subst (λ (v : List ℕ). IsBoundWithin (standing net) MOST_WALK (slice_index v)) (sym vector) settled.bound;
@@ -30,7 +31,7 @@ settled_alike Superpose case net old new vector bases settled = record {
 }
 
 -- a bound vector is there for both ways
-pub settled_bound : (way : Way) (case : Lists) (net : NetView) (room : Room) → IsSettledBy way case net room → IsBoundWithin (standing net) MOST_WALK (slice_index room.vector)
+pub settled_bound : (way : Way) (case : Lists) (net : NetView) (room : Room) → IsSettledBy way case net room → IsBoundWithin (standing net) MOST_WALK (slice_index room.workspace.vector)
 settled_bound Solve case net room settled = settled
 settled_bound Superpose case net room settled = settled.bound
 
@@ -40,7 +41,7 @@ settled_with_fields way case net room fields = settled_alike way case net room (
 
 -- so has one after a step
 pub settled_after : (way : Way) (case : Lists) (net : NetView) (width : ℕ) (old new : Room) → IsStepped case net width old new → IsSettledBy way case net old → IsSettledBy way case net new
-settled_after way case net width old new stepped = settled_alike way case net old new (ap (λ (r : Room). r.vector) stepped.rest) (ap (λ (r : Room). r.bases) stepped.rest)
+settled_after way case net width old new stepped = settled_alike way case net old new (ap (λ (w : Workspace). w.vector) stepped.workspace) (ap (λ (r : Room). r.bases) stepped.rest)
 
 -- steps are superposed only where there is room for base fields
 pub superposes_with : (epoch : Epoch) (zones : ℕ) (superposes : Bool) → way_by_count epoch zones superposes ≡ Superpose → superposes ≡ true

@@ -25,7 +25,7 @@ pub record IsSwitchedFor (inputs : StormInputs) (now : SwitchedNet) : Type 0 whe
 
 -- what this way of showing steps takes is there: a bound vector of the net, and for superposing certified base fields too
 abbrev pub IsSettledBy : Way → Lists → NetView → Room → Type 0
-IsSettledBy Solve case net room = IsBoundWithin (standing net) MOST_WALK (slice_index room.vector)
+IsSettledBy Solve case net room = IsBoundWithin (standing net) MOST_WALK (slice_index room.workspace.vector)
 IsSettledBy Superpose case net room = IsCertifiedFor case net room
 
 -- a step can be shown this way: the net is the case's and can be solved, and what the way takes is there

@@ -1,10 +1,8 @@
 //! What is made ready where an epoch begins.
 ghost use Rattle.std.specs.Prelude.{◌≡◌, ◌<◌, slice_index, IfSome};
 ghost use Rattle.gic_base.specs.declared.limits.TheConstants.{MOST_WALK};
-ghost use Rattle.gic_model.specs.Bound.{IsEarthedWithin};
 ghost use Rattle.gic_net.specs.Net.{standing};
 ghost use Rattle.gic_bound.specs.Entries.{IsBoundWithin};
-ghost use Rattle.gic_start.specs.ForNodes.{IsStartForNodes};
 ghost use Rattle.gic_winding.specs.ElementList.{elements_of};
 ghost use Rattle.gic_stand.specs.Standing.{IsSolvable};
 ghost use Rattle.gic_course.specs.Epochs.{IsEpochOf};
@@ -15,26 +13,13 @@ ghost use Rattle.gic_course.specs.Ways.{can_superpose, way_by_count, way_from};
 use crate::ready::Way;
 use crate::room::Room;
 use gic_base_views::prepare_bases;
-use gic_bound::BoundVector;
 use gic_case::Case;
 use gic_epoch::Epoch;
 use gic_inputs::StormInputs;
 use gic_net::Net;
-use gic_start::{Start, find_bound};
 use gic_sweep::Steps;
 use std::marker::Brand;
 use std::sync::ledger::{Blank, Ledger};
-
-/// Leaves in `vector` a bound vector of a network that is earthed within 4096, found from what that was.
-fn fill_bound(net: &Net, vector: &mut BoundVector, start: &mut Start)
-    requires room { IsStartForNodes net.now.network.nodes vector.old start.old }
-    requires within { IsEarthedWithin (standing net.now) MOST_WALK }
-    ensures bound { IsBoundWithin (standing net.now) MOST_WALK (slice_index vector.new) }
-    ensures room { IsStartForNodes net.now.network.nodes vector.new start.new }
-{
-    // It is found, since there is one.
-    let _found = find_bound(net, vector, start);
-}
 
 /// Certifies base fields where there is room for them, as `prepare_bases` does, and counts none of the steps of that.
 fn prepare_uncounted<L: Ledger>(case: &Case, net: &Net, room: &mut Room, blank: Blank)
@@ -43,7 +28,7 @@ fn prepare_uncounted<L: Ledger>(case: &Case, net: &Net, room: &mut Room, blank: 
     requires some { 0 < blank.parts }
     requires network { net.now.network ≡ elements_of case.now }
     requires room { IsRoomForCourse case.now room.old }
-    requires bound { IsBoundWithin (standing net.now) MOST_WALK (slice_index room.old.vector) }
+    requires bound { IsBoundWithin (standing net.now) MOST_WALK (slice_index room.old.workspace.vector) }
     ensures { IsPrepared case.now net.now room.old room.new }
 {
     let mut steps: Steps<L> = Steps::new(blank);
@@ -51,9 +36,9 @@ fn prepare_uncounted<L: Ledger>(case: &Case, net: &Net, room: &mut Room, blank: 
         prepare_bases(
             case,
             net,
-            &room.vector,
+            &room.workspace.vector,
             &mut room.fields,
-            &mut room.solver,
+            &mut room.workspace.solver,
             bases,
             &mut steps,
         );
@@ -66,7 +51,7 @@ fn settle_epoch(inputs: &StormInputs, epoch: Epoch, net: &Net, room: &mut Room) 
     requires epoch { IsEpochOf inputs.now epoch }
     requires network { net.now.network ≡ elements_of inputs.now.inputs.case }
     requires room { IsRoomForCourse inputs.now.inputs.case room.old }
-    requires bound { IsBoundWithin (standing net.now) MOST_WALK (slice_index room.old.vector) }
+    requires bound { IsBoundWithin (standing net.now) MOST_WALK (slice_index room.old.workspace.vector) }
     ensures settled { IsSettledBy result inputs.now.inputs.case net.now room.new }
     ensures way { result ≡ way_by_count epoch inputs.now.storm.zones (can_superpose inputs.now.inputs.case) }
     ensures room { IsRoomForCourse inputs.now.inputs.case room.new }
@@ -102,7 +87,7 @@ pub(crate) fn prepare_epoch(
         Some(Way::Superpose) => Way::Superpose,
         Some(Way::Solve) => settle_epoch(inputs, epoch, net, room),
         None => {
-            fill_bound(net, &mut room.vector, &mut room.start);
+            room.workspace.find_vector(net);
             settle_epoch(inputs, epoch, net, room)
         }
     }

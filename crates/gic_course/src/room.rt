@@ -7,14 +7,10 @@ ghost use Rattle.gic_course.specs.Ways.{can_superpose};
 
 use gic_base::OutOfMemory;
 use gic_base_views::BaseRoom;
-use gic_bound::BoundVector;
 use gic_case::Case;
-use gic_enclose::Potentials;
 use gic_induce::Fields;
-use gic_island::Scratch;
 use gic_model::{Elements, Volts};
-use gic_start::Start;
-use gic_sweep::Solver;
+use gic_uniform::Workspace;
 use std::alloc::Global;
 
 /// The most pairs of intervals that are kept for base fields: 32 MiB of them. At the limits of formats 1 and 2 that is
@@ -51,13 +47,10 @@ fn room_for_bases(
 
 /// What a course writes to. It is made before any step is looked at.
 pub(crate) struct Room {
-    pub(crate) scratch: Scratch,
-    pub(crate) vector: BoundVector,
-    pub(crate) start: Start,
+    pub(crate) workspace: Workspace,
+    /// The fields of the step that is shown, and their voltages.
     pub(crate) fields: Fields,
     pub(crate) volts: Volts,
-    pub(crate) solver: Solver,
-    pub(crate) potentials: Potentials,
     /// Room for base fields, where their intervals are few enough to be kept.
     pub(crate) bases: Option<BaseRoom>,
 }
@@ -66,13 +59,9 @@ impl Drop for Room {
     /// Lets go of everything, in one step for whoever drops it.
     fn drop(self) {
         let Room {
-            scratch: _scratch,
-            vector: _vector,
-            start: _start,
+            workspace: _workspace,
             fields: _fields,
             volts: _volts,
-            solver: _solver,
-            potentials: _potentials,
             bases: _bases,
         } = self;
     }
@@ -89,24 +78,14 @@ pub(crate) fn make_room(
     requires zones { zones ≡ length case.now.zones }
     ensures { IfOk result (IsRoomForCourse case.now) }
 {
-    let nodes = elements.nodes();
-    let count = elements.count();
-    let scratch = Scratch::new(alloc, nodes)?;
-    let vector = BoundVector::new(alloc, nodes)?;
-    let start = Start::new(alloc, nodes, count)?;
+    let workspace = Workspace::new(alloc, elements.nodes(), elements.count())?;
     let fields = Fields::new(alloc, zones)?;
     let volts = Volts::new(alloc, elements)?;
-    let solver = Solver::new(alloc, nodes, count)?;
-    let potentials = Potentials::new(alloc, nodes)?;
     let bases = room_for_bases(alloc, case, elements)?;
     Ok(Room {
-        scratch,
-        vector,
-        start,
+        workspace,
         fields,
         volts,
-        solver,
-        potentials,
         bases,
     })
 }

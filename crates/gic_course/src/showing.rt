@@ -24,47 +24,31 @@ use gic_base_views::{BaseRoom, fill_superposed};
 use gic_case::Case;
 use gic_effective::fill_view;
 use gic_effective::laws::line_items_law;
-use gic_enclose::solve;
 use gic_epoch::time_of_step;
 use gic_induce::{Fields, fill_volts};
 use gic_inputs::StormInputs;
 use gic_net::Net;
 use gic_storm::fill_fields;
-use gic_sweep::Steps;
 use gic_view::StepView;
-use std::marker::Brand;
-use std::sync::ledger::{Blank, Ledger};
 
-/// Solves the network in the fields, as `solve` does, from the guesses that are there, and counts none of its steps.
-fn solve_uncounted<L: Ledger>(case: &Case, net: &Net, width: u32, room: &mut Room, blank: Blank)
-    requires name { blank.name ≡ L.name }
-    requires parts { blank.parts ≡ L.parts }
-    requires some { 0 < blank.parts }
+/// Solves the network in the fields, from the guesses that are there.
+fn solve_fields(case: &Case, net: &Net, width: u32, room: &mut Room)
     requires network { net.now.network ≡ elements_of case.now }
     requires room { IsRoomForCourse case.now room.old }
-    requires bound { IsBoundWithin (standing net.now) MOST_WALK (slice_index room.old.vector) }
+    requires bound { IsBoundWithin (standing net.now) MOST_WALK (slice_index room.old.workspace.vector) }
     requires width { 2 ≤ width }
     ensures { IsStepped case.now net.now width room.old room.new }
 {
     line_items_law();
-    let mut steps: Steps<L> = Steps::new(blank);
     fill_volts(case, net.list(), &room.fields, &mut room.volts);
-    solve(
-        net,
-        &room.volts,
-        &room.vector,
-        width,
-        &mut room.solver,
-        &mut room.potentials,
-        &mut steps,
-    );
+    room.workspace.solve(net, &room.volts, width);
 }
 
 /// Sets all intervals of the view to those that a solve in the fields gives.
 fn show_solved(case: &Case, net: &Net, width: u32, room: &mut Room, view: &mut StepView)
     requires network { net.now.network ≡ elements_of case.now }
     requires room { IsRoomForCourse case.now room.old }
-    requires bound { IsBoundWithin (standing net.now) MOST_WALK (slice_index room.old.vector) }
+    requires bound { IsBoundWithin (standing net.now) MOST_WALK (slice_index room.old.workspace.vector) }
     requires width { IsWidth width }
     requires view { HasViewLengths case.now view.old }
     ensures shown { IsShownIn case.now (standing net.now) room.old.fields width view.new }
@@ -72,9 +56,9 @@ fn show_solved(case: &Case, net: &Net, width: u32, room: &mut Room, view: &mut S
     ensures stepped { IsStepped case.now net.now (width - 1) room.old room.new }
 {
     // Effective currents are rounded outward once more.
-    solve_uncounted::<Brand>(case, net, width - 1, room, Blank::new(1));
+    solve_fields(case, net, width - 1, room);
     room.volts.within_limit();
-    fill_view(case, net, &room.volts, &room.potentials, view);
+    fill_view(case, net, &room.volts, &room.workspace.potentials, view);
 }
 
 /// Sets all intervals of the view to those that are superposed for the fields from certified base fields. None is wider

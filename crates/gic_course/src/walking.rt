@@ -2,7 +2,6 @@
 ghost use Rattle.std.specs.Prelude.{ℕ, ◌≡◌, OnOk, IfErr, IsTrue, IsFalse};
 ghost use Rattle.gic_epoch.specs.Epochs.{AreEpochs};
 ghost use Rattle.gic_net.specs.Net.{standing};
-ghost use Rattle.gic_winding.specs.ElementList.{elements_of};
 ghost use Rattle.gic_stand.specs.Needs.{Solved, Fails, IsMet, IsUnmet};
 ghost use Rattle.gic_inputs.specs.Inputs.{rows_in};
 ghost use Rattle.gic_stand.specs.Standing.{IsSolvable};
@@ -14,11 +13,9 @@ ghost use Rattle.gic_course.specs.Switched.{changes_to};
 
 use crate::room::Room;
 use crate::switched::SwitchedNet;
-use gic_case::Case;
 use gic_epoch::Epoch;
 use gic_inputs::StormInputs;
-use gic_net::Net;
-use gic_stand::{NetworkRefusal, expect_earthed, expect_resolved};
+use gic_stand::NetworkRefusal;
 
 /// Puts the switchings of an epoch in force, and no others, and tells whether what stands may have changed.
 pub(crate) fn put_in_force(inputs: &StormInputs, epoch: Epoch, switched: &mut SwitchedNet) -> bool
@@ -30,19 +27,6 @@ pub(crate) fn put_in_force(inputs: &StormInputs, epoch: Epoch, switched: &mut Sw
     ensures same { IsFalse result → switched.new.net ≡ switched.old.net }
 {
     switched.switch_to(inputs.rows(), epoch.through)
-}
-
-/// Whether the network can be solved, at the step of this number. Takes no memory.
-fn expect_network(case: &Case, net: &Net, step: u32, room: &mut Room) -> Result<(), NetworkRefusal>
-    requires network { net.now.network ≡ elements_of case.now }
-    requires room { IsRoomForCourse case.now room.old }
-    ensures solvable { OnOk result (IsSolvable (standing net.now)) }
-    ensures err { IfErr result (Fails Solved case.now step (standing net.now)) }
-    ensures room { IsRoomForCourse case.now room.new }
-{
-    expect_earthed(case, net, step, &mut room.scratch)?;
-    expect_resolved(case, net, step, &mut room.vector, &mut room.start)?;
-    Ok(())
 }
 
 /// Whether the network can be solved in an epoch: if not, its first step is told. Where the net as it stands was seen to be
@@ -68,7 +52,8 @@ fn expect_epoch(
     if seen && !changed {
         return Ok(());
     }
-    expect_network(&inputs.inputs.case, &switched.net, epoch.first, room)?;
+    room.workspace
+        .look(&inputs.inputs.case, &switched.net, epoch.first)?;
     Ok(())
 }
 

@@ -10,7 +10,7 @@ use gic_model::Volts;
 use gic_net::Net;
 use gic_stand::standing_net;
 use gic_text::LineBuilder;
-use gic_uniform::uniform_volts;
+use gic_uniform::{Workspace, uniform_volts, workspace_for};
 use gic_view::StepView;
 use gic_winding::elements;
 use std::alloc::Global;
@@ -22,7 +22,7 @@ pub struct Room {
     /// The voltages of the field that is asked for.
     pub(crate) volts: Volts,
     pub(crate) view: StepView,
-    pub(crate) solving: gic_uniform::Room,
+    pub(crate) solving: Workspace,
 }
 
 impl Drop for Room {
@@ -50,7 +50,7 @@ pub fn make_room(alloc: Global, inputs: &Inputs) -> Result<Room, OutOfMemory>
     let net = standing_net(alloc, &elements, &inputs.switchings)?;
     let volts = uniform_volts(alloc, case, &elements, question.north, question.east)?;
     let view = view_of_case(alloc, case, &net)?;
-    let solving = gic_uniform::make_room(alloc, case, &net)?;
+    let solving = workspace_for(alloc, case, &net)?;
     Ok(Room {
         line,
         net,

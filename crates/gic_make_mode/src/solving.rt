@@ -18,7 +18,7 @@ use gic_model::Volts;
 use gic_net::Net;
 use gic_screen::Event;
 use gic_screen::laws::verdict_law;
-use gic_uniform::{Room, expect_solvable, make_room, solve_view};
+use gic_uniform::{Workspace, expect_solvable, solve_view, workspace_for};
 use gic_view::StepView;
 use std::alloc::Global;
 
@@ -27,7 +27,7 @@ pub(crate) const WIDTH: u32 = 100;
 
 /// What a summary is made in. It is made before the network is solved.
 pub(crate) struct SummaryRoom {
-    pub(crate) solving: Room,
+    pub(crate) solving: Workspace,
     pub(crate) vector: BoundVector,
     pub(crate) view: StepView,
 }
@@ -53,7 +53,7 @@ pub(crate) fn make_summary_room(
     requires { net.now.network ≡ elements_of case.now }
     ensures { IfOk result (IsSummaryRoomFor case.now) }
 {
-    let solving = make_room(alloc, case, net)?;
+    let solving = workspace_for(alloc, case, net)?;
     let vector = BoundVector::new(alloc, net.nodes())?;
     let view = view_of_case(alloc, case, net)?;
     Ok(SummaryRoom {
@@ -74,7 +74,7 @@ fn walk_of(net: &Net, vector: &mut BoundVector) -> u16
 }
 
 /// Makes the room ready for a network that can be solved.
-fn make_ready(case: &Case, net: &Net, room: &mut Room)
+fn make_ready(case: &Case, net: &Net, room: &mut Workspace)
     requires net { net.now.network ≡ elements_of case.now }
     requires room { IsRoomForCase case.now room.old }
     requires solvable { IsSolvable (standing net.now) }

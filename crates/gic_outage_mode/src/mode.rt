@@ -60,7 +60,7 @@ pub fn outage<S: Sink>(inputs: &Inputs, room: &mut Room, out: &mut S) -> Result<
 {
     let solving = &mut room.screening.solving;
     expect_solvable(&inputs.case, &room.net, solving)?;
-    room.intact.copy_from(solving.vector());
+    room.intact.copy_from(&solving.vector);
     let outcomes = room.outcomes.as_mut_slice();
     take_items(
         inputs,

@@ -66,7 +66,7 @@ fn begin_at(vector: &BoundVector, room: &mut ScreenRoom)
     ensures proposed { room.new.solving.vector ≡ vector.now }
     ensures room { (case : Lists) → IsScreenRoomFor case room.old → IsScreenRoomFor case room.new }
 {
-    room.solving.propose(vector);
+    room.solving.vector.copy_from(vector);
 }
 
 /// Takes an item out of the network, screens it and brings the item back; one of which no element stands is idle. A look

@@ -14,13 +14,13 @@ use gic_case::Case;
 use gic_effective::view_of_case;
 use gic_net::Net;
 use gic_stand::NetworkRefusal;
-use gic_uniform::{Room, expect_solvable, make_room, solve_view};
+use gic_uniform::{Workspace, expect_solvable, solve_view, workspace_for};
 use gic_view::StepView;
 use std::alloc::Global;
 
 /// What a screen writes to. It is made before the network is looked at.
 pub struct ScreenRoom {
-    pub solving: Room,
+    pub solving: Workspace,
     pub north: StepView,
     pub east: StepView,
     pub rows: ScreenRows,
@@ -44,7 +44,7 @@ pub fn make_screen_room(alloc: Global, case: &Case, net: &Net) -> Result<ScreenR
     requires { net.now.network ≡ elements_of case.now }
     ensures { IfOk result (IsScreenRoomFor case.now) }
 {
-    let solving = make_room(alloc, case, net)?;
+    let solving = workspace_for(alloc, case, net)?;
     let north = view_of_case(alloc, case, net)?;
     let east = view_of_case(alloc, case, net)?;
     let rows = ScreenRows::new(alloc, case.transformers().len())?;

@@ -1,10 +1,10 @@
-//! One network of a case, looked at once and solved in uniform fields.
+//! One network of a case: the workspace that it is looked at and solved in, and what it shows in uniform fields.
 #![tactic(auto)]
 
-mod room;
 mod solving;
 mod uniform;
+mod workspace;
 
-pub use room::{Room, make_room};
 pub use solving::{expect_solvable, settle_guesses, solve_view};
 pub use uniform::uniform_volts;
+pub use workspace::{Workspace, workspace_for};

@@ -1,9 +1,8 @@
-use Rattle.std.proofs.Common.{◌≡◌, ◌<◌, ◌^◌, ℕ, ℤ, List, unsigned_abs, ap, sym, subst₂, ◌∙◌, arith}
+use Rattle.std.proofs.Common.{◌≡◌, ◌<◌, ◌^◌, unsigned_abs, ap, sym, ◌∙◌, arith}
 use Rattle.gic_model.specs.Network.{Network}
 use Rattle.gic_model.specs.Voltages.{number_at}
 use Rattle.gic_net.specs.Net.{stands}
 use Rattle.gic_winding.specs.ElementList.{elements_of}
-use Rattle.gic_cert.specs.Certifiable.{IsCertifiable}
 use Rattle.gic_certify.proofs.mode.settled_certificate.Goals as goal
 
 pub from_solver-certificate-requires-clause-certifiable : goal.from_solver-certificate-requires-clause-certifiable
@@ -14,7 +13,7 @@ from_solver-certificate-requires-clause-certifiable c =
     let ready = c.settle_guesses.ensures.ready in
     let settled = c.settle_guesses.ensures.settled in
     let nodes : (elements_of c.args.case.now).nodes ≡ net.network.nodes = sym (ap (λ (n : Network). n.nodes) c.requires.net) in
-    let certifiable : IsCertifiable net volts room.solver room.vector = record {
+    record {
       volt_count = c.requires.volts;
       guess_count = ready.has_room.solver ∙ nodes;
       entry_count = ready.has_room.vector ∙ nodes;
@@ -25,5 +24,4 @@ from_solver-certificate-requires-clause-certifiable c =
           c.potential_bound_law.ensures.guesses net.network (stands net) (number_at volts) (number_at room.solver) k
           c.within_limits.ensures ready.solvable.within c.within_limit.ensures settled live in
           omega (arith, below);
-    } in
-    subst₂ (λ (xs : List ℤ) (vs : List ℕ). IsCertifiable net volts xs vs) (sym c.solver.ensures) (sym c.vector.ensures) certifiable
+    }

@@ -1,4 +1,4 @@
 use Rattle.gic_course.proofs.preparing.prepare_epoch.Goals as goal
 
-pub fill_bound-requires-clause-within : goal.fill_bound-requires-clause-within
-fill_bound-requires-clause-within c = c.requires.solvable.within
+pub find_vector-requires-clause-within : goal.find_vector-requires-clause-within
+find_vector-requires-clause-within c = c.requires.solvable.within

@@ -1,31 +1,16 @@
-use Rattle.std.proofs.Common.{◌≡◌, arith, ap, sym, ◌∙◌}
-use Rattle.gic_model.specs.Network.{Network}
+use Rattle.std.proofs.Common.{arith}
 use Rattle.gic_model.specs.Voltages.{number_at}
 use Rattle.gic_net.specs.Net.{stands}
-use Rattle.gic_winding.specs.ElementList.{elements_of}
 use Rattle.gic_uniform.proofs.SmallEnds.{view_small}
 use Rattle.gic_uniform.proofs.solving.solve_view.Goals as goal
 
-pub solve_uncounted-requires-clause-together : goal.solve_uncounted-requires-clause-together
-solve_uncounted-requires-clause-together c =
-    let nodes : (elements_of c.args.case.now).nodes ≡ c.args.net.now.network.nodes = ap (λ (n : Network). n.nodes) (sym c.requires.net) in
-    record {
-      volt_count = c.requires.volts;
-      guess_count = c.requires.ready.has_room.solver ∙ nodes;
-      entry_count = c.requires.ready.has_room.vector ∙ nodes;
-      interval_count = c.requires.ready.has_room.potentials ∙ nodes;
-    }
-
 pub fill_view-requires-clause-together : goal.fill_view-requires-clause-together
-fill_view-requires-clause-together c = record {
-  a_volt_each = c.requires.volts;
-  a_potential_each = c.solve_uncounted.ensures.together.interval_count;
-}
+fill_view-requires-clause-together c = record { a_volt_each = c.requires.volts; a_potential_each = c.solve.ensures.space.potentials }
 
 pub returns-clause-solved : goal.returns-clause-solved
 returns-clause-solved c =
-    let right = c.fill_view.ensures.right (λ s solves k live. (c.solve_uncounted.ensures.solved.certain k).live live s solves) in
-    let narrow = c.fill_view.ensures.narrow _ c.args.width (omega (arith, c.requires.width.least)) c.solve_uncounted.ensures.solved.sharp in
+    let right = c.fill_view.ensures.right (λ s solves k live. (c.solve.ensures.solved.certain k).live live s solves) in
+    let narrow = c.fill_view.ensures.narrow _ c.args.width (omega (arith, c.requires.width.least)) c.solve.ensures.solved.sharp in
     record {
       right = right;
       narrow = narrow;

@@ -1,4 +1,4 @@
-use Rattle.gic_uniform.proofs.solving.settle_guesses.Given as goal
+use Rattle.gic_uniform.proofs.workspace.Workspace.settle.Given as goal
 
 abbrev pub ghosts-settle_uncounted : goal.ghosts-settle_uncounted
 ghosts-settle_uncounted a = record { name = a.blank.name; parts = a.blank.parts }
