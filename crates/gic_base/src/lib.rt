@@ -11,7 +11,7 @@ mod sink;
 
 pub use id::{ElementId, NodeId};
 pub use limits::LIMIT;
-pub use memory_sink::{MemorySink, NullSink};
+pub use memory_sink::MemorySink;
 pub use name::Name;
 pub use out_of_memory::OutOfMemory;
 pub use read_fault::ReadFault;

@@ -1,5 +1,5 @@
-//! Sinks that need no system.
-ghost use Rattle.std.specs.Prelude.{◌≡◌, ◌<◌, ◌≤◌, [], length, Ok, Some, None, IfOk, IsErr, true};
+//! A sink in memory.
+ghost use Rattle.std.specs.Prelude.{◌≡◌, ◌<◌, ◌≤◌, [], length, Ok, Some, IfOk, IsErr, true};
 ghost use Rattle.std.specs.Io.KnownBytes.{WriteAppends};
 ghost use Rattle.gic_base.specs.Causes.{HasCause};
 ghost use Rattle.gic_base.specs.Memory.{is_failing, next};
@@ -7,20 +7,6 @@ ghost use Rattle.gic_base.specs.Memory.{is_failing, next};
 use crate::sink::{Sink, WriteFailed};
 use std::alloc::Global;
 use std::marker::Model;
-
-/// Takes every piece whole, and tells nothing. It never fails.
-#[derive(Clone, Copy, Debug, Drop)]
-pub struct NullSink;
-
-impl Sink for NullSink {
-    ghost written = { λ _. None };
-
-    ghost faults = { λ _. 0 };
-
-    fn write(&mut self, piece: &[u8]) -> Result<usize, WriteFailed> {
-        Ok(piece.len())
-    }
-}
 
 /// Keeps what is written, and takes pieces whole. The calls whose number, from 0, is in a list fail, and so does one
 /// that finds no memory. A call with an empty piece is not counted.

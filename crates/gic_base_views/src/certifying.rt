@@ -93,8 +93,8 @@ fn prepare_zone<L: Ledger>(
 /// Solves the two base fields of each zone of the case in the net that stands, 20000 mV/km to the north or to the east in
 /// one zone alone, and leaves in the table, certified, what each shows: potentials of live nodes in nanovolts, currents of
 /// standing elements in nanoamperes and effective currents of transformers in nanoamperes per phase. It begins from any
-/// guesses, and ticks at most twice as often for each zone as a solve does. The vector is a bound vector of the net, as
-/// `is_bound_vector` tests it. Fields and guesses are changed. Takes no memory.
+/// guesses, and ticks at most twice as often for each zone as a solve does. The vector is a bound vector of the net
+/// within `MOST_WALK`. Fields and guesses are changed. Takes no memory.
 pub fn prepare_bases<L: Ledger>(
     case: &Case,
     net: &Net,

@@ -8,7 +8,8 @@ ghost use Rattle.gic_bound.specs.Raising.{IsTooSmall};
 ghost use Rattle.gic_bound.specs.Starting.{IsHeld, lowered};
 ghost use Rattle.gic_bound.specs.WorkedStarts.{loop_ones, loop_full, loop_twice, loop_twice_less};
 ghost use Rattle.gic_model.specs.WorkedLoop.{loop, loop_standing, loop_vector};
-ghost use Rattle.gic_bound.specs.ShareLaws.{IsEarthedEverywhere, IsEarthedThroughSubstations, EarthedEverywhereIsEarthed, Entries128AreBound, EarthedThroughSubstationsIsEarthed, ShareEntriesAreBound};
+ghost use Rattle.gic_bound.specs.ShareLaws.{IsEarthedEverywhere, IsEarthedThroughSubstations, EarthedEverywhereIsEarthed};
+ghost use Rattle.gic_bound.specs.ShareLaws.{Entries128AreBound, EarthedThroughSubstationsIsEarthed, ShareEntriesAreBound};
 
 /// There is a least capped vector. It has no entry `FULL_WALK` exactly where the network is earthed within
 /// `MOST_WALK`, and is then a bound vector; at a node where its entry is `FULL_WALK`, every bound vector is above

@@ -2,7 +2,6 @@
 #![tactic(auto)]
 
 mod cap;
-mod checking;
 mod estimate;
 pub mod laws;
 mod lifting;
@@ -12,9 +11,7 @@ mod row;
 mod starting;
 mod vector;
 
-pub use checking::is_bound_vector;
 pub use raising::{Unresolved, bound, bound_from, some_bound};
 pub use room::Room;
 pub use row::meets_row_rule;
-pub use starting::is_start;
 pub use vector::BoundVector;

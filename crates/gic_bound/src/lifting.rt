@@ -40,8 +40,10 @@ pub fn raise_all(net: &Net, cap: &Cap, out: &mut BoundVector, waiting: &mut [u16
     requires cap { IsCapFor net.now.network.nodes cap.now }
     requires nodes { length out.old ≡ net.now.network.nodes }
     requires below { IsNotAbove (slice_index out.old) (cap_entry (standing net.now) cap.now) }
-    ensures under { IsUnderHeld (standing net.now) (slice_index out.old) (cap_entry (standing net.now) cap.now) (slice_index out.new) }
-    ensures least { IsFalse result → IsLeastHeld (standing net.now) (slice_index out.old) (cap_entry (standing net.now) cap.now) (slice_index out.new) }
+    ensures under { IsUnderHeld (standing net.now) (slice_index out.old) (cap_entry (standing net.now) cap.now)
+        (slice_index out.new) }
+    ensures least { IsFalse result → IsLeastHeld (standing net.now) (slice_index out.old)
+        (cap_entry (standing net.now) cap.now) (slice_index out.new) }
     ensures higher { IsTrue result → sum out.old < sum out.new }
     ensures same_length { length out.new ≡ length out.old }
 {
@@ -70,7 +72,8 @@ fn follow(
     requires nodes { length out.old ≡ net.now.network.nodes }
     requires node { node.0 < net.now.network.nodes }
     requires below { IsNotAbove (slice_index out.old) (cap_entry (standing net.now) cap.now) }
-    ensures under { IsUnderHeld (standing net.now) (slice_index out.old) (cap_entry (standing net.now) cap.now) (slice_index out.new) }
+    ensures under { IsUnderHeld (standing net.now) (slice_index out.old) (cap_entry (standing net.now) cap.now)
+        (slice_index out.new) }
     ensures not_lower { sum out.old ≤ sum out.new }
     ensures same_length { length out.new ≡ length out.old }
 {
@@ -99,7 +102,8 @@ fn raise_if_small(net: &Net, cap: &Cap, out: &mut BoundVector, node: NodeId) -> 
     requires nodes { length out.old ≡ net.now.network.nodes }
     requires node { node.0 < net.now.network.nodes }
     requires below { IsNotAbove (slice_index out.old) (cap_entry (standing net.now) cap.now) }
-    ensures under { IsUnderHeld (standing net.now) (slice_index out.old) (cap_entry (standing net.now) cap.now) (slice_index out.new) }
+    ensures under { IsUnderHeld (standing net.now) (slice_index out.old) (cap_entry (standing net.now) cap.now)
+        (slice_index out.new) }
     ensures small { IsTrue result ↔ IsTooSmall (standing net.now) (cap_entry (standing net.now) cap.now) (slice_index out.old) node.0 }
     ensures higher { IsTrue result → sum out.old < sum out.new }
     ensures same { IsFalse result → out.new ≡ out.old }

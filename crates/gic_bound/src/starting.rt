@@ -8,17 +8,20 @@ ghost use Rattle.gic_bound.specs.Starting.{AreForNodes, IsInRange, lowered, IsSu
 use crate::cap::Cap;
 use crate::laws::starts_law;
 use crate::lifting::raise_under;
-use crate::room::Room;
 use crate::vector::BoundVector;
 use gic_base::NodeId;
 use gic_base::limits::FULL_WALK;
 use gic_net::Net;
 
-/// Whether the vector is one to start from: whether raising from the vector less 1, with the vector as the cap, leads
-/// back to it. The room is for as many nodes as the net has.
-pub fn is_start(net: &Net, vector: &BoundVector, room: &mut Room) -> bool
-    requires nodes { length vector.now ≡ net.now.network.nodes }
-    requires room { room.old ≡ net.now.network.nodes }
+/// Whether the vector is held alone: whether raising from the vector less 1, with the vector as the cap, leads back to it.
+/// The other vector then has what that leads to.
+pub fn is_held_alone(
+    net: &Net,
+    vector: &BoundVector,
+    other: &mut BoundVector,
+    waiting: &mut [u16],
+) -> bool
+    requires nodes { AreForNodes net.now.network.nodes vector.now other.old }
     requires range { IsInRange (standing net.now) (slice_index vector.now) }
 
     // Then it is at no node above any capped vector. Of a vector that is not held alone only this much is known: it is not
@@ -28,24 +31,6 @@ pub fn is_start(net: &Net, vector: &BoundVector, room: &mut Room) -> bool
     ensures least { IsCappedVector (standing net.now) (slice_index vector.now) →
         (IsTrue result ↔ IsLeastCappedVector (standing net.now) (slice_index vector.now)) }
 
-    ensures same_room { room.new ≡ room.old }
-{
-    is_held_alone(net, vector, &mut room.vector, room.waiting.as_mut_slice())
-}
-
-/// Whether the vector is held alone. The other vector then has what the vector less 1 was raised to.
-pub fn is_held_alone(
-    net: &Net,
-    vector: &BoundVector,
-    other: &mut BoundVector,
-    waiting: &mut [u16],
-) -> bool
-    requires nodes { AreForNodes net.now.network.nodes vector.now other.old }
-    requires range { IsInRange (standing net.now) (slice_index vector.now) }
-    ensures alone { IsTrue result ↔ IsHeldAlone (standing net.now) (slice_index vector.now) }
-    ensures under { IsTrue result → IsUnderCapped (standing net.now) (slice_index vector.now) }
-    ensures least { IsCappedVector (standing net.now) (slice_index vector.now) →
-        (IsTrue result ↔ IsLeastCappedVector (standing net.now) (slice_index vector.now)) }
     ensures sunk { IsSunk (standing net.now) 1 (slice_index vector.now) (slice_index other.new) }
     ensures same_length { length other.new ≡ length other.old }
 {

@@ -96,8 +96,8 @@ fn interval_at(
 }
 
 /// The certificate: makes the interval at each live node one that holds the node's potential in every solution,
-/// whatever the guesses are, and that at each dead node the point 0. The vector is a bound vector of the net, as
-/// `is_bound_vector` tests it; voltages, guesses, vector and potentials are those of the net's elements and nodes. The
+/// whatever the guesses are, and that at each dead node the point 0. The vector is a bound vector of the net
+/// within `MOST_WALK`; voltages, guesses, vector and potentials are those of the net's elements and nodes. The
 /// nearer the guesses are to being settled, the narrower are the intervals.
 pub fn enclose(net: &Net, volts: &Volts, solver: &Solver, bound: &BoundVector, out: &mut Potentials)
     requires together { BelongTogether net.now.network volts.now solver.now bound.now out.old }

@@ -22,7 +22,7 @@ pub const MOST_TICKS: u32 = 1 << 22;
 
 /// Makes the guesses settled, whatever they were before, and the potentials certain, as `enclose` does, and sharp for
 /// the width, which is at least 2. At most four rough corrections come first, then sweeps; each of both ticks once.
-/// The vector is a bound vector of the net, as `is_bound_vector` tests it; voltages, guesses, vector and potentials are
+/// The vector is a bound vector of the net, within `MOST_WALK`; voltages, guesses, vector and potentials are
 /// those of the net's elements and nodes.
 pub fn solve<L: Ledger>(
     net: &Net,

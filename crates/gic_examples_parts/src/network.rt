@@ -4,9 +4,8 @@ ghost use Rattle.std.specs.Prelude.{◌≡◌, IfOk, length};
 ghost use Rattle.gic_model.specs.WorkedLoop.{loop};
 ghost use Rattle.gic_net.specs.Net.{closed_net};
 
-use gic_base::limits::FULL_WALK;
 use gic_base::{ElementId, NodeId, OutOfMemory};
-use gic_bound::{BoundVector, bound, is_bound_vector};
+use gic_bound::{BoundVector, bound};
 use gic_enclose::{Potentials, enclose};
 use gic_model::{Item, Volts};
 use gic_net::Net;
@@ -59,18 +58,6 @@ fn net_switched_many_times(rt: HostRuntime) -> Result<(), Fail> {
     Ok(())
 }
 
-/// The vector of these entries.
-fn vector_of(alloc: Global, entries: [u16; 4]) -> Result<BoundVector, OutOfMemory>
-    ensures { IfOk result (λ vector. length vector ≡ 4) }
-{
-    let mut vector = BoundVector::new(alloc, 4)?;
-    vector.set(NodeId(0), entries[0].min(FULL_WALK));
-    vector.set(NodeId(1), entries[1].min(FULL_WALK));
-    vector.set(NodeId(2), entries[2].min(FULL_WALK));
-    vector.set(NodeId(3), entries[3].min(FULL_WALK));
-    Ok(vector)
-}
-
 /// The entries of a vector.
 fn entries_of(vector: &BoundVector) -> [u16; 4]
     requires { length vector.now ≡ 4 }
@@ -91,22 +78,6 @@ fn bound_of_p(rt: HostRuntime) -> Result<(), Fail> {
     bound(&net, &mut vector)?;
     assert_eq!(rt; entries_of(&vector), [31, 31, 33, 33]);
     assert_eq!(rt; vector.walk(), 33);
-    Ok(())
-}
-
-/// With 30 at A its row is 29 - 40, and with all ones 0 - 10.
-#[test]
-fn vector_too_small(rt: HostRuntime) -> Result<(), Fail> {
-    let net = worked_net(rt.alloc())?;
-    let table = [
-        ([31, 31, 33, 33], true),
-        ([30, 31, 33, 33], false),
-        ([1, 1, 1, 1], false),
-    ];
-    for (entries, wanted) in table {
-        let vector = vector_of(rt.alloc(), entries)?;
-        assert_eq!(rt; is_bound_vector(&net, &vector), wanted);
-    }
     Ok(())
 }
 
@@ -133,9 +104,9 @@ fn residual_and_enclosure_at_zero(rt: HostRuntime) -> Result<(), Fail> {
     let entering = -100_000_000_000 * (1 << 44);
     let at_b = residual(&net, &volts, &solver, NodeId(3));
     assert_eq!(rt; (at_b.lo, at_b.hi), (entering, entering));
-    let vector = vector_of(rt.alloc(), [31, 31, 33, 33])?;
+    let mut vector = BoundVector::new(rt.alloc(), 4)?;
+    bound(&net, &mut vector)?;
     let mut potentials = Potentials::new(rt.alloc(), 4)?;
-    assert!(rt; is_bound_vector(&net, &vector));
     enclose(&net, &volts, &solver, &vector, &mut potentials);
     assert!(rt; holds_at_a(&potentials));
     Ok(())

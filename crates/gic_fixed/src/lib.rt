@@ -1,11 +1,10 @@
-//! Exact whole-number arithmetic: products divided, square roots, intervals.
+//! Exact whole-number arithmetic: square roots, intervals, and sums, products and quotients of these.
 #![tactic(auto)]
 
-pub mod division;
+mod division;
 pub mod interval;
 pub mod root;
 
-pub use division::{muldiv_ceil, muldiv_floor};
 pub use interval::Interval;
 pub use root::{isqrt_ceil, isqrt_floor};
 

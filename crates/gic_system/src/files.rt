@@ -1,5 +1,6 @@
 //! The files of the system.
-ghost use Rattle.std.specs.Prelude.{◌≡◌, ℕ, ◌<◌, ◌≤◌, List, [], length, map, string_bytes, None, Some, IfSome, IsSomeAnd, IfOk, OnOk, IsErrOf};
+ghost use Rattle.std.specs.Prelude.{◌≡◌, ℕ, ◌<◌, ◌≤◌, List, [], length, map, string_bytes, None, Some, IfSome, IsSomeAnd, IfOk};
+ghost use Rattle.std.specs.Prelude.{OnOk, IsErrOf};
 ghost use Rattle.std.specs.declared.option.Option.{Option};
 ghost use Rattle.std.specs.FinMap.{get};
 ghost use Rattle.std.specs.Io.{StartsWith};

@@ -133,7 +133,8 @@ fn put(entries: &mut [Entry], place: usize, entry: Entry)
 fn put_entries(entries: &mut [Entry], start: usize, arms: &[Arm], conductance: u64) -> usize
     requires start { start ≤ length entries.old }
     ensures end { result ≤ length entries.new }
-    ensures inside { (nodes : ℕ) → AreArmsInside nodes arms.now → AreEntriesInside nodes entries.old → AreEntriesInside nodes entries.new }
+    ensures inside { (nodes : ℕ) → AreArmsInside nodes arms.now →
+        AreEntriesInside nodes entries.old → AreEntriesInside nodes entries.new }
 {
     let whole = Whole::new(conductance);
     let mut end = start;

@@ -22,7 +22,8 @@ impl Model for Star {
 
     ghost view = { λ s. s.nodes };
 
-    ghost invariant = { λ s. AreArmsInside s.nodes s.arms.items × (s.count ≤ length s.arms.items) × (length s.arms.items ≤ MOST_ARMS) };
+    ghost invariant = { λ s. AreArmsInside s.nodes s.arms.items
+        × (s.count ≤ length s.arms.items) × (length s.arms.items ≤ MOST_ARMS) };
 }
 
 ghost use Rattle.std.specs.Prelude.{◌≡◌, ◌<◌, ◌≤◌, IfOk, length};
