@@ -1,4 +1,4 @@
-use Rattle.std.proofs.Common.{◌≡◌, ℕ, ◌+◌, ◌<◌, ◌++◌, Option, IfSome, get_or, length, refl, ap, sym, subst, ◌∙◌, arith}
+use Rattle.std.proofs.Common.{◌≡◌, ℕ, ◌+◌, ◌<◌, ◌≤◌, ◌++◌, Option, IfSome, get_or, length, refl, ap, sym, subst, ◌∙◌, arith}
 use Rattle.std.specs.Prelude.{slice_get}
 use Rattle.std.specs.Option.{option_to_list}
 use Rattle.gic_base.specs.declared.id.ElementId.{ElementId}
@@ -35,7 +35,7 @@ all_there : (c : goal.After-weights_from) → weighted_from c.index-transformers
 all_there c =
     let row = c.index-transformers-transformer.result in
     let first = c.first_winding.result in
-    let few = omega (arith, length-weighted_from row first, few_windings row.high_volts row.kind) in
+    let few : length (weighted_from row first) ≤ 3 = omega (arith, length-weighted_from row first, few_windings row.high_volts row.kind) in
     rw (c.weights_from.ensures.first, c.weights_from.ensures.second, c.weights_from.ensures.third) (whole_of_three (weighted_from row first) few)
 
 pub returns-clause-all : goal.returns-clause-all
