@@ -2,3 +2,4 @@ pub mod Earthings
 pub mod NeutralNodes
 pub mod Passed
 pub mod Places
+pub mod SoundWindings

@@ -1,4 +1,5 @@
 pub mod Courses
+pub mod Windings
 pub mod Lists
 pub mod Sound
 pub mod Names

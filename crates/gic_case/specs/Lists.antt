@@ -1,16 +1,19 @@
 -- A case as contracts see it: its lists, the names of its nodes, and the ends of its elements.
-use Rattle.std.specs.Prelude.{◌+◌, ◌==◌, ℕ, List, [], ◌∷◌, ◌++◌, length, map, flat_map, slice_index_or, Bool, true, false, if◌then◌else◌, Option, Some, None, is_some, count_by}
+use Rattle.std.specs.Prelude.{◌+◌, ◌==◌, ℕ, List, [], ◌∷◌, ◌++◌, length, map, flat_map, slice_index_or, slice_get, Bool, true, false, if◌then◌else◌, Option, Some, None, is_some, count_by}
 use Rattle.std.specs.List.{enumerate_from, filter}
 use Rattle.gic_scale.specs.ZoneView.{ZoneView}
 use Rattle.gic_case.specs.declared.item.Substation.{Substation}
 use Rattle.gic_case.specs.declared.item.Bus.{Bus}
 use Rattle.gic_case.specs.declared.item.Line.{Line}
-use Rattle.gic_case.specs.declared.item.Third.{Third}
 use Rattle.gic_case.specs.declared.item.Kind.{Kind}
 use Rattle.gic_case.specs.declared.item.Kind.TheVariants as kinds
 use Rattle.gic_case.specs.declared.item.Neutral.{Neutral}
 use Rattle.gic_case.specs.declared.item.Neutral.TheVariants as devices
 use Rattle.gic_case.specs.declared.item.Transformer.{Transformer}
+use Rattle.gic_case.specs.declared.winding.WindingEnd.{WindingEnd}
+use Rattle.gic_case.specs.declared.winding.WindingEnd.TheVariants as ends
+use Rattle.gic_case.specs.declared.winding.Winding.{Winding}
+use Rattle.gic_case.specs.Windings.{windings_of}
 
 -- the lists of a case, whose references are places in these lists, from 0
 pub record Lists : Type 0 where
@@ -44,35 +47,32 @@ line_ends first_bus lines = flat_map (λ l. if l.blocked then [] else (first_bus
 abbrev pub substation_at : List Bus → ℕ → ℕ
 substation_at buses place = slice_index_or (map (λ b. b.substation) buses) place 0
 
--- the ground grid of a transformer: the substation of its high bus; a delta-delta unit, which has no bus, counts as at the first
-abbrev pub grid_of : List Bus → Kind → ℕ
-grid_of buses (kinds.DeltaWye high high_resistance) = substation_at buses high
-grid_of buses (kinds.WyeWye high low low_volts high_resistance low_resistance third) = substation_at buses high
-grid_of buses (kinds.Auto high low low_volts series_resistance common_resistance third) = substation_at buses high
-grid_of buses (kinds.Reactor high high_resistance) = substation_at buses high
-grid_of buses kinds.DeltaDelta = 0
+-- the substation of the bus of a winding; where there is none, the first
+abbrev pub grid_by : List Bus → Option Winding → ℕ
+grid_by buses None = 0
+grid_by buses (Some w) = substation_at buses w.from.bus
+
+-- the ground grid of a transformer: the substation of its first winding; a unit without windings counts as at the first
+abbrev pub grid_of : List Bus → Transformer → ℕ
+grid_of buses t = grid_by buses (slice_get (windings_of t) 0)
 
 -- each of these transformers with the node of its neutral: its own where it has a neutral device, numbered from here on, and its ground grid otherwise
 abbrev pub neutrals_from : List Bus → (node : ℕ) → List Transformer → List (ℕ × Transformer)
 neutrals_from buses node [] = []
-neutrals_from buses node (t ∷ ts) = if is_some t.neutral then (node, t) ∷ neutrals_from buses (node + 1) ts else (grid_of buses t.kind, t) ∷ neutrals_from buses node ts
+neutrals_from buses node (t ∷ ts) = if is_some t.neutral then (node, t) ∷ neutrals_from buses (node + 1) ts else (grid_of buses t, t) ∷ neutrals_from buses node ts
 
 -- the transformers of a case with the nodes of their neutrals; the neutral nodes follow the buses
 abbrev pub neutrals_of : Lists → List (ℕ × Transformer)
 neutrals_of c = neutrals_from c.buses (length c.substations + length c.buses) c.transformers
 
--- the nodes at which a third winding ends: it runs from its bus to the neutral
-abbrev pub third_ends : (first_bus neutral : ℕ) → Option Third → List ℕ
-third_ends first_bus neutral None = []
-third_ends first_bus neutral (Some t) = (first_bus + t.bus) ∷ neutral ∷ []
+-- the node to which a winding of a transformer with this neutral runs
+abbrev pub end_node : (first_bus neutral : ℕ) → WindingEnd → ℕ
+end_node first_bus neutral (ends.Bus to) = first_bus + to.bus
+end_node first_bus neutral ends.Neutral = neutral
 
--- the nodes at which the windings of a transformer with this neutral end: high and low windings run to the neutral, the series winding to the low bus, and the common one from there to the neutral
-abbrev pub winding_ends : (first_bus neutral : ℕ) → Kind → List ℕ
-winding_ends first_bus neutral (kinds.DeltaWye high high_resistance) = (first_bus + high) ∷ neutral ∷ []
-winding_ends first_bus neutral (kinds.WyeWye high low low_volts high_resistance low_resistance third) = (first_bus + high) ∷ neutral ∷ (first_bus + low) ∷ neutral ∷ third_ends first_bus neutral third
-winding_ends first_bus neutral (kinds.Auto high low low_volts series_resistance common_resistance third) = (first_bus + high) ∷ (first_bus + low) ∷ (first_bus + low) ∷ neutral ∷ third_ends first_bus neutral third
-winding_ends first_bus neutral (kinds.Reactor high high_resistance) = (first_bus + high) ∷ neutral ∷ []
-winding_ends first_bus neutral kinds.DeltaDelta = []
+-- the nodes at which the windings of a transformer with this neutral end
+abbrev pub winding_ends : (first_bus neutral : ℕ) → List Winding → List ℕ
+winding_ends first_bus neutral = flat_map (λ w. (first_bus + w.from.bus) ∷ end_node first_bus neutral w.to ∷ [])
 
 -- the nodes at which a neutral resistor ends: the neutral node and the ground grid; a blocking device gives no element
 abbrev pub device_ends : (neutral grid : ℕ) → Option Neutral → List ℕ
@@ -83,8 +83,8 @@ device_ends neutral grid (Some devices.Blocked) = []
 -- the nodes at which the windings of the transformers end, and then those at which their neutral resistors end
 abbrev pub transformer_ends : Lists → List ℕ
 transformer_ends c =
-    flat_map (λ p. winding_ends (length c.substations) p.0 p.1.kind) (neutrals_of c)
-    ++ flat_map (λ p. device_ends p.0 (grid_of c.buses p.1.kind) p.1.neutral) (neutrals_of c)
+    flat_map (λ p. winding_ends (length c.substations) p.0 (windings_of p.1)) (neutrals_of c)
+    ++ flat_map (λ p. device_ends p.0 (grid_of c.buses p.1) p.1.neutral) (neutrals_of c)
 
 -- the nodes at which the elements end, a node once for each end: earthings, lines, windings, neutral resistors
 unfoldable pub element_ends : Lists → List ℕ
@@ -93,14 +93,6 @@ element_ends c = earthing_ends c.substations ++ (line_ends (length c.substations
 -- how many of these ends are at the node
 abbrev pub degree_of : List ℕ → ℕ → ℕ
 degree_of ends k = count_by (λ n. n == k) ends
-
--- whether a kind has windings in the network
-abbrev pub has_windings : Kind → Bool
-has_windings (kinds.DeltaWye high high_resistance) = true
-has_windings (kinds.WyeWye high low low_volts high_resistance low_resistance third) = true
-has_windings (kinds.Auto high low low_volts series_resistance common_resistance third) = true
-has_windings (kinds.Reactor high high_resistance) = true
-has_windings kinds.DeltaDelta = false
 
 -- whether the core of a unit of a kind has an effective current here: not that of a reactor, and not where there are no windings
 abbrev pub has_effect : Kind → Bool

@@ -6,14 +6,16 @@ use Rattle.gic_scale.specs.ZoneView.{ZoneView, IsZone}
 use Rattle.gic_case.specs.declared.item.Substation.{Substation}
 use Rattle.gic_case.specs.declared.item.Bus.{Bus}
 use Rattle.gic_case.specs.declared.item.Line.{Line}
-use Rattle.gic_case.specs.declared.item.Third.{Third}
-use Rattle.gic_case.specs.declared.item.Kind.{Kind}
-use Rattle.gic_case.specs.declared.item.Kind.TheVariants as kinds
 use Rattle.gic_case.specs.declared.item.Neutral.{Neutral}
 use Rattle.gic_case.specs.declared.item.Neutral.TheVariants as devices
 use Rattle.gic_case.specs.declared.item.Transformer.{Transformer}
+use Rattle.gic_case.specs.declared.winding.Terminal.{Terminal}
+use Rattle.gic_case.specs.declared.winding.WindingEnd.{WindingEnd}
+use Rattle.gic_case.specs.declared.winding.WindingEnd.TheVariants as ends
+use Rattle.gic_case.specs.declared.winding.Winding.{Winding}
 use Rattle.gic_case.specs.Courses.{parts_of, north_way, east_way, AreFewParts}
-use Rattle.gic_case.specs.Lists.{Lists, node_names, substation_at, element_ends, degree_of, has_windings}
+use Rattle.gic_case.specs.Lists.{Lists, node_names, substation_at, element_ends, degree_of}
+use Rattle.gic_case.specs.Windings.{windings_of, has_windings}
 
 -- the lists with these rows
 abbrev pub lists_with : List ZoneView → List Substation → List Bus → List Line → List Transformer → Lists
@@ -47,44 +49,32 @@ pub record IsSoundLine (c : Lists) (l : Line) : Type 0 where
   pub north_within : north_way (parts_of l.course) ≤ 1000000
   pub east_within : east_way (parts_of l.course) ≤ 1000000
 
--- the two sides of a unit: two different buses of one substation, and a low voltage within its range that is not above the high one
-pub record AreSides (c : Lists) (high low high_volts low_volts : ℕ) : Type 0 where
-  pub high_within : high < length c.buses
-  pub low_within : low < length c.buses
-  pub ends_differ : high ≢ low
-  pub together : substation_at c.buses high ≡ substation_at c.buses low
-  pub low_rated : IsRated low_volts
-  pub order : low_volts ≤ high_volts
+-- what the end of a winding keeps that runs from this terminal: another bus of the case, at a voltage not above the terminal's
+abbrev pub IsSoundEnd : Lists → (from : Terminal) → WindingEnd → Type 0
+IsSoundEnd c from (ends.Bus to) = (to.bus < length c.buses) × (to.bus ≢ from.bus) × (to.volts ≤ from.volts)
+IsSoundEnd c from ends.Neutral = Unit {0}
 
--- what a third winding keeps: a bus that is neither of the others, in their substation, and a voltage and a resistance within their ranges, the voltage not above the high one
-pub record IsSoundThird (c : Lists) (high low high_volts : ℕ) (t : Third) : Type 0 where
-  pub bus_within : t.bus < length c.buses
-  pub not_high : t.bus ≢ high
-  pub not_low : t.bus ≢ low
-  pub together : substation_at c.buses high ≡ substation_at c.buses t.bus
-  pub rated : IsRated t.volts
-  pub order : t.volts ≤ high_volts
-  pub ohm : IsResistance t.resistance
-
--- what the kind of a transformer of this high voltage keeps
-abbrev pub IsSoundKind : Lists → (high_volts : ℕ) → Kind → Type 0
-IsSoundKind c volts (kinds.DeltaWye high high_resistance) = (high < length c.buses) × IsResistance high_resistance
-IsSoundKind c volts (kinds.WyeWye high low low_volts high_resistance low_resistance third) = AreSides c high low volts low_volts × (IsResistance high_resistance × IsResistance low_resistance) × IfSome third (IsSoundThird c high low volts)
-IsSoundKind c volts (kinds.Auto high low low_volts series_resistance common_resistance third) = AreSides c high low volts low_volts × (IsResistance series_resistance × IsResistance common_resistance) × IfSome third (IsSoundThird c high low volts)
-IsSoundKind c volts (kinds.Reactor high high_resistance) = (high < length c.buses) × IsResistance high_resistance
-IsSoundKind c volts kinds.DeltaDelta = Unit {0}
+-- what every winding of a unit of this high voltage keeps: buses of the case, a voltage and a resistance within their ranges, and no voltage above the high one
+pub record IsSoundWinding (c : Lists) (high_volts : ℕ) (w : Winding) : Type 0 where
+  pub bus_within : w.from.bus < length c.buses
+  pub rated : IsRated w.from.volts
+  pub order : w.from.volts ≤ high_volts
+  pub end_sound : IsSoundEnd c w.from w.to
+  pub ohm : IsResistance w.resistance
 
 -- a neutral resistor is within the range
 abbrev pub IsSoundDevice : Neutral → Type 0
 IsSoundDevice (devices.Resistor ohm) = IsResistance ohm
 IsSoundDevice devices.Blocked = Unit {0}
 
--- what every transformer keeps: a rated voltage, a sound kind, and a sound neutral device if any, which a delta-delta unit hasn't
+-- what every transformer keeps: a rated voltage, sound windings from different buses of one substation, and a sound neutral device if any, which a unit without windings hasn't
 pub record IsSoundTransformer (c : Lists) (t : Transformer) : Type 0 where
   pub rated : IsRated t.high_volts
-  pub kind_sound : IsSoundKind c t.high_volts t.kind
+  pub windings_sound : All (IsSoundWinding c t.high_volts) (windings_of t)
+  pub buses_differ : AllPairs (λ v w. v.from.bus ≢ w.from.bus) (windings_of t)
+  pub together : AllPairs (λ v w. substation_at c.buses v.from.bus ≡ substation_at c.buses w.from.bus) (windings_of t)
   pub device_sound : IfSome t.neutral IsSoundDevice
-  pub no_device : has_windings t.kind ≡ false → is_some t.neutral ≡ false
+  pub no_device : has_windings t ≡ false → is_some t.neutral ≡ false
 
 -- what every case keeps
 pub record IsSound (c : Lists) : Type 0 where

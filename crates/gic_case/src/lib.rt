@@ -1,4 +1,5 @@
-//! The case: the lists of a network that keep all rules, the names of its nodes, ground grids and neutral nodes.
+//! The case: the lists of a network that keep all rules, the windings of its transformers, the names of its nodes, ground
+//! grids and neutral nodes.
 #![tactic(auto)]
 
 mod case;
@@ -9,6 +10,8 @@ mod neutral;
 mod node;
 mod part;
 mod parts;
+mod winding;
+mod windings;
 
 pub use case::Case;
 pub use course::Course;
@@ -18,3 +21,5 @@ pub use neutral::{grid_of, ground_grid, neutrals, substation_at};
 pub use node::{NodeNames, node_count, node_name};
 pub use part::LinePart;
 pub use parts::LineParts;
+pub use winding::{Terminal, Winding, WindingEnd, WindingRole};
+pub use windings::Windings;

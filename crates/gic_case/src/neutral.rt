@@ -4,18 +4,18 @@ ghost use Rattle.gic_case.specs.Sound.{IsSoundTransformer};
 ghost use Rattle.gic_case.specs.Lists.{substation_at, grid_of, neutrals_of};
 
 use crate::case::Case;
-use crate::item::{Bus, Kind, Transformer};
+use crate::item::{Bus, Transformer};
 use crate::network::Network;
 use gic_base::limits::MOST_TRANSFORMERS;
 use gic_base::{NodeId, OutOfMemory};
 use std::alloc::{AllocError, Global};
 
-/// The ground grid of a transformer of a case: the node of the substation of its high bus. A delta-delta unit, which
-/// has no bus, counts as at the first node.
+/// The ground grid of a transformer of a case: the node of the substation of its buses. A unit without windings, which has
+/// no bus, counts as at the first node.
 pub fn ground_grid(case: &Case, transformer: &Transformer) -> NodeId
-    ensures { result.0 ≡ grid_of case.now.buses transformer.now.kind }
+    ensures { result.0 ≡ grid_of case.now.buses transformer.now }
 {
-    NodeId(grid_of(case.buses(), &transformer.kind))
+    NodeId(grid_of(case.buses(), transformer))
 }
 
 /// Each transformer of a case with the node of its neutral, in transformer order: a node of its own, after the buses,
@@ -39,28 +39,26 @@ pub fn substation_at(buses: &[Bus], place: u16) -> u16
     }
 }
 
-/// The ground grid of a transformer of this kind: the substation of its high bus. A delta-delta unit, which has no bus,
-/// counts as at the first node.
-pub fn grid_of(buses: &[Bus], kind: &Kind) -> u16
-    ensures { result ≡ grid_of buses.now kind.now }
+/// The ground grid of a transformer: the substation of the bus of its first winding. A unit without windings counts as at
+/// the first node.
+pub fn grid_of(buses: &[Bus], transformer: &Transformer) -> u16
+    ensures { result ≡ grid_of buses.now transformer.now }
 {
-    match *kind {
-        Kind::DeltaWye { high, .. } => substation_at(buses, high),
-        Kind::WyeWye { high, .. } => substation_at(buses, high),
-        Kind::Auto { high, .. } => substation_at(buses, high),
-        Kind::Reactor { high, .. } => substation_at(buses, high),
-        Kind::DeltaDelta => 0,
+    let windings = transformer.windings();
+    match windings.as_slice().first() {
+        Some(winding) => substation_at(buses, winding.from.bus),
+        None => 0,
     }
 }
 
 /// The node of a transformer's neutral: its own with a neutral device, its ground grid without one.
 fn neutral_of(buses: &[Bus], own: u16, transformer: &Transformer) -> u16
-    ensures { result ≡ (if is_some transformer.now.neutral then own else grid_of buses.now transformer.now.kind) }
+    ensures { result ≡ (if is_some transformer.now.neutral then own else grid_of buses.now transformer.now) }
 {
     if transformer.neutral.is_some() {
         own
     } else {
-        grid_of(buses, &transformer.kind)
+        grid_of(buses, transformer)
     }
 }
 

@@ -7,16 +7,16 @@ use Rattle.std.proofs.lemmas.List.{get_or-set_same, get_or-set_other, get_or_def
 use Rattle.std.proofs.lemmas.List.Sums.{count_by_more_no, count_by_more_yes, count_by-le-length}
 use Rattle.std.specs.Prelude.{◌==◌}
 use Rattle.std.specs.List.{flat_map}
-use Rattle.gic_case.specs.Lists.{Lists, earthing_ends, line_ends, grid_of, neutrals_of, third_ends, winding_ends, device_ends, transformer_ends, element_ends, degree_of}
+use Rattle.gic_case.specs.Lists.{Lists, earthing_ends, line_ends, grid_of, neutrals_of, end_node, winding_ends, device_ends, transformer_ends, element_ends, degree_of}
+use Rattle.gic_case.specs.Windings.{windings_of}
+use Rattle.gic_case.proofs.SoundWindings.{few_windings}
 use Rattle.gic_case.proofs.Earthings.{earthing_ends_from}
 use Rattle.gic_case_reader.specs.OneByOne.{breaks_degree_from}
 use Rattle.gic_case.proofs.NeutralNodes.{length-neutrals_of}
 use Rattle.gic_case.specs.declared.item.Substation.{Substation}
 use Rattle.gic_case.specs.declared.item.Line.{Line}
 use Rattle.gic_case.specs.declared.item.Bus.{Bus}
-use Rattle.gic_case.specs.declared.item.Third.{Third}
-use Rattle.gic_case.specs.declared.item.Kind.{Kind}
-use Rattle.gic_case.specs.declared.item.Kind.TheVariants as kinds
+use Rattle.gic_case.specs.declared.winding.Winding.{Winding}
 use Rattle.gic_case.specs.declared.item.Neutral.{Neutral}
 use Rattle.gic_case.specs.declared.item.Neutral.TheVariants as devices
 use Rattle.gic_case.specs.declared.item.Transformer.{Transformer}
@@ -84,16 +84,11 @@ length-flat_map : {A : Type 0} (f : A → List ℕ) (n : ℕ) → ((x : A) → l
 length-flat_map f n few [] = omega arith
 length-flat_map f n few (x ∷ xs) = rw length-append (omega (arith, few x, length-flat_map f n few xs))
 
-length-third_ends : (first_bus neutral : ℕ) (third : Option Third) → length (third_ends first_bus neutral third) ≤ 2
-length-third_ends first_bus neutral None = omega arith
-length-third_ends first_bus neutral (Some t) = omega arith
+length-ends : (first_bus neutral : ℕ) (ws : List Winding) → length (winding_ends first_bus neutral ws) ≤ 2 * length ws
+length-ends first_bus neutral ws = length-flat_map (λ w. (first_bus + w.from.bus) ∷ end_node first_bus neutral w.to ∷ []) 2 (λ w. omega arith) ws
 
-length-winding_ends : (first_bus neutral : ℕ) (k : Kind) → length (winding_ends first_bus neutral k) ≤ 6
-length-winding_ends first_bus neutral (kinds.DeltaWye high high_resistance) = omega arith
-length-winding_ends first_bus neutral (kinds.WyeWye high low low_volts high_resistance low_resistance third) = omega (arith, length-third_ends first_bus neutral third)
-length-winding_ends first_bus neutral (kinds.Auto high low low_volts series_resistance common_resistance third) = omega (arith, length-third_ends first_bus neutral third)
-length-winding_ends first_bus neutral (kinds.Reactor high high_resistance) = omega arith
-length-winding_ends first_bus neutral kinds.DeltaDelta = omega arith
+length-winding_ends : (first_bus neutral : ℕ) (t : Transformer) → length (winding_ends first_bus neutral (windings_of t)) ≤ 6
+length-winding_ends first_bus neutral t = omega (arith, length-ends first_bus neutral (windings_of t), few_windings t.high_volts t.kind)
 
 length-device_ends : (neutral grid : ℕ) (o : Option Neutral) → length (device_ends neutral grid o) ≤ 2
 length-device_ends neutral grid None = omega arith
@@ -103,8 +98,8 @@ length-device_ends neutral grid (Some devices.Blocked) = omega arith
 length-transformer_ends : (c : Lists) → length (transformer_ends c) ≤ 8 * length c.transformers
 length-transformer_ends c =
     let many = length-neutrals_of c in
-    let windings = length-flat_map {A = ℕ × Transformer} (λ p. winding_ends (length c.substations) p.0 p.1.kind) 6 (λ p. length-winding_ends (length c.substations) p.0 p.1.kind) (neutrals_of c) in
-    let devices = length-flat_map {A = ℕ × Transformer} (λ p. device_ends p.0 (grid_of c.buses p.1.kind) p.1.neutral) 2 (λ p. length-device_ends p.0 (grid_of c.buses p.1.kind) p.1.neutral) (neutrals_of c) in
+    let windings = length-flat_map {A = ℕ × Transformer} (λ p. winding_ends (length c.substations) p.0 (windings_of p.1)) 6 (λ p. length-winding_ends (length c.substations) p.0 (windings_of p.1)) (neutrals_of c) in
+    let devices = length-flat_map {A = ℕ × Transformer} (λ p. device_ends p.0 (grid_of c.buses p.1) p.1.neutral) 2 (λ p. length-device_ends p.0 (grid_of c.buses p.1) p.1.neutral) (neutrals_of c) in
     rw length-append (omega (arith, many, windings, devices))
 
 pub length-element_ends : (c : Lists) → length (element_ends c) ≤ length c.substations + (2 * length c.lines + 8 * length c.transformers)
@@ -119,5 +114,5 @@ length-element_ends c =
 -- the ends at transformers, from what the code holds of the lists
 pub transformer_ends_by : (c : Lists) (first_bus : ℕ) (buses : List Bus) (neutrals : List (ℕ × Transformer))
     → first_bus ≡ length c.substations → buses ≡ c.buses → neutrals ≡ neutrals_of c
-    → flat_map (λ p. winding_ends first_bus p.0 p.1.kind) neutrals ++ flat_map (λ p. device_ends p.0 (grid_of buses p.1.kind) p.1.neutral) neutrals ≡ transformer_ends c
+    → flat_map (λ p. winding_ends first_bus p.0 (windings_of p.1)) neutrals ++ flat_map (λ p. device_ends p.0 (grid_of buses p.1) p.1.neutral) neutrals ≡ transformer_ends c
 transformer_ends_by c first_bus buses neutrals bus same_buses all = rw (bus, same_buses, all) refl

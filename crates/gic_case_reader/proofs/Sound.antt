@@ -1,26 +1,28 @@
 -- The lists of a document that breaks no rule are sound.
-use Rattle.std.proofs.Common.{◌≡◌, ◌≢◌, ℕ, zero, suc, ◌+◌, ◌≤◌, ◌<◌, nat_le, List, [], ◌∷◌, ◌++◌, length, map, take, get_or, Bool, true, false, cond, not, Option, Some, None, unwrap_or, is_some, option_map, ◌&&◌, IfSome, Ok, refl, sym, ap, ◌∙◌, arith, inl, inr, subst, zero-add, length-take-le}
-use Rattle.std.proofs.lemmas.Bool.{cases_eq, false≢true, and_parts}
+use Rattle.std.proofs.Common.{◌≡◌, ◌≢◌, ℕ, zero, suc, ◌+◌, ◌≤◌, ◌<◌, nat_le, List, [], ◌∷◌, ◌++◌, length, map, take, get_or, Bool, true, false, cond, not, Option, Some, None, unwrap_or, is_some, slice_get, option_map, ◌&&◌, IfSome, Ok, refl, sym, ap, ◌∙◌, arith, inl, inr, subst, zero-add, length-take-le}
+use Rattle.std.proofs.lemmas.Bool.{cases_eq, eqb-true, false≢true, and_parts}
 use Rattle.std.proofs.lemmas.Bool.Decides.{nat_tests}
 use Rattle.std.proofs.lemmas.Cmp.{nat_list_eq_equiv}
 use Rattle.std.proofs.lemmas.List.{length-map, get_or-map, get_or-take, get_or_default}
-use Rattle.std.proofs.lemmas.List.Elements.{All-nil, All-cons, All-map, All-append}
+use Rattle.std.proofs.lemmas.List.Elements.{All-nil, All-cons, All-map, All-append, All-from_recursion}
 use Rattle.std.proofs.lemmas.List.Folds.{fold-map, list_any_at}
 use Rattle.std.proofs.lemmas.Simd.{map-map}
 use Rattle.std.specs.Prelude.{All, AllPairs, ◌==◌, unsigned_abs, IsTrue}
-use Rattle.std.specs.List.{flat_map, enumerate_from, range_with_len, list_all}
+use Rattle.std.specs.List.{AllByRecursion, flat_map, enumerate_from, range_with_len, list_all}
 use Rattle.toml.specs.Data.{Data, Members}
 use Rattle.gic_base.specs.Name.{is_name}
 use Rattle.gic_scale.specs.ZoneView.{IsZone}
 use Rattle.gic_base.specs.Refusals.{unless}
+use Rattle.gic_base.proofs.Each.{weaker}
 use Rattle.gic_base.proofs.RefusalLaws.{none_of_both, none_settled, unless_holds}
 use Rattle.gic_case.proofs.Places.{place_below}
 use Rattle.gic_case.specs.Names.{same, is_repeat, place_in}
-use Rattle.gic_case.specs.Lists.{Lists, node_names, substation_at, element_ends, degree_of, has_windings}
+use Rattle.gic_case.specs.Lists.{Lists, node_names, substation_at, element_ends, degree_of}
+use Rattle.gic_case.specs.Windings.{terminal, between, to_neutral, third_windings, windings_by, windings_of}
 use Rattle.gic_base.specs.declared.limits.TheConstants.{MOST_ZONES, MOST_SUBSTATIONS, MOST_BUSES, MOST_LINES, MOST_TRANSFORMERS, MOST_SUBSTATIONS_BEFORE_FORMAT_3, MOST_BUSES_BEFORE_FORMAT_3, MOST_LINES_BEFORE_FORMAT_3, MOST_TRANSFORMERS_BEFORE_FORMAT_3}
 use Rattle.gic_case.specs.Courses.{parts_of, north_way, east_way, AreFewParts}
-use Rattle.gic_case.specs.Sound.{names_of, IsRated, IsSoundSubstation, IsSoundLine, AreSides, IsSoundThird, IsSoundKind, IsSoundTransformer, IsSound}
-use Rattle.gic_case_reader.specs.Sides.{sides_of, third_differs, sides_differ, third_together, are_together, third_ordered, are_ordered}
+use Rattle.gic_case.specs.Sound.{names_of, IsRated, IsResistance, IsSoundSubstation, IsSoundLine, IsSoundWinding, IsSoundTransformer, IsSound}
+use Rattle.gic_case_reader.specs.Sides.{sides_differ, are_together, are_ordered}
 use Rattle.gic_case_reader.specs.Transformers.{breaks_transformer, transformer_of}
 use Rattle.gic_case_reader.specs.Formats.{is_third, format_in, most_rows}
 use Rattle.gic_case_reader.specs.Rows.{members_in, breaks_zone, zone_of, breaks_substation, substation_of, breaks_bus, bus_of}
@@ -40,6 +42,9 @@ use Rattle.gic_case.specs.declared.item.Line.{Line}
 use Rattle.gic_case.specs.declared.item.Bus.{Bus}
 use Rattle.gic_case.specs.declared.item.Kind.{Kind}
 use Rattle.gic_case.specs.declared.item.Kind.TheVariants as kinds
+use Rattle.gic_case.specs.declared.winding.WindingRole.{WindingRole}
+use Rattle.gic_case.specs.declared.winding.WindingRole.TheVariants as roles
+use Rattle.gic_case.specs.declared.winding.Winding.{Winding}
 use Rattle.gic_case.specs.declared.item.Neutral.{Neutral}
 use Rattle.gic_case.specs.declared.item.Transformer.{Transformer}
 use Rattle.gic_case_reader.specs.declared.part_row.PartRow.{PartRow}
@@ -149,84 +154,125 @@ unequal a b differ e =
 
 -- what the rules on its sides give of a transformer
 record AreRuled (buses : List Bus) (t : Transformer) : Type 0 where
-  pub differ : sides_differ (sides_of t.kind) ≡ true
-  pub together : are_together buses (sides_of t.kind) ≡ true
-  pub ordered : are_ordered t.high_volts (sides_of t.kind) ≡ true
+  pub differ : sides_differ (windings_of t) ≡ true
+  pub together : are_together buses (windings_of t) ≡ true
+  pub ordered : are_ordered t.high_volts (windings_of t) ≡ true
 
--- the two sides of a unit, from the rules on them
-sides_by : (c : Lists) (buses high low high_volts low_volts : ℕ) → length c.buses ≡ buses → high < buses → low < buses → IsRated low_volts
-    → not (high == low) ≡ true → (substation_at c.buses high == substation_at c.buses low) ≡ true → nat_le low_volts high_volts ≡ true
-    → AreSides c high low high_volts low_volts
-sides_by c buses high low high_volts low_volts many high_within low_within rated differ together ordered = record {
-  high_within = omega arith;
-  low_within = omega arith;
-  ends_differ = unequal high low differ;
-  together = grind (arith, nat_tests, together);
-  low_rated = rated;
-  order = few_of low_volts high_volts ordered;
-}
+-- what a test finds of all items holds of each
+all_hold : {X : Type 0} (test : X → Bool) (xs : List X) → list_all test xs ≡ true → AllByRecursion (λ x. test x ≡ true) xs
+all_hold test [] h = tt
+all_hold test (x ∷ xs) h =
+    let both = and_parts (test x) (list_all test xs) h in
+    (both.0, all_hold test xs both.1)
 
--- a third side, from the rules on it
-third_by : (c : Lists) (w : Written) (high low volts : ℕ) (third : Option ThirdRow) → length c.buses ≡ length w.buses → IfSome third IsMeasuredThird
-    → IfSome (option_map (third_with_place w) third) (λ t. t.bus < length w.buses)
-    → third_differs high low (option_map (third_with_place w) third) ≡ true → third_together c.buses high (option_map (third_with_place w) third) ≡ true
-    → third_ordered volts (option_map (third_with_place w) third) ≡ true → IfSome (option_map (third_with_place w) third) (IsSoundThird c high low volts)
-third_by c w high low volts None many measured placed differ together ordered = tt
-third_by c w high low volts (Some t) many measured placed differ together ordered =
-    let bus = side_place w t.bus in
-    let apart = and_parts (not (bus == high)) (not (bus == low)) differ in
-    record {
-      bus_within = subst (λ n. bus < n) (sym many) placed;
-      not_high = unequal bus high apart.0;
-      not_low = unequal bus low apart.1;
-      together = grind (arith, nat_tests, together);
-      rated = measured.0;
-      order = few_of t.volts volts ordered;
-      ohm = measured.1;
-    }
+-- a fact of each two of the others, and of the first beside each of them
+pairs_in_front : {X : Type 0} (R : X → X → Type 0) (x : X) (xs : List X) → All (R x) xs → AllPairs R xs → AllPairs R (x ∷ xs)
+pairs_in_front R x xs first rest zero zero d before within = absurd (omega arith)
+pairs_in_front R x xs first rest zero (suc j) d before within = first j d (omega arith)
+pairs_in_front R x xs first rest (suc i) zero d before within = absurd (omega arith)
+pairs_in_front R x xs first rest (suc i) (suc j) d before within = rest i j d (omega arith) (omega arith)
 
--- the sides of a unit with two or three, from the rules on them
-all_sides_by : (c : Lists) (w : Written) (high low volts low_volts : ℕ) (third : Option ThirdRow) → length c.buses ≡ length w.buses
-    → IsRated low_volts → IfSome third IsMeasuredThird
-    → (high < length w.buses) × (low < length w.buses) × IfSome (option_map (third_with_place w) third) (λ t. t.bus < length w.buses)
-    → (not (high == low) && third_differs high low (option_map (third_with_place w) third)) ≡ true
-    → ((substation_at c.buses high == substation_at c.buses low) && third_together c.buses high (option_map (third_with_place w) third)) ≡ true
-    → (nat_le low_volts volts && third_ordered volts (option_map (third_with_place w) third)) ≡ true
-    → AreSides c high low volts low_volts × IfSome (option_map (third_with_place w) third) (IsSoundThird c high low volts)
-all_sides_by c w high low volts low_volts third many rated measured placed differ together ordered =
-    let apart = and_parts (not (high == low)) (third_differs high low (option_map (third_with_place w) third)) differ in
-    let one = and_parts (substation_at c.buses high == substation_at c.buses low) (third_together c.buses high (option_map (third_with_place w) third)) together in
-    let order = and_parts (nat_le low_volts volts) (third_ordered volts (option_map (third_with_place w) third)) ordered in
-    (sides_by c (length w.buses) high low volts low_volts many placed.0 placed.1 rated apart.0 one.0 order.0, third_by c w high low volts third many measured placed.2 apart.1 one.1 order.1)
+abbrev HaveTwoBuses : Winding → Winding → Type 0
+HaveTwoBuses v w = v.from.bus ≢ w.from.bus
 
-kind_by : (c : Lists) (w : Written) (volts : ℕ) (k : KindRow) → length c.buses ≡ length w.buses → IsMeasuredKind k → IsPlacedKind (length w.buses) (kind_with_places w k)
-    → sides_differ (sides_of (kind_with_places w k)) ≡ true → are_together c.buses (sides_of (kind_with_places w k)) ≡ true → are_ordered volts (sides_of (kind_with_places w k)) ≡ true
-    → IsSoundKind c volts (kind_with_places w k)
-kind_by c w volts (rows.DeltaWye high high_resistance) many measured placed differ together ordered = (subst (λ n. side_place w high < n) (sym many) placed, measured)
-kind_by c w volts (rows.WyeWye high low low_volts high_resistance low_resistance third) many measured placed differ together ordered =
-    let sides = all_sides_by c w (side_place w high) (side_place w low) volts low_volts third many measured.0 measured.2 placed differ together ordered in
-    (sides.0, measured.1, sides.1)
-kind_by c w volts (rows.Auto high low low_volts series_resistance common_resistance third) many measured placed differ together ordered =
-    let sides = all_sides_by c w (side_place w high) (side_place w low) volts low_volts third many measured.0 measured.2 placed differ together ordered in
-    (sides.0, measured.1, sides.1)
-kind_by c w volts (rows.Reactor high high_resistance) many measured placed differ together ordered = (subst (λ n. side_place w high < n) (sym many) placed, measured)
-kind_by c w volts rows.DeltaDelta many measured placed differ together ordered = tt
+differ_by : (ws : List Winding) → sides_differ ws ≡ true → AllPairs HaveTwoBuses ws
+differ_by [] h i j d before within = absurd (omega arith)
+differ_by (w ∷ ws) h =
+    let both = and_parts (list_all (λ v. not (w.from.bus == v.from.bus)) ws) (sides_differ ws) h in
+    let others = weaker (λ v. not (w.from.bus == v.from.bus) ≡ true) (HaveTwoBuses w) (λ v apart. unequal w.from.bus v.from.bus apart) ws (all_hold (λ v. not (w.from.bus == v.from.bus)) ws both.0) in
+    pairs_in_front HaveTwoBuses w ws (All-from_recursion (HaveTwoBuses w) ws others) (differ_by ws both.1)
 
-no_device_by : (w : Written) (k : KindRow) (neutral : Option Neutral) → HasPlaceFor k neutral → has_windings (kind_with_places w k) ≡ false → is_some neutral ≡ false
-no_device_by w (rows.DeltaWye high high_resistance) neutral place h = absurd (false≢true (sym h))
-no_device_by w (rows.WyeWye high low low_volts high_resistance low_resistance third) neutral place h = absurd (false≢true (sym h))
-no_device_by w (rows.Auto high low low_volts series_resistance common_resistance third) neutral place h = absurd (false≢true (sym h))
-no_device_by w (rows.Reactor high high_resistance) neutral place h = absurd (false≢true (sym h))
-no_device_by w rows.DeltaDelta neutral place h = ap is_some place
+-- windings that are all at one place
+at_one_place : (place : Winding → ℕ) (n : ℕ) (ws : List Winding) → AllByRecursion (λ w. n ≡ place w) ws → AllPairs (λ v w. place v ≡ place w) ws
+at_one_place place n ws each i j d before within =
+    let all = All-from_recursion (λ w. n ≡ place w) ws each in
+    sym (all i d (omega arith)) ∙ all j d within
+
+together_by : (buses : List Bus) (ws : List Winding) → are_together buses ws ≡ true → AllPairs (λ v w. substation_at buses v.from.bus ≡ substation_at buses w.from.bus) ws
+together_by buses [] h i j d before within = absurd (omega arith)
+together_by buses (w ∷ ws) h =
+    let here = substation_at buses w.from.bus in
+    let others = weaker (λ v. (here == substation_at buses v.from.bus) ≡ true) (λ v. here ≡ substation_at buses v.from.bus) (λ v one. eqb-true here (substation_at buses v.from.bus) one) ws
+    (all_hold (λ v. here == substation_at buses v.from.bus) ws h) in
+    at_one_place (λ v. substation_at buses v.from.bus) here (w ∷ ws) (refl, others)
+
+module _ (c : Lists) (w : Written) (many : length c.buses ≡ length w.buses) (volts : ℕ) where
+  -- a winding to the neutral, from what is known of its side
+  one_by : (r : WindingRole) (bus side_volts ohm : ℕ) → bus < length w.buses → IsRated side_volts → nat_le side_volts volts ≡ true → IsResistance ohm
+      → IsSoundWinding c volts (to_neutral r (terminal bus side_volts) ohm)
+  one_by r bus side_volts ohm placed rated ordered measured = record {
+    bus_within = subst (λ n. bus < n) (sym many) placed;
+    rated = rated;
+    order = few_of side_volts volts ordered;
+    end_sound = tt;
+    ohm = measured;
+  }
+
+  -- a winding in series
+  series_by : (high low low_volts ohm : ℕ) → high < length w.buses → low < length w.buses → IsRated volts → nat_le volts volts ≡ true → nat_le low_volts volts ≡ true → not (high == low) ≡ true → IsResistance ohm
+      → IsSoundWinding c volts (between roles.Series (terminal high volts) (terminal low low_volts) ohm)
+  series_by high low low_volts ohm high_placed low_placed rated same ordered differ measured = record {
+    bus_within = subst (λ n. high < n) (sym many) high_placed;
+    rated = rated;
+    order = few_of volts volts same;
+    end_sound = (subst (λ n. low < n) (sym many) low_placed, (λ e. unequal high low differ (sym e)), few_of low_volts volts ordered);
+    ohm = measured;
+  }
+
+  third_by : (third : Option ThirdRow) → IfSome third IsMeasuredThird → IfSome (option_map (third_with_place w) third) (λ t. t.bus < length w.buses)
+      → are_ordered volts (third_windings (option_map (third_with_place w) third)) ≡ true → AllByRecursion (IsSoundWinding c volts) (third_windings (option_map (third_with_place w) third))
+  third_by None measured placed ordered = tt
+  third_by (Some t) measured placed ordered =
+      let order = and_parts (nat_le t.volts volts) true ordered in
+      (one_by roles.Third (side_place w t.bus) t.volts t.resistance placed measured.0 order.0 measured.1, tt)
+
+  windings_sound_by : (k : KindRow) → IsRated volts → IsMeasuredKind k → IsPlacedKind (length w.buses) (kind_with_places w k)
+      → sides_differ (windings_by volts (kind_with_places w k)) ≡ true → are_ordered volts (windings_by volts (kind_with_places w k)) ≡ true
+      → AllByRecursion (IsSoundWinding c volts) (windings_by volts (kind_with_places w k))
+  windings_sound_by (rows.DeltaWye high high_resistance) rated measured placed differ ordered =
+      (one_by roles.High (side_place w high) volts high_resistance placed rated (and_parts (nat_le volts volts) true ordered).0 measured, tt)
+  windings_sound_by (rows.WyeWye high low low_volts high_resistance low_resistance third) rated measured placed differ ordered =
+      let third_row = option_map (third_with_place w) third in
+      let first = and_parts (nat_le volts volts) (nat_le low_volts volts && are_ordered volts (third_windings third_row)) ordered in
+      let second = and_parts (nat_le low_volts volts) (are_ordered volts (third_windings third_row)) first.1 in
+      (
+        one_by roles.High (side_place w high) volts high_resistance placed.0 rated first.0 measured.1.0,
+        (one_by roles.Low (side_place w low) low_volts low_resistance placed.1 measured.0 second.0 measured.1.1, third_by third measured.2 placed.2 second.1),
+      )
+  windings_sound_by (rows.Auto high low low_volts series_resistance common_resistance third) rated measured placed differ ordered =
+      let third_row = option_map (third_with_place w) third in
+      let first = and_parts (nat_le volts volts) (nat_le low_volts volts && are_ordered volts (third_windings third_row)) ordered in
+      let second = and_parts (nat_le low_volts volts) (are_ordered volts (third_windings third_row)) first.1 in
+      let others : List Winding = to_neutral roles.Common (terminal (side_place w low) low_volts) common_resistance ∷ third_windings third_row in
+      let apart = and_parts (list_all (λ v. not (side_place w high == v.from.bus)) others) (sides_differ others) differ in
+      let two = and_parts (not (side_place w high == side_place w low)) (list_all (λ v. not (side_place w high == v.from.bus)) (third_windings third_row)) apart.0 in
+      (
+        series_by (side_place w high) (side_place w low) low_volts series_resistance placed.0 placed.1 rated first.0 second.0 two.0 measured.1.0,
+        (one_by roles.Common (side_place w low) low_volts common_resistance placed.1 measured.0 second.0 measured.1.1, third_by third measured.2 placed.2 second.1),
+      )
+  windings_sound_by (rows.Reactor high high_resistance) rated measured placed differ ordered =
+      (one_by roles.High (side_place w high) volts high_resistance placed rated (and_parts (nat_le volts volts) true ordered).0 measured, tt)
+  windings_sound_by rows.DeltaDelta rated measured placed differ ordered = tt
+
+no_device_by : (w : Written) (volts : ℕ) (k : KindRow) (neutral : Option Neutral) → HasPlaceFor k neutral → is_some (slice_get (windings_by volts (kind_with_places w k)) 0) ≡ false → is_some neutral ≡ false
+no_device_by w volts (rows.DeltaWye high high_resistance) neutral place h = absurd (false≢true (sym h))
+no_device_by w volts (rows.WyeWye high low low_volts high_resistance low_resistance third) neutral place h = absurd (false≢true (sym h))
+no_device_by w volts (rows.Auto high low low_volts series_resistance common_resistance third) neutral place h = absurd (false≢true (sym h))
+no_device_by w volts (rows.Reactor high high_resistance) neutral place h = absurd (false≢true (sym h))
+no_device_by w volts rows.DeltaDelta neutral place h = ap is_some place
 
 -- a transformer of a document that breaks no rule
 transformer_by : (c : Lists) (w : Written) (t : TransformerRow) → length c.buses ≡ length w.buses → IsMeasuredTransformer t → IsPlacedKind (length w.buses) (kind_with_places w t.kind)
     → AreRuled c.buses (transformer_with_places w t) → IsSoundTransformer c (transformer_with_places w t)
 transformer_by c w t many measured placed ruled = record {
   rated = measured.rated;
-  kind_sound = kind_by c w t.high_volts t.kind many measured.kind placed ruled.differ ruled.together ruled.ordered;
+  windings_sound =
+      All-from_recursion (IsSoundWinding c t.high_volts) (windings_of (transformer_with_places w t))
+      (windings_sound_by c w many t.high_volts t.kind measured.rated measured.kind placed ruled.differ ruled.ordered);
+  buses_differ = differ_by (windings_of (transformer_with_places w t)) ruled.differ;
+  together = together_by c.buses (windings_of (transformer_with_places w t)) ruled.together;
   device_sound = measured.device;
-  no_device = no_device_by w t.kind t.neutral measured.place;
+  no_device = no_device_by w t.high_volts t.kind t.neutral measured.place;
 }
 
 differ : (row : ℕ) (l : Line) → unless (not (l.from == l.to)) (refusals.SameEnds parts.Line row) ≡ [] → l.from ≢ l.to
@@ -379,12 +425,12 @@ transformers_by w measured references differ apart order =
     let many = length-map w.buses (bus_with_place w) in
     let placed = all_kept (λ row t. breaks_kind_references w row t.kind) (λ t. IsPlacedKind (length w.buses) (kind_with_places w t.kind)) (λ row t. kind_placed w row t.kind) 1 w.transformers references in
     let read = transformer_with_places w in
-    let differs = all_kept (λ row t. unless (sides_differ (sides_of t.kind)) (refusals.SameEnds parts.Transformer row)) (λ t. sides_differ (sides_of t.kind) ≡ true) (λ row t. unless_holds _ _) 1 c.transformers differ in
-    let together = all_kept (λ row t. unless (are_together c.buses (sides_of t.kind)) (refusals.Apart row)) (λ t. are_together c.buses (sides_of t.kind) ≡ true) (λ row t. unless_holds _ _) 1 c.transformers apart in
-    let ordered = all_kept (λ row t. unless (are_ordered t.high_volts (sides_of t.kind)) (refusals.VoltageOrder row)) (λ t. are_ordered t.high_volts (sides_of t.kind) ≡ true) (λ row t. unless_holds _ _) 1 c.transformers order in
-    let differs_there = all_unmapped (λ t. sides_differ (sides_of t.kind) ≡ true) read w.transformers differs in
-    let together_there = all_unmapped (λ t. are_together c.buses (sides_of t.kind) ≡ true) read w.transformers together in
-    let ordered_there = all_unmapped (λ t. are_ordered t.high_volts (sides_of t.kind) ≡ true) read w.transformers ordered in
+    let differs = all_kept (λ row t. unless (sides_differ (windings_of t)) (refusals.SameEnds parts.Transformer row)) (λ t. sides_differ (windings_of t) ≡ true) (λ row t. unless_holds _ _) 1 c.transformers differ in
+    let together = all_kept (λ row t. unless (are_together c.buses (windings_of t)) (refusals.Apart row)) (λ t. are_together c.buses (windings_of t) ≡ true) (λ row t. unless_holds _ _) 1 c.transformers apart in
+    let ordered = all_kept (λ row t. unless (are_ordered t.high_volts (windings_of t)) (refusals.VoltageOrder row)) (λ t. are_ordered t.high_volts (windings_of t) ≡ true) (λ row t. unless_holds _ _) 1 c.transformers order in
+    let differs_there = all_unmapped (λ t. sides_differ (windings_of t) ≡ true) read w.transformers differs in
+    let together_there = all_unmapped (λ t. are_together c.buses (windings_of t) ≡ true) read w.transformers together in
+    let ordered_there = all_unmapped (λ t. are_ordered t.high_volts (windings_of t) ≡ true) read w.transformers ordered in
     All-map (IsSoundTransformer c) read w.transformers (λ k d lt.
     transformer_by c w (get_or w.transformers k d) many (measured k d lt) (placed k d lt) (record {
       differ = differs_there k d lt;

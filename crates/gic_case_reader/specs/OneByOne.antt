@@ -5,7 +5,8 @@ use Rattle.gic_base.specs.Refusals.{unless}
 use Rattle.gic_base.specs.declared.limits.TheConstants.{MOST_AT_A_NODE}
 use Rattle.gic_case.specs.Names.{is_repeat}
 use Rattle.gic_case.specs.Lists.{degree_of}
-use Rattle.gic_case_reader.specs.Sides.{sides_of, sides_differ, are_together, are_ordered}
+use Rattle.gic_case.specs.Windings.{windings_of}
+use Rattle.gic_case_reader.specs.Sides.{sides_differ, are_together, are_ordered}
 use Rattle.gic_case_reader.specs.declared.refusal.Part.TheVariants as parts
 use Rattle.gic_case_reader.specs.declared.refusal.CaseRefusal.{CaseRefusal}
 use Rattle.gic_case_reader.specs.declared.refusal.CaseRefusal.TheVariants as refusals
@@ -19,15 +20,15 @@ breaks_same_ends_from row lines = flat_map (λ p. unless (not (p.1.from == p.1.t
 
 -- the sides of each of these transformers, numbered from here on, have each a bus of its own
 abbrev pub breaks_same_sides_from : (row : ℕ) → List Transformer → List CaseRefusal
-breaks_same_sides_from row transformers = flat_map (λ p. unless (sides_differ (sides_of p.1.kind)) (refusals.SameEnds parts.Transformer p.0)) (enumerate_from row transformers)
+breaks_same_sides_from row transformers = flat_map (λ p. unless (sides_differ (windings_of p.1)) (refusals.SameEnds parts.Transformer p.0)) (enumerate_from row transformers)
 
 -- the sides of each of these transformers, numbered from here on, are in one substation
 abbrev pub breaks_apart_from : List Bus → (row : ℕ) → List Transformer → List CaseRefusal
-breaks_apart_from buses row transformers = flat_map (λ p. unless (are_together buses (sides_of p.1.kind)) (refusals.Apart p.0)) (enumerate_from row transformers)
+breaks_apart_from buses row transformers = flat_map (λ p. unless (are_together buses (windings_of p.1)) (refusals.Apart p.0)) (enumerate_from row transformers)
 
 -- neither the low nor a third voltage of each of these transformers, numbered from here on, is above its high voltage
 abbrev pub breaks_voltage_order_from : (row : ℕ) → List Transformer → List CaseRefusal
-breaks_voltage_order_from row transformers = flat_map (λ p. unless (are_ordered p.1.high_volts (sides_of p.1.kind)) (refusals.VoltageOrder p.0)) (enumerate_from row transformers)
+breaks_voltage_order_from row transformers = flat_map (λ p. unless (are_ordered p.1.high_volts (windings_of p.1)) (refusals.VoltageOrder p.0)) (enumerate_from row transformers)
 
 -- at most `MOST_AT_A_NODE` of the ends are at each of the nodes with these names, numbered from here on
 abbrev pub breaks_degree_from : (node : ℕ) → (names : List (List ℕ)) → (ends : List ℕ) → List CaseRefusal

@@ -14,7 +14,8 @@ use Rattle.gic_case_reader.specs.Lines.{breaks_line, line_of}
 use Rattle.gic_case_reader.specs.Transformers.{breaks_transformer, transformer_of}
 use Rattle.gic_case.specs.Names.{is_repeat, place_in}
 use Rattle.gic_case.specs.Lists.{Lists, node_names, element_ends, degree_of}
-use Rattle.gic_case_reader.specs.Sides.{sides_of, sides_differ, are_together, are_ordered}
+use Rattle.gic_case.specs.Windings.{windings_of}
+use Rattle.gic_case_reader.specs.Sides.{sides_differ, are_together, are_ordered}
 use Rattle.gic_case_reader.specs.declared.field.Field.{Field}
 use Rattle.gic_case_reader.specs.declared.field.Field.TheVariants as fields
 use Rattle.gic_case_reader.specs.declared.refusal.Part.{Part}
@@ -236,15 +237,15 @@ breaks_same_ends c = breaks_rows (λ l. not (l.from == l.to)) (refusals.SameEnds
 
 -- no transformer has one bus for two of its sides
 abbrev pub breaks_same_sides : Lists → List CaseRefusal
-breaks_same_sides c = breaks_rows (λ t. sides_differ (sides_of t.kind)) (refusals.SameEnds parts.Transformer) c.transformers
+breaks_same_sides c = breaks_rows (λ t. sides_differ (windings_of t)) (refusals.SameEnds parts.Transformer) c.transformers
 
 -- no transformer stands in two substations
 abbrev pub breaks_apart : Lists → List CaseRefusal
-breaks_apart c = breaks_rows (λ t. are_together c.buses (sides_of t.kind)) refusals.Apart c.transformers
+breaks_apart c = breaks_rows (λ t. are_together c.buses (windings_of t)) refusals.Apart c.transformers
 
 -- no transformer has a low or third voltage above its high voltage
 abbrev pub breaks_voltage_order : Lists → List CaseRefusal
-breaks_voltage_order c = breaks_rows (λ t. are_ordered t.high_volts (sides_of t.kind)) refusals.VoltageOrder c.transformers
+breaks_voltage_order c = breaks_rows (λ t. are_ordered t.high_volts (windings_of t)) refusals.VoltageOrder c.transformers
 
 -- at most `MOST_AT_A_NODE` elements end at each node, which is refused by its name
 abbrev pub breaks_degree : Lists → List CaseRefusal

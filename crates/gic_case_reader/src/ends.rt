@@ -1,70 +1,37 @@
 //! The nodes at which windings and neutral resistors end.
 ghost use Rattle.std.specs.Prelude.{◌≡◌, ◌<◌, ◌^◌, ◌++◌, flat_map, OnOk};
-ghost use Rattle.gic_case.specs.Lists.{grid_of, third_ends, winding_ends, device_ends};
+ghost use Rattle.gic_case.specs.Lists.{grid_of, end_node, winding_ends, device_ends};
+ghost use Rattle.gic_case.specs.Windings.{windings_of};
 
-use gic_case::{Bus, Kind, Neutral, Third, Transformer, grid_of};
+use gic_case::{Bus, Neutral, Transformer, Winding, WindingEnd, grid_of};
 use std::alloc::AllocError;
 
-/// Adds the nodes at which a third winding ends, where there is one.
-fn push_ends_of_third(
-    ends: &mut Vec<u32>,
-    first_bus: u32,
-    neutral: u32,
-    third: Option<Third>,
-) -> Result<(), AllocError>
+/// The node to which a winding runs of a transformer with this neutral.
+fn end_node(first_bus: u32, neutral: u32, to: WindingEnd) -> u32
     requires { first_bus < 2 ^ 16 }
-    ensures { OnOk result (ends.new.items ≡ ends.old.items ++ third_ends first_bus neutral third) }
+    ensures { result ≡ end_node first_bus neutral to }
 {
-    match third {
-        Some(third) => ends.extend_from_slice(&[first_bus + u32::from(third.bus), neutral]),
-        None => Ok(()),
+    match to {
+        WindingEnd::Bus(to) => first_bus + u32::from(to.bus),
+        WindingEnd::Neutral => neutral,
     }
 }
 
-/// Adds the nodes at which the windings of a transformer end.
+/// Adds the nodes at which these windings of a transformer end.
 fn push_ends_of_windings(
     ends: &mut Vec<u32>,
     first_bus: u32,
     neutral: u32,
-    kind: &Kind,
+    windings: &[Winding],
 ) -> Result<(), AllocError>
     requires { first_bus < 2 ^ 16 }
-    ensures { OnOk result (ends.new.items ≡ ends.old.items ++ winding_ends first_bus neutral kind.now) }
+    ensures { OnOk result (ends.new.items ≡ ends.old.items ++ winding_ends first_bus neutral windings.now) }
 {
-    match *kind {
-        Kind::DeltaWye { high, .. } | Kind::Reactor { high, .. } => {
-            ends.extend_from_slice(&[first_bus + u32::from(high), neutral])
-        }
-        Kind::WyeWye {
-            high,
-            low,
-            third,
-            ..
-        } => {
-            ends.extend_from_slice(&[
-                first_bus + u32::from(high),
-                neutral,
-                first_bus + u32::from(low),
-                neutral,
-            ])?;
-            push_ends_of_third(ends, first_bus, neutral, third)
-        }
-        Kind::Auto {
-            high,
-            low,
-            third,
-            ..
-        } => {
-            ends.extend_from_slice(&[
-                first_bus + u32::from(high),
-                first_bus + u32::from(low),
-                first_bus + u32::from(low),
-                neutral,
-            ])?;
-            push_ends_of_third(ends, first_bus, neutral, third)
-        }
-        Kind::DeltaDelta => Ok(()),
+    for winding in windings {
+        ends.push(first_bus + u32::from(winding.from.bus))?;
+        ends.push(end_node(first_bus, neutral, winding.to))?;
     }
+    Ok(())
 }
 
 /// Adds the nodes at which the windings of the transformers end.
@@ -74,10 +41,11 @@ pub(crate) fn push_winding_ends(
     neutrals: &[(u16, Transformer)],
 ) -> Result<(), AllocError>
     requires { first_bus < 2 ^ 16 }
-    ensures { OnOk result (ends.new.items ≡ ends.old.items ++ flat_map (λ p. winding_ends first_bus p.0 p.1.kind) neutrals.now) }
+    ensures { OnOk result (ends.new.items ≡ ends.old.items ++ flat_map (λ p. winding_ends first_bus p.0 (windings_of p.1)) neutrals.now) }
 {
     for (neutral, transformer) in neutrals {
-        push_ends_of_windings(ends, first_bus, u32::from(*neutral), &transformer.kind)?;
+        let windings = transformer.windings();
+        push_ends_of_windings(ends, first_bus, u32::from(*neutral), windings.as_slice())?;
     }
     Ok(())
 }
@@ -103,10 +71,10 @@ pub(crate) fn push_device_ends(
     buses: &[Bus],
     neutrals: &[(u16, Transformer)],
 ) -> Result<(), AllocError>
-    ensures { OnOk result (ends.new.items ≡ ends.old.items ++ flat_map (λ p. device_ends p.0 (grid_of buses.now p.1.kind) p.1.neutral) neutrals.now) }
+    ensures { OnOk result (ends.new.items ≡ ends.old.items ++ flat_map (λ p. device_ends p.0 (grid_of buses.now p.1) p.1.neutral) neutrals.now) }
 {
     for (neutral, transformer) in neutrals {
-        let grid = u32::from(grid_of(buses, &transformer.kind));
+        let grid = u32::from(grid_of(buses, transformer));
         push_ends_of_device(ends, u32::from(*neutral), grid, transformer.neutral)?;
     }
     Ok(())

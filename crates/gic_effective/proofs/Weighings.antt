@@ -7,24 +7,22 @@ use Rattle.std.specs.List.{AllByRecursion}
 use Rattle.std.specs.Option.{option_to_list}
 use lib.IntN.{*ℤ_comm, *ℤ-zero}
 use Rattle.gic_base.specs.declared.id.ElementId.{ElementId}
-use Rattle.gic_case.specs.declared.item.Kind.{Kind}
-use Rattle.gic_case.specs.declared.item.Kind.TheVariants as kinds
-use Rattle.gic_case.specs.declared.item.Third.{Third}
 use Rattle.gic_case.specs.declared.item.Transformer.{Transformer}
+use Rattle.gic_case.specs.declared.winding.Winding.{Winding}
 use Rattle.gic_case.specs.Lists.{Lists, has_effect}
-use Rattle.gic_case.specs.Sound.{IsSoundKind, IsSoundThird}
+use Rattle.gic_case.specs.Windings.{windings_of}
+use Rattle.gic_case.specs.Sound.{IsSoundWinding, IsSoundTransformer}
+use Rattle.gic_base.proofs.Each.{weaker}
 use Rattle.gic_fixed.specs.Encloses.{Encloses}
 use Rattle.gic_fixed.specs.Rounding.{floor_div, ceil_div}
 use Rattle.gic_fixed.specs.Ends.{Ends, zero_ends, IsAtMostWide}
 use Rattle.gic_fixed.proofs.Divisions.{floor_is, ceil_is}
 use Rattle.gic_fixed.proofs.Integers.{linear}
-use Rattle.gic_model.specs.declared.parts.Role.{Role}
-use Rattle.gic_model.specs.declared.parts.Role.TheVariants as role
 use Rattle.gic_model.specs.Solution.{Solution, IsSolution}
 use Rattle.gic_model.specs.Standing.{is_standing}
 use Rattle.gic_model.specs.Sums.{Placed, sum_of}
 use Rattle.gic_winding.specs.declared.weights.Weights.{Weights}
-use Rattle.gic_winding.specs.Weights.{low_volts_of, third_volts, third_volts_of, weight_of}
+use Rattle.gic_winding.specs.Weights.{weight_of, weighed_by}
 use Rattle.gic_effective.specs.Holds.{HoldsSolution}
 use Rattle.gic_effective.specs.Shown.{AreSharp, IsShownWinding}
 use Rattle.gic_effective.specs.WeightedSum.{weighted, weighted_sum, weight_in, total_weight}
@@ -70,10 +68,6 @@ module _ (standing : List Placed) (volts : ℕ → ℤ) (potentials : List Ends)
   winding_narrow None lo hi width shown sharp =
       same_width (floor_div lo (pos 1000000)) (ceil_div hi (pos 1000000)) (pos 0) (pos 0) width (ap (λ z. floor_div z (pos 1000000)) shown.0) (ap (λ z. ceil_div z (pos 1000000)) shown.1) (omega (arith, ints))
   winding_narrow (Some w) lo hi width shown sharp = shown.narrow width sharp
-
--- a winding's place with its weight
-abbrev pub weighed : Transformer → Placed → ElementId × ℕ
-weighed t p = (record { 0 = p.0 }, weight_of t p.1.role)
 
 -- the winding, if there is one, has no weight where it stands
 abbrev pub HasNone : List Placed → ElementId × ℕ → Type 0
@@ -126,49 +120,36 @@ quotients_nought a b lo hi d some low high e f =
     let most = high ∙ ap (λ (z : ℤ). ceil_div z (pos d)) f ∙ ceil_is (pos 0) d (pos 0) some (omega (arith, linear)) (omega (arith, linear)) in
     ap₂ ends_by least most
 
--- no side's voltage is above the high one
-abbrev pub AreAtMost : (volts : ℕ) → Kind → Type 0
-AreAtMost volts kind = (low_volts_of kind ≤ volts) × (third_volts_of kind ≤ volts)
+-- no winding's weight is above the high voltage
+abbrev pub AreAtMost : Transformer → Type 0
+AreAtMost t = AllByRecursion (λ w. weight_of t w ≤ t.high_volts) (windings_of t)
 
-third_at_most : (c : Lists) (high low volts : ℕ) (third : Option Third) → IfSome third (IsSoundThird c high low volts) → third_volts third ≤ volts
-third_at_most c high low volts None h = omega arith
-third_at_most c high low volts (Some t) h = h.order
-
--- so it is where the kind is sound
-pub sides_at_most : (c : Lists) (volts : ℕ) (kind : Kind) → IsSoundKind c volts kind → AreAtMost volts kind
-sides_at_most c volts (kinds.DeltaWye high high_resistance) h = (omega arith, omega arith)
-sides_at_most c volts (kinds.WyeWye high low low_volts high_resistance low_resistance third) h = (h.0.order, third_at_most c high low volts third h.2)
-sides_at_most c volts (kinds.Auto high low low_volts series_resistance common_resistance third) h = (h.0.order, third_at_most c high low volts third h.2)
-sides_at_most c volts (kinds.Reactor high high_resistance) h = (omega arith, omega arith)
-sides_at_most c volts kinds.DeltaDelta h = (omega arith, omega arith)
-
--- then no weight is above it
-pub weight_most : (t : Transformer) → AreAtMost t.high_volts t.kind → (r : Role) → weight_of t r ≤ t.high_volts
-weight_most t h role.High = elim (cases_Bool (has_effect t.kind)) [
-  | inl has ↦ rw has (omega arith)
+weight_most : (t : Transformer) (w : Winding) → w.from.volts ≤ t.high_volts → weight_of t w ≤ t.high_volts
+weight_most t w h = elim (cases_Bool (has_effect t.kind)) [
+  | inl has ↦ rw has (omega (arith, h))
   | inr none ↦ rw none (omega arith)
 ]
-weight_most t h role.Low = h.0
-weight_most t h role.Series = omega arith
-weight_most t h role.Common = h.0
-weight_most t h role.Third = h.1
-weight_most t h role.Ground = omega arith
-weight_most t h role.Line = omega arith
-weight_most t h role.Neutral = omega arith
 
-each_most : (t : Transformer) → AreAtMost t.high_volts t.kind → (ps : List Placed) → AllByRecursion (λ w. w.1 ≤ t.high_volts) (map (weighed t) ps)
-each_most t h [] = tt
-each_most t h (p ∷ ps) = (weight_most t h p.1.role, each_most t h ps)
+-- so it is where the transformer is sound
+pub weights_at_most : (c : Lists) (t : Transformer) → IsSoundTransformer c t → AreAtMost t
+weights_at_most c t h =
+    weaker (IsSoundWinding c t.high_volts) (λ w. weight_of t w ≤ t.high_volts) (λ w sound. weight_most t w sound.order) (windings_of t)
+    (recursion_from_All (IsSoundWinding c t.high_volts) (windings_of t) h.windings_sound)
+
+each_most : (weight : Winding → ℕ) (most : ℕ) (ps : List Placed) (ws : List Winding) → AllByRecursion (λ w. weight w ≤ most) ws → AllByRecursion (λ v. v.1 ≤ most) (weighed_by weight ps ws)
+each_most weight most [] ws h = tt
+each_most weight most (p ∷ ps) [] h = tt
+each_most weight most (p ∷ ps) (w ∷ ws) h = (h.0, each_most weight most ps ws h.1)
 
 one_most : (a : Option (ElementId × ℕ)) (volts : ℕ) → IfSome a (λ w. w.1 ≤ volts) → weight_in a ≤ volts
 one_most None volts h = omega arith
 one_most (Some w) volts h = h
 
 -- and three weights are together at most three times the high voltage
-pub weights_most : (t : Transformer) (ps : List Placed) (w : Weights) → AreAtMost t.high_volts t.kind →
-    map (weighed t) ps ≡ option_to_list w.first ++ (option_to_list w.second ++ option_to_list w.third) → total_weight w ≤ 3 * t.high_volts
+pub weights_most : (t : Transformer) (ps : List Placed) (w : Weights) → AreAtMost t →
+    weighed_by (weight_of t) ps (windings_of t) ≡ option_to_list w.first ++ (option_to_list w.second ++ option_to_list w.third) → total_weight w ≤ 3 * t.high_volts
 weights_most t ps w h is =
-    let all = subst (AllByRecursion (λ v. v.1 ≤ t.high_volts)) is (each_most t h ps) in
+    let all = subst (AllByRecursion (λ v. v.1 ≤ t.high_volts)) is (each_most (weight_of t) t.high_volts ps (windings_of t) h) in
     let front = front_of_all (λ v. v.1 ≤ t.high_volts) w.first _ all in
     let behind = front_of_all (λ v. v.1 ≤ t.high_volts) w.second _ front.1 in
     let first = one_most w.first t.high_volts front.0 in

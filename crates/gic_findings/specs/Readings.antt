@@ -1,17 +1,18 @@
 -- Values that are usual hardly anywhere: what is measured of each row, in the order of its fields, and which of it is told.
-use Rattle.std.specs.Prelude.{ℕ, ◌*◌, ◌/◌, nat_le, List, [], ◌∷◌, ◌++◌, flat_map, if◌then◌else◌, Option, Some, None}
+use Rattle.std.specs.Prelude.{ℕ, ◌*◌, ◌/◌, nat_le, List, [], ◌∷◌, ◌++◌, map, flat_map, not, ◌&&◌, if◌then◌else◌, Option, Some, None}
 use Rattle.gic_scale.specs.declared.scaling.Scaling.{Scaling}
 use Rattle.gic_scale.specs.declared.scaling.Scaling.TheVariants as scalings
 use Rattle.gic_scale.specs.ZoneView.{ZoneView}
 use Rattle.gic_case.specs.declared.item.Substation.{Substation}
 use Rattle.gic_case.specs.declared.item.Line.{Line}
-use Rattle.gic_case.specs.declared.item.Third.{Third}
-use Rattle.gic_case.specs.declared.item.Kind.{Kind}
-use Rattle.gic_case.specs.declared.item.Kind.TheVariants as kinds
 use Rattle.gic_case.specs.declared.item.Neutral.{Neutral}
 use Rattle.gic_case.specs.declared.item.Neutral.TheVariants as devices
 use Rattle.gic_case.specs.declared.item.Transformer.{Transformer}
-use Rattle.gic_case.specs.Lists.{Lists}
+use Rattle.gic_case.specs.declared.winding.WindingRole.{WindingRole}
+use Rattle.gic_case.specs.declared.winding.WindingRole.TheVariants as roles
+use Rattle.gic_case.specs.declared.winding.Winding.{Winding}
+use Rattle.gic_case.specs.Lists.{Lists, has_effect}
+use Rattle.gic_case.specs.Windings.{windings_of, has_windings}
 use Rattle.gic_findings.specs.declared.finding.CaseList.{CaseList}
 use Rattle.gic_findings.specs.declared.finding.CaseList.TheVariants as lists
 use Rattle.gic_findings.specs.declared.finding.Finding.{Finding}
@@ -52,26 +53,21 @@ kilometre_readings l = if nat_le 1000 (length_of (span_of l)) then (values.PerKi
 abbrev pub line_readings : Line → List Reading
 line_readings l = (values.Resistance, l.resistance) ∷ (span_readings l ++ kilometre_readings l)
 
--- the high voltage of a unit of the kind, which a reactor isn't asked
-abbrev pub volts_readings : Kind → (high_volts : ℕ) → List Reading
-volts_readings (kinds.DeltaWye high high_resistance) high_volts = (values.HighVolts, high_volts) ∷ []
-volts_readings (kinds.WyeWye high low low_volts high_resistance low_resistance third) high_volts = (values.HighVolts, high_volts) ∷ []
-volts_readings (kinds.Auto high low low_volts series_resistance common_resistance third) high_volts = (values.HighVolts, high_volts) ∷ []
-volts_readings (kinds.Reactor high high_resistance) high_volts = []
-volts_readings kinds.DeltaDelta high_volts = (values.HighVolts, high_volts) ∷ []
+-- the high voltage, which a reactor isn't asked: a unit that has windings and no effective current
+abbrev pub volts_readings : Transformer → List Reading
+volts_readings t = if has_windings t && not (has_effect t.kind) then [] else (values.HighVolts, t.high_volts) ∷ []
 
--- a third winding
-abbrev pub third_readings : Option Third → List Reading
-third_readings None = []
-third_readings (Some t) = (values.ThirdResistance, t.resistance) ∷ []
+-- what the resistance of a winding is measured as
+abbrev pub resistance_by : WindingRole → Quantity
+resistance_by roles.High = values.HighResistance
+resistance_by roles.Low = values.LowResistance
+resistance_by roles.Series = values.SeriesResistance
+resistance_by roles.Common = values.CommonResistance
+resistance_by roles.Third = values.ThirdResistance
 
--- the windings that a unit of the kind has
-abbrev pub winding_readings : Kind → List Reading
-winding_readings (kinds.DeltaWye high high_resistance) = (values.HighResistance, high_resistance) ∷ []
-winding_readings (kinds.WyeWye high low low_volts high_resistance low_resistance third) = (values.HighResistance, high_resistance) ∷ (values.LowResistance, low_resistance) ∷ third_readings third
-winding_readings (kinds.Auto high low low_volts series_resistance common_resistance third) = (values.SeriesResistance, series_resistance) ∷ (values.CommonResistance, common_resistance) ∷ third_readings third
-winding_readings (kinds.Reactor high high_resistance) = (values.HighResistance, high_resistance) ∷ []
-winding_readings kinds.DeltaDelta = []
+-- the resistances of windings
+abbrev pub winding_readings : List Winding → List Reading
+winding_readings = map (λ w. (resistance_by w.role, w.resistance))
 
 -- a resistor in the neutral
 abbrev pub neutral_readings : Option Neutral → List Reading
@@ -80,7 +76,7 @@ neutral_readings (Some (devices.Resistor ohm)) = (values.Neutral, ohm) ∷ []
 neutral_readings (Some devices.Blocked) = []
 
 abbrev pub transformer_readings : Transformer → List Reading
-transformer_readings t = volts_readings t.kind t.high_volts ++ (winding_readings t.kind ++ neutral_readings t.neutral)
+transformer_readings t = volts_readings t ++ (winding_readings (windings_of t) ++ neutral_readings t.neutral)
 
 -- a reading of a row of this name is told where it is unusual
 abbrev pub value_told : CaseList → List ℕ → Reading → List Finding

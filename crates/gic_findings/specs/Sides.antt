@@ -1,9 +1,10 @@
 -- Rated voltages at one bus that don't fit. The first side at a bus is the measure of the bus, and later sides there are compared with it.
-use Rattle.std.specs.Prelude.{ℕ, ◌*◌, nat_lt, ◌||◌, Bool, List, [], ◌∷◌, ◌++◌, length, flat_map, replicate, slice_index_or, slice_set, if◌then◌else◌, Option, Some, None}
-use Rattle.gic_case.specs.declared.item.Third.{Third}
-use Rattle.gic_case.specs.declared.item.Kind.{Kind}
-use Rattle.gic_case.specs.declared.item.Kind.TheVariants as kinds
+use Rattle.std.specs.Prelude.{ℕ, ◌*◌, nat_lt, ◌||◌, Bool, List, [], ◌∷◌, ◌++◌, length, map, flat_map, replicate, slice_index_or, slice_set, if◌then◌else◌, Option, Some, None}
 use Rattle.gic_case.specs.declared.item.Transformer.{Transformer}
+use Rattle.gic_case.specs.declared.winding.WindingRole.{WindingRole}
+use Rattle.gic_case.specs.declared.winding.WindingRole.TheVariants as roles
+use Rattle.gic_case.specs.declared.winding.Winding.{Winding}
+use Rattle.gic_case.specs.Windings.{windings_of}
 use Rattle.gic_case.specs.Lists.{Lists}
 use Rattle.gic_findings.specs.declared.finding.Side.{Side}
 use Rattle.gic_findings.specs.declared.finding.Side.TheVariants as sides
@@ -15,21 +16,21 @@ use Rattle.gic_findings.specs.declared.sides.RatedSide.{RatedSide}
 abbrev pub rated : List ℕ → Side → (bus volts : ℕ) → RatedSide
 rated name side bus volts = record { name = name; side = side; bus = bus; volts = volts }
 
--- the third side, where there is one
-abbrev pub third_side : List ℕ → Option Third → List RatedSide
-third_side name None = []
-third_side name (Some t) = rated name sides.Third t.bus t.volts ∷ []
+-- the side from which a winding runs
+abbrev pub side_by : WindingRole → Side
+side_by roles.High = sides.High
+side_by roles.Low = sides.Low
+side_by roles.Series = sides.High
+side_by roles.Common = sides.Low
+side_by roles.Third = sides.Third
 
--- the sides that a transformer of the kind has at buses: high, low, third
-abbrev pub sides_by : List ℕ → (high_volts : ℕ) → Kind → List RatedSide
-sides_by name high_volts (kinds.DeltaWye high high_resistance) = rated name sides.High high high_volts ∷ []
-sides_by name high_volts (kinds.WyeWye high low low_volts high_resistance low_resistance third) = rated name sides.High high high_volts ∷ rated name sides.Low low low_volts ∷ third_side name third
-sides_by name high_volts (kinds.Auto high low low_volts series_resistance common_resistance third) = rated name sides.High high high_volts ∷ rated name sides.Low low low_volts ∷ third_side name third
-sides_by name high_volts (kinds.Reactor high high_resistance) = rated name sides.High high high_volts ∷ []
-sides_by name high_volts kinds.DeltaDelta = []
+-- the sides from which the windings of the transformer of this name run
+abbrev pub sides_by : List ℕ → List Winding → List RatedSide
+sides_by name = map (λ w. rated name (side_by w.role) w.from.bus w.from.volts)
 
+-- the sides that a transformer has at buses: high, low, third
 abbrev pub rated_sides_of : Transformer → List RatedSide
-rated_sides_of t = sides_by t.name t.high_volts t.kind
+rated_sides_of t = sides_by t.name (windings_of t)
 
 -- a voltage is under nine tenths of the measure, or the measure under nine tenths of it
 abbrev pub differs : (volts measure : ℕ) → Bool

@@ -4,20 +4,16 @@ ghost use Rattle.gic_findings.specs.Outside.{is_outside, outside_told};
 
 use crate::finding::Finding;
 use gic_base::OutOfMemory;
-use gic_case::{Kind, Transformer};
+use gic_case::Transformer;
 
 /// The highest rated voltage in V at which no transformer is assessed.
 pub(crate) const MOST_NOT_ASSESSED: u32 = 200000;
 
-/// Whether a transformer is a delta-delta unit above 200 kV.
+/// Whether a transformer is a unit without windings in the network, as a delta-delta one, above 200 kV.
 fn is_outside(transformer: &Transformer) -> bool
-    ensures { result ≡ is_outside transformer.now.kind transformer.now.high_volts }
+    ensures { result ≡ is_outside transformer.now }
 {
-    match transformer.kind {
-        Kind::DeltaWye { .. } | Kind::WyeWye { .. } | Kind::Auto { .. } | Kind::Reactor { .. } =>
-            false,
-        Kind::DeltaDelta => transformer.high_volts > MOST_NOT_ASSESSED,
-    }
+    !transformer.has_windings() && transformer.high_volts > MOST_NOT_ASSESSED
 }
 
 /// Adds the delta-delta units above 200 kV.

@@ -1,14 +1,14 @@
 //! The values of the rows of a case.
 ghost use Rattle.std.specs.Prelude.{◌≡◌, ◌++◌, flat_map, All, OnOk};
 ghost use Rattle.gic_findings.specs.declared.finding.CaseList.TheVariants as lists;
-ghost use Rattle.gic_findings.specs.Readings.{value_told, values_told, span_readings, kilometre_readings, volts_readings, third_readings, winding_readings, neutral_readings, zone_told, substation_told, line_told, transformer_told, values_of};
+ghost use Rattle.gic_findings.specs.Readings.{value_told, values_told, span_readings, kilometre_readings, volts_readings, resistance_by, winding_readings, neutral_readings, zone_told, substation_told, line_told, transformer_told, values_of};
 ghost use Rattle.gic_findings.specs.Spans.{IsShort};
 
 use crate::finding::{CaseList, Finding};
 use crate::measured::Quantity;
 use crate::span::span_of;
 use gic_base::{Name, OutOfMemory};
-use gic_case::{Case, Kind, Line, Neutral, Substation, Third, Transformer};
+use gic_case::{Case, Line, Neutral, Substation, Transformer, Winding, WindingRole};
 use gic_scale::{Scaling, Zone};
 
 /// Adds what is told of a value of a row.
@@ -135,87 +135,57 @@ fn push_ohm(
     )
 }
 
-/// Adds what is told of the high voltage of a transformer, which a reactor isn't asked.
+/// Adds what is told of the high voltage of a transformer, which a reactor isn't asked: a unit that has windings and no
+/// effective current.
 fn push_high_volts(
     findings: &mut Vec<Finding>,
     transformer: &Transformer,
 ) -> Result<(), OutOfMemory>
     ensures { OnOk result (findings.new.items ≡
-        findings.old.items ++ values_told lists.Transformer transformer.now.name (volts_readings transformer.now.kind transformer.now.high_volts)) }
+        findings.old.items ++ values_told lists.Transformer transformer.now.name (volts_readings transformer.now)) }
 {
-    match transformer.kind {
-        Kind::DeltaWye { .. } | Kind::WyeWye { .. } | Kind::Auto { .. } | Kind::DeltaDelta => {
-            push_value(
-                findings,
-                CaseList::Transformer,
-                transformer.name,
-                Quantity::HighVolts,
-                u64::from(transformer.high_volts),
-            )
-        }
-        Kind::Reactor { .. } => Ok(()),
+    if transformer.has_windings() && !transformer.kind.has_effect() {
+        return Ok(());
+    }
+    push_value(
+        findings,
+        CaseList::Transformer,
+        transformer.name,
+        Quantity::HighVolts,
+        u64::from(transformer.high_volts),
+    )
+}
+
+/// What the resistance of a winding is measured as.
+fn resistance_by(role: WindingRole) -> Quantity
+    ensures { result ≡ resistance_by role }
+{
+    match role {
+        WindingRole::High => Quantity::HighResistance,
+        WindingRole::Low => Quantity::LowResistance,
+        WindingRole::Series => Quantity::SeriesResistance,
+        WindingRole::Common => Quantity::CommonResistance,
+        WindingRole::Third => Quantity::ThirdResistance,
     }
 }
 
-/// Adds what is told of a third winding, if there is one.
-fn push_third(
+/// Adds what is told of the resistances of these windings of the transformer of this name.
+fn push_windings(
     findings: &mut Vec<Finding>,
     name: Name,
-    third: Option<Third>,
+    windings: &[Winding],
 ) -> Result<(), OutOfMemory>
-    ensures { OnOk result (findings.new.items ≡ findings.old.items ++ values_told lists.Transformer name (third_readings third)) }
+    ensures { OnOk result (findings.new.items ≡ findings.old.items ++ values_told lists.Transformer name (winding_readings windings.now)) }
 {
-    let Some(third) = third else {
-        return Ok(());
-    };
-    push_ohm(findings, name, Quantity::ThirdResistance, third.resistance)
-}
-
-/// Adds what is told of the windings of a transformer.
-fn push_windings(findings: &mut Vec<Finding>, name: Name, kind: &Kind) -> Result<(), OutOfMemory>
-    ensures { OnOk result (findings.new.items ≡ findings.old.items ++ values_told lists.Transformer name (winding_readings kind.now)) }
-{
-    match *kind {
-        Kind::DeltaWye {
-            high_resistance,
-            ..
-        }
-        | Kind::Reactor {
-            high_resistance,
-            ..
-        } => push_ohm(findings, name, Quantity::HighResistance, high_resistance),
-        Kind::WyeWye {
-            high_resistance,
-            low_resistance,
-            third,
-            ..
-        } => {
-            push_ohm(findings, name, Quantity::HighResistance, high_resistance)?;
-            push_ohm(findings, name, Quantity::LowResistance, low_resistance)?;
-            push_third(findings, name, third)
-        }
-        Kind::Auto {
-            series_resistance,
-            common_resistance,
-            third,
-            ..
-        } => {
-            push_ohm(
-                findings,
-                name,
-                Quantity::SeriesResistance,
-                series_resistance,
-            )?;
-            push_ohm(
-                findings,
-                name,
-                Quantity::CommonResistance,
-                common_resistance,
-            )?;
-            push_third(findings, name, third)
-        }
-        Kind::DeltaDelta => Ok(()),
+    for winding in windings {
+        push_ohm(
+            findings,
+            name,
+            resistance_by(winding.role),
+            winding.resistance,
+        )?;
     }
+    Ok(())
 }
 
 /// Adds what is told of the device in a transformer's neutral.
@@ -241,7 +211,8 @@ fn push_transformer(
 {
     let name = transformer.name;
     push_high_volts(findings, transformer)?;
-    push_windings(findings, name, &transformer.kind)?;
+    let windings = transformer.windings();
+    push_windings(findings, name, windings.as_slice())?;
     push_neutral(findings, name, transformer.neutral)
 }
 

@@ -1,10 +1,10 @@
 //! The rated voltages of the sides of transformers, compared at each bus.
 ghost use Rattle.std.specs.Prelude.{◌≡◌, ◌<◌, ◌++◌, length, flat_map, All, replicate, None, IfOk, OnOk};
-ghost use Rattle.gic_findings.specs.Sides.{rated, rated_sides_of, differs, third_side, volts_told, measures_with, volts_from, unfit_volts};
+ghost use Rattle.gic_findings.specs.Sides.{rated, side_by, sides_by, rated_sides_of, differs, volts_told, measures_with, volts_from, unfit_volts};
 
 use crate::finding::{Finding, Side};
 use gic_base::{Name, OutOfMemory};
-use gic_case::{Case, Kind, Third, Transformer};
+use gic_case::{Case, Transformer, Winding, WindingRole};
 use std::alloc::Global;
 
 /// A side of the transformer of this name: the place of its bus, and its rated voltage in V.
@@ -16,64 +16,40 @@ pub(crate) struct RatedSide {
     pub(crate) volts: u32,
 }
 
-/// A side of a transformer.
-fn rated(transformer: &Transformer, side: Side, bus: u16, volts: u32) -> RatedSide
-    ensures { result ≡ rated transformer.now.name side bus volts }
+/// The side from which a winding runs.
+fn side_by(role: WindingRole) -> Side
+    ensures { result ≡ side_by role }
+{
+    match role {
+        WindingRole::High | WindingRole::Series => Side::High,
+        WindingRole::Low | WindingRole::Common => Side::Low,
+        WindingRole::Third => Side::Third,
+    }
+}
+
+/// The side of the transformer of this name from which a winding runs.
+fn rated(name: Name, winding: &Winding) -> RatedSide
+    ensures { result ≡ rated name (side_by winding.now.role) winding.now.from.bus winding.now.from.volts }
 {
     RatedSide {
-        name: transformer.name,
-        side,
-        bus,
-        volts,
+        name,
+        side: side_by(winding.role),
+        bus: winding.from.bus,
+        volts: winding.from.volts,
     }
 }
 
-/// Adds the third side of a transformer, if it has one.
-fn push_third(
+/// Adds the sides of the transformer of this name from which these windings run. What looks at sides reads them here
+/// alone.
+fn push_sides(
     sides: &mut Vec<RatedSide>,
-    transformer: &Transformer,
-    third: Option<Third>,
+    name: Name,
+    windings: &[Winding],
 ) -> Result<(), OutOfMemory>
-    ensures { OnOk result (sides.new.items ≡ sides.old.items ++ third_side transformer.now.name third) }
+    ensures { OnOk result (sides.new.items ≡ sides.old.items ++ sides_by name windings.now) }
 {
-    if let Some(third) = third {
-        sides.push(rated(transformer, Side::Third, third.bus, third.volts))?;
-    }
-    Ok(())
-}
-
-/// Adds the sides of a transformer that have a bus. What looks at sides reads them here alone.
-fn push_sides(sides: &mut Vec<RatedSide>, transformer: &Transformer) -> Result<(), OutOfMemory>
-    ensures { OnOk result (sides.new.items ≡ sides.old.items ++ rated_sides_of transformer.now) }
-{
-    let volts = transformer.high_volts;
-    match transformer.kind {
-        Kind::DeltaWye { high, .. } | Kind::Reactor { high, .. } => {
-            sides.push(rated(transformer, Side::High, high, volts))?;
-        }
-        Kind::WyeWye {
-            high,
-            low,
-            low_volts,
-            third,
-            ..
-        } => {
-            sides.push(rated(transformer, Side::High, high, volts))?;
-            sides.push(rated(transformer, Side::Low, low, low_volts))?;
-            push_third(sides, transformer, third)?;
-        }
-        Kind::Auto {
-            high,
-            low,
-            low_volts,
-            third,
-            ..
-        } => {
-            sides.push(rated(transformer, Side::High, high, volts))?;
-            sides.push(rated(transformer, Side::Low, low, low_volts))?;
-            push_third(sides, transformer, third)?;
-        }
-        Kind::DeltaDelta => {}
+    for winding in windings {
+        sides.push(rated(name, winding))?;
     }
     Ok(())
 }
@@ -84,7 +60,8 @@ fn all_sides(alloc: Global, transformers: &[Transformer]) -> Result<Vec<RatedSid
 {
     let mut sides = Vec::new(alloc);
     for transformer in transformers {
-        push_sides(&mut sides, transformer)?;
+        let windings = transformer.windings();
+        push_sides(&mut sides, transformer.name, windings.as_slice())?;
     }
     Ok(sides)
 }

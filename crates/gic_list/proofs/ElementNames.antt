@@ -1,26 +1,29 @@
 -- The items of the elements of a case, and the names of the nodes at which they end.
-use Rattle.std.proofs.Common.{◌≡◌, ◌∙◌, ℕ, ◌+◌, ◌<◌, ◌≤◌, Bool, true, false, Option, Some, None, [], ◌∷◌, ◌++◌, length, map, get_or, refl, sym, ap, subst, arith, inl, inr}
-use Rattle.std.specs.Prelude.{◌==◌, if◌then◌else◌, is_some, Contains, IfSome, IsTrue, ⊤}
+use Rattle.std.proofs.Common.{◌≡◌, ◌∙◌, ℕ, ◌+◌, ◌<◌, ◌≤◌, Bool, true, false, Option, Some, None, List, [], ◌∷◌, ◌++◌, length, map, get_or, refl, sym, ap, subst, arith, inl, inr}
+use Rattle.std.specs.Prelude.{◌==◌, if◌then◌else◌, is_some, slice_get, Contains, IfSome, IsTrue, ⊤}
 use Rattle.std.specs.List.{AllByRecursion}
 use Rattle.std.proofs.lemmas.Bool.{eqb-true, or_cases}
 use Rattle.std.proofs.lemmas.List.{get_or-map, length-map}
+use Rattle.std.proofs.lemmas.List.Elements.{recursion_from_All}
 use Rattle.gic_base.proofs.Each.{all_joined}
 use Rattle.gic_case.specs.declared.item.Line.{Line}
-use Rattle.gic_case.specs.declared.item.Third.{Third}
-use Rattle.gic_case.specs.declared.item.Kind.{Kind}
-use Rattle.gic_case.specs.declared.item.Kind.TheVariants as kinds
 use Rattle.gic_case.specs.declared.item.Neutral.{Neutral}
 use Rattle.gic_case.specs.declared.item.Neutral.TheVariants as devices
 use Rattle.gic_case.specs.declared.item.Transformer.{Transformer}
-use Rattle.gic_case.specs.Lists.{Lists, grid_of, neutrals_of, node_names, has_windings}
-use Rattle.gic_case.specs.Sound.{IsSound, IsSoundThird, IsSoundKind, IsSoundLine, IsSoundTransformer}
+use Rattle.gic_case.specs.declared.winding.Terminal.{Terminal}
+use Rattle.gic_case.specs.declared.winding.WindingEnd.{WindingEnd}
+use Rattle.gic_case.specs.declared.winding.WindingEnd.TheVariants as ends
+use Rattle.gic_case.specs.declared.winding.Winding.{Winding}
+use Rattle.gic_case.specs.Lists.{Lists, end_node, grid_of, neutrals_of, node_names}
+use Rattle.gic_case.specs.Windings.{windings_of, has_windings}
+use Rattle.gic_case.specs.Sound.{IsSound, IsSoundEnd, IsSoundWinding, IsSoundLine, IsSoundTransformer}
 use Rattle.gic_model.specs.declared.parts.End.{End}
 use Rattle.gic_model.specs.declared.parts.End.TheVariants.{Node, Earth}
 use Rattle.gic_model.specs.declared.parts.Item.{Item}
 use Rattle.gic_model.specs.declared.parts.Item.TheVariants as item
 use Rattle.gic_model.specs.declared.parts.Element.{Element}
 use Rattle.gic_model.specs.Network.{ends_at, is_node}
-use Rattle.gic_winding.specs.ElementList.{elements_of, element_list, earthing_of, earthings_of, line, line_of, lines_of, third_of, windings_of, all_windings_of, resistor_of, resistors_of, item_name}
+use Rattle.gic_winding.specs.ElementList.{elements_of, element_list, earthing_of, earthings_of, line, line_of, lines_of, winding_elements, all_windings_of, resistor_of, resistors_of, item_name}
 use Rattle.gic_list.specs.ListText.{node_name}
 use Rattle.gic_report.specs.Items.{HasPlace}
 use Rattle.gic_report.proofs.ListParts.{all_at, all_numbered}
@@ -78,39 +81,24 @@ record IsUnit (c : Lists) (n : ℕ) (p : ℕ × Transformer) : Type 0 where
   sound : IsSound c → IsSoundTransformer c p.1
   named : IsSound c → IsNamedNeutral (first_neutral c) (node_names c) p
 
--- a third winding, from its bus to the transformer's neutral
-third_by : (c : Lists) (n neutral high low volts : ℕ) (third : Option Third) → n < length c.transformers → (IsSound c → IfSome third (IsSoundThird c high low volts))
-    → (IsSound c → IsNodeBy c (item.Transformer n) neutral) → AllByRecursion (IsElementOf c) (third_of (length c.substations) n neutral third)
-third_by c n neutral high low volts None h sides by = tt
-third_by c n neutral high low volts (Some t) h sides by =
-    (record { item_of = h; from_by = λ sound past. absurd (omega (arith, (sides sound).bus_within, past)); to_by = λ sound. by sound }, tt)
+-- where a winding runs: another bus of the transformer, or its neutral
+winding_end_by : (c : Lists) (n neutral : ℕ) (from : Terminal) (to : WindingEnd) → (IsSound c → IsSoundEnd c from to) → (IsSound c → IsNodeBy c (item.Transformer n) neutral)
+    → IsSound c → IsNodeBy c (item.Transformer n) (end_node (length c.substations) neutral to)
+winding_end_by c n neutral from (ends.Bus to) within by = λ sound past. absurd (omega (arith, (within sound).0, past))
+winding_end_by c n neutral from ends.Neutral within by = by
 
--- an element of the transformer from one of its buses to its neutral
-windings_by : (c : Lists) (n neutral volts : ℕ) (kind : Kind) → n < length c.transformers → (IsSound c → IsSoundKind c volts kind)
-    → (IsSound c → has_windings kind ≡ true → IsNodeBy c (item.Transformer n) neutral) → AllByRecursion (IsElementOf c) (windings_of (length c.substations) n neutral kind)
-windings_by c n neutral volts (kinds.DeltaWye high ohm) h sides by =
-    (record { item_of = h; from_by = λ sound past. absurd (omega (arith, (sides sound).0, past)); to_by = λ sound. by sound refl }, tt)
-windings_by c n neutral volts (kinds.WyeWye high low low_volts ohm low_ohm third) h sides by = (
-  record { item_of = h; from_by = λ sound past. absurd (omega (arith, (sides sound).0.high_within, past)); to_by = λ sound. by sound refl },
-  (
-    record { item_of = h; from_by = λ sound past. absurd (omega (arith, (sides sound).0.low_within, past)); to_by = λ sound. by sound refl },
-    third_by c n neutral high low volts third h (λ sound. (sides sound).2) (λ sound. by sound refl),
-  ),
-)
-windings_by c n neutral volts (kinds.Auto high low low_volts ohm low_ohm third) h sides by = (
+-- the elements of the transformer, from its buses
+windings_by : (c : Lists) (n neutral volts : ℕ) (ws : List Winding) → n < length c.transformers → (IsSound c → AllByRecursion (IsSoundWinding c volts) ws)
+    → (IsSound c → is_some (slice_get ws 0) ≡ true → IsNodeBy c (item.Transformer n) neutral) → AllByRecursion (IsElementOf c) (winding_elements (length c.substations) n neutral ws)
+windings_by c n neutral volts [] h each by = tt
+windings_by c n neutral volts (w ∷ ws) h each by = (
   record {
     item_of = h;
-    from_by = λ sound past. absurd (omega (arith, (sides sound).0.high_within, past));
-    to_by = λ sound past. absurd (omega (arith, (sides sound).0.low_within, past));
+    from_by = λ sound past. absurd (omega (arith, (each sound).0.bus_within, past));
+    to_by = winding_end_by c n neutral w.from w.to (λ sound. (each sound).0.end_sound) (λ sound. by sound refl);
   },
-  (
-    record { item_of = h; from_by = λ sound past. absurd (omega (arith, (sides sound).0.low_within, past)); to_by = λ sound. by sound refl },
-    third_by c n neutral high low volts third h (λ sound. (sides sound).2) (λ sound. by sound refl),
-  ),
+  windings_by c n neutral volts ws h (λ sound. (each sound).1) (λ sound has. by sound refl),
 )
-windings_by c n neutral volts (kinds.Reactor high ohm) h sides by =
-    (record { item_of = h; from_by = λ sound past. absurd (omega (arith, (sides sound).0, past)); to_by = λ sound. by sound refl }, tt)
-windings_by c n neutral volts kinds.DeltaDelta h sides by = tt
 
 -- a neutral resistor runs from the transformer's own neutral to its grid
 resistor_by : (c : Lists) (n neutral grid : ℕ) (device : Option Neutral) → n < length c.transformers
@@ -138,23 +126,23 @@ unit_at c n p h e =
       named = λ sound. subst (IsNamedNeutral (first_neutral c) (node_names c)) (e p) (all_at (IsNamedNeutral (first_neutral c) (node_names c)) (neutrals_of c) n p h (neutrals_named c sound));
     }
 
-unit_windings_by : (c : Lists) (n : ℕ) (p : ℕ × Transformer) → IsUnit c n p → AllByRecursion (IsElementOf c) (windings_of (length c.substations) n p.0 p.1.kind)
+unit_windings_by : (c : Lists) (n : ℕ) (p : ℕ × Transformer) → IsUnit c n p → AllByRecursion (IsElementOf c) (winding_elements (length c.substations) n p.0 (windings_of p.1))
 unit_windings_by c n p u =
-    windings_by c n p.0 p.1.high_volts p.1.kind u.within (λ sound. (u.sound sound).kind_sound) (λ sound winds past. u.named sound winds past ∙ sym u.name)
+    windings_by c n p.0 p.1.high_volts (windings_of p.1) u.within (λ sound. recursion_from_All (IsSoundWinding c p.1.high_volts) (windings_of p.1) (u.sound sound).windings_sound) (λ sound winds past. u.named sound winds past ∙ sym u.name)
 
-unit_resistor_by : (c : Lists) (n : ℕ) (p : ℕ × Transformer) → IsUnit c n p → AllByRecursion (IsElementOf c) (resistor_of n p.0 (grid_of c.buses p.1.kind) p.1.neutral)
+unit_resistor_by : (c : Lists) (n : ℕ) (p : ℕ × Transformer) → IsUnit c n p → AllByRecursion (IsElementOf c) (resistor_of n p.0 (grid_of c.buses p.1) p.1.neutral)
 unit_resistor_by c n p u =
-    let winds : IsSound c → is_some p.1.neutral ≡ true → has_windings p.1.kind ≡ true = λ sound device. with_device_winds (has_windings p.1.kind) (is_some p.1.neutral) (u.sound sound).no_device device in
-    resistor_by c n p.0 (grid_of c.buses p.1.kind) p.1.neutral u.within
+    let winds : IsSound c → is_some p.1.neutral ≡ true → has_windings p.1 ≡ true = λ sound device. with_device_winds (has_windings p.1) (is_some p.1.neutral) (u.sound sound).no_device device in
+    resistor_by c n p.0 (grid_of c.buses p.1) p.1.neutral u.within
     (λ sound device past. u.named sound (winds sound device) past ∙ sym u.name)
     (λ sound device. at_grid c sound p.1 (u.sound sound) (winds sound device))
 
 all_windings_by : (c : Lists) → AllByRecursion (IsElementOf c) (all_windings_of c)
-all_windings_by c = all_numbered (IsElementOf c) (λ p. windings_of (length c.substations) p.0 p.1.0 p.1.1.kind) (neutrals_of c)
+all_windings_by c = all_numbered (IsElementOf c) (λ p. winding_elements (length c.substations) p.0 p.1.0 (windings_of p.1.1)) (neutrals_of c)
     (λ n p h e. unit_windings_by c n p (unit_at c n p h e))
 
 resistors_by : (c : Lists) → AllByRecursion (IsElementOf c) (resistors_of c)
-resistors_by c = all_numbered (IsElementOf c) (λ p. resistor_of p.0 p.1.0 (grid_of c.buses p.1.1.kind) p.1.1.neutral) (neutrals_of c)
+resistors_by c = all_numbered (IsElementOf c) (λ p. resistor_of p.0 p.1.0 (grid_of c.buses p.1.1) p.1.1.neutral) (neutrals_of c)
     (λ n p h e. unit_resistor_by c n p (unit_at c n p h e))
 
 -- ---- all elements

@@ -6,10 +6,11 @@ use Rattle.std.specs.List.{range_with_len, enumerate_from}
 use Rattle.gic_case.specs.declared.item.Bus.{Bus}
 use Rattle.gic_case.specs.declared.item.Line.{Line}
 use Rattle.gic_case.specs.declared.item.Transformer.{Transformer}
+use Rattle.gic_case.specs.Windings.{windings_of}
 use Rattle.gic_case.specs.Lists.{node_names, substation_at, with_device, neutrals_from, neutrals_of}
 use Rattle.gic_model.specs.declared.parts.Element.{Element}
 use Rattle.gic_model.specs.declared.parts.Role.TheVariants.{High}
-use Rattle.gic_winding.specs.ElementList.{earthing, line, winding, windings_of, line_of, earthings_of, lines_of, all_windings_of, resistors_of, element_list, elements_of}
+use Rattle.gic_winding.specs.ElementList.{earthing, line, winding, winding_elements, line_of, earthings_of, lines_of, all_windings_of, resistors_of, element_list, elements_of}
 use Rattle.gic_winding.proofs.Limits.{length-node_names}
 use Rattle.gic_winding.proofs.Parts.{earthing_part, resistor_part}
 use Rattle.gic_make.specs.Generator.{states_after, draw}
@@ -65,9 +66,9 @@ neutrals_are states size = neutrals_are_from states (map made_bus (range_with_le
 
 windings_are : (states : List ℕ) (size : ℕ) → all_windings_of (drawn_case states size) ≡ map (winding_at states size) (range_with_len 0 size)
 windings_are states size =
-    ap (λ n. flat_map (λ p. windings_of n p.0 p.1.0 p.1.1.kind) (enumerate_from 0 (neutrals_of (drawn_case states size)))) (length-map-range_with_len (made_substation states) 0 size)
-    ∙ ap (λ l. flat_map (λ p. windings_of size p.0 p.1.0 p.1.1.kind) (enumerate_from 0 l)) (neutrals_are states size)
-    ∙ one_a_site (λ (p : ℕ × (ℕ × Transformer)). windings_of size p.0 p.1.0 p.1.1.kind) (beside states) (winding_at states size) 0 0 0 size refl (λ i low high. let same : i + 0 ≡ i = omega arith in rw same refl)
+    ap (λ n. flat_map (λ p. winding_elements n p.0 p.1.0 (windings_of p.1.1)) (enumerate_from 0 (neutrals_of (drawn_case states size)))) (length-map-range_with_len (made_substation states) 0 size)
+    ∙ ap (λ l. flat_map (λ p. winding_elements size p.0 p.1.0 (windings_of p.1.1)) (enumerate_from 0 l)) (neutrals_are states size)
+    ∙ one_a_site (λ (p : ℕ × (ℕ × Transformer)). winding_elements size p.0 p.1.0 (windings_of p.1.1)) (beside states) (winding_at states size) 0 0 0 size refl (λ i low high. let same : i + 0 ≡ i = omega arith in rw same refl)
 
 resistors_are : (states : List ℕ) (size : ℕ) → resistors_of (drawn_case states size) ≡ []
 resistors_are states size =

@@ -6,7 +6,8 @@ use Rattle.std.proofs.lemmas.List.Elements.{All-from_recursion}
 use Rattle.gic_case.specs.declared.part.LinePart.{LinePart}
 use Rattle.gic_case.specs.Courses.{parts_of}
 use Rattle.gic_case.specs.Lists.{Lists}
-use Rattle.gic_case.specs.Sound.{IsSoundSubstation, IsSoundLine, IsSoundTransformer}
+use Rattle.gic_case.specs.Sound.{IsSoundSubstation, IsSoundLine, IsSoundWinding, IsSoundTransformer}
+use Rattle.gic_case.specs.Windings.{windings_of}
 use Rattle.gic_make.specs.Generator.{draw}
 use Rattle.gic_make.specs.Made.{first_draw, span, made_substation, made_line, made_transformer}
 
@@ -26,7 +27,11 @@ transformer_sound c states i within =
     let small = draw_small states (first_draw i + 1) 400 (omega arith) in
     record {
       rated = (omega arith, omega arith);
-      kind_sound = (within, (omega arith, omega arith));
+      windings_sound =
+          All-from_recursion (IsSoundWinding c 345000) (windings_of (made_transformer states i))
+          (record { bus_within = within; rated = (omega arith, omega arith); order = omega arith; end_sound = tt; ohm = (omega arith, omega arith) }, tt);
+      buses_differ = λ j k d before inside. absurd (omega arith);
+      together = λ j k d before inside. absurd (omega arith);
       device_sound = tt;
       no_device = λ none. refl;
     }

@@ -5,7 +5,8 @@ use Rattle.std.specs.List.{AllByRecursion}
 use Rattle.std.proofs.lemmas.List.{length-map}
 use Rattle.std.proofs.lemmas.List.Elements.{recursion_from_All}
 use Rattle.gic_case.specs.declared.item.Transformer.{Transformer}
-use Rattle.gic_case.specs.Lists.{Lists, node_names, with_device, grid_of, neutrals_from, neutrals_of, has_windings}
+use Rattle.gic_case.specs.Lists.{Lists, node_names, with_device, grid_of, neutrals_from, neutrals_of}
+use Rattle.gic_case.specs.Windings.{has_windings}
 use Rattle.gic_case.specs.Sound.{IsSound, IsSoundTransformer}
 use Rattle.gic_case.proofs.NeutralNodes.{transformers-neutrals_from}
 use Rattle.gic_winding.proofs.Grids.{grid_within}
@@ -17,14 +18,14 @@ first_neutral c = length c.substations + length c.buses
 
 -- a transformer with windings has a neutral that is a substation, or that is named as it
 abbrev pub IsNamedNeutral : (first : ℕ) → List (List ℕ) → ℕ × Transformer → Type 0
-IsNamedNeutral first names p = has_windings p.1.kind ≡ true → first ≤ p.0 → get_or names p.0 [] ≡ p.1.name
+IsNamedNeutral first names p = has_windings p.1 ≡ true → first ≤ p.0 → get_or names p.0 [] ≡ p.1.name
 
 -- a transformer with windings is at a substation
 abbrev pub IsAtGrid : Lists → Transformer → Type 0
-IsAtGrid c t = has_windings t.kind ≡ true → grid_of c.buses t.kind < length c.substations
+IsAtGrid c t = has_windings t ≡ true → grid_of c.buses t < length c.substations
 
 pub at_grid : (c : Lists) → IsSound c → (t : Transformer) → IsSoundTransformer c t → IsAtGrid c t
-at_grid c sound t h w = grid_within c sound t.high_volts t.kind h.kind_sound w
+at_grid c sound t h w = grid_within c sound t h w
 
 all_at_grid : (c : Lists) → IsSound c → (ts : List Transformer) → AllByRecursion (IsSoundTransformer c) ts → AllByRecursion (IsAtGrid c) ts
 all_at_grid c sound [] h = tt
@@ -36,7 +37,7 @@ named_from : (c : Lists) (names : List (List ℕ)) (node : ℕ) (ts : List Trans
 named_from c names node [] grids e = tt
 named_from c names node (t ∷ ts) grids e =
     (elim (is_some t.neutral) as (λ b. drop node names ≡ map (λ t. t.name) (if b then t ∷ with_device ts else with_device ts)
-    → AllByRecursion (IsNamedNeutral (first_neutral c) names) (if b then (node, t) ∷ neutrals_from c.buses (node + 1) ts else (grid_of c.buses t.kind, t) ∷ neutrals_from c.buses node ts)) [
+    → AllByRecursion (IsNamedNeutral (first_neutral c) names) (if b then (node, t) ∷ neutrals_from c.buses (node + 1) ts else (grid_of c.buses t, t) ∷ neutrals_from c.buses node ts)) [
       | true ↦ λ f. let next = drop_first names node t.name (map (λ t. t.name) (with_device ts)) f in
           ((λ w h. next.1 []), named_from c names (node + 1) ts grids.1 next.2)
       | false ↦ λ f. ((λ w h. absurd (omega (arith, grids.0 w, h))), named_from c names node ts grids.1 f)

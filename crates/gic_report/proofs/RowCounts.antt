@@ -9,9 +9,11 @@ use Rattle.gic_text.proofs.Words.{word_from_test}
 use Rattle.gic_model.specs.declared.parts.Role.{Role}
 use Rattle.gic_model.specs.declared.parts.Role.TheVariants as role
 use Rattle.gic_case.specs.declared.item.Line.{Line}
-use Rattle.gic_case.specs.declared.item.Third.{Third}
-use Rattle.gic_case.specs.declared.item.Kind.{Kind}
-use Rattle.gic_case.specs.declared.item.Kind.TheVariants as kinds
+use Rattle.gic_case.specs.declared.winding.WindingRole.{WindingRole}
+use Rattle.gic_case.specs.declared.winding.WindingRole.TheVariants as roles
+use Rattle.gic_case.specs.declared.winding.Winding.{Winding}
+use Rattle.gic_case.specs.Windings.{windings_of}
+use Rattle.gic_winding.specs.ElementList.{role_of}
 use Rattle.gic_case.specs.declared.item.Neutral.{Neutral}
 use Rattle.gic_case.specs.declared.item.Neutral.TheVariants as devices
 use Rattle.gic_case.specs.declared.item.Substation.{Substation}
@@ -21,7 +23,7 @@ use Rattle.gic_winding.specs.ElementList.{elements_of}
 use Rattle.gic_report.specs.declared.rows.ItemRow.{ItemRow}
 use Rattle.gic_report.specs.Fits.{HasNames}
 use Rattle.gic_report.specs.RoleWord.{role_word}
-use Rattle.gic_report.specs.ItemText.{all_ground_rows, all_line_rows, all_neutral_rows, all_winding_rows, ground_rows, neutral_rows, item_row_words, item_rows_of, third_rows, winding_rows}
+use Rattle.gic_report.specs.ItemText.{all_ground_rows, all_line_rows, all_neutral_rows, all_winding_rows, ground_rows, neutral_rows, item_row_words, item_row_of, item_rows_of, winding_rows}
 use Rattle.gic_report.specs.Places.{element_words}
 use Rattle.gic_report.proofs.CaseNames.{line_names, substation_names, transformer_names}
 use Rattle.gic_report.proofs.RowHeads.{elements_named, heads}
@@ -80,20 +82,20 @@ role_is_word role.Neutral = word_from_test (codes "neutral") refl
 winding_line : (name : List ℕ) (kept : Role) → IsWord name → IsLine (codes "winding" ∷ name ∷ role_word kept ∷ [])
 winding_line name kept h = (word_from_test (codes "winding") refl, (h, (role_is_word kept, tt)))
 
-third_named : (name : List ℕ) (third : Option Third) → IsWord name → AllByRecursion HasLine (third_rows name third)
-third_named name None h = tt
-third_named name (Some t) h = (winding_line name role.Third h, tt)
+row_named : (name : List ℕ) (r : WindingRole) → IsWord name → HasLine (item_row_of (role_of r) name false)
+row_named name roles.High h = winding_line name role.High h
+row_named name roles.Low h = winding_line name role.Low h
+row_named name roles.Series h = winding_line name role.Series h
+row_named name roles.Common h = winding_line name role.Common h
+row_named name roles.Third h = winding_line name role.Third h
 
-winding_named : (name : List ℕ) (kind : Kind) → IsWord name → AllByRecursion HasLine (winding_rows name kind)
-winding_named name (kinds.DeltaWye high ohm) h = (winding_line name role.High h, tt)
-winding_named name (kinds.WyeWye high low low_volts ohm low_ohm third) h = (winding_line name role.High h, (winding_line name role.Low h, third_named name third h))
-winding_named name (kinds.Auto high low low_volts ohm low_ohm third) h = (winding_line name role.Series h, (winding_line name role.Common h, third_named name third h))
-winding_named name (kinds.Reactor high ohm) h = (winding_line name role.High h, tt)
-winding_named name kinds.DeltaDelta h = tt
+winding_named : (name : List ℕ) (ws : List Winding) → IsWord name → AllByRecursion HasLine (winding_rows name ws)
+winding_named name [] h = tt
+winding_named name (w ∷ ws) h = (row_named name w.role h, winding_named name ws h)
 
 windings_named : (ts : List Transformer) → AllByRecursion IsWord (map (λ t. t.name) ts) → AllByRecursion HasLine (all_winding_rows ts)
 windings_named [] h = tt
-windings_named (t ∷ ts) h = all_joined HasLine (winding_rows t.name t.kind) (all_winding_rows ts) (winding_named t.name t.kind h.0) (windings_named ts h.1)
+windings_named (t ∷ ts) h = all_joined HasLine (winding_rows t.name (windings_of t)) (all_winding_rows ts) (winding_named t.name (windings_of t) h.0) (windings_named ts h.1)
 
 neutral_named : (name : List ℕ) (device : Option Neutral) → IsWord name → AllByRecursion HasLine (neutral_rows name device)
 neutral_named name None h = tt

@@ -2,26 +2,31 @@
 use Rattle.std.proofs.Common.{◌≡◌, ◌∙◌, ℕ, ◌+◌, ◌<◌, true, false, Option, Some, None, List, [], ◌∷◌, ◌++◌, map, not, length, drop, get_or, refl, sym, ap, ap₂, arith}
 use Rattle.std.proofs.lemmas.List.{get_or-map, length-map, map-append}
 use Rattle.std.proofs.lemmas.List.Elements.{filter-append}
-use Rattle.std.specs.Prelude.{if◌then◌else◌}
+use Rattle.std.proofs.lemmas.Option.{slice_get-map}
+use Rattle.std.specs.Prelude.{if◌then◌else◌, slice_get}
+use Rattle.std.specs.Option.{option_map}
 use Rattle.std.specs.List.{enumerate_from, filter, flat_map}
 use Rattle.gic_case.specs.declared.item.Line.{Line}
-use Rattle.gic_case.specs.declared.item.Third.{Third}
-use Rattle.gic_case.specs.declared.item.Kind.{Kind}
-use Rattle.gic_case.specs.declared.item.Kind.TheVariants as kinds
 use Rattle.gic_case.specs.declared.item.Neutral.{Neutral}
 use Rattle.gic_case.specs.declared.item.Neutral.TheVariants as devices
 use Rattle.gic_case.specs.declared.item.Transformer.{Transformer}
+use Rattle.gic_case.specs.declared.winding.Winding.{Winding}
 use Rattle.gic_case.specs.Lists.{Lists, grid_of, neutrals_of}
+use Rattle.gic_case.specs.Windings.{windings_of}
 use Rattle.gic_model.specs.declared.parts.Element.{Element}
 use Rattle.gic_model.specs.declared.parts.Item.TheVariants as item
 use Rattle.gic_model.specs.declared.parts.Role.TheVariants as role
-use Rattle.gic_winding.specs.ElementList.{all_windings_of, earthing_of, earthings_of, elements_of, item_name, line, line_of, lines_of, resistor_of, resistors_of, third_of, windings_of}
+use Rattle.gic_winding.specs.ElementList.{all_windings_of, earthing_of, earthings_of, elements_of, item_name, line, line_of, lines_of, resistor_of, resistors_of, role_of, winding_elements}
 use Rattle.gic_report.specs.SharedLines.{Words}
 use Rattle.gic_report.specs.declared.rows.ItemRow.{ItemRow}
-use Rattle.gic_report.specs.ItemText.{all_ground_rows, all_line_rows, all_neutral_rows, all_winding_rows, ground_rows, line_row, named_as, neutral_rows, item_row_words, item_rows_of, third_rows, winding_rows}
+use Rattle.gic_report.specs.ItemText.{all_ground_rows, all_line_rows, all_neutral_rows, all_winding_rows, ground_rows, line_row, named_as, neutral_rows, item_row_words, item_row_of, item_rows_of, winding_rows}
 use Rattle.gic_report.specs.Places.{element_words}
 use Rattle.gic_report.proofs.ListParts.{drop_first}
 use Rattle.gic_report.proofs.NeutralNames.{transformers_of_neutrals}
+
+-- the row of the winding at a place
+pub row_at : (name : List ℕ) (ws : List Winding) (place : ℕ) → slice_get (winding_rows name ws) place ≡ option_map (λ w. item_row_of (role_of w.role) name false) (slice_get ws place)
+row_at name ws place = slice_get-map (λ w. item_row_of (role_of w.role) name false) ws place
 
 -- what names the rows that aren't blocked
 abbrev pub heads : List ItemRow → List Words
@@ -57,16 +62,9 @@ module _ (c : Lists) where
       elim l.blocked as (λ b. map said (if b then [] else (line n (first + l.from) (first + l.to) l.resistance ∷ [])) ≡ map item_row_words (if not b then line_row l ∷ [] else []))
       [ true ↦ refl | false ↦ ap (λ w. named_as role.Line w ∷ []) e ]
 
-  third_named : (first n neutral : ℕ) (name : List ℕ) (third : Option Third) → item_name c (item.Transformer n) ≡ name → map said (third_of first n neutral third) ≡ heads (third_rows name third)
-  third_named first n neutral name None e = refl
-  third_named first n neutral name (Some t) e = ap (λ w. named_as role.Third w ∷ []) e
-
-  winding_named : (first n neutral : ℕ) (name : List ℕ) (kind : Kind) → item_name c (item.Transformer n) ≡ name → map said (windings_of first n neutral kind) ≡ heads (winding_rows name kind)
-  winding_named first n neutral name (kinds.DeltaWye high ohm) e = ap (λ w. named_as role.High w ∷ []) e
-  winding_named first n neutral name (kinds.WyeWye high low low_volts ohm low_ohm third) e = ap₂ (λ w ws. named_as role.High w ∷ named_as role.Low w ∷ ws) e (third_named first n neutral name third e)
-  winding_named first n neutral name (kinds.Auto high low low_volts ohm low_ohm third) e = ap₂ (λ w ws. named_as role.Series w ∷ named_as role.Common w ∷ ws) e (third_named first n neutral name third e)
-  winding_named first n neutral name (kinds.Reactor high ohm) e = ap (λ w. named_as role.High w ∷ []) e
-  winding_named first n neutral name kinds.DeltaDelta e = refl
+  winding_named : (first n neutral : ℕ) (name : List ℕ) (ws : List Winding) → item_name c (item.Transformer n) ≡ name → map said (winding_elements first n neutral ws) ≡ heads (winding_rows name ws)
+  winding_named first n neutral name [] e = refl
+  winding_named first n neutral name (w ∷ ws) e = ap₂ (λ x xs. named_as (role_of w.role) x ∷ xs) e (winding_named first n neutral name ws e)
 
   neutral_named : (n neutral grid : ℕ) (name : List ℕ) (device : Option Neutral) → item_name c (item.Neutral n) ≡ name → map said (resistor_of n neutral grid device) ≡ heads (neutral_rows name device)
   neutral_named n neutral grid name None e = refl
@@ -102,14 +100,14 @@ module _ (c : Lists) where
 
   windings_named : map said (all_windings_of c) ≡ heads (all_winding_rows c.transformers)
   windings_named =
-      parts_named said (λ p. windings_of (length c.substations) p.0 p.1.0 p.1.1.kind) (λ p. winding_rows p.1.name p.1.kind) (neutrals_of c)
-      (λ n p h at. winding_named (length c.substations) n p.0 p.1.name p.1.kind (transformer_named n p h at)) 0 (neutrals_of c) refl
-      ∙ ap heads (same_parts (λ t. winding_rows t.name t.kind) (neutrals_of c) ∙ ap (flat_map (λ t. winding_rows t.name t.kind)) (transformers_of_neutrals c))
+      parts_named said (λ p. winding_elements (length c.substations) p.0 p.1.0 (windings_of p.1.1)) (λ p. winding_rows p.1.name (windings_of p.1)) (neutrals_of c)
+      (λ n p h at. winding_named (length c.substations) n p.0 p.1.name (windings_of p.1) (transformer_named n p h at)) 0 (neutrals_of c) refl
+      ∙ ap heads (same_parts (λ t. winding_rows t.name (windings_of t)) (neutrals_of c) ∙ ap (flat_map (λ t. winding_rows t.name (windings_of t))) (transformers_of_neutrals c))
 
   neutrals_named : map said (resistors_of c) ≡ heads (all_neutral_rows c.transformers)
   neutrals_named =
-      parts_named said (λ p. resistor_of p.0 p.1.0 (grid_of c.buses p.1.1.kind) p.1.1.neutral) (λ p. neutral_rows p.1.name p.1.neutral) (neutrals_of c)
-      (λ n p h at. neutral_named n p.0 (grid_of c.buses p.1.kind) p.1.name p.1.neutral (transformer_named n p h at)) 0 (neutrals_of c) refl
+      parts_named said (λ p. resistor_of p.0 p.1.0 (grid_of c.buses p.1.1) p.1.1.neutral) (λ p. neutral_rows p.1.name p.1.neutral) (neutrals_of c)
+      (λ n p h at. neutral_named n p.0 (grid_of c.buses p.1) p.1.name p.1.neutral (transformer_named n p h at)) 0 (neutrals_of c) refl
       ∙ ap heads (same_parts (λ t. neutral_rows t.name t.neutral) (neutrals_of c) ∙ ap (flat_map (λ t. neutral_rows t.name t.neutral)) (transformers_of_neutrals c))
 
   -- the elements of a case are named as its rows that aren't blocked

@@ -7,13 +7,13 @@ use Rattle.gic_model.specs.declared.parts.Role.{Role}
 use Rattle.gic_model.specs.declared.parts.Role.TheVariants as role
 use Rattle.gic_case.specs.declared.item.Substation.{Substation}
 use Rattle.gic_case.specs.declared.item.Line.{Line}
-use Rattle.gic_case.specs.declared.item.Third.{Third}
-use Rattle.gic_case.specs.declared.item.Kind.{Kind}
-use Rattle.gic_case.specs.declared.item.Kind.TheVariants as kinds
 use Rattle.gic_case.specs.declared.item.Neutral.{Neutral}
 use Rattle.gic_case.specs.declared.item.Neutral.TheVariants as devices
 use Rattle.gic_case.specs.declared.item.Transformer.{Transformer}
+use Rattle.gic_case.specs.declared.winding.Winding.{Winding}
 use Rattle.gic_case.specs.Lists.{Lists, node_names}
+use Rattle.gic_case.specs.Windings.{windings_of}
+use Rattle.gic_winding.specs.ElementList.{role_of}
 use Rattle.gic_report.specs.SharedLines.{Words}
 use Rattle.gic_report.specs.RoleWord.{role_word}
 use Rattle.gic_report.specs.declared.rows.ItemRow.{ItemRow}
@@ -73,18 +73,9 @@ ground_rows name (Some ohm) = item_row_of role.Ground name false ∷ []
 abbrev pub line_row : Line → ItemRow
 line_row l = item_row_of role.Line l.name l.blocked
 
--- a third winding
-abbrev pub third_rows : List ℕ → Option Third → List ItemRow
-third_rows name None = []
-third_rows name (Some t) = item_row_of role.Third name false ∷ []
-
--- the windings of a transformer
-abbrev pub winding_rows : List ℕ → Kind → List ItemRow
-winding_rows name (kinds.DeltaWye high high_resistance) = item_row_of role.High name false ∷ []
-winding_rows name (kinds.WyeWye high low low_volts high_resistance low_resistance third) = item_row_of role.High name false ∷ item_row_of role.Low name false ∷ third_rows name third
-winding_rows name (kinds.Auto high low low_volts series_resistance common_resistance third) = item_row_of role.Series name false ∷ item_row_of role.Common name false ∷ third_rows name third
-winding_rows name (kinds.Reactor high high_resistance) = item_row_of role.High name false ∷ []
-winding_rows name kinds.DeltaDelta = []
+-- the windings of the transformer of this name
+abbrev pub winding_rows : List ℕ → List Winding → List ItemRow
+winding_rows name = map (λ w. item_row_of (role_of w.role) name false)
 
 -- a neutral device, which is a resistor or blocked
 abbrev pub neutral_rows : List ℕ → Option Neutral → List ItemRow
@@ -100,7 +91,7 @@ abbrev pub all_line_rows : List Line → List ItemRow
 all_line_rows = map line_row
 
 abbrev pub all_winding_rows : List Transformer → List ItemRow
-all_winding_rows = flat_map (λ t. winding_rows t.name t.kind)
+all_winding_rows = flat_map (λ t. winding_rows t.name (windings_of t))
 
 abbrev pub all_neutral_rows : List Transformer → List ItemRow
 all_neutral_rows = flat_map (λ t. neutral_rows t.name t.neutral)

@@ -1,14 +1,16 @@
 //! The rows of the items of a case, one after another.
-ghost use Rattle.std.specs.Prelude.{◌≡◌, [], ◌∷◌, ◌++◌, MatchOption};
+ghost use Rattle.std.specs.Prelude.{◌≡◌, [], ◌∷◌, ◌++◌, slice_get, MatchOption};
 ghost use Rattle.std.specs.Option.{option_to_list};
 ghost use Rattle.std.specs.Iterator.{YieldsFirst, item_count};
-ghost use Rattle.gic_report.specs.ItemText.{ground_rows, line_row, third_rows, winding_rows, neutral_rows};
+ghost use Rattle.gic_case.specs.Windings.{windings_of};
+ghost use Rattle.gic_report.specs.ItemText.{ground_rows, line_row, winding_rows, neutral_rows};
 ghost use Rattle.gic_report.specs.ItemText.{all_ground_rows, all_winding_rows, all_neutral_rows, item_rows_of};
 ghost use Rattle.gic_report.specs.RowsLeft.{rows_left};
 
 use gic_base::Name;
-use gic_case::{Case, Kind, Line, Neutral, Substation, Third, Transformer};
+use gic_case::{Case, Line, Neutral, Substation, Transformer, Winding};
 use gic_model::Role;
+use gic_winding::role_of;
 
 /// A row of the items of a case: what stands in it, the name of its substation, line or transformer, and whether it is
 /// blocked.
@@ -86,12 +88,13 @@ fn line_row(line: &Line) -> ItemRow
     }
 }
 
-/// The row of a third winding, if there is one.
-fn third_row(name: Name, third: Option<Third>) -> Option<ItemRow>
-    ensures { third_rows name third ≡ option_to_list result }
+/// The row of a winding of the transformer of this name, if there is one at this place.
+#[tactic(auto, using(crate::proofs::RowHeads::row_at))]
+fn winding_row(name: Name, windings: &[Winding], place: usize) -> Option<ItemRow>
+    ensures { result ≡ slice_get (winding_rows name windings.now) place }
 {
-    match third {
-        Some(_) => Some(ItemRow::new(Role::Third, name)),
+    match windings.get(place) {
+        Some(winding) => Some(ItemRow::new(role_of(winding.role), name)),
         None => None,
     }
 }
@@ -100,27 +103,17 @@ fn third_row(name: Name, third: Option<Third>) -> Option<ItemRow>
 /// such.
 fn winding_rows(transformer: &Transformer) -> Option<(ItemRow, Option<ItemRow>, Option<ItemRow>)>
     ensures { MatchOption result
-        (winding_rows transformer.now.name transformer.now.kind ≡ [])
-        (λ p. winding_rows transformer.now.name transformer.now.kind
+        (winding_rows transformer.now.name (windings_of transformer.now) ≡ [])
+        (λ p. winding_rows transformer.now.name (windings_of transformer.now)
         ≡ p.0 ∷ (option_to_list p.1 ++ option_to_list p.2)) }
 {
     let name = transformer.name;
-    match transformer.kind {
-        Kind::DeltaWye { .. } | Kind::Reactor { .. } => {
-            Some((ItemRow::new(Role::High, name), None, None))
-        }
-        Kind::WyeWye { third, .. } => {
-            let low = ItemRow::new(Role::Low, name);
-            let third = third_row(name, third);
-            Some((ItemRow::new(Role::High, name), Some(low), third))
-        }
-        Kind::Auto { third, .. } => {
-            let common = ItemRow::new(Role::Common, name);
-            let third = third_row(name, third);
-            Some((ItemRow::new(Role::Series, name), Some(common), third))
-        }
-        Kind::DeltaDelta => None,
-    }
+    let windings = transformer.windings();
+    let windings = windings.as_slice();
+    let first = winding_row(name, windings, 0)?;
+    let second = winding_row(name, windings, 1);
+    let third = winding_row(name, windings, 2);
+    Some((first, second, third))
 }
 
 /// The row of a transformer's neutral device, if it has one.

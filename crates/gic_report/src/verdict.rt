@@ -7,34 +7,23 @@ ghost use Rattle.gic_fixed.specs.Ends.{ends_of};
 ghost use Rattle.gic_text.specs.Lines.{with_word, line_text, lines_text};
 ghost use Rattle.gic_view.specs.Absolute.{HasAbsolute};
 ghost use Rattle.gic_report.specs.VerdictText.{verdict_in, verdict_word, judged_line};
-ghost use Rattle.gic_case.specs.Lists.{has_effect};
 ghost use Rattle.gic_report.specs.VerdictText.{absolute_line, absolute_lines, transformer_line, transformer_lines};
 
 use crate::cells::EffectiveCells;
 use crate::items::add_ends;
 use gic_base::{Name, Sink, WriteFailed, write_all};
-use gic_case::{Kind, Transformer};
+use gic_case::Transformer;
 use gic_fixed::Interval;
 use gic_screen::{Verdict, verdict};
 use gic_text::LineBuilder;
 use gic_view::StepView;
-
-/// Whether the core of a unit of a kind has an effective current here: not that of a reactor, nor of a delta-delta unit.
-fn has_effect(kind: Kind) -> bool
-    ensures { result ≡ has_effect kind }
-{
-    match kind {
-        Kind::DeltaWye { .. } | Kind::WyeWye { .. } | Kind::Auto { .. } => true,
-        Kind::Reactor { .. } | Kind::DeltaDelta => false,
-    }
-}
 
 /// The verdict on a transformer whose absolute current in mA per phase, effective or for the worst orientation, is in this
 /// interval, against a threshold in mA per phase.
 pub fn verdict_in(transformer: &Transformer, current: Interval, threshold: u32) -> Verdict
     ensures { result ≡ verdict_in threshold transformer.now (ends_of current) }
 {
-    let has_effect = has_effect(transformer.kind);
+    let has_effect = transformer.kind.has_effect();
     verdict(current, threshold, transformer.high_volts, has_effect)
 }
 

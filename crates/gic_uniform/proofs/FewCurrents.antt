@@ -1,6 +1,5 @@
 -- How great a current of an earthed network can be.
 use Rattle.std.proofs.Common.{◌≡◌, ℕ, ◌+◌, ◌*◌, ◌<◌, ◌≤◌, ◌==◌, ◌⊎◌, inl, inr, Bool, true, false, List, [], ◌∷◌, map, length, ℤ, pos, ◌+ℤ◌, ◌-ℤ◌, ◌*ℤ◌, unsigned_abs, arith, refl, ap, eqb-true}
-use Rattle.std.specs.Prelude.{Some, None}
 use Rattle.std.specs.List.{AllByRecursion}
 use Rattle.std.proofs.lemmas.Int.{ints, unsigned_abs-mul}
 use Rattle.std.proofs.lemmas.List.Elements.{recursion_from_All}
@@ -9,9 +8,9 @@ use Rattle.std.proofs.Math.Nat.{mul-le-mul, mul-le-mul_left, mul-le-mul_right}
 use Rattle.gic_base.specs.declared.id.ElementId.{ElementId}
 use Rattle.gic_base.proofs.Each.{weaker}
 use Rattle.gic_case.specs.Lists.{Lists}
-use Rattle.gic_case.specs.declared.item.Kind.{Kind}
-use Rattle.gic_case.specs.declared.item.Kind.TheVariants as kinds
-use Rattle.gic_case.specs.declared.item.Transformer.{Transformer}
+use Rattle.gic_case.specs.Windings.{windings_of}
+use Rattle.gic_case.proofs.SoundWindings.{few_windings}
+use Rattle.gic_case.specs.declared.winding.Winding.{Winding}
 use Rattle.gic_fixed.proofs.Sums.{unsigned_abs-sum_of}
 use Rattle.gic_model.specs.declared.parts.End.{End}
 use Rattle.gic_model.specs.declared.parts.End.TheVariants.{Node, Earth}
@@ -23,12 +22,11 @@ use Rattle.gic_model.specs.Sums.{Placed}
 use Rattle.gic_model.proofs.Ends.{IsLiveEnd, end_own, from_own, ends_live}
 use Rattle.gic_model.proofs.Members.{both, by_any}
 use Rattle.gic_winding.specs.ElementList.{elements_of}
-use Rattle.gic_winding.specs.Order.{weighted_from}
-use Rattle.gic_winding.specs.Weights.{transformer_at, no_transformer, weighted_windings, windings_at}
+use Rattle.gic_winding.specs.Weights.{transformer_at, no_transformer, weight_of, weighed_by, weighted_windings, windings_at}
 use Rattle.gic_winding.proofs.Around.{front_of}
-use Rattle.gic_winding.proofs.Weighted.{weighted_there}
+use Rattle.gic_winding.proofs.Weighted.{weighted_there, length-weighted_from}
 use Rattle.gic_effective.specs.Weighted.{effective_numerator}
-use Rattle.gic_effective.proofs.Weighings.{AreAtMost, weighed, weight_most}
+use Rattle.gic_effective.proofs.Weighings.{AreAtMost}
 
 -- the greatest potential of a network that is earthed within `MOST_WALK`, in nanovolts, and the greatest current, in nanoamperes
 abbrev pub most_potential : ℕ
@@ -93,31 +91,22 @@ module _ (nodes : ℕ) (standing : List Placed) (within : AllByRecursion (λ p. 
 
 -- ---- effective currents
 
--- a transformer has three windings at most
-weighted_few : (t : Transformer) (first : ℕ) (kind : Kind) → t.kind ≡ kind → length (weighted_from t first) ≤ 3
-weighted_few t first (kinds.DeltaWye high high_resistance) is = rw is (omega arith)
-weighted_few t first (kinds.WyeWye high low low_volts high_resistance low_resistance None) is = rw is (omega arith)
-weighted_few t first (kinds.WyeWye high low low_volts high_resistance low_resistance (Some third)) is = rw is (omega arith)
-weighted_few t first (kinds.Auto high low low_volts series_resistance common_resistance None) is = rw is (omega arith)
-weighted_few t first (kinds.Auto high low low_volts series_resistance common_resistance (Some third)) is = rw is (omega arith)
-weighted_few t first (kinds.Reactor high high_resistance) is = rw is (omega arith)
-weighted_few t first kinds.DeltaDelta is = rw is (omega arith)
-
-each_weight : (t : Transformer) (s : Solution) (m : ℕ) → AreAtMost t.high_volts t.kind → ((place : ℕ) → unsigned_abs (s.current place) ≤ m)
-    → (ps : List Placed) → AllByRecursion (λ (w : ElementId × ℕ). unsigned_abs (pos w.1 *ℤ s.current w.0.0) ≤ t.high_volts * m) (map (weighed t) ps)
-each_weight t s m order few [] = tt
-each_weight t s m order few (p ∷ ps) =
-    let product : unsigned_abs (pos (weighed t p).1 *ℤ s.current p.0) ≡ (weighed t p).1 * unsigned_abs (s.current p.0) = unsigned_abs-mul (pos (weighed t p).1) (s.current p.0) in
-    let most : (weighed t p).1 * unsigned_abs (s.current p.0) ≤ t.high_volts * m = mul-le-mul (weight_most t order p.1.role) (few p.0) in
-    (omega (arith, product, most), each_weight t s m order few ps)
+each_weight : (weight : Winding → ℕ) (most m : ℕ) (s : Solution) → ((place : ℕ) → unsigned_abs (s.current place) ≤ m) → (ps : List Placed) (ws : List Winding)
+    → AllByRecursion (λ w. weight w ≤ most) ws → AllByRecursion (λ (v : ElementId × ℕ). unsigned_abs (pos v.1 *ℤ s.current v.0.0) ≤ most * m) (weighed_by weight ps ws)
+each_weight weight most m s few [] ws h = tt
+each_weight weight most m s few (p ∷ ps) [] h = tt
+each_weight weight most m s few (p ∷ ps) (w ∷ ws) h =
+    let product : unsigned_abs (pos (weight w) *ℤ s.current p.0) ≡ weight w * unsigned_abs (s.current p.0) = unsigned_abs-mul (pos (weight w)) (s.current p.0) in
+    let below : weight w * unsigned_abs (s.current p.0) ≤ most * m = mul-le-mul h.0 (few p.0) in
+    (omega (arith, product, below), each_weight weight most m s few ps ws h.1)
 
 -- the effective numerator of a transformer
-pub numerator_few : (case : Lists) (t : ℕ) (s : Solution) (m : ℕ) → t < length case.transformers → AreAtMost (transformer_at case t).high_volts (transformer_at case t).kind
+pub numerator_few : (case : Lists) (t : ℕ) (s : Solution) (m : ℕ) → t < length case.transformers → AreAtMost (transformer_at case t)
     → ((place : ℕ) → unsigned_abs (s.current place) ≤ m) → unsigned_abs (effective_numerator case s t) ≤ 3 * ((transformer_at case t).high_volts * m)
 numerator_few case t s m inside order few =
     let row = transformer_at case t in
-    let sum = unsigned_abs-sum_of (λ (w : ElementId × ℕ). pos w.1 *ℤ s.current w.0.0) (row.high_volts * m) (weighted_windings case t) (each_weight row s m order few (windings_at (elements_of case) t)) in
+    let sum = unsigned_abs-sum_of (λ (w : ElementId × ℕ). pos w.1 *ℤ s.current w.0.0) (row.high_volts * m) (weighted_windings case t) (each_weight (weight_of row) row.high_volts m s few (windings_at (elements_of case) t) (windings_of row) order) in
     let there = ap length (weighted_there case t row inside (get_or_default case.transformers t no_transformer row inside)) in
-    let count : length (weighted_windings case t) ≤ 3 = omega (arith, there, weighted_few row (length (front_of case t)) row.kind refl) in
+    let count : length (weighted_windings case t) ≤ 3 = omega (arith, there, length-weighted_from row (length (front_of case t)), few_windings row.high_volts row.kind) in
     let most : row.high_volts * m * length (weighted_windings case t) ≤ row.high_volts * m * 3 = mul-le-mul_left (row.high_volts * m) count in
     omega (arith, sum, most)

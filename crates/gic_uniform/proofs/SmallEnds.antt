@@ -21,7 +21,7 @@ use Rattle.gic_winding.specs.Weights.{transformer_at, no_transformer}
 use Rattle.gic_effective.specs.Narrow.{IsNarrowView}
 use Rattle.gic_effective.specs.RightView.{IsRightView}
 use Rattle.gic_effective.specs.Weighted.{effective_numerator, effective_denominator}
-use Rattle.gic_effective.proofs.Weighings.{sides_at_most}
+use Rattle.gic_effective.proofs.Weighings.{weights_at_most}
 use Rattle.gic_uniform.proofs.Denominators.{some_denominator}
 use Rattle.gic_uniform.proofs.FewCurrents.{current_few, most_element_current, numerator_few}
 
@@ -64,7 +64,7 @@ view_small exist bounded case network stands volts width view sound limits solva
     let d = effective_denominator case t s in
     let current = current_few network.nodes standing (standing_within network stands limits) volts driven s has.solves
     (λ k live. omega (arith, bounded network stands volts s k limits solvable.within driven has.solves live)) in
-    let few = numerator_few case t s (most_element_current * s.denominator) inside (sides_at_most case row.high_volts row.kind rated.kind_sound) current in
+    let few = numerator_few case t s (most_element_current * s.denominator) inside (weights_at_most case row rated) current in
     ends_small (effective_at view t).low (effective_at view t).high (effective_numerator case s t) d width
     (some_denominator case t s sound inside some)
     ((right.effective t inside).holds s has.solves) (few_of row.high_volts s.denominator _ few) (narrow.effective t inside) least

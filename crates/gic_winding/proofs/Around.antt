@@ -8,18 +8,17 @@ use Rattle.std.proofs.lemmas.List.FromFn.{length-enumerate_from, get_or-enumerat
 use Rattle.std.specs.List.{AllByRecursion, enumerate_from}
 use Rattle.gic_base.proofs.Each.{all_joined, anything}
 use Rattle.gic_case.specs.declared.item.Line.{Line}
-use Rattle.gic_case.specs.declared.item.Third.{Third}
-use Rattle.gic_case.specs.declared.item.Kind.{Kind}
-use Rattle.gic_case.specs.declared.item.Kind.TheVariants as kinds
 use Rattle.gic_case.specs.declared.item.Neutral.{Neutral}
 use Rattle.gic_case.specs.declared.item.Neutral.TheVariants as devices
 use Rattle.gic_case.specs.declared.item.Transformer.{Transformer}
-use Rattle.gic_case.specs.Lists.{Lists, grid_of, neutrals_of}
+use Rattle.gic_case.specs.declared.winding.Winding.{Winding}
+use Rattle.gic_case.specs.Lists.{Lists, end_node, grid_of, neutrals_of}
+use Rattle.gic_case.specs.Windings.{windings_of}
 use Rattle.gic_model.specs.declared.parts.Item.TheVariants as item
 use Rattle.gic_model.specs.declared.parts.Role.{Role}
 use Rattle.gic_model.specs.declared.parts.Element.{Element}
 use Rattle.gic_model.specs.Standing.{is_item}
-use Rattle.gic_winding.specs.ElementList.{earthing_of, line_of, winding, third_of, windings_of, resistor_of, earthings_of, lines_of, all_windings_of, resistors_of, element_list}
+use Rattle.gic_winding.specs.ElementList.{earthing_of, line_of, winding, role_of, winding_elements, resistor_of, earthings_of, lines_of, all_windings_of, resistors_of, element_list}
 use Rattle.gic_winding.specs.Order.{comes_before}
 use Rattle.gic_case.proofs.NeutralNodes.{length-neutrals_of}
 use Rattle.gic_winding.proofs.Parts.{earthing_part, line_part, winding_part, resistor_part}
@@ -75,16 +74,9 @@ resistor_after t place neutral grid (Some (devices.Resistor ohm)) =
 resistor_after t place neutral grid (Some devices.Blocked) = tt
 
 -- what holds of each winding of a transformer
-of_third : (P : Element → Type 0) (first_bus place neutral : ℕ) (third : Option Third) → ((r : Role) (from to ohm : ℕ) → P (winding place r from to ohm)) → AllByRecursion P (third_of first_bus place neutral third)
-of_third P first_bus place neutral None h = tt
-of_third P first_bus place neutral (Some t) h = (h _ _ _ _, tt)
-
-of_windings : (P : Element → Type 0) (first_bus place neutral : ℕ) (kind : Kind) → ((r : Role) (from to ohm : ℕ) → P (winding place r from to ohm)) → AllByRecursion P (windings_of first_bus place neutral kind)
-of_windings P first_bus place neutral (kinds.DeltaWye high high_resistance) h = (h _ _ _ _, tt)
-of_windings P first_bus place neutral (kinds.WyeWye high low low_volts high_resistance low_resistance third) h = (h _ _ _ _, (h _ _ _ _, of_third P first_bus place neutral third h))
-of_windings P first_bus place neutral (kinds.Auto high low low_volts series_resistance common_resistance third) h = (h _ _ _ _, (h _ _ _ _, of_third P first_bus place neutral third h))
-of_windings P first_bus place neutral (kinds.Reactor high high_resistance) h = (h _ _ _ _, tt)
-of_windings P first_bus place neutral kinds.DeltaDelta h = tt
+of_windings : (P : Element → Type 0) (first_bus place neutral : ℕ) (ws : List Winding) → ((r : Role) (from to ohm : ℕ) → P (winding place r from to ohm)) → AllByRecursion P (winding_elements first_bus place neutral ws)
+of_windings P first_bus place neutral [] h = tt
+of_windings P first_bus place neutral (w ∷ ws) h = (h (role_of w.role) (first_bus + w.from.bus) (end_node first_bus neutral w.to) w.resistance, of_windings P first_bus place neutral ws h)
 
 -- places before and after
 all_taken : {X : Type 0} (n i bound : ℕ) (xs : List X) → i + n ≤ bound → AllByRecursion (λ p. p.0 < bound) (take n (enumerate_from i xs))
@@ -111,19 +103,19 @@ front_before c t =
     let earthings = all_of_parts (λ p. Unit {0}) (IsBefore t) earthing_part (λ p h. earthing_before t p.0 p.1.ground) (enumerate_from 0 c.substations) (anything _) in
     let lines = all_of_parts (λ p. Unit {0}) (IsBefore t) (line_part c) (λ p h. line_before t first_bus p.0 p.1) (enumerate_from 0 c.lines) (anything _) in
     let windings = all_of_parts (λ (p : ℕ × (ℕ × Transformer)). p.0 < t) (IsBefore t) (winding_part c)
-    (λ p h. of_windings (IsBefore t) first_bus p.0 p.1.0 p.1.1.kind (λ r from to ohm. winding_before t p.0 r from to ohm h)) (take t (enumerate_from 0 (neutrals_of c))) (all_taken t 0 t (neutrals_of c) (omega arith)) in
+    (λ p h. of_windings (IsBefore t) first_bus p.0 p.1.0 (windings_of p.1.1) (λ r from to ohm. winding_before t p.0 r from to ohm h)) (take t (enumerate_from 0 (neutrals_of c))) (all_taken t 0 t (neutrals_of c) (omega arith)) in
     all_joined (IsBefore t) _ _ earthings (all_joined (IsBefore t) _ _ lines windings)
 
 pub back_after : (c : Lists) (t : ℕ) → AllByRecursion (IsAfter t) (back_of c t)
 back_after c t =
     let first_bus = length c.substations in
     let windings = all_of_parts (λ (p : ℕ × (ℕ × Transformer)). suc t ≤ p.0) (IsAfter t) (winding_part c)
-    (λ p h. of_windings (IsAfter t) first_bus p.0 p.1.0 p.1.1.kind (λ r from to ohm. winding_after t p.0 r from to ohm h)) (drop (suc t) (enumerate_from 0 (neutrals_of c))) (all_dropped (suc t) 0 (suc t) (neutrals_of c) (omega arith)) in
-    let resistors = all_of_parts (λ p. Unit {0}) (IsAfter t) (resistor_part c) (λ p h. resistor_after t p.0 p.1.0 (grid_of c.buses p.1.1.kind) p.1.1.neutral) (enumerate_from 0 (neutrals_of c)) (anything _) in
+    (λ p h. of_windings (IsAfter t) first_bus p.0 p.1.0 (windings_of p.1.1) (λ r from to ohm. winding_after t p.0 r from to ohm h)) (drop (suc t) (enumerate_from 0 (neutrals_of c))) (all_dropped (suc t) 0 (suc t) (neutrals_of c) (omega arith)) in
+    let resistors = all_of_parts (λ p. Unit {0}) (IsAfter t) (resistor_part c) (λ p h. resistor_after t p.0 p.1.0 (grid_of c.buses p.1.1) p.1.1.neutral) (enumerate_from 0 (neutrals_of c)) (anything _) in
     all_joined (IsAfter t) _ _ windings resistors
 
-pub windings_its : (first_bus t neutral : ℕ) (kind : Kind) → AllByRecursion (IsIts t) (windings_of first_bus t neutral kind)
-windings_its first_bus t neutral kind = of_windings (IsIts t) first_bus t neutral kind (λ r from to ohm. winding_its t r from to ohm)
+pub windings_its : (first_bus t neutral : ℕ) (ws : List Winding) → AllByRecursion (IsIts t) (winding_elements first_bus t neutral ws)
+windings_its first_bus t neutral ws = of_windings (IsIts t) first_bus t neutral ws (λ r from to ohm. winding_its t r from to ohm)
 
 regrouped : (e l f w b r whole : List Element) → whole ≡ f ++ (w ++ b) → e ++ (l ++ (whole ++ r)) ≡ (e ++ (l ++ f)) ++ (w ++ (b ++ r))
 regrouped e l f w b r whole h = ap (λ z. e ++ (l ++ (z ++ r))) h ∙ simp append_assoc

@@ -8,16 +8,16 @@ use Rattle.std.specs.Prelude.{◌==◌, if◌then◌else◌}
 use Rattle.gic_base.proofs.Each.{both_parts}
 use Rattle.gic_case.specs.declared.item.Substation.{Substation}
 use Rattle.gic_case.specs.declared.item.Line.{Line}
-use Rattle.gic_case.specs.declared.item.Kind.{Kind}
-use Rattle.gic_case.specs.declared.item.Kind.TheVariants as kinds
 use Rattle.gic_case.specs.declared.item.Transformer.{Transformer}
+use Rattle.gic_case.specs.declared.winding.Winding.{Winding}
 use Rattle.gic_case.specs.declared.item.Neutral.{Neutral}
 use Rattle.gic_case.specs.declared.item.Neutral.TheVariants as devices
-use Rattle.gic_case.specs.Lists.{Lists, degree_of, earthing_ends, line_ends, winding_ends, device_ends, element_ends, grid_of, neutrals_of}
+use Rattle.gic_case.specs.Lists.{Lists, degree_of, earthing_ends, line_ends, end_node, winding_ends, device_ends, element_ends, grid_of, neutrals_of}
+use Rattle.gic_case.specs.Windings.{windings_of}
 use Rattle.gic_case.proofs.Earthings.{earthing_ends_from}
 use Rattle.gic_model.specs.declared.parts.Element.{Element}
 use Rattle.gic_model.specs.Network.{is_node, ends_at}
-use Rattle.gic_winding.specs.ElementList.{earthing_of, line_of, windings_of, resistor_of, earthings_of, lines_of, all_windings_of, resistors_of, element_list}
+use Rattle.gic_winding.specs.ElementList.{earthing_of, line_of, winding_element, winding_elements, resistor_of, earthings_of, lines_of, all_windings_of, resistors_of, element_list}
 use Rattle.gic_winding.proofs.Parts.{earthing_part, line_part, winding_part, resistor_part}
 
 -- the two ends of an element differ
@@ -70,18 +70,11 @@ line_many first_bus k place l =
       | inr runs ↦ rw runs (λ two. omega (arith, both_count (first_bus + l.from) (first_bus + l.to) k two.0))
     ]
 
-windings_many : (first_bus k place neutral : ℕ) (kind : Kind) → AreAsManyAt k (windings_of first_bus place neutral kind) (winding_ends first_bus neutral kind)
-windings_many first_bus k place neutral (kinds.DeltaWye high high_resistance) two = omega (arith, both_count (first_bus + high) neutral k two.0)
-windings_many first_bus k place neutral (kinds.WyeWye high low low_volts high_resistance low_resistance None) two =
-    omega (arith, both_count (first_bus + high) neutral k two.0, both_count (first_bus + low) neutral k two.1.0)
-windings_many first_bus k place neutral (kinds.WyeWye high low low_volts high_resistance low_resistance (Some t)) two =
-    omega (arith, both_count (first_bus + high) neutral k two.0, both_count (first_bus + low) neutral k two.1.0, both_count (first_bus + t.bus) neutral k two.1.1.0)
-windings_many first_bus k place neutral (kinds.Auto high low low_volts series_resistance common_resistance None) two =
-    omega (arith, both_count (first_bus + high) (first_bus + low) k two.0, both_count (first_bus + low) neutral k two.1.0)
-windings_many first_bus k place neutral (kinds.Auto high low low_volts series_resistance common_resistance (Some t)) two =
-    omega (arith, both_count (first_bus + high) (first_bus + low) k two.0, both_count (first_bus + low) neutral k two.1.0, both_count (first_bus + t.bus) neutral k two.1.1.0)
-windings_many first_bus k place neutral (kinds.Reactor high high_resistance) two = omega (arith, both_count (first_bus + high) neutral k two.0)
-windings_many first_bus k place neutral kinds.DeltaDelta two = omega arith
+windings_many : (first_bus k place neutral : ℕ) (ws : List Winding) → AreAsManyAt k (winding_elements first_bus place neutral ws) (winding_ends first_bus neutral ws)
+windings_many first_bus k place neutral [] two = omega arith
+windings_many first_bus k place neutral (w ∷ ws) two =
+    many_joined k (winding_element first_bus place neutral w ∷ []) (winding_elements first_bus place neutral ws) ((first_bus + w.from.bus) ∷ end_node first_bus neutral w.to ∷ []) (winding_ends first_bus neutral ws)
+    (λ ends. omega (arith, both_count (first_bus + w.from.bus) (end_node first_bus neutral w.to) k ends.0)) (windings_many first_bus k place neutral ws) two
 
 resistor_many : (k place neutral grid : ℕ) (device : Option Neutral) → AreAsManyAt k (resistor_of place neutral grid device) (device_ends neutral grid device)
 resistor_many k place neutral grid None two = omega arith
@@ -94,12 +87,12 @@ unfolding element_ends
 as_many_at_a_node c k =
     let first_bus = length c.substations in
     let line_at = λ (l : Line). if l.blocked then [] else (first_bus + l.from) ∷ (first_bus + l.to) ∷ [] in
-    let windings_at = λ (p : ℕ × Transformer). winding_ends first_bus p.0 p.1.kind in
-    let resistor_at = λ (p : ℕ × Transformer). device_ends p.0 (grid_of c.buses p.1.kind) p.1.neutral in
+    let windings_at = λ (p : ℕ × Transformer). winding_ends first_bus p.0 (windings_of p.1) in
+    let resistor_at = λ (p : ℕ × Transformer). device_ends p.0 (grid_of c.buses p.1) p.1.neutral in
     let earthings = earthings_many k 0 c.substations in
     let lines = many_of_parts k (line_part c) line_at (λ i l. line_many first_bus k i l) 0 c.lines in
-    let windings = many_of_parts k (winding_part c) windings_at (λ i p. windings_many first_bus k i p.0 p.1.kind) 0 (neutrals_of c) in
-    let resistors = many_of_parts k (resistor_part c) resistor_at (λ i p. resistor_many k i p.0 (grid_of c.buses p.1.kind) p.1.neutral) 0 (neutrals_of c) in
+    let windings = many_of_parts k (winding_part c) windings_at (λ i p. windings_many first_bus k i p.0 (windings_of p.1)) 0 (neutrals_of c) in
+    let resistors = many_of_parts k (resistor_part c) resistor_at (λ i p. resistor_many k i p.0 (grid_of c.buses p.1) p.1.neutral) 0 (neutrals_of c) in
     many_joined k (earthings_of c) (lines_of c ++ (all_windings_of c ++ resistors_of c)) (earthing_ends c.substations)
     (line_ends first_bus c.lines ++ (flat_map windings_at (neutrals_of c) ++ flat_map resistor_at (neutrals_of c))) earthings
     (many_joined k (lines_of c) (all_windings_of c ++ resistors_of c) (line_ends first_bus c.lines) (flat_map windings_at (neutrals_of c) ++ flat_map resistor_at (neutrals_of c)) lines

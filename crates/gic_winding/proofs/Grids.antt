@@ -1,14 +1,15 @@
 -- Where the neutrals of transformers are: a ground grid is a substation, and each neutral of its own is a node after the buses.
-use Rattle.std.proofs.Common.{◌≡◌, ℕ, ◌+◌, ◌<◌, ◌≤◌, ◌⊎◌, true, false, List, [], ◌∷◌, length, is_some, refl, arith, inl, inr}
+use Rattle.std.proofs.Common.{◌≡◌, ℕ, ◌+◌, ◌<◌, ◌≤◌, ◌⊎◌, true, false, List, [], ◌∷◌, length, is_some, slice_get, refl, arith, inl, inr}
 use Rattle.std.proofs.lemmas.Bool.{cases_Bool}
 use Rattle.std.proofs.lemmas.List.{get_or-map}
+use Rattle.std.proofs.lemmas.List.Elements.{recursion_from_All}
 use Rattle.std.specs.List.{AllByRecursion}
 use Rattle.gic_case.specs.declared.item.Bus.{Bus}
-use Rattle.gic_case.specs.declared.item.Kind.{Kind}
-use Rattle.gic_case.specs.declared.item.Kind.TheVariants as kinds
 use Rattle.gic_case.specs.declared.item.Transformer.{Transformer}
-use Rattle.gic_case.specs.Lists.{Lists, has_windings, neutrals_from, grid_of, substation_at, with_device}
-use Rattle.gic_case.specs.Sound.{IsSound, IsSoundKind, IsSoundTransformer}
+use Rattle.gic_case.specs.declared.winding.Winding.{Winding}
+use Rattle.gic_case.specs.Lists.{Lists, neutrals_from, grid_by, grid_of, substation_at, with_device}
+use Rattle.gic_case.specs.Windings.{windings_of, has_windings}
+use Rattle.gic_case.specs.Sound.{IsSound, IsSoundWinding, IsSoundTransformer}
 
 -- each bus is in a substation of the case
 pub substation_within : (c : Lists) → IsSound c → (place : ℕ) → place < length c.buses → substation_at c.buses place < length c.substations
@@ -18,19 +19,20 @@ substation_within c sound place within =
     let inside = sound.buses_within place none within in
     omega (arith, at, inside)
 
--- so the ground grid of a transformer that has windings is a substation
-pub grid_within : (c : Lists) → IsSound c → (volts : ℕ) (kind : Kind) → IsSoundKind c volts kind → has_windings kind ≡ true → grid_of c.buses kind < length c.substations
-grid_within c sound volts (kinds.DeltaWye high high_resistance) h has = substation_within c sound high h.0
-grid_within c sound volts (kinds.WyeWye high low low_volts high_resistance low_resistance third) h has = substation_within c sound high h.0.high_within
-grid_within c sound volts (kinds.Auto high low low_volts series_resistance common_resistance third) h has = substation_within c sound high h.0.high_within
-grid_within c sound volts (kinds.Reactor high high_resistance) h has = substation_within c sound high h.0
-grid_within c sound volts kinds.DeltaDelta h has = absurd (cc has)
+-- so the substation of the first winding is one of the case
+first_within : (c : Lists) → IsSound c → (volts : ℕ) (ws : List Winding) → AllByRecursion (IsSoundWinding c volts) ws → is_some (slice_get ws 0) ≡ true → grid_by c.buses (slice_get ws 0) < length c.substations
+first_within c sound volts [] h has = absurd (cc has)
+first_within c sound volts (w ∷ ws) h has = substation_within c sound w.from.bus h.0.bus_within
+
+-- and so is the ground grid of a transformer that has windings
+pub grid_within : (c : Lists) → IsSound c → (t : Transformer) → IsSoundTransformer c t → has_windings t ≡ true → grid_of c.buses t < length c.substations
+grid_within c sound t h has = first_within c sound t.high_volts (windings_of t) (recursion_from_All (IsSoundWinding c t.high_volts) (windings_of t) h.windings_sound) has
 
 -- the neutral of a transformer that has windings is a substation, or comes after the buses; the latter where it has a neutral device
 pub record IsNeutral (c : Lists) (nodes : ℕ) (p : ℕ × Transformer) : Type 0 where
   pub sound : IsSoundTransformer c p.1
-  pub inside : has_windings p.1.kind ≡ true → p.0 < nodes
-  pub no_bus : has_windings p.1.kind ≡ true → (p.0 < length c.substations) ⊎ (length c.substations + length c.buses ≤ p.0)
+  pub inside : has_windings p.1 ≡ true → p.0 < nodes
+  pub no_bus : has_windings p.1 ≡ true → (p.0 < length c.substations) ⊎ (length c.substations + length c.buses ≤ p.0)
   pub own : is_some p.1.neutral ≡ true → length c.substations + length c.buses ≤ p.0
 
 own_neutral : (c : Lists) (nodes own : ℕ) (t : Transformer) → length c.substations + length c.buses ≤ own → own < nodes → IsSoundTransformer c t → IsNeutral c nodes (own, t)
@@ -42,11 +44,11 @@ own_neutral c nodes own t past fits h = record {
 }
 
 shared_neutral : (c : Lists) → IsSound c → (nodes : ℕ) (t : Transformer) → length c.substations ≤ nodes → is_some t.neutral ≡ false → IsSoundTransformer c t
-    → IsNeutral c nodes (grid_of c.buses t.kind, t)
+    → IsNeutral c nodes (grid_of c.buses t, t)
 shared_neutral c sound nodes t grids none h = record {
   sound = h;
-  inside = λ windings. omega (arith, grid_within c sound t.high_volts t.kind h.kind_sound windings);
-  no_bus = λ windings. inl (grid_within c sound t.high_volts t.kind h.kind_sound windings);
+  inside = λ windings. omega (arith, grid_within c sound t h windings);
+  no_bus = λ windings. inl (grid_within c sound t h windings);
   own = λ device. absurd (cc (none, device));
 }
 

@@ -8,20 +8,20 @@ use Rattle.std.specs.List.{AllByRecursion, enumerate_from}
 use Rattle.gic_base.specs.declared.limits.TheConstants.{MOST_ELEMENTS}
 use Rattle.gic_base.proofs.Each.{all_joined}
 use Rattle.gic_case.specs.declared.item.Line.{Line}
-use Rattle.gic_case.specs.declared.item.Kind.{Kind}
-use Rattle.gic_case.specs.declared.item.Kind.TheVariants as kinds
 use Rattle.gic_case.specs.declared.item.Neutral.{Neutral}
 use Rattle.gic_case.specs.declared.item.Neutral.TheVariants as devices
 use Rattle.gic_case.specs.declared.item.Transformer.{Transformer}
-use Rattle.gic_case.specs.Lists.{Lists, with_device, node_names, element_ends, degree_of, grid_of, neutrals_of, has_windings}
-use Rattle.gic_case.specs.Sound.{IsSound, IsSoundSubstation, IsSoundLine, IsSoundTransformer}
+use Rattle.gic_case.specs.Lists.{Lists, with_device, node_names, element_ends, degree_of, grid_of, neutrals_of}
+use Rattle.gic_case.specs.Windings.{windings_of, has_windings}
+use Rattle.gic_case.specs.Sound.{IsSound, IsSoundSubstation, IsSoundLine, IsSoundWinding, IsSoundTransformer}
 use Rattle.gic_model.specs.declared.parts.Element.{Element}
 use Rattle.gic_model.specs.Network.{ends_at}
 use Rattle.gic_model.specs.Limits.{IsElementWithin, IsWithinLimits}
-use Rattle.gic_winding.specs.ElementList.{earthing_of, line_of, windings_of, resistor_of, earthings_of, lines_of, all_windings_of, resistors_of, element_list, elements_of}
+use Rattle.gic_winding.specs.ElementList.{earthing_of, line_of, winding_element, winding_elements, resistor_of, earthings_of, lines_of, all_windings_of, resistors_of, element_list, elements_of}
 use Rattle.gic_winding.proofs.Parts.{earthing_part, line_part, winding_part, resistor_part}
 use Rattle.gic_winding.proofs.Grids.{IsNeutral, neutrals_within, grid_within}
 use Rattle.gic_case.proofs.NeutralNodes.{length-neutrals_of}
+use Rattle.gic_case.proofs.SoundWindings.{few_windings}
 use Rattle.gic_winding.proofs.Counts.{HasTwoEnds, as_many_at_a_node}
 use Rattle.gic_winding.proofs.Within.{IsPlaced, all_placed, all_of_parts, earthing_within, line_within, windings_within, resistor_within}
 
@@ -59,14 +59,8 @@ line_single first_bus i l =
       | inr runs ↦ rw runs (omega arith)
     ]
 
-windings_triple : (first_bus i neutral : ℕ) (kind : Kind) → length (windings_of first_bus i neutral kind) ≤ 3
-windings_triple first_bus i neutral (kinds.DeltaWye high high_resistance) = omega arith
-windings_triple first_bus i neutral (kinds.WyeWye high low low_volts high_resistance low_resistance None) = omega arith
-windings_triple first_bus i neutral (kinds.WyeWye high low low_volts high_resistance low_resistance (Some t)) = omega arith
-windings_triple first_bus i neutral (kinds.Auto high low low_volts series_resistance common_resistance None) = omega arith
-windings_triple first_bus i neutral (kinds.Auto high low low_volts series_resistance common_resistance (Some t)) = omega arith
-windings_triple first_bus i neutral (kinds.Reactor high high_resistance) = omega arith
-windings_triple first_bus i neutral kinds.DeltaDelta = omega arith
+windings_triple : (first_bus i neutral : ℕ) (t : Transformer) → length (winding_elements first_bus i neutral (windings_of t)) ≤ 3
+windings_triple first_bus i neutral t = omega (arith, length-map (windings_of t) (winding_element first_bus i neutral), few_windings t.high_volts t.kind)
 
 resistor_single : (i neutral grid : ℕ) (device : Option Neutral) → length (resistor_of i neutral grid device) ≤ 1
 resistor_single i neutral grid None = omega arith
@@ -78,14 +72,14 @@ few_elements c sound =
     let first_bus = length c.substations in
     let earthings = length_of_parts 1 earthing_part (λ i s. earthing_single i s.ground) 0 c.substations in
     let lines = length_of_parts 1 (line_part c) (λ i l. line_single first_bus i l) 0 c.lines in
-    let windings = length_of_parts 3 (winding_part c) (λ i p. windings_triple first_bus i p.0 p.1.kind) 0 (neutrals_of c) in
-    let resistors = length_of_parts 1 (resistor_part c) (λ i p. resistor_single i p.0 (grid_of c.buses p.1.kind) p.1.neutral) 0 (neutrals_of c) in
+    let windings = length_of_parts 3 (winding_part c) (λ i p. windings_triple first_bus i p.0 p.1) 0 (neutrals_of c) in
+    let resistors = length_of_parts 1 (resistor_part c) (λ i p. resistor_single i p.0 (grid_of c.buses p.1) p.1.neutral) 0 (neutrals_of c) in
     simp length-append (omega (arith, length-neutrals_of c, sound.few_substations, sound.few_lines, sound.few_transformers))
 
 -- a transformer with a device in its neutral has windings
-has_windings_with_device : (c : Lists) (t : Transformer) → IsSoundTransformer c t → is_some t.neutral ≡ true → has_windings t.kind ≡ true
+has_windings_with_device : (c : Lists) (t : Transformer) → IsSoundTransformer c t → is_some t.neutral ≡ true → has_windings t ≡ true
 has_windings_with_device c t h device =
-    elim (cases_Bool (has_windings t.kind)) [
+    elim (cases_Bool (has_windings t)) [
       | inl has ↦ has
       | inr none ↦ absurd (cc (h.no_device none, device))
     ]
@@ -104,11 +98,11 @@ each_element c sound =
     let lines = all_of_parts (IsPlaced (length c.lines) (IsSoundLine c)) within (line_part c) (λ p h. line_within c nodes p.0 p.1 (omega arith) h.fact) (enumerate_from 0 c.lines)
     (all_placed (length c.lines) (IsSoundLine c) 0 c.lines (omega arith) (recursion_from_All (IsSoundLine c) c.lines sound.lines_sound)) in
     let windings = all_of_parts (IsPlaced (length (neutrals_of c)) (IsNeutral c nodes)) within (winding_part c)
-    (λ p h. windings_within c nodes p.0 p.1.0 p.1.1.high_volts p.1.1.kind (omega arith) h.fact.sound.kind_sound h.fact.inside h.fact.no_bus) (enumerate_from 0 (neutrals_of c)) neutrals in
+    (λ p h. windings_within c nodes p.0 p.1.0 p.1.1.high_volts (windings_of p.1.1) (omega arith) (recursion_from_All (IsSoundWinding c p.1.1.high_volts) (windings_of p.1.1) h.fact.sound.windings_sound) h.fact.inside h.fact.no_bus) (enumerate_from 0 (neutrals_of c)) neutrals in
     let resistors = all_of_parts (IsPlaced (length (neutrals_of c)) (IsNeutral c nodes)) within (resistor_part c)
     (λ p h.
-    resistor_within nodes p.0 p.1.0 (grid_of c.buses p.1.1.kind) p.1.1.neutral
-    (λ device. omega (arith, h.fact.own device, grid_within c sound p.1.1.high_volts p.1.1.kind h.fact.sound.kind_sound (has_windings_with_device c p.1.1 h.fact.sound device)))
+    resistor_within nodes p.0 p.1.0 (grid_of c.buses p.1.1) p.1.1.neutral
+    (λ device. omega (arith, h.fact.own device, grid_within c sound p.1.1 h.fact.sound (has_windings_with_device c p.1.1 h.fact.sound device)))
     (λ device. h.fact.inside (has_windings_with_device c p.1.1 h.fact.sound device)) h.fact.sound.device_sound) (enumerate_from 0 (neutrals_of c)) neutrals in
     all_joined within _ _ earthings (all_joined within _ _ lines (all_joined within _ _ windings resistors))
 

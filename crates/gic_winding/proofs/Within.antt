@@ -1,21 +1,22 @@
 -- Each element of a case is within the limits.
-use Rattle.std.proofs.Common.{◌≡◌, ◌≢◌, ℕ, ◌+◌, ◌<◌, ◌≤◌, ◌⊎◌, true, false, Option, Some, None, List, [], ◌∷◌, length, is_some, refl, sym, arith, inl, inr, flat_map}
+use Rattle.std.proofs.Common.{◌≡◌, ◌≢◌, ℕ, ◌+◌, ◌<◌, ◌≤◌, ◌⊎◌, true, false, Option, Some, None, List, [], ◌∷◌, length, is_some, slice_get, refl, sym, arith, inl, inr, flat_map}
 use Rattle.std.proofs.lemmas.Bool.{cases_Bool}
 use Rattle.std.proofs.lemmas.Bool.Decides.{nat_tests}
 use Rattle.std.specs.Prelude.{◌==◌, IfSome}
 use Rattle.std.specs.List.{AllByRecursion, enumerate_from}
 use Rattle.gic_base.proofs.Each.{all_joined}
 use Rattle.gic_case.specs.declared.item.Line.{Line}
-use Rattle.gic_case.specs.declared.item.Third.{Third}
-use Rattle.gic_case.specs.declared.item.Kind.{Kind}
-use Rattle.gic_case.specs.declared.item.Kind.TheVariants as kinds
+use Rattle.gic_case.specs.declared.winding.Terminal.{Terminal}
+use Rattle.gic_case.specs.declared.winding.WindingEnd.{WindingEnd}
+use Rattle.gic_case.specs.declared.winding.WindingEnd.TheVariants as ends
+use Rattle.gic_case.specs.declared.winding.Winding.{Winding}
 use Rattle.gic_case.specs.declared.item.Neutral.{Neutral}
 use Rattle.gic_case.specs.declared.item.Neutral.TheVariants as devices
-use Rattle.gic_case.specs.Lists.{Lists, has_windings}
-use Rattle.gic_case.specs.Sound.{IsSoundLine, IsSoundThird, IsSoundKind, IsSoundDevice, IsResistance}
+use Rattle.gic_case.specs.Lists.{Lists, end_node}
+use Rattle.gic_case.specs.Sound.{IsSoundLine, IsSoundEnd, IsSoundWinding, IsSoundDevice, IsResistance}
 use Rattle.gic_model.specs.declared.parts.Role.{Role}
 use Rattle.gic_model.specs.Limits.{IsElementWithin}
-use Rattle.gic_winding.specs.ElementList.{earthing_of, line_of, winding, third_of, windings_of, resistor_of}
+use Rattle.gic_winding.specs.ElementList.{earthing_of, line_of, winding, role_of, winding_elements, resistor_of}
 
 -- what holds of each part holds of the whole
 pub all_of_parts : {X A : Type 0} (Q : X → Type 0) (P : A → Type 0) (part : X → List A) → ((x : X) → Q x → AllByRecursion P (part x)) → (xs : List X) → AllByRecursion Q xs → AllByRecursion P (flat_map part xs)
@@ -82,34 +83,26 @@ not_neutral : (c : Lists) (bus neutral : ℕ) → bus < length c.buses → (neut
 not_neutral c bus neutral inside (inl grid) same = omega arith
 not_neutral c bus neutral inside (inr own) same = omega arith
 
-third_within : (c : Lists) (nodes place neutral high low volts : ℕ) (third : Option Third) → length c.substations + length c.buses ≤ nodes → IfSome third (IsSoundThird c high low volts)
-    → neutral < nodes → (neutral < length c.substations) ⊎ (length c.substations + length c.buses ≤ neutral) → AllByRecursion (IsElementWithin nodes) (third_of (length c.substations) place neutral third)
-third_within c nodes place neutral high low volts None buses h inside no_bus = tt
-third_within c nodes place neutral high low volts (Some t) buses h inside no_bus =
-    (winding_within nodes place _ _ _ _ (omega (arith, h.bus_within)) inside (not_neutral c t.bus neutral h.bus_within no_bus) h.ohm, tt)
+-- a winding from a bus to where it runs
+end_within : (c : Lists) (nodes place neutral : ℕ) (r : Role) (from : Terminal) (to : WindingEnd) (ohm : ℕ) → length c.substations + length c.buses ≤ nodes
+    → from.bus < length c.buses → IsSoundEnd c from to → IsResistance ohm → neutral < nodes → (neutral < length c.substations) ⊎ (length c.substations + length c.buses ≤ neutral)
+    → IsElementWithin nodes (winding place r (length c.substations + from.bus) (end_node (length c.substations) neutral to) ohm)
+end_within c nodes place neutral r from (ends.Bus to) ohm buses within sound h inside no_bus =
+    winding_within nodes place r _ _ ohm (omega (arith, within)) (omega (arith, sound.0)) (λ same. sound.1 (omega (arith, same))) h
+end_within c nodes place neutral r from ends.Neutral ohm buses within sound h inside no_bus =
+    winding_within nodes place r _ _ ohm (omega (arith, within)) inside (not_neutral c from.bus neutral within no_bus) h
 
-pub windings_within : (c : Lists) (nodes place neutral volts : ℕ) (kind : Kind) → length c.substations + length c.buses ≤ nodes → IsSoundKind c volts kind
-    → (has_windings kind ≡ true → neutral < nodes) → (has_windings kind ≡ true → (neutral < length c.substations) ⊎ (length c.substations + length c.buses ≤ neutral))
-    → AllByRecursion (IsElementWithin nodes) (windings_of (length c.substations) place neutral kind)
-windings_within c nodes place neutral volts (kinds.DeltaWye high high_resistance) buses h inside no_bus =
-    (winding_within nodes place _ _ _ _ (omega (arith, h.0)) (inside refl) (not_neutral c high neutral h.0 (no_bus refl)) h.1, tt)
-windings_within c nodes place neutral volts (kinds.WyeWye high low low_volts high_resistance low_resistance third) buses h inside no_bus = (
-  winding_within nodes place _ _ _ _ (omega (arith, h.0.high_within)) (inside refl) (not_neutral c high neutral h.0.high_within (no_bus refl)) h.1.0,
-  (
-    winding_within nodes place _ _ _ _ (omega (arith, h.0.low_within)) (inside refl) (not_neutral c low neutral h.0.low_within (no_bus refl)) h.1.1,
-    third_within c nodes place neutral high low volts third buses h.2 (inside refl) (no_bus refl),
-  ),
-)
-windings_within c nodes place neutral volts (kinds.Auto high low low_volts series_resistance common_resistance third) buses h inside no_bus = (
-  winding_within nodes place _ _ _ _ (omega (arith, h.0.high_within)) (omega (arith, h.0.low_within)) (λ same. h.0.ends_differ (omega (arith, same))) h.1.0,
-  (
-    winding_within nodes place _ _ _ _ (omega (arith, h.0.low_within)) (inside refl) (not_neutral c low neutral h.0.low_within (no_bus refl)) h.1.1,
-    third_within c nodes place neutral high low volts third buses h.2 (inside refl) (no_bus refl),
-  ),
-)
-windings_within c nodes place neutral volts (kinds.Reactor high high_resistance) buses h inside no_bus =
-    (winding_within nodes place _ _ _ _ (omega (arith, h.0)) (inside refl) (not_neutral c high neutral h.0 (no_bus refl)) h.1, tt)
-windings_within c nodes place neutral volts kinds.DeltaDelta buses h inside no_bus = tt
+each_within : (c : Lists) (nodes place neutral volts : ℕ) (ws : List Winding) → length c.substations + length c.buses ≤ nodes → AllByRecursion (IsSoundWinding c volts) ws
+    → neutral < nodes → (neutral < length c.substations) ⊎ (length c.substations + length c.buses ≤ neutral) → AllByRecursion (IsElementWithin nodes) (winding_elements (length c.substations) place neutral ws)
+each_within c nodes place neutral volts [] buses h inside no_bus = tt
+each_within c nodes place neutral volts (w ∷ ws) buses h inside no_bus =
+    (end_within c nodes place neutral (role_of w.role) w.from w.to w.resistance buses h.0.bus_within h.0.end_sound h.0.ohm inside no_bus, each_within c nodes place neutral volts ws buses h.1 inside no_bus)
+
+pub windings_within : (c : Lists) (nodes place neutral volts : ℕ) (ws : List Winding) → length c.substations + length c.buses ≤ nodes → AllByRecursion (IsSoundWinding c volts) ws
+    → (is_some (slice_get ws 0) ≡ true → neutral < nodes) → (is_some (slice_get ws 0) ≡ true → (neutral < length c.substations) ⊎ (length c.substations + length c.buses ≤ neutral))
+    → AllByRecursion (IsElementWithin nodes) (winding_elements (length c.substations) place neutral ws)
+windings_within c nodes place neutral volts [] buses h inside no_bus = tt
+windings_within c nodes place neutral volts (w ∷ ws) buses h inside no_bus = each_within c nodes place neutral volts (w ∷ ws) buses h (inside refl) (no_bus refl)
 
 pub resistor_within : (nodes place neutral grid : ℕ) (device : Option Neutral) → (is_some device ≡ true → grid < neutral) → (is_some device ≡ true → neutral < nodes) → IfSome device IsSoundDevice
     → AllByRecursion (IsElementWithin nodes) (resistor_of place neutral grid device)

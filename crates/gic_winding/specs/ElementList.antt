@@ -3,12 +3,13 @@ use Rattle.std.specs.Prelude.{ℕ, ◌+◌, List, [], ◌∷◌, ◌++◌, lengt
 use Rattle.std.specs.List.{enumerate_from}
 use Rattle.gic_base.specs.declared.id.NodeId.{NodeId}
 use Rattle.gic_case.specs.declared.item.Line.{Line}
-use Rattle.gic_case.specs.declared.item.Third.{Third}
-use Rattle.gic_case.specs.declared.item.Kind.{Kind}
-use Rattle.gic_case.specs.declared.item.Kind.TheVariants as kinds
 use Rattle.gic_case.specs.declared.item.Neutral.{Neutral}
 use Rattle.gic_case.specs.declared.item.Neutral.TheVariants as devices
-use Rattle.gic_case.specs.Lists.{Lists, node_names, grid_of, neutrals_of}
+use Rattle.gic_case.specs.declared.winding.WindingRole.{WindingRole}
+use Rattle.gic_case.specs.declared.winding.WindingRole.TheVariants as roles
+use Rattle.gic_case.specs.declared.winding.Winding.{Winding}
+use Rattle.gic_case.specs.Lists.{Lists, node_names, end_node, grid_of, neutrals_of}
+use Rattle.gic_case.specs.Windings.{windings_of}
 use Rattle.gic_model.specs.declared.parts.End.TheVariants.{Node, Earth}
 use Rattle.gic_model.specs.declared.parts.Item.{Item}
 use Rattle.gic_model.specs.declared.parts.Item.TheVariants as item
@@ -46,24 +47,21 @@ earthing_of place (Some ohm) = earthing place ohm ∷ []
 abbrev pub line_of : (first_bus place : ℕ) → Line → List Element
 line_of first_bus place l = if l.blocked then [] else (line place (first_bus + l.from) (first_bus + l.to) l.resistance ∷ [])
 
--- a third winding runs from its bus to the neutral
-abbrev pub third_of : (first_bus place neutral : ℕ) → Option Third → List Element
-third_of first_bus place neutral None = []
-third_of first_bus place neutral (Some t) = winding place role.Third (first_bus + t.bus) neutral t.resistance ∷ []
+-- what the element of a winding is
+abbrev pub role_of : WindingRole → Role
+role_of roles.High = role.High
+role_of roles.Low = role.Low
+role_of roles.Series = role.Series
+role_of roles.Common = role.Common
+role_of roles.Third = role.Third
 
--- high and low windings run to the neutral, a series winding to the low bus, and the common one from there to the neutral; a third winding comes behind the other two
-abbrev pub windings_of : (first_bus place neutral : ℕ) → Kind → List Element
-windings_of first_bus place neutral (kinds.DeltaWye high high_resistance) =
-    winding place role.High (first_bus + high) neutral high_resistance ∷ []
-windings_of first_bus place neutral (kinds.WyeWye high low low_volts high_resistance low_resistance third) =
-    winding place role.High (first_bus + high) neutral high_resistance ∷
-    winding place role.Low (first_bus + low) neutral low_resistance ∷ third_of first_bus place neutral third
-windings_of first_bus place neutral (kinds.Auto high low low_volts series_resistance common_resistance third) =
-    winding place role.Series (first_bus + high) (first_bus + low) series_resistance ∷
-    winding place role.Common (first_bus + low) neutral common_resistance ∷ third_of first_bus place neutral third
-windings_of first_bus place neutral (kinds.Reactor high high_resistance) =
-    winding place role.High (first_bus + high) neutral high_resistance ∷ []
-windings_of first_bus place neutral kinds.DeltaDelta = []
+-- the element of a winding of the transformer at a place, whose neutral is this node: from its bus to where it runs
+abbrev pub winding_element : (first_bus place neutral : ℕ) → Winding → Element
+winding_element first_bus place neutral w = winding place (role_of w.role) (first_bus + w.from.bus) (end_node first_bus neutral w.to) w.resistance
+
+-- the elements of its windings
+abbrev pub winding_elements : (first_bus place neutral : ℕ) → List Winding → List Element
+winding_elements first_bus place neutral = map (winding_element first_bus place neutral)
 
 -- a neutral resistor runs from the neutral to the ground grid; a blocking device gives no element
 abbrev pub resistor_of : (place neutral grid : ℕ) → Option Neutral → List Element
@@ -81,11 +79,11 @@ lines_of c = flat_map (λ p. line_of (length c.substations) p.0 p.1) (enumerate_
 
 -- the windings, in transformer order
 abbrev pub all_windings_of : Lists → List Element
-all_windings_of c = flat_map (λ p. windings_of (length c.substations) p.0 p.1.0 p.1.1.kind) (enumerate_from 0 (neutrals_of c))
+all_windings_of c = flat_map (λ p. winding_elements (length c.substations) p.0 p.1.0 (windings_of p.1.1)) (enumerate_from 0 (neutrals_of c))
 
 -- the neutral resistors, in transformer order
 abbrev pub resistors_of : Lists → List Element
-resistors_of c = flat_map (λ p. resistor_of p.0 p.1.0 (grid_of c.buses p.1.1.kind) p.1.1.neutral) (enumerate_from 0 (neutrals_of c))
+resistors_of c = flat_map (λ p. resistor_of p.0 p.1.0 (grid_of c.buses p.1.1) p.1.1.neutral) (enumerate_from 0 (neutrals_of c))
 
 -- the elements in their order
 abbrev pub element_list : Lists → List Element

@@ -1,8 +1,9 @@
 //! Single elements.
 ghost use Rattle.std.specs.Prelude.{◌≡◌};
-ghost use Rattle.gic_winding.specs.ElementList.{earthing, line, winding, resistor};
+ghost use Rattle.gic_winding.specs.ElementList.{earthing, line, winding, resistor, role_of};
 
 use gic_base::NodeId;
+use gic_case::WindingRole;
 use gic_model::{Element, End, Item, Role};
 
 /// The earthing of the substation at a place: one path from its node to earth.
@@ -44,6 +45,19 @@ pub fn winding(place: u16, role: Role, from: NodeId, to: NodeId, micro_ohm: u32)
         micro_ohm,
         item: Item::Transformer(place),
         role,
+    }
+}
+
+/// What the element of a winding is.
+pub fn role_of(role: WindingRole) -> Role
+    ensures { result ≡ role_of role }
+{
+    match role {
+        WindingRole::High => Role::High,
+        WindingRole::Low => Role::Low,
+        WindingRole::Series => Role::Series,
+        WindingRole::Common => Role::Common,
+        WindingRole::Third => Role::Third,
     }
 }
 

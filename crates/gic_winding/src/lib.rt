@@ -10,5 +10,6 @@ mod push;
 mod weights;
 
 pub use effective::effective_weights;
+pub use element::role_of;
 pub use list::elements;
 pub use weights::Weights;

@@ -1,13 +1,14 @@
 //! Elements at the end of a list.
-ghost use Rattle.std.specs.Prelude.{◌≡◌, ◌+◌, ◌<◌, ◌++◌, length, IfSome, OnOk};
-ghost use Rattle.gic_case.specs.Sound.{IsSoundLine, IsSoundTransformer};
-ghost use Rattle.gic_case.specs.Lists.{grid_of};
-ghost use Rattle.gic_winding.specs.ElementList.{node, earthing_of, line_of, third_of, windings_of, resistor_of};
+ghost use Rattle.std.specs.Prelude.{◌≡◌, ◌+◌, ◌<◌, ◌++◌, length, All, OnOk};
+ghost use Rattle.gic_case.specs.Sound.{IsSoundLine, IsSoundEnd, IsSoundTransformer};
+ghost use Rattle.gic_case.specs.Lists.{end_node, grid_of};
+ghost use Rattle.gic_case.specs.Windings.{windings_of};
+ghost use Rattle.gic_winding.specs.ElementList.{node, earthing_of, line_of, winding_element, winding_elements, resistor_of};
 
-use crate::element::{earthing, line, resistor, winding};
+use crate::element::{earthing, line, resistor, role_of, winding};
 use gic_base::{NodeId, OutOfMemory};
-use gic_case::{Case, Kind, Line, Neutral, Third, Transformer, ground_grid};
-use gic_model::{Element, Role};
+use gic_case::{Case, Line, Neutral, Transformer, Winding, WindingEnd, ground_grid};
+use gic_model::Element;
 
 /// The node of the bus at a place.
 fn bus_node(case: &Case, place: u16) -> NodeId
@@ -50,6 +51,28 @@ pub fn push_line(
     Ok(())
 }
 
+/// The node to which a winding runs of a transformer with this neutral.
+fn end_node(case: &Case, neutral: NodeId, winding: &Winding) -> NodeId
+    requires { IsSoundEnd case.now winding.now.from winding.now.to }
+    ensures { result ≡ node (end_node (length case.now.substations) neutral.0 winding.now.to) }
+{
+    match winding.to {
+        WindingEnd::Bus(to) => bus_node(case, to.bus),
+        WindingEnd::Neutral => neutral,
+    }
+}
+
+/// The element of a winding of the transformer at a place, with this neutral.
+fn winding_element(case: &Case, place: u16, neutral: NodeId, row: &Winding) -> Element
+    requires from { row.now.from.bus < length case.now.buses }
+    requires to { IsSoundEnd case.now row.now.from row.now.to }
+    ensures { result ≡ winding_element (length case.now.substations) place neutral.0 row.now }
+{
+    let from = bus_node(case, row.from.bus);
+    let to = end_node(case, neutral, row);
+    winding(place, role_of(row.role), from, to, row.resistance)
+}
+
 /// The windings of a transformer.
 pub fn push_windings(
     list: &mut Vec<Element>,
@@ -59,76 +82,32 @@ pub fn push_windings(
     transformer: &Transformer,
 ) -> Result<(), OutOfMemory>
     requires { IsSoundTransformer case.now transformer.now }
-    ensures { OnOk result (list.new.items ≡ list.old.items ++ windings_of (length case.now.substations) place neutral.0 transformer.now.kind) }
+    ensures { OnOk result (list.new.items ≡
+        list.old.items ++ winding_elements (length case.now.substations) place neutral.0 (windings_of transformer.now)) }
 {
-    match transformer.kind {
-        Kind::DeltaWye {
-            high,
-            high_resistance,
-        } => {
-            let high = bus_node(case, high);
-            let only = winding(place, Role::High, high, neutral, high_resistance);
-            list.push(only)?;
-        }
-        Kind::WyeWye {
-            high,
-            low,
-            high_resistance,
-            low_resistance,
-            third,
-            ..
-        } => {
-            let high = bus_node(case, high);
-            let low = bus_node(case, low);
-            let first = winding(place, Role::High, high, neutral, high_resistance);
-            let second = winding(place, Role::Low, low, neutral, low_resistance);
-            list.push(first)?;
-            list.push(second)?;
-            push_third(list, case, place, neutral, third)?;
-        }
-        Kind::Auto {
-            high,
-            low,
-            series_resistance,
-            common_resistance,
-            third,
-            ..
-        } => {
-            let high = bus_node(case, high);
-            let low = bus_node(case, low);
-            let first = winding(place, Role::Series, high, low, series_resistance);
-            let second = winding(place, Role::Common, low, neutral, common_resistance);
-            list.push(first)?;
-            list.push(second)?;
-            push_third(list, case, place, neutral, third)?;
-        }
-        Kind::Reactor {
-            high,
-            high_resistance,
-        } => {
-            let high = bus_node(case, high);
-            let reactor = winding(place, Role::High, high, neutral, high_resistance);
-            list.push(reactor)?;
-        }
-        Kind::DeltaDelta => {}
-    }
-    Ok(())
+    let windings = transformer.windings();
+    push_elements(
+        list,
+        case,
+        place,
+        neutral,
+        windings.as_slice(),
+    )
 }
 
-/// The third winding of a transformer, if it has one.
-fn push_third(
+/// These windings of the transformer at a place.
+fn push_elements(
     list: &mut Vec<Element>,
     case: &Case,
     place: u16,
     neutral: NodeId,
-    third: Option<Third>,
+    windings: &[Winding],
 ) -> Result<(), OutOfMemory>
-    requires { IfSome third (λ t. t.bus < length case.now.buses) }
-    ensures { OnOk result (list.new.items ≡ list.old.items ++ third_of (length case.now.substations) place neutral.0 third) }
+    requires { All (λ w. (w.from.bus < length case.now.buses) × IsSoundEnd case.now w.from w.to) windings.now }
+    ensures { OnOk result (list.new.items ≡ list.old.items ++ winding_elements (length case.now.substations) place neutral.0 windings.now) }
 {
-    if let Some(third) = third {
-        let bus = bus_node(case, third.bus);
-        list.push(winding(place, Role::Third, bus, neutral, third.resistance))?;
+    for winding in windings {
+        list.push(winding_element(case, place, neutral, winding))?;
     }
     Ok(())
 }
@@ -143,7 +122,7 @@ pub fn push_resistor(
 ) -> Result<(), OutOfMemory>
     requires { IsSoundTransformer case.now transformer.now }
     ensures { OnOk result (list.new.items ≡
-        list.old.items ++ resistor_of place neutral.0 (grid_of case.now.buses transformer.now.kind) transformer.now.neutral) }
+        list.old.items ++ resistor_of place neutral.0 (grid_of case.now.buses transformer.now) transformer.now.neutral) }
 {
     match transformer.neutral {
         Some(Neutral::Resistor(micro_ohm)) => {

@@ -1,6 +1,7 @@
 use Rattle.std.proofs.Common.{◌≡◌, ◌++◌, List, ℕ, length, rules, ap, ◌∙◌, append_assoc}
 use Rattle.std.specs.List.{flat_map}
 use Rattle.gic_case.specs.Lists.{grid_of, winding_ends, device_ends}
+use Rattle.gic_case.specs.Windings.{windings_of}
 use Rattle.gic_case.specs.declared.item.Transformer.{Transformer}
 use Rattle.gic_case_reader.proofs.Degrees.{transformer_ends_by}
 use Rattle.gic_case_reader.proofs.degree.push_transformer_ends.Goals as goal
@@ -12,8 +13,8 @@ returns c =
     let buses = c.as_slice-2.result.now in
     let neutrals = c.in_ok-neutrals.neutrals.items in
     let before = c.args.ends.now.items in
-    let windings : List (ℕ × Transformer) → List ℕ = λ ns. flat_map (λ p. winding_ends first_bus p.0 p.1.kind) ns in
-    let devices : List (ℕ × Transformer) → List ℕ = λ ns. flat_map (λ p. device_ends p.0 (grid_of buses p.1.kind) p.1.neutral) ns in
+    let windings : List (ℕ × Transformer) → List ℕ = λ ns. flat_map (λ p. winding_ends first_bus p.0 (windings_of p.1)) ns in
+    let devices : List (ℕ × Transformer) → List ℕ = λ ns. flat_map (λ p. device_ends p.0 (grid_of buses p.1) p.1.neutral) ns in
     let bus : first_bus ≡ length network.substations = search rules in
     let same_buses : buses ≡ network.buses = search rules in
     let one : c.push_winding_ends.new.ends.items ≡ before ++ windings c.as_slice.result.now = c.in_ok-push_winding_ends.ensures in

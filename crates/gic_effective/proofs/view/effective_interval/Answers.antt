@@ -12,7 +12,7 @@ use Rattle.gic_winding.specs.declared.weights.Weights.{Weights}
 use Rattle.gic_winding.specs.Weights.{transformer_at, no_transformer, windings_at, weighted_windings}
 use Rattle.gic_effective.specs.WeightedSum.{weighted_sum}
 use Rattle.gic_effective.specs.Weighted.{effective_numerator}
-use Rattle.gic_effective.proofs.Weighings.{AreAtMost, current_in, all_summed, winding_holds, winding_narrow, sides_at_most, weights_most, sums_nought, quotients_nought}
+use Rattle.gic_effective.proofs.Weighings.{AreAtMost, current_in, all_summed, winding_holds, winding_narrow, weights_at_most, weights_most, sums_nought, quotients_nought}
 use Rattle.gic_effective.proofs.view.effective_interval.Goals as goal
 
 row_is : (c : goal.After-signed_effective) → transformer_at c.args.case.now c.args.transformer ≡ c.index-transformers-transformer.result
@@ -21,11 +21,11 @@ row_is c =
     let at = c.index-transformers-transformer.is ∙ ap (λ ts. get_or ts c.args.transformer row) c.transformers.ensures.value in
     get_or_default c.args.case.now.transformers c.args.transformer no_transformer row c.requires.place ∙ sym at
 
-order : (c : goal.After-signed_effective) → AreAtMost (transformer_at c.args.case.now c.args.transformer).high_volts (transformer_at c.args.case.now c.args.transformer).kind
+order : (c : goal.After-signed_effective) → AreAtMost (transformer_at c.args.case.now c.args.transformer)
 order c =
     let row = c.index-transformers-transformer.result in
     let sound : IsSoundTransformer c.args.case.now row = search rules in
-    subst (λ (t : Transformer). AreAtMost t.high_volts t.kind) (sym (row_is c)) (sides_at_most c.args.case.now row.high_volts row.kind sound.kind_sound)
+    subst (λ (t : Transformer). AreAtMost t) (sym (row_is c)) (weights_at_most c.args.case.now row sound)
 
 volts_are : (c : goal.After-signed_effective) → c.effective_weights-weights.result.high_volts ≡ (transformer_at c.args.case.now c.args.transformer).high_volts
 volts_are c = ap (λ (w : Weights). w.high_volts) c.effective_weights-weights.ensures.value
