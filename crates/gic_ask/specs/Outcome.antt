@@ -14,6 +14,8 @@ use Rattle.gic_words.specs.declared.option.Opt.TheVariants as opt
 use Rattle.gic_words.specs.declared.mode.Mode.{Mode}
 use Rattle.gic_words.specs.declared.mode.Mode.TheVariants as mode
 use Rattle.gic_words.specs.declared.options.Options.{Options}
+use Rattle.gic_inputs.specs.declared.inputs.Inputs.{Inputs}
+use Rattle.gic_inputs.specs.declared.inputs.StormInputs.{StormInputs}
 use Rattle.gic_ask.specs.Contents.{Given, Nothing, Long, Whole, Contents}
 use Rattle.gic_ask.specs.declared.fault.File.{File}
 use Rattle.gic_ask.specs.declared.fault.File.TheVariants as file
@@ -115,6 +117,10 @@ abbrev pub needing : {A : Type 0} → Opt → Option A → Outcome A
 needing option None = Refuses (Usage (Missing option))
 needing option (Some a) = Accepts a
 
+-- what a mode over a storm is given
+abbrev pub over_storm : Inputs → StormView → StormInputs
+over_storm inputs storm = record { case = inputs.case; switchings = inputs.switchings; storm = storm; question = inputs.question }
+
 -- what a mode asks for, given what is named
 abbrev pub asking : Mode → Options → Gathered → Outcome Asked
 asking (mode.Network m) o gathered = do
@@ -123,7 +129,7 @@ asking (mode.Network m) o gathered = do
 asking mode.Study o gathered = do
   over ← needing opt.Case gathered.over
   storm ← needing opt.Storm over.storm
-  Accepts (Study (record { inputs = over.inputs; storm = storm }) o.detail)
+  Accepts (Study (over_storm over.inputs storm) o.detail)
 asking mode.Make o gathered = do
   seed ← needing opt.Seed o.seed
   size ← needing opt.Size o.size
@@ -136,7 +142,7 @@ asking mode.Series o gathered = do
   over ← needing opt.Case gathered.over
   storm ← needing opt.Storm over.storm
   transformer ← needing opt.Transformer over.transformer
-  Accepts (Series (record { inputs = over.inputs; storm = storm }) transformer)
+  Accepts (Series (over_storm over.inputs storm) transformer)
 
 -- the words, and then the files that they name, one after another
 abbrev pub outcome : List (List ℕ) → Contents → Outcome Asked

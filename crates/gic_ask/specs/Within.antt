@@ -17,7 +17,7 @@ IsOver question over =
 -- the question of a network, with a storm that was read with its case, the size of a made one, and the place of a transformer of the case
 abbrev pub IsAskedWithinRanges : Asked → Type 0
 IsAskedWithinRanges (Network mode inputs) = IsWithinRanges inputs.question
-IsAskedWithinRanges (Study inputs detail) = IsWithinRanges inputs.inputs.question × IsStormOf inputs
+IsAskedWithinRanges (Study inputs detail) = IsWithinRanges inputs.question × IsStormOf inputs
 IsAskedWithinRanges (Make seed size) = IsSize size
 IsAskedWithinRanges (Recheck inputs certificate) = IsWithinRanges inputs.question
-IsAskedWithinRanges (Series inputs transformer) = IsWithinRanges inputs.inputs.question × (IsStormOf inputs × (transformer < length inputs.inputs.case.transformers))
+IsAskedWithinRanges (Series inputs transformer) = IsWithinRanges inputs.question × (IsStormOf inputs × (transformer < length inputs.case.transformers))

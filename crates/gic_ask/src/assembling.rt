@@ -6,13 +6,14 @@ ghost use Rattle.gic_ask.specs.declared.fault.InputFault.TheVariants as fault;
 ghost use Rattle.gic_ask.specs.declared.fault.InputRefusal.TheVariants as refusal;
 ghost use Rattle.gic_words.specs.declared.fault.Usage.TheVariants as usage;
 ghost use Rattle.gic_ask.specs.Asks.{IsAnswer, file_of};
-ghost use Rattle.gic_ask.specs.Outcome.{asking};
+ghost use Rattle.gic_ask.specs.Outcome.{asking, over_storm};
 ghost use Rattle.gic_ask.specs.Within.{IsOver, IsAskedWithinRanges};
 
 use crate::fault::{InputFault, InputRefusal};
 use crate::gathered::{Gathered, OverCase};
 use crate::request::Asked;
-use gic_inputs::StormInputs;
+use gic_inputs::{Inputs, StormInputs};
+use gic_storm::Storm;
 use gic_words::{Mode, Opt, Options, Usage};
 
 /// What a mode needs of what is named. Without it an option would be missing; accepted words give each.
@@ -23,6 +24,23 @@ fn needed<T: Drop>(option: Opt, named: Option<T>) -> Result<T, InputFault>
     match named {
         Some(value) => Ok(value),
         None => Err(InputFault::Refused(InputRefusal::Usage(Usage::Missing { option }))),
+    }
+}
+
+/// What a mode over a storm is given.
+fn over_storm(inputs: Inputs, storm: Storm) -> StormInputs
+    ensures { result ≡ over_storm inputs storm }
+{
+    let Inputs {
+        case,
+        switchings,
+        question,
+    } = inputs;
+    StormInputs {
+        case,
+        switchings,
+        storm,
+        question,
     }
 }
 
@@ -43,7 +61,7 @@ pub(crate) fn assemble(options: &Options, gathered: Gathered) -> Result<Asked, I
             let OverCase { inputs, storm, .. } = needed(Opt::Case, over)?;
             let storm = needed(Opt::Storm, storm)?;
             Ok(Asked::Study {
-                inputs: StormInputs { inputs, storm },
+                inputs: over_storm(inputs, storm),
                 detail: options.detail,
             })
         }
@@ -69,7 +87,7 @@ pub(crate) fn assemble(options: &Options, gathered: Gathered) -> Result<Asked, I
             let storm = needed(Opt::Storm, storm)?;
             let transformer = needed(Opt::Transformer, transformer)?;
             Ok(Asked::Series {
-                inputs: StormInputs { inputs, storm },
+                inputs: over_storm(inputs, storm),
                 transformer,
             })
         }

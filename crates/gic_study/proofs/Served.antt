@@ -63,7 +63,7 @@ over_network plans asked m inputs before now answer whole is served ends =
 
 -- by the plans of monitors that have begun
 concludes_studied : (plans : Plans) (inputs : StormInputs) (detail : Option ℕ) (outlooks : List View → List (List ℕ)) (monitors : ℕ) (before now : Shown) (answer : Result (Unit {0}) StudyFault)
-    → ((views : List View) → outlooks views ≡ plans (roster_of inputs.inputs.case inputs.inputs.question.event) views)
+    → ((views : List View) → outlooks views ≡ plans (roster_of inputs.case inputs.question.event) views)
     → ((roster : RosterView) (views : List View) → length (plans roster views) ≡ monitors)
     → ServesStudy inputs monitors (IsRightStudy inputs detail (λ roster views. outlooks views)) before now answer → Concludes plans (Study inputs detail) before now (studied answer)
 concludes_studied plans inputs detail outlooks monitors before now (Ok done) same count served =
@@ -75,7 +75,7 @@ concludes_studied plans inputs detail outlooks monitors before now (Err study.Me
     ((λ roster views. subst (λ n. 0 < n) (sym (count roster views)) served.0, served.1.0), served.1.1)
 
 pub over_storm : (plans : Plans) (asked : Asked) (inputs : StormInputs) (detail : Option ℕ) (outlooks : List View → List (List ℕ)) (monitors : ℕ) (before now : Shown) (answer : Result (Unit {0}) StudyFault) (whole : Answer) → asked ≡ Study inputs detail
-    → ((views : List View) → outlooks views ≡ plans (roster_of inputs.inputs.case inputs.inputs.question.event) views)
+    → ((views : List View) → outlooks views ≡ plans (roster_of inputs.case inputs.question.event) views)
     → ((roster : RosterView) (views : List View) → length (plans roster views) ≡ monitors)
     → ServesStudy inputs monitors (IsRightStudy inputs detail (λ roster views. outlooks views)) before now answer → whole ≡ studied answer
     → Concludes plans asked before now whole
@@ -83,7 +83,7 @@ over_storm plans asked inputs detail outlooks monitors before now answer whole i
     subst (ConcludesSo plans before now whole) (sym is) (subst (Concludes plans (Study inputs detail) before now) (sym ends) (concludes_studied plans inputs detail outlooks monitors before now answer same count served))
 
 pub of_transformer : (plans : Plans) (asked : Asked) (inputs : StormInputs) (transformer : ℕ) (before now : Shown) (answer : Result (Unit {0}) ReportFault) (whole : Answer) → asked ≡ Series inputs transformer
-    → Serves Solved inputs.inputs.case (storm_steps inputs) (IsRightSeries inputs transformer) before now answer → whole ≡ reported answer
+    → Serves Solved inputs.case (storm_steps inputs) (IsRightSeries inputs transformer) before now answer → whole ≡ reported answer
     → Concludes plans asked before now whole
 of_transformer plans asked inputs transformer before now answer whole is served ends =
     subst (ConcludesSo plans before now whole) (sym is) (subst (Concludes plans (Series inputs transformer) before now) (sym ends) (concludes_reported plans (Series inputs transformer) before now answer served))

@@ -59,10 +59,10 @@ pub record Meaning : Type 1 where
 -- one row a mode
 abbrev pub meaning_of : Asked → Meaning
 meaning_of (Network m inputs) = record { need = (over_network m).need; case = inputs.case; steps = steps_of inputs; IsRight = λ plans. (over_network m).IsRight inputs }
-meaning_of (Study inputs detail) = record { need = Solved; case = inputs.inputs.case; steps = storm_steps inputs; IsRight = IsRightStudy inputs detail }
+meaning_of (Study inputs detail) = record { need = Solved; case = inputs.case; steps = storm_steps inputs; IsRight = IsRightStudy inputs detail }
 meaning_of (Make seed size) = record { need = Nothing; case = made_case seed size; steps = standing_of (made_case seed size) None ∷ []; IsRight = λ plans. IsRightMake seed size }
 meaning_of (Recheck inputs certificate) = record { need = Nothing; case = inputs.case; steps = steps_of inputs; IsRight = λ plans. IsRightRecheck inputs certificate }
-meaning_of (Series inputs transformer) = record { need = Solved; case = inputs.inputs.case; steps = storm_steps inputs; IsRight = λ plans. IsRightSeries inputs transformer }
+meaning_of (Series inputs transformer) = record { need = Solved; case = inputs.case; steps = storm_steps inputs; IsRight = λ plans. IsRightSeries inputs transformer }
 
 -- a text is a right report of what is asked for
 abbrev pub IsRightText : Plans → Asked → (text : List ℕ) → Type 0

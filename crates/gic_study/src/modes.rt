@@ -139,7 +139,7 @@ fn serve_study<S: Sink>(
     monitors: Vec<Box<dyn Monitor>>,
     out: &mut S,
 ) -> Result<(), Fault>
-    requires ranges { IsWithinRanges inputs.now.inputs.question }
+    requires ranges { IsWithinRanges inputs.now.question }
     requires storm { IsStormOf inputs.now }
     ensures { Concludes (λ roster views. map (λ m. plan m roster views) monitors.items) (Study inputs.now detail)
         (shown S.written S.faults out.old) (shown S.written S.faults out.new) result }
@@ -180,9 +180,9 @@ fn serve_series<S: Sink>(
     transformer: u16,
     out: &mut S,
 ) -> Result<(), Fault>
-    requires ranges { IsWithinRanges inputs.now.inputs.question }
+    requires ranges { IsWithinRanges inputs.now.question }
     requires storm { IsStormOf inputs.now }
-    requires transformer { transformer < length inputs.now.inputs.case.transformers }
+    requires transformer { transformer < length inputs.now.case.transformers }
     ensures { (plans : Plans) → Concludes plans (Series inputs.now transformer)
         (shown S.written S.faults out.old) (shown S.written S.faults out.new) result }
 {
