@@ -70,7 +70,7 @@ module _ (accepted : AcceptedCasesAreSound) (made : MadeCasesAreSound) (contents
   asking_sound (request.Study case storm switch criteria detail) can =
       then_holds IsSound IsAskedSound (reading_case (contents file.Case)) (λ lists. asking_study switch criteria detail lists contents) case_sound
       (λ lists sound. made_holds IsStormOverSound IsAskedSound _ (λ inputs. Study inputs detail) (over_sound switch _ lists sound) (λ inputs is_sound. is_sound))
-  asking_sound (request.Make seed size) can = made seed size (omega (arith, can.seed)) can.size.least can.size.most
+  asking_sound (request.Make seed size) can = made seed size (omega (arith, can.seed_fits)) can.size_fits.least can.size_fits.most
   asking_sound (request.Recheck case switch cert) can =
       then_holds IsOverSound IsAskedSound (reading_network switch _ contents) (λ inputs. asking_recheck inputs contents) (network_sound switch _)
       (λ inputs sound. made_holds Any IsAskedSound (reading_certificate (contents file.Certificate)) (Recheck inputs) (anyway (reading_certificate (contents file.Certificate))) (λ certificate any. sound))

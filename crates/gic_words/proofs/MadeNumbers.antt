@@ -1,5 +1,5 @@
 -- The numbers of a made case that words give lie in their ranges.
-use Rattle.std.proofs.Common.{◌≡◌, ℕ, ◌≤◌, ℤ, pos, negsuc, ◌≤ℤ◌, Bool, true, false, ◌&&◌, cond, List, [], ◌∷◌, Option, Some, None, Result, Ok, Err, refl, arith}
+use Rattle.std.proofs.Common.{◌≡◌, ℕ, ◌≤◌, ℤ, pos, negsuc, ◌≤ℤ◌, Bool, true, false, ◌&&◌, cond, List, [], ◌∷◌, Option, Some, None, Result, refl, arith}
 use Rattle.std.specs.Prelude.{IfOk, IfSome, int_le, ok_or, option_map, option_and_then, unsigned_abs, ⊤}
 use Rattle.std.proofs.lemmas.Int.{ints}
 use Rattle.clap.specs.Words.{Kinds, Row}
@@ -73,7 +73,7 @@ made_by mode.Study rows = text_or rows Case _ (λ case. text_or rows Storm _ (λ
 made_by mode.Make rows =
     lacking_or (λ n. (0 ≤ n) × (n ≤ 4294967295)) (count_given rows Seed) _ _ (numbers_in_range 0 4294967295 (number_in Seed) (given rows Seed) (λ text. read_in_range text (pos 0) (pos 4294967295)))
     (λ seed fits. lacking_or (λ n. (2 ≤ n) × (n ≤ 1000)) (count_given rows Size) _ _ (numbers_in_range 2 1000 (number_in Size) (given rows Size) (λ text. read_in_range text (pos 2) (pos 1000)))
-    (λ size within. record { seed = fits.1; size = record { least = within.0; most = within.1 } }))
+    (λ size within. record { seed_fits = fits.1; size_fits = record { least = within.0; most = within.1 } }))
 made_by mode.Recheck rows = text_or rows Case _ (λ case. text_or rows Cert _ (λ cert. tt))
 made_by mode.Series rows = text_or rows Case _ (λ case. text_or rows Storm _ (λ storm. text_or rows Transformer _ (λ transformer. tt)))
 made_by mode.Review rows = text_or rows Case _ (λ case. tt)

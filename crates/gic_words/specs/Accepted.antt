@@ -37,8 +37,8 @@ pub record IsSize (n : ℕ) : Type 0 where
 
 -- the numbers of a made case are in their ranges
 pub record AreOfMade (seed size : ℕ) : Type 0 where
-  pub seed : seed ≤ 4294967295
-  pub size : IsSize size
+  pub seed_fits : seed ≤ 4294967295
+  pub size_fits : IsSize size
 
 abbrev pub CanBeMade : Request → Type 0
 CanBeMade (request.Make seed size) = AreOfMade seed size
