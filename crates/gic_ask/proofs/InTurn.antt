@@ -4,9 +4,8 @@ use Rattle.std.proofs.lemmas.List.{map-append}
 use Rattle.std.specs.Prelude.{IfErr, IfSome, IsSomeAnd, IsErrAnd, OnOk, map}
 use Rattle.gic_inputs.proofs.Answered.{answered}
 use Rattle.gic_files.specs.Files.{Files, Fetches, HasFailed}
-use Rattle.gic_words.specs.declared.options.Options.{Options}
 use Rattle.gic_ask.specs.Asks.{IsAnswer, EndsAt, FetchesInOrder, file_of}
-use Rattle.gic_ask.specs.Contents.{Given, Nothing, Whole, Contents, NamedFile, MayGive, MayHandOut, file_named, name_of_file}
+use Rattle.gic_ask.specs.Contents.{Given, Nothing, Whole, Contents, Names, NamedFile, MayGive, MayHandOut, file_named, name_of_file}
 use Rattle.gic_ask.specs.Outcome.{Outcome, Accepts, ◌>>=◌, reading, if_given, handing, reading_file}
 use Rattle.gic_ask.specs.Steps.{Gives, Reads}
 use Rattle.gic_ask.specs.declared.fault.File.{File}
@@ -141,6 +140,11 @@ still named before now fault f = record { front = f.front; rest = f.rest; named_
 
 -- ---- one file that is fetched
 
+-- under a name that is the same
+pub renamed : {A : Type 0} (files : Option Files) (name other : List ℕ) (file : File) (step : Given → Outcome A) (before now : Fetches) (answer : Result A InputFault) → other ≡ name
+    → Gives files other file step before now answer → Gives files name file step before now answer
+renamed files name other file step before now answer same g = subst (λ (n : List ℕ). Gives files n file step before now answer) same g
+
 -- its bytes
 pub given_whole : (files : Option Files) (name bytes handed : List ℕ) (file : File) (before now : Fetches) → handed ≡ bytes → MayGive files name (Whole bytes)
     → now.fetched ≡ before.fetched ++ name ∷ [] → now.failures ≡ before.failures → Gives {A = List ℕ} files name file (handing file) before now (Ok handed)
@@ -248,7 +252,7 @@ nothing_given : (files : Option Files) (name : Option (List ℕ)) → IfSome nam
 nothing_given files None = tt
 nothing_given files (Some name) = tt
 
-only_handed : (files : Option Files) (o : Options) (file : File) (given : Given) → IfSome (name_of_file file o) (λ n. MayGive files n given) → MayHandOut files o (only file given)
+only_handed : (files : Option Files) (o : Names) (file : File) (given : Given) → IfSome (name_of_file file o) (λ n. MayGive files n given) → MayHandOut files o (only file given)
 only_handed files o file.Case given may file.Case = may
 only_handed files o file.Case given may file.Storm = nothing_given files o.storm
 only_handed files o file.Case given may file.Switch = nothing_given files o.switch
@@ -267,11 +271,11 @@ only_handed files o file.Certificate given may file.Switch = nothing_given files
 only_handed files o file.Certificate given may file.Certificate = may
 
 -- nothing of any file
-pub none_handed : (files : Option Files) (o : Options) → MayHandOut files o (λ file. Nothing)
+pub none_handed : (files : Option Files) (o : Names) → MayHandOut files o (λ file. Nothing)
 none_handed files o file = nothing_given files (name_of_file file o)
 
 -- the failed fetch of the one file is that of a file that is named
-failed_among : {A : Type 0} (o : Options) (name : List ℕ) (file : File) (before now : Fetches) (answer : Result A InputFault) → name_of_file file o ≡ Some name
+failed_among : {A : Type 0} (o : Names) (name : List ℕ) (file : File) (before now : Fetches) (answer : Result A InputFault) → name_of_file file o ≡ Some name
     → IfErr answer (λ fault. (unread : File) → fault ≡ CannotRead unread → (unread ≡ file) × HasFailed before.failures now.failures name)
     → IfErr answer (λ fault. (unread : File) → fault ≡ CannotRead unread → IsSomeAnd (name_of_file unread o) (HasFailed before.failures now.failures))
 failed_among o name file before now (Ok a) named h = tt
@@ -279,7 +283,7 @@ failed_among o name file before now (Err fault) named h = λ unread e.
     subst (λ f. IsSomeAnd (name_of_file f o) (HasFailed before.failures now.failures)) (sym (h unread e).0)
     (subst (λ (n : Option (List ℕ)). IsSomeAnd n (HasFailed before.failures now.failures)) (sym named) (h unread e).1)
 
-pub among : {A : Type 0} (files : Option Files) (o : Options) (name : List ℕ) (file : File) (step : Given → Outcome A) (before now : Fetches) (answer : Result A InputFault)
+pub among : {A : Type 0} (files : Option Files) (o : Names) (name : List ℕ) (file : File) (step : Given → Outcome A) (before now : Fetches) (answer : Result A InputFault)
     → name_of_file file o ≡ Some name → Gives files name file step before now answer → Reads files o (file_named file (Some name)) (λ contents. step (contents file)) before now answer
 among files o name file step before now answer named g = record {
   contents = only file g.given;
@@ -297,7 +301,7 @@ abbrev pub some_answer : {A : Type 0} → Result A InputFault → Result (Option
 some_answer (Ok a) = Ok (Some a)
 some_answer (Err fault) = Err fault
 
-module _ {A : Type 0} (files : Option Files) (o : Options) (named_by : Option (List ℕ) → List NamedFile) (given : Option (List ℕ)) (step : Contents → Outcome A) (before now : Fetches) where
+module _ {A : Type 0} (files : Option Files) (o : Names) (named_by : Option (List ℕ) → List NamedFile) (given : Option (List ℕ)) (step : Contents → Outcome A) (before now : Fetches) where
   abbrev pub WhereNamed : Option (List ℕ) → Result (Option A) InputFault → Type 0
   WhereNamed n answer = Reads files o (named_by n) (λ contents. if_given n (λ name. step contents)) before now answer
 
@@ -323,19 +327,19 @@ module _ {A : Type 0} (files : Option Files) (o : Options) (named_by : Option (L
   where_named name answer named r = subst (λ (n : Option (List ℕ)). WhereNamed n (some_answer answer)) (sym named) (of_name name answer r)
 
 -- a file that may be named
-pub where_file : {A : Type 0} (files : Option Files) (o : Options) (name : List ℕ) (file : File) (step : Given → Outcome A) (before now : Fetches) (answer : Result A InputFault)
+pub where_file : {A : Type 0} (files : Option Files) (o : Names) (name : List ℕ) (file : File) (step : Given → Outcome A) (before now : Fetches) (answer : Result A InputFault)
     → name_of_file file o ≡ Some name → Gives files name file step before now answer
     → Reads files o (file_named file (name_of_file file o)) (λ contents. if_given (name_of_file file o) (λ n. step (contents file))) before now (some_answer answer)
 where_file files o name file step before now answer named g =
     where_named files o (file_named file) (name_of_file file o) (λ contents. step (contents file)) before now name answer named (among files o name file step before now answer named g)
 
 -- the fault is handed on
-pub reads_by : {A : Type 0} (files : Option Files) (o : Options) (named : List NamedFile) (step : Contents → Outcome A) (before now : Fetches) (answer : Result A InputFault) (fault : InputFault)
+pub reads_by : {A : Type 0} (files : Option Files) (o : Names) (named : List NamedFile) (step : Contents → Outcome A) (before now : Fetches) (answer : Result A InputFault) (fault : InputFault)
     → IsErrAnd answer (λ e. e ≡ fault) → Reads {A = A} files o named step before now (Err fault) → Reads files o named step before now answer
 reads_by {A} files o named step before now answer fault is r = subst (λ (a : Result A InputFault). Reads files o named step before now a) (sym (answered answer fault is)) r
 
 -- nothing is named
-pub unnamed : {A : Type 0} (files : Option Files) (o : Options) (named_by : Option (List ℕ) → List NamedFile) (given : Option (List ℕ)) (step : Contents → Outcome A) (before : Fetches)
+pub unnamed : {A : Type 0} (files : Option Files) (o : Names) (named_by : Option (List ℕ) → List NamedFile) (given : Option (List ℕ)) (step : Contents → Outcome A) (before : Fetches)
     → named_by None ≡ [] → given ≡ None → Reads {A = Option A} files o (named_by given) (λ contents. if_given given (λ name. step contents)) before before (Ok None)
 unnamed {A} files o named_by given step before empty not =
     subst (λ (n : Option (List ℕ)). Reads {A = Option A} files o (named_by n) (λ contents. if_given n (λ name. step contents)) before before (Ok None)) (sym not)
@@ -359,7 +363,7 @@ either_handed : (files : Option Files) (name : Option (List ℕ)) (first : Bool)
 either_handed files name true one two h k = h
 either_handed files name false one two h k = k
 
-module _ {A B : Type 0} (files : Option Files) (o : Options) (named more : List NamedFile) (first : Contents → Outcome A) (rest : A → Contents → Outcome B) (before mid now : Fetches) where
+module _ {A B : Type 0} (files : Option Files) (o : Names) (named more : List NamedFile) (first : Contents → Outcome A) (rest : A → Contents → Outcome B) (before mid now : Fetches) where
   -- the second reads none of the files of the first
   pub then_reads : (later : Option Files) (early : File → Bool) (a : A) (answer : Result B InputFault)
       → ((one two : Contents) → first (merged early one two) ≡ first one) → ((one two : Contents) → rest a (merged early one two) ≡ rest a two)
@@ -403,7 +407,7 @@ module _ {A B : Type 0} (files : Option Files) (o : Options) (named more : List 
   }
 
 -- what is made of all that is read, where no fault arises at a file
-pub read_on : {A B : Type 0} (files : Option Files) (o : Options) (named : List NamedFile) (step : Contents → Outcome A) (next : A → Outcome B) (before now : Fetches) (a : A) (answer : Result B InputFault)
+pub read_on : {A B : Type 0} (files : Option Files) (o : Names) (named : List NamedFile) (step : Contents → Outcome A) (next : A → Outcome B) (before now : Fetches) (a : A) (answer : Result B InputFault)
     → Reads {A = A} files o named step before now (Ok a) → IsAnswer (next a) answer → IfErr answer (λ fault. file_of fault ≡ None)
     → Reads files o named (λ contents. step contents >>= next) before now answer
 read_on files o named step next before now a answer r h none = record {
@@ -416,12 +420,28 @@ read_on files o named step next before now a answer r h none = record {
 }
 
 -- the last step, of which something is made
-pub last_step : {A B : Type 0} (files : Option Files) (o : Options) (named : List NamedFile) (step : Contents → Outcome A) (make : A → B) (before now : Fetches) (a : A)
+pub last_step : {A B : Type 0} (files : Option Files) (o : Names) (named : List NamedFile) (step : Contents → Outcome A) (make : A → B) (before now : Fetches) (a : A)
     → Reads {A = A} files o named step before now (Ok a) → Reads {A = B} files o named (λ contents. step contents >>= (λ x. Accepts (make x))) before now (Ok (make a))
 last_step files o named step make before now a r = read_on files o named step (λ x. Accepts (make x)) before now a (Ok (make a)) r refl tt
 
-pub last_fails : {A B : Type 0} (files : Option Files) (o : Options) (named : List NamedFile) (step : Contents → Outcome A) (make : A → B) (before now : Fetches) (fault : InputFault)
+pub last_fails : {A B : Type 0} (files : Option Files) (o : Names) (named : List NamedFile) (step : Contents → Outcome A) (make : A → B) (before now : Fetches) (fault : InputFault)
     → Reads {A = A} files o named step before now (Err fault) → Reads {A = B} files o named (λ contents. step contents >>= (λ x. Accepts (make x))) before now (Err fault)
 last_fails {A} {B} files o named step make before now fault r =
     subst (λ (all : List NamedFile). Reads {A = B} files o all (λ contents. step contents >>= (λ x. Accepts (make x))) before now (Err fault)) (append-nil named)
     (first_fails files o named [] step (λ x contents. Accepts (make x)) before before now fault r)
+
+-- ---- a file that is read first
+
+module _ {A B : Type 0} (files : Option Files) (o : Names) (file : File) (name : List ℕ) (step : Given → Outcome A) (more : List NamedFile) (rest : A → Contents → Outcome B) where
+  pub file_fails : (before now : Fetches) (fault : InputFault) → name_of_file file o ≡ Some name → Gives {A = A} files name file step before now (Err fault)
+      → Reads {A = B} files o (file_named file (Some name) ++ more) (λ contents. step (contents file) >>= (λ a. rest a contents)) before now (Err fault)
+  file_fails before now fault named g =
+      first_fails files o (file_named file (Some name)) more (λ contents. step (contents file)) rest before before now fault (among files o name file step before now (Err fault) named g)
+
+  pub file_read : (early : File → Bool) (later : Option Files) (before mid now : Fetches) (a : A) (answer : Result B InputFault) → name_of_file file o ≡ Some name → early file ≡ true
+      → ((one two : Contents) → rest a (merged early one two) ≡ rest a two) → Gives files name file step before mid (Ok a) → later ≡ files
+      → Reads later o more (rest a) mid now answer
+      → Reads files o (file_named file (Some name) ++ more) (λ contents. step (contents file) >>= (λ x. rest x contents)) before now answer
+  file_read early later before mid now a answer named first of_two g at r =
+      then_reads files o (file_named file (Some name)) more (λ contents. step (contents file)) rest before mid now later early a answer
+      (λ one two. ap (λ b. step (cond b (one file) (two file))) first) of_two (among files o name file step before mid (Ok a) named g) at r

@@ -7,27 +7,27 @@ use Rattle.gic_files.specs.Files.{Files}
 use Rattle.gic_base.specs.declared.limits.TheConstants.{LIMIT}
 use Rattle.gic_case.specs.Lists.{Lists}
 use Rattle.gic_case_reader.specs.Rules.{case_of}
-use Rattle.gic_model.specs.declared.parts.Switching.{Switching}
 use Rattle.gic_storm.specs.Rules.{storm_of}
 use Rattle.gic_storm.specs.StormView.{StormView, zone_names}
 use Rattle.gic_storm.specs.declared.refusal.StormRefusal.{StormRefusal}
 use Rattle.gic_switch.specs.Rules.{switchings_of}
-use Rattle.gic_words.specs.Options.{options_of}
-use Rattle.gic_words.specs.declared.options.Options.{Options}
+use Rattle.gic_words.specs.Requests.{request_of}
+use Rattle.gic_words.specs.declared.request.Request.{Request}
+use Rattle.gic_words.specs.declared.request.Request.TheVariants as request
+use Rattle.gic_question.specs.declared.asked.Question.{Question}
 use Rattle.gic_words.specs.declared.fault.Usage.{Usage}
 use Rattle.gic_ask.specs.Asks.{IsAnswer}
-use Rattle.gic_ask.specs.Contents.{Given, Nothing, Long, Whole, Contents, MayGive, MayHandOut, name_of_file}
+use Rattle.gic_ask.specs.Contents.{Given, Nothing, Long, Whole, Contents, Names, MayGive, MayHandOut, name_of_file, names_in, of_case}
 use Rattle.gic_ask.specs.Held.{held, held_bytes, held_by_length, held_for, AnswersOfFiles}
-use Rattle.gic_ask.specs.Outcome.{Outcome, Refuses, Lacks, Accepts, ◌>>=◌, reading, if_given, handing, reading_file, reading_case, reading_storm, reading_switchings, reading_certificate, reading_over, reading_over_case, transformer_asked, gathering, asking, outcome}
+use Rattle.gic_ask.specs.Outcome.{Outcome, Refuses, Lacks, Accepts, ◌>>=◌, reading, if_given, handing, reading_file, reading_case, reading_storm, reading_switchings, reading_inputs, reading_network, reading_after_storm, reading_over, transformer_asked, asking, asking_study, asking_recheck, asking_series, outcome}
 use Rattle.gic_ask.specs.declared.fault.File.{File}
 use Rattle.gic_ask.specs.declared.fault.File.TheVariants as file
 use Rattle.gic_ask.specs.declared.fault.InputFault.{InputFault}
 use Rattle.gic_ask.specs.declared.fault.InputFault.TheVariants.{Refused, CannotRead, Memory}
 use Rattle.gic_ask.specs.declared.fault.InputRefusal.{InputRefusal}
 use Rattle.gic_ask.specs.declared.fault.InputRefusal.TheVariants.{Usage as UsageRefusal, Case as CaseRefused, Storm as StormRefused, Switch as SwitchRefused}
-use Rattle.gic_ask.specs.declared.gathered.OverCase.{OverCase}
-use Rattle.gic_ask.specs.declared.gathered.Gathered.{Gathered}
 use Rattle.gic_ask.specs.declared.request.Asked.{Asked}
+use Rattle.gic_ask.specs.declared.request.Asked.TheVariants as asked
 
 -- what may be given of a length is what is held
 long_held : (b : Bool) (n : ℕ) (bytes : List ℕ) → LIMIT < n → nat_lt LIMIT n ≡ b → held_by_length b bytes ≡ Long
@@ -70,71 +70,83 @@ module _ {A B : Type 0} where
       some_same o other (inl same) = inl (ap (λ (x : Outcome B). x >>= (λ y. Accepts (Some y))) same)
       some_same o other (inr lacks) = inr (lacks.0, ap (λ (x : Outcome B). x >>= (λ y. Accepts (Some y))) lacks.1)
 
-module _ (files : Files) (o : Options) (contents : Contents) (may : MayHandOut (Some files) o contents) where
-  abbrev has : Contents
-  has = held_for files (Ok o)
+-- and what is made of it
+made_same : {A B : Type 0} (o other : Outcome A) (make : A → B) → IsSameOrLacks o other → IsSameOrLacks (o >>= (λ a. Accepts (make a))) (other >>= (λ a. Accepts (make a)))
+made_same o other make h = both_same o other (λ a. Accepts (make a)) (λ a. Accepts (make a)) h (λ a. inl refl)
 
-  of_file : (file : File) (name : List ℕ) → (contents file ≡ Nothing) ⊎ (held files (Some name) ≡ contents file) → name_of_file file o ≡ Some name
+module _ (files : Files) (n : Names) (contents : Contents) (may : MayHandOut (Some files) n contents) where
+  abbrev has : Contents
+  has = λ file. held files (name_of_file file n)
+
+  of_file : (file : File) (name : List ℕ) → (contents file ≡ Nothing) ⊎ (held files (Some name) ≡ contents file) → name_of_file file n ≡ Some name
       → IsSameOrLacks (handing file (contents file)) (handing file (has file))
   of_file file name (inl none) named = inr (file, ap (handing file) none)
   of_file file name (inr same) named = inl (ap (handing file) (sym (ap (held files) named ∙ same)))
 
-  handed_same : (file : File) (name : List ℕ) → name_of_file file o ≡ Some name → IsSameOrLacks (handing file (contents file)) (handing file (has file))
+  handed_same : (file : File) (name : List ℕ) → name_of_file file n ≡ Some name → IsSameOrLacks (handing file (contents file)) (handing file (has file))
   handed_same file name named =
       of_file file name
       (given_or_held files name (contents file) (subst (λ (n : Option (List ℕ)). IfSome n (λ t. MayGive (Some files) t (contents file))) named (may file))) named
 
-  read_same : {A E : Type 0} (file : File) (refusal : E → InputRefusal) (read : List ℕ → Result A E) (name : List ℕ) → name_of_file file o ≡ Some name
+  read_same : {A E : Type 0} (file : File) (refusal : E → InputRefusal) (read : List ℕ → Result A E) (name : List ℕ) → name_of_file file n ≡ Some name
       → IsSameOrLacks (reading_file file refusal read (contents file)) (reading_file file refusal read (has file))
   read_same file refusal read name named =
       both_same (handing file (contents file)) (handing file (has file)) (λ b. reading refusal (read b)) (λ b. reading refusal (read b)) (handed_same file name named) (λ b. inl refl)
 
-  storm_same : (case : Lists) → IsSameOrLacks (reading_storm o case contents) (reading_storm o case has)
-  storm_same case =
-      let read : List ℕ → Result StormView StormRefusal = storm_of (zone_names case.zones) in
-      given_same o.storm (λ name. reading_file file.Storm StormRefused read (contents file.Storm)) (λ name. reading_file file.Storm StormRefused read (has file.Storm))
-      (λ name named. read_same file.Storm StormRefused read name named)
-
-  switchings_same : (case : Lists) → IsSameOrLacks (reading_switchings o case contents) (reading_switchings o case has)
+  switchings_same : (case : Lists) → IsSameOrLacks (reading_switchings n.switch case contents) (reading_switchings n.switch case has)
   switchings_same case =
-      given_same o.switch (λ name. reading_file file.Switch SwitchRefused (switchings_of case) (contents file.Switch)) (λ name. reading_file file.Switch SwitchRefused (switchings_of case) (has file.Switch))
+      given_same n.switch (λ name. reading_file file.Switch SwitchRefused (switchings_of case) (contents file.Switch)) (λ name. reading_file file.Switch SwitchRefused (switchings_of case) (has file.Switch))
       (λ name named. read_same file.Switch SwitchRefused (switchings_of case) name named)
 
-  over_same : (case : Lists) → IsSameOrLacks (reading_over o case contents) (reading_over o case has)
-  over_same case =
-      let make : Option ℕ → Option StormView → Option (List Switching) → Outcome OverCase =
-      λ place storm rows. Accepts (record { inputs = record { case = case; switchings = rows; question = o.question }; transformer = place; storm = storm }) in
-      next_same (reading (λ refusal. refusal) (transformer_asked case o.transformer))
-      (λ place. reading_storm o case contents >>= (λ storm. reading_switchings o case contents >>= make place storm))
-      (λ place. reading_storm o case has >>= (λ storm. reading_switchings o case has >>= make place storm))
-      (λ place. both_same (reading_storm o case contents) (reading_storm o case has)
-      (λ storm. reading_switchings o case contents >>= make place storm) (λ storm. reading_switchings o case has >>= make place storm) (storm_same case)
-      (λ storm. both_same (reading_switchings o case contents) (reading_switchings o case has) (make place storm) (make place storm) (switchings_same case) (λ rows. inl refl)))
+  inputs_same : (question : Question) (case : Lists) → IsSameOrLacks (reading_inputs n.switch question case contents) (reading_inputs n.switch question case has)
+  inputs_same question case =
+      made_same (reading_switchings n.switch case contents) (reading_switchings n.switch case has) (λ rows. record { case = case; switchings = rows; question = question }) (switchings_same case)
 
-  over_case_same : IsSameOrLacks (reading_over_case o contents) (reading_over_case o has)
-  over_case_same =
-      given_same o.case (λ name. reading_case (contents file.Case) >>= (λ case. reading_over o case contents)) (λ name. reading_case (has file.Case) >>= (λ case. reading_over o case has))
-      (λ name named. both_same (reading_case (contents file.Case)) (reading_case (has file.Case)) (λ case. reading_over o case contents) (λ case. reading_over o case has)
-      (read_same file.Case CaseRefused case_of name named) over_same)
+  -- what comes behind the case
+  from_case : {B : Type 0} (rest : Lists → Contents → Outcome B) (name : List ℕ) → n.case ≡ Some name → ((case : Lists) → IsSameOrLacks (rest case contents) (rest case has))
+      → IsSameOrLacks (reading_case (contents file.Case) >>= (λ case. rest case contents)) (reading_case (has file.Case) >>= (λ case. rest case has))
+  from_case rest name named more =
+      both_same (reading_case (contents file.Case)) (reading_case (has file.Case)) (λ case. rest case contents) (λ case. rest case has) (read_same file.Case CaseRefused case_of name named) more
 
-  certificate_same : IsSameOrLacks (reading_certificate o contents) (reading_certificate o has)
-  certificate_same =
-      given_same o.cert (λ name. handing file.Certificate (contents file.Certificate)) (λ name. handing file.Certificate (has file.Certificate))
-      (λ name named. handed_same file.Certificate name named)
+  network_same : (question : Question) (name : List ℕ) → n.case ≡ Some name → IsSameOrLacks (reading_network n.switch question contents) (reading_network n.switch question has)
+  network_same question name named = from_case (reading_inputs n.switch question) name named (inputs_same question)
 
-  gathering_same : IsSameOrLacks (gathering o contents) (gathering o has)
-  gathering_same =
-      let make : Option OverCase → Option (List ℕ) → Outcome Gathered = λ over certificate. Accepts (record { over = over; certificate = certificate }) in
-      both_same (reading_over_case o contents) (reading_over_case o has)
-      (λ over. reading_certificate o contents >>= make over) (λ over. reading_certificate o has >>= make over) over_case_same
-      (λ over. both_same (reading_certificate o contents) (reading_certificate o has) (make over) (make over) certificate_same (λ certificate. inl refl))
+  over_same : (question : Question) (name : List ℕ) → n.storm ≡ Some name → (case : Lists) → IsSameOrLacks (reading_over n.switch question case contents) (reading_over n.switch question case has)
+  over_same question name named case =
+      let read : List ℕ → Result StormView StormRefusal = storm_of (zone_names case.zones) in
+      both_same (reading_storm case (contents file.Storm)) (reading_storm case (has file.Storm))
+      (λ storm. reading_after_storm n.switch question case storm contents) (λ storm. reading_after_storm n.switch question case storm has) (read_same file.Storm StormRefused read name named)
+      (λ storm. made_same (reading_switchings n.switch case contents) (reading_switchings n.switch case has)
+      (λ rows. record { case = case; switchings = rows; storm = storm; question = question }) (switchings_same case))
 
-  asked_same : IsSameOrLacks (gathering o contents >>= (λ g. asking o.mode o g)) (gathering o has >>= (λ g. asking o.mode o g))
-  asked_same = both_same (gathering o contents) (gathering o has) (λ g. asking o.mode o g) (λ g. asking o.mode o g) gathering_same (λ g. inl refl)
+-- what a request asks for
+asked_same : (files : Files) (r : Request) (contents : Contents) → MayHandOut (Some files) (names_in r) contents → IsSameOrLacks (asking r contents) (asking r (held_for files (Ok r)))
+asked_same files (request.Volts case field) contents may = made_same _ _ asked.Volts (network_same files (of_case case None) contents may _ case refl)
+asked_same files (request.List case) contents may = made_same _ _ asked.List (network_same files (of_case case None) contents may _ case refl)
+asked_same files (request.Check case switch) contents may = made_same _ _ asked.Check (network_same files (of_case case switch) contents may _ case refl)
+asked_same files (request.Field case switch field criteria) contents may = made_same _ _ asked.Field (network_same files (of_case case switch) contents may _ case refl)
+asked_same files (request.Screen case switch criteria) contents may = made_same _ _ asked.Screen (network_same files (of_case case switch) contents may _ case refl)
+asked_same files (request.Certify case switch field) contents may = made_same _ _ asked.Certify (network_same files (of_case case switch) contents may _ case refl)
+asked_same files (request.Outage case switch criteria) contents may = made_same _ _ asked.Outage (network_same files (of_case case switch) contents may _ case refl)
+asked_same files (request.Study case storm switch criteria detail) contents may =
+    let n : Names = record (of_case case switch) { storm = Some storm } in
+    from_case files n contents may (asking_study switch criteria detail) case refl
+    (λ lists. made_same _ _ (λ inputs. asked.Study inputs detail) (over_same files n contents may _ storm refl lists))
+asked_same files (request.Make seed size) contents may = inl refl
+asked_same files (request.Recheck case switch cert) contents may =
+    let n : Names = record (of_case case switch) { cert = Some cert } in
+    both_same _ _ (λ inputs. asking_recheck inputs contents) (λ inputs. asking_recheck inputs (held_for files (Ok (request.Recheck case switch cert)))) (network_same files n contents may _ case refl)
+    (λ inputs. made_same _ _ (asked.Recheck inputs) (handed_same files n contents may file.Certificate cert refl))
+asked_same files (request.Series case storm switch width transformer) contents may =
+    let n : Names = record (of_case case switch) { storm = Some storm } in
+    from_case files n contents may (asking_series switch width transformer) case refl
+    (λ lists. next_same (reading (λ refusal. refusal) (transformer_asked lists transformer)) _ _
+    (λ place. made_same _ _ (λ inputs. asked.Series inputs place) (over_same files n contents may _ storm refl lists)))
+asked_same files (request.Review case) contents may = made_same _ _ asked.Review (network_same files (of_case case None) contents may _ case refl)
 
-same_words : (files : Files) (r : Result Options Usage) (contents : Contents) → IfOk r (λ o. MayHandOut (Some files) o contents)
-    → IsSameOrLacks (reading UsageRefusal r >>= (λ o. gathering o contents >>= (λ g. asking o.mode o g))) (reading UsageRefusal r >>= (λ o. gathering o (held_for files r) >>= (λ g. asking o.mode o g)))
-same_words files (Ok o) contents may = asked_same files o contents may
+same_words : (files : Files) (r : Result Request Usage) (contents : Contents) → IfOk r (λ q. MayHandOut (Some files) (names_in q) contents)
+    → IsSameOrLacks (reading UsageRefusal r >>= (λ q. asking q contents)) (reading UsageRefusal r >>= (λ q. asking q (held_for files r)))
+same_words files (Ok q) contents may = asked_same files q contents may
 same_words files (Err u) contents may = inl refl
 
 -- an answer to a file that is lacking is that it can't be read, or want of memory
@@ -152,5 +164,5 @@ either o other answer (inr lacks) h read = lacking o other lacks.0 answer lacks.
 
 pub answers_of_files : AnswersOfFiles
 answers_of_files words files before now answer a can =
-    either (outcome words a.contents) (outcome words (held_for files (options_of words))) answer
-    (same_words files (options_of words) a.contents a.handed) a.asked (λ file e. can file (a.failed file e))
+    either (outcome words a.contents) (outcome words (held_for files (request_of words))) answer
+    (same_words files (request_of words) a.contents a.handed) a.asked (λ file e. can file (a.failed file e))

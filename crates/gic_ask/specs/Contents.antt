@@ -4,16 +4,43 @@ use Rattle.std.specs.declared.option.Option.{Option}
 use Rattle.std.specs.FinMap.{get}
 use Rattle.gic_files.specs.Files.{Files}
 use Rattle.gic_base.specs.declared.limits.TheConstants.{LIMIT}
-use Rattle.gic_words.specs.declared.options.Options.{Options}
+use Rattle.gic_words.specs.declared.request.Request.{Request}
+use Rattle.gic_words.specs.declared.request.Request.TheVariants as request
 use Rattle.gic_ask.specs.declared.fault.File.{File}
 use Rattle.gic_ask.specs.declared.fault.File.TheVariants.{Case, Storm, Switch, Certificate}
 
--- the name that the options give for a file
-abbrev pub name_of_file : File → Options → Option (List ℕ)
-name_of_file Case o = o.case
-name_of_file Storm o = o.storm
-name_of_file Switch o = o.switch
-name_of_file Certificate o = o.cert
+-- the names that a request gives for files
+pub record Names : Type 0 where
+  pub case : Option (List ℕ)
+  pub storm : Option (List ℕ)
+  pub switch : Option (List ℕ)
+  pub cert : Option (List ℕ)
+
+-- a case, with its switchings, where they are named
+abbrev pub of_case : (case : List ℕ) → (switch : Option (List ℕ)) → Names
+of_case case switch = record { case = Some case; storm = None; switch = switch; cert = None }
+
+-- one row a mode
+abbrev pub names_in : Request → Names
+names_in (request.Volts case field) = of_case case None
+names_in (request.List case) = of_case case None
+names_in (request.Check case switch) = of_case case switch
+names_in (request.Field case switch field criteria) = of_case case switch
+names_in (request.Screen case switch criteria) = of_case case switch
+names_in (request.Certify case switch field) = of_case case switch
+names_in (request.Outage case switch criteria) = of_case case switch
+names_in (request.Study case storm switch criteria detail) = record (of_case case switch) { storm = Some storm }
+names_in (request.Make seed size) = record { case = None; storm = None; switch = None; cert = None }
+names_in (request.Recheck case switch cert) = record (of_case case switch) { cert = Some cert }
+names_in (request.Series case storm switch width transformer) = record (of_case case switch) { storm = Some storm }
+names_in (request.Review case) = of_case case None
+
+-- the name of a file
+abbrev pub name_of_file : File → Names → Option (List ℕ)
+name_of_file Case n = n.case
+name_of_file Storm n = n.storm
+name_of_file Switch n = n.switch
+name_of_file Certificate n = n.cert
 
 -- a file, and the name that is given for it
 pub record NamedFile : Type 0 where
@@ -25,14 +52,9 @@ abbrev pub file_named : File → (name : Option (List ℕ)) → List NamedFile
 file_named file None = []
 file_named file (Some name) = record { file = file; name = name } ∷ []
 
--- where there is a case, it and the files over it
-abbrev pub case_named : (case : Option (List ℕ)) → (over : List NamedFile) → List NamedFile
-case_named None over = []
-case_named (Some case) over = record { file = Case; name = case } ∷ over
-
--- the files that the options name, in the order in which they are fetched: the case, the storm and the switchings over it, and the certificate
-abbrev pub files_named : Options → List NamedFile
-files_named o = case_named o.case (file_named Storm o.storm ++ file_named Switch o.switch) ++ file_named Certificate o.cert
+-- the files that are named, in the order in which they are fetched: the case, the storm and the switchings over it, and the certificate
+abbrev pub files_named : Names → List NamedFile
+files_named n = file_named Case n.case ++ (file_named Storm n.storm ++ (file_named Switch n.switch ++ file_named Certificate n.cert))
 
 -- of a file: nothing, that it is longer than 16777216 bytes, `LIMIT`, or its bytes
 pub data Given : Type 0 where
@@ -50,6 +72,6 @@ MayGive files name (Whole bytes) = (length bytes ≤ LIMIT) × IfSome files (λ 
 abbrev pub Contents : Type 0
 Contents = File → Given
 
--- each file that the options name
-abbrev pub MayHandOut : Option Files → Options → Contents → Type 0
-MayHandOut files o contents = (file : File) → IfSome (name_of_file file o) (λ name. MayGive files name (contents file))
+-- each file that is named
+abbrev pub MayHandOut : Option Files → Names → Contents → Type 0
+MayHandOut files names contents = (file : File) → IfSome (name_of_file file names) (λ name. MayGive files name (contents file))

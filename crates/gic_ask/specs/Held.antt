@@ -4,11 +4,11 @@ use Rattle.std.specs.declared.option.Option.{Option}
 use Rattle.std.specs.FinMap.{get}
 use Rattle.gic_files.specs.Files.{Files, Fetches}
 use Rattle.gic_base.specs.declared.limits.TheConstants.{LIMIT}
-use Rattle.gic_words.specs.Options.{options_of}
-use Rattle.gic_words.specs.declared.options.Options.{Options}
+use Rattle.gic_words.specs.Requests.{request_of}
+use Rattle.gic_words.specs.declared.request.Request.{Request}
 use Rattle.gic_words.specs.declared.fault.Usage.{Usage}
 use Rattle.gic_ask.specs.Asks.{Asks, IsAnswer, CouldNotRead}
-use Rattle.gic_ask.specs.Contents.{Given, Nothing, Long, Whole, Contents, name_of_file}
+use Rattle.gic_ask.specs.Contents.{Given, Nothing, Long, Whole, Contents, names_in, name_of_file}
 use Rattle.gic_ask.specs.Outcome.{outcome}
 use Rattle.gic_ask.specs.declared.fault.File.{File}
 use Rattle.gic_ask.specs.declared.fault.InputFault.{InputFault}
@@ -30,12 +30,12 @@ held files None = Nothing
 held files (Some name) = held_bytes (get files name)
 
 -- what they have of each file that the words name
-abbrev pub held_for : Files → Result Options Usage → Contents
-held_for files (Ok o) file = held files (name_of_file file o)
+abbrev pub held_for : Files → Result Request Usage → Contents
+held_for files (Ok r) file = held files (name_of_file file (names_in r))
 held_for files (Err u) file = Nothing
 
 -- where no fetch of a named file failed, the answer is that of the files
 abbrev pub AnswersOfFiles : Type 0
 AnswersOfFiles = (words : List (List ℕ)) (files : Files) (before now : Fetches) (answer : Result Asked InputFault) →
     Asks words (Some files) before now answer → ((file : File) → ¬ CouldNotRead words file before.failures now.failures) →
-    IsAnswer (outcome words (held_for files (options_of words))) answer
+    IsAnswer (outcome words (held_for files (request_of words))) answer

@@ -1,5 +1,5 @@
 -- What the words and the files ask for.
-use Rattle.std.specs.Prelude.{ℕ, List, Ok, Err, Result, None, Some, bytes_eq, position}
+use Rattle.std.specs.Prelude.{ℕ, List, Ok, Err, Result, None, Some, bytes_eq, ok_or, position}
 use Rattle.std.specs.declared.option.Option.{Option}
 use Rattle.gic_case.specs.Lists.{Lists}
 use Rattle.gic_case_reader.specs.Rules.{case_of}
@@ -7,22 +7,21 @@ use Rattle.gic_model.specs.declared.parts.Switching.{Switching}
 use Rattle.gic_storm.specs.Rules.{storm_of}
 use Rattle.gic_storm.specs.StormView.{StormView, zone_names}
 use Rattle.gic_switch.specs.Rules.{switchings_of}
-use Rattle.gic_words.specs.Options.{options_of}
-use Rattle.gic_words.specs.declared.fault.Usage.TheVariants.{Missing}
-use Rattle.gic_words.specs.declared.option.Opt.{Opt}
-use Rattle.gic_words.specs.declared.option.Opt.TheVariants as opt
-use Rattle.gic_words.specs.declared.mode.Mode.{Mode}
-use Rattle.gic_words.specs.declared.mode.Mode.TheVariants as mode
-use Rattle.gic_words.specs.declared.options.Options.{Options}
+use Rattle.gic_question.specs.Questions.{no_field, question_of, usual_criteria}
+use Rattle.gic_question.specs.declared.asked.Criteria.{Criteria}
+use Rattle.gic_question.specs.declared.asked.Question.{Question}
+use Rattle.gic_words.specs.Requests.{request_of}
+use Rattle.gic_words.specs.declared.request.Request.{Request}
+use Rattle.gic_words.specs.declared.request.Request.TheVariants as request
+use Rattle.gic_inputs.specs.declared.inputs.Inputs.{Inputs}
+use Rattle.gic_inputs.specs.declared.inputs.StormInputs.{StormInputs}
 use Rattle.gic_ask.specs.Contents.{Given, Nothing, Long, Whole, Contents}
 use Rattle.gic_ask.specs.declared.fault.File.{File}
 use Rattle.gic_ask.specs.declared.fault.File.TheVariants as file
 use Rattle.gic_ask.specs.declared.fault.InputRefusal.{InputRefusal}
 use Rattle.gic_ask.specs.declared.fault.InputRefusal.TheVariants.{Usage, TooLong, Case, UnknownTransformer, Storm, Switch}
-use Rattle.gic_ask.specs.declared.gathered.OverCase.{OverCase}
-use Rattle.gic_ask.specs.declared.gathered.Gathered.{Gathered}
 use Rattle.gic_ask.specs.declared.request.Asked.{Asked}
-use Rattle.gic_ask.specs.declared.request.Asked.TheVariants.{Network, Study, Make, Recheck, Series}
+use Rattle.gic_ask.specs.declared.request.Asked.TheVariants as asked
 
 -- the first refusal, the first file that was not handed out, or what is accepted
 pub data Outcome (A : Type 0) : Type 0 where
@@ -62,85 +61,111 @@ reading_file file refusal read given = handing file given >>= (λ bytes. reading
 abbrev pub reading_case : Given → Outcome Lists
 reading_case = reading_file file.Case Case case_of
 
--- a storm over the case, where it is named
-abbrev pub reading_storm : Options → Lists → Contents → Outcome (Option StormView)
-reading_storm o case contents = if_given o.storm (λ name. reading_file file.Storm Storm (storm_of (zone_names case.zones)) (contents file.Storm))
+-- a storm over the case
+abbrev pub reading_storm : Lists → Given → Outcome StormView
+reading_storm case = reading_file file.Storm Storm (storm_of (zone_names case.zones))
 
 -- the switchings of the case, where they are named
-abbrev pub reading_switchings : Options → Lists → Contents → Outcome (Option (List Switching))
-reading_switchings o case contents = if_given o.switch (λ name. reading_file file.Switch Switch (switchings_of case) (contents file.Switch))
+abbrev pub reading_switchings : (switch : Option (List ℕ)) → Lists → Contents → Outcome (Option (List Switching))
+reading_switchings switch case contents = if_given switch (λ name. reading_file file.Switch Switch (switchings_of case) (contents file.Switch))
 
--- a certificate, where it is named; its bytes are handed on unread
-abbrev pub reading_certificate : Options → Contents → Outcome (Option (List ℕ))
-reading_certificate o contents = if_given o.cert (λ name. handing file.Certificate (contents file.Certificate))
+-- a certificate; its bytes are handed on unread
+abbrev pub reading_certificate : Given → Outcome (List ℕ)
+reading_certificate = handing file.Certificate
 
--- ---- all that is named, one after another
+-- ---- what modes are given, one file after another
+
+-- the switchings of a case that is read
+abbrev pub reading_inputs : (switch : Option (List ℕ)) → Question → Lists → Contents → Outcome Inputs
+reading_inputs switch question case contents = do
+  switchings ← reading_switchings switch case contents
+  Accepts (record { case = case; switchings = switchings; question = question })
+
+-- a case, and its switchings
+abbrev pub reading_network : (switch : Option (List ℕ)) → Question → Contents → Outcome Inputs
+reading_network switch question contents = do
+  case ← reading_case (contents file.Case)
+  reading_inputs switch question case contents
+
+-- the switchings of a case, behind its storm
+abbrev pub reading_after_storm : (switch : Option (List ℕ)) → Question → Lists → StormView → Contents → Outcome StormInputs
+reading_after_storm switch question case storm contents = do
+  switchings ← reading_switchings switch case contents
+  Accepts (record { case = case; switchings = switchings; storm = storm; question = question })
+
+-- a storm over a case that is read, and the switchings
+abbrev pub reading_over : (switch : Option (List ℕ)) → Question → Lists → Contents → Outcome StormInputs
+reading_over switch question case contents = do
+  storm ← reading_storm case (contents file.Storm)
+  reading_after_storm switch question case storm contents
 
 -- the place of the transformer of the case that has this name; no two have one name
 abbrev pub transformer_named : Lists → (name : List ℕ) → Option ℕ
 transformer_named case name = position (λ t. bytes_eq t.name name) case.transformers
 
-abbrev pub place_found : Option ℕ → Result (Option ℕ) InputRefusal
-place_found None = Err UnknownTransformer
-place_found (Some place) = Ok (Some place)
-
--- the place of the transformer that is named
-abbrev pub transformer_asked : Lists → (name : Option (List ℕ)) → Result (Option ℕ) InputRefusal
-transformer_asked case None = Ok None
-transformer_asked case (Some name) = place_found (transformer_named case name)
-
--- what is named over a case: a transformer, which is looked for at once, a storm, and the switchings
-abbrev pub reading_over : Options → Lists → Contents → Outcome OverCase
-reading_over o case contents = do
-  transformer ← reading (λ refusal. refusal) (transformer_asked case o.transformer)
-  storm ← reading_storm o case contents
-  switchings ← reading_switchings o case contents
-  Accepts (record { inputs = record { case = case; switchings = switchings; question = o.question }; transformer = transformer; storm = storm })
-
--- the case that is named, with what is named over it
-abbrev pub reading_over_case : Options → Contents → Outcome (Option OverCase)
-reading_over_case o contents = if_given o.case (λ name. reading_case (contents file.Case) >>= (λ case. reading_over o case contents))
-
--- all that is named
-abbrev pub gathering : Options → Contents → Outcome Gathered
-gathering o contents = do
-  over ← reading_over_case o contents
-  certificate ← reading_certificate o contents
-  Accepts (record { over = over; certificate = certificate })
+abbrev pub transformer_asked : Lists → (name : List ℕ) → Result ℕ InputRefusal
+transformer_asked case name = ok_or (transformer_named case name) UnknownTransformer
 
 -- ---- what is asked for
 
--- what the words have to give, which accepted ones do
-abbrev pub needing : {A : Type 0} → Opt → Option A → Outcome A
-needing option None = Refuses (Usage (Missing option))
-needing option (Some a) = Accepts a
+-- of a storm over a case
+abbrev pub asking_study : (switch : Option (List ℕ)) → Criteria → (detail : Option ℕ) → Lists → Contents → Outcome Asked
+asking_study switch criteria detail case contents = do
+  inputs ← reading_over switch (question_of no_field criteria) case contents
+  Accepts (asked.Study inputs detail)
 
--- what a mode asks for, given what is named
-abbrev pub asking : Mode → Options → Gathered → Outcome Asked
-asking (mode.Network m) o gathered = do
-  over ← needing opt.Case gathered.over
-  Accepts (Network m over.inputs)
-asking mode.Study o gathered = do
-  over ← needing opt.Case gathered.over
-  storm ← needing opt.Storm over.storm
-  Accepts (Study (record { inputs = over.inputs; storm = storm }) o.detail)
-asking mode.Make o gathered = do
-  seed ← needing opt.Seed o.seed
-  size ← needing opt.Size o.size
-  Accepts (Make seed size)
-asking mode.Recheck o gathered = do
-  over ← needing opt.Case gathered.over
-  certificate ← needing opt.Cert gathered.certificate
-  Accepts (Recheck over.inputs certificate)
-asking mode.Series o gathered = do
-  over ← needing opt.Case gathered.over
-  storm ← needing opt.Storm over.storm
-  transformer ← needing opt.Transformer over.transformer
-  Accepts (Series (record { inputs = over.inputs; storm = storm }) transformer)
+-- of one transformer, which is looked for as soon as its case is read
+abbrev pub asking_series : (switch : Option (List ℕ)) → (width : ℕ) → (transformer : List ℕ) → Lists → Contents → Outcome Asked
+asking_series switch width transformer case contents = do
+  place ← reading (λ refusal. refusal) (transformer_asked case transformer)
+  inputs ← reading_over switch (question_of no_field (record usual_criteria { width = width })) case contents
+  Accepts (asked.Series inputs place)
+
+-- of a certificate
+abbrev pub asking_recheck : Inputs → Contents → Outcome Asked
+asking_recheck inputs contents = do
+  certificate ← reading_certificate (contents file.Certificate)
+  Accepts (asked.Recheck inputs certificate)
+
+-- what a request asks for; one row a mode
+abbrev pub asking : Request → Contents → Outcome Asked
+asking (request.Volts case field) contents = do
+  inputs ← reading_network None (question_of field usual_criteria) contents
+  Accepts (asked.Volts inputs)
+asking (request.List case) contents = do
+  inputs ← reading_network None (question_of no_field usual_criteria) contents
+  Accepts (asked.List inputs)
+asking (request.Check case switch) contents = do
+  inputs ← reading_network switch (question_of no_field usual_criteria) contents
+  Accepts (asked.Check inputs)
+asking (request.Field case switch field criteria) contents = do
+  inputs ← reading_network switch (question_of field criteria) contents
+  Accepts (asked.Field inputs)
+asking (request.Screen case switch criteria) contents = do
+  inputs ← reading_network switch (question_of no_field criteria) contents
+  Accepts (asked.Screen inputs)
+asking (request.Certify case switch field) contents = do
+  inputs ← reading_network switch (question_of field usual_criteria) contents
+  Accepts (asked.Certify inputs)
+asking (request.Outage case switch criteria) contents = do
+  inputs ← reading_network switch (question_of no_field criteria) contents
+  Accepts (asked.Outage inputs)
+asking (request.Study case storm switch criteria detail) contents = do
+  case ← reading_case (contents file.Case)
+  asking_study switch criteria detail case contents
+asking (request.Make seed size) contents = Accepts (asked.Make seed size)
+asking (request.Recheck case switch cert) contents = do
+  inputs ← reading_network switch (question_of no_field usual_criteria) contents
+  asking_recheck inputs contents
+asking (request.Series case storm switch width transformer) contents = do
+  case ← reading_case (contents file.Case)
+  asking_series switch width transformer case contents
+asking (request.Review case) contents = do
+  inputs ← reading_network None (question_of no_field usual_criteria) contents
+  Accepts (asked.Review inputs)
 
 -- the words, and then the files that they name, one after another
 abbrev pub outcome : List (List ℕ) → Contents → Outcome Asked
 outcome words contents = do
-  o ← reading Usage (options_of words)
-  gathered ← gathering o contents
-  asking o.mode o gathered
+  r ← reading Usage (request_of words)
+  asking r contents

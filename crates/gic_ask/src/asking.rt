@@ -4,7 +4,6 @@ ghost use Rattle.gic_files.specs.Files.{fetches};
 ghost use Rattle.gic_ask.specs.Asks.{Asks};
 ghost use Rattle.gic_ask.specs.Within.{IsAskedWithinRanges};
 
-use crate::assembling::assemble;
 use crate::fault::{InputFault, InputRefusal};
 use crate::gathering::gather;
 use crate::request::Asked;
@@ -24,13 +23,12 @@ pub fn ask<L: Library>(
         (fetches L.fetched L.failures library.old) (fetches L.fetched L.failures library.new) result }
     ensures ranges { IfOk result IsAskedWithinRanges }
 {
-    let options = match read_words(alloc, words) {
-        Ok(options) => options,
+    let request = match read_words(alloc, words) {
+        Ok(request) => request,
         Err(WordsRefusal::Usage(usage)) => {
             return Err(InputFault::Refused(InputRefusal::Usage(usage)));
         }
         Err(WordsRefusal::Memory) => return Err(InputFault::Memory),
     };
-    let gathered = gather(alloc, library, &options)?;
-    assemble(&options, gathered)
+    gather(alloc, library, &request)
 }

@@ -25,16 +25,13 @@ fn place_named(case: &Case, name: &str) -> Option<u16>
     Some(place as u16)
 }
 
-/// The place of the transformer that is named, where one is.
-pub(crate) fn transformer(name: &Option<Text>, case: &Case) -> Result<Option<u16>, InputRefusal>
+/// The place of the transformer that is named.
+pub(crate) fn transformer(name: &Text, case: &Case) -> Result<u16, InputRefusal>
     ensures place { result ≡ transformer_asked case.now name.now }
-    ensures within { IfOk result (λ place. IfSome place (λ p. p < length case.now.transformers)) }
+    ensures within { IfOk result (λ place. place < length case.now.transformers) }
 {
-    let Some(name) = name else {
-        return Ok(None);
-    };
     match place_named(case, name.as_str()) {
-        Some(place) => Ok(Some(place)),
+        Some(place) => Ok(place),
         None => Err(InputRefusal::UnknownTransformer),
     }
 }

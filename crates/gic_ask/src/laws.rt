@@ -2,8 +2,6 @@
 ghost use Rattle.gic_ask.specs.Held.{AnswersOfFiles};
 ghost use Rattle.gic_ask.specs.WordsRefused.{UsageIsOfWords};
 
-use gic_words::laws::required_given_law;
-
 /// Where a library tells its files and no fetch of a named one failed, the answer is that of the files, want of memory
 /// aside.
 pub fn answers_of_files_law()
@@ -13,6 +11,4 @@ pub fn answers_of_files_law()
 /// Words are refused for a fault of their own alone.
 pub fn usage_is_of_words_law()
     ensures { UsageIsOfWords }
-{
-    required_given_law();
-}
+{}

@@ -1,8 +1,8 @@
 //! The files that are named, each fetched and then read.
-ghost use Rattle.std.specs.Prelude.{◌≡◌, [], ◌∷◌, length, IfOk, IfSome};
+ghost use Rattle.std.specs.Prelude.{◌≡◌, length, IfOk};
 ghost use Rattle.gic_files.specs.Files.{fetches};
 ghost use Rattle.gic_ask.specs.declared.fault.File.TheVariants as file;
-ghost use Rattle.gic_ask.specs.Contents.{file_named};
+ghost use Rattle.gic_ask.specs.Contents.{Names, file_named};
 ghost use Rattle.gic_ask.specs.Outcome.{handing, reading_case, reading_storm, reading_switchings, reading_certificate};
 ghost use Rattle.gic_ask.specs.Steps.{Gives, Reads};
 
@@ -14,21 +14,21 @@ use gic_case_reader::read_case;
 use gic_files::{FetchRefusal, Library, read_whole};
 use gic_storm::{Storm, read_storm};
 use gic_switch::{Switchings, read_switchings};
-use gic_words::Options;
+use gic_words::FileName;
 use std::alloc::Global;
 
 /// Fetches a file.
 fn fetch_file<L: Library>(
     alloc: Global,
     library: &mut L,
-    name: &str,
+    name: &FileName,
     file: File,
 ) -> Result<FileBytes, InputFault>
     ensures content { L.content library.new ≡ L.content library.old }
     ensures gives { Gives (L.content library.old) name.now file (handing file)
         (fetches L.fetched L.failures library.old) (fetches L.fetched L.failures library.new) result }
 {
-    match read_whole(alloc, library, name) {
+    match read_whole(alloc, library, name.as_str()) {
         Ok(bytes) => Ok(FileBytes::new(bytes)),
         Err(FetchRefusal::Failed) => Err(InputFault::CannotRead(file)),
         Err(FetchRefusal::TooLong) => Err(InputFault::Refused(InputRefusal::TooLong(file))),
@@ -40,7 +40,7 @@ fn fetch_file<L: Library>(
 pub(crate) fn case<L: Library>(
     alloc: Global,
     library: &mut L,
-    name: &str,
+    name: &FileName,
 ) -> Result<Case, InputFault>
     ensures content { L.content library.new ≡ L.content library.old }
     ensures gives { Gives (L.content library.old) name.now file.Case reading_case
@@ -54,44 +54,42 @@ pub(crate) fn case<L: Library>(
     }
 }
 
-/// Fetches and reads a storm over a case, where it is named.
+/// Fetches and reads the storm of this name over a case.
 pub(crate) fn storm<L: Library>(
     alloc: Global,
     library: &mut L,
-    options: &Options,
+    name: &FileName,
     case: &Case,
-) -> Result<Option<Storm>, InputFault>
+) -> Result<Storm, InputFault>
     ensures content { L.content library.new ≡ L.content library.old }
-    ensures reads { Reads (L.content library.old) options.now (file_named file.Storm options.now.storm) (reading_storm options.now case.now)
+    ensures gives { Gives (L.content library.old) name.now file.Storm (reading_storm case.now)
         (fetches L.fetched L.failures library.old) (fetches L.fetched L.failures library.new) result }
-    ensures zones { IfOk result (λ storm. IfSome storm (λ s. s.zones ≡ length case.now.zones)) }
+    ensures zones { IfOk result (λ storm. storm.zones ≡ length case.now.zones) }
 {
-    let Some(name) = &options.storm else {
-        return Ok(None);
-    };
-    let bytes = fetch_file(alloc, library, name.as_str(), File::Storm)?;
+    let bytes = fetch_file(alloc, library, name, File::Storm)?;
     match read_storm(alloc, bytes.as_slice(), case) {
-        Ok(storm) => Ok(Some(storm)),
+        Ok(storm) => Ok(storm),
         Err(ReadFault::Memory) => Err(InputFault::Memory),
         Err(ReadFault::Refused(refusal)) => Err(InputFault::Refused(InputRefusal::Storm(refusal))),
     }
 }
 
-/// Fetches and reads the switchings of a case, where they are named.
+/// Fetches and reads the switchings of a case, where they are named. Whatever other files are named.
 pub(crate) fn switchings<L: Library>(
     alloc: Global,
     library: &mut L,
-    options: &Options,
+    switch: &Option<FileName>,
     case: &Case,
 ) -> Result<Option<Switchings>, InputFault>
     ensures content { L.content library.new ≡ L.content library.old }
-    ensures reads { Reads (L.content library.old) options.now (file_named file.Switch options.now.switch) (reading_switchings options.now case.now)
+    ensures reads { (others : Names) → Reads (L.content library.old) (record others { switch = switch.now })
+        (file_named file.Switch switch.now) (reading_switchings switch.now case.now)
         (fetches L.fetched L.failures library.old) (fetches L.fetched L.failures library.new) result }
 {
-    let Some(name) = &options.switch else {
+    let Some(name) = switch else {
         return Ok(None);
     };
-    let bytes = fetch_file(alloc, library, name.as_str(), File::Switch)?;
+    let bytes = fetch_file(alloc, library, name, File::Switch)?;
     match read_switchings(alloc, bytes.as_slice(), case) {
         Ok(switchings) => Ok(Some(switchings)),
         Err(ReadFault::Memory) => Err(InputFault::Memory),
@@ -99,19 +97,15 @@ pub(crate) fn switchings<L: Library>(
     }
 }
 
-/// Fetches a certificate, where it is named.
+/// Fetches the certificate of this name.
 pub(crate) fn certificate<L: Library>(
     alloc: Global,
     library: &mut L,
-    options: &Options,
-) -> Result<Option<FileBytes>, InputFault>
+    name: &FileName,
+) -> Result<FileBytes, InputFault>
     ensures content { L.content library.new ≡ L.content library.old }
-    ensures reads { Reads (L.content library.old) options.now (file_named file.Certificate options.now.cert) (reading_certificate options.now)
+    ensures gives { Gives (L.content library.old) name.now file.Certificate reading_certificate
         (fetches L.fetched L.failures library.old) (fetches L.fetched L.failures library.new) result }
 {
-    let Some(name) = &options.cert else {
-        return Ok(None);
-    };
-    let bytes = fetch_file(alloc, library, name.as_str(), File::Certificate)?;
-    Ok(Some(bytes))
+    fetch_file(alloc, library, name, File::Certificate)
 }

@@ -54,7 +54,7 @@ some_holds P None has holds = cc
 some_holds P (Some a) has holds = holds
 
 -- what is ready for an epoch is ready for a step of it
-pub ready_for : (inputs : StormInputs) (ready : Option Ready) (net : NetView) (room : Room) (number : ℕ) (way : Way) → IsStormOf inputs → net.network ≡ elements_of inputs.inputs.case → IsRoomForCourse inputs.inputs.case room →
+pub ready_for : (inputs : StormInputs) (ready : Option Ready) (net : NetView) (room : Room) (number : ℕ) (way : Way) → IsStormOf inputs → net.network ≡ elements_of inputs.case → IsRoomForCourse inputs.case room →
     IsReady inputs ready net room → IsSomeAnd ready (IsShownBy number way) → IsReadyAt inputs number way net room
 ready_for inputs None net room number way storm network space all shown = absurd shown
 ready_for inputs (Some r) net room number way storm network space all shown = record {
@@ -63,7 +63,7 @@ ready_for inputs (Some r) net room number way storm network space all shown = re
   network = network;
   stands = (all.steps number shown.step).1;
   space = space;
-  settled = subst (λ w. IsSettledBy w inputs.inputs.case net room) shown.way_is all.settled;
+  settled = subst (λ w. IsSettledBy w inputs.case net room) shown.way_is all.settled;
 }
 
 -- it stays ready for the epoch where it does for a step that is shown
@@ -72,7 +72,7 @@ pub still_ready : (inputs : StormInputs) (ready : Option Ready) (net : NetView) 
 still_ready inputs None net old new number way shown now all = tt
 still_ready inputs (Some r) net old new number way shown now all = record {
   steps = all.steps;
-  settled = subst (λ w. IsSettledBy w inputs.inputs.case net new) (sym shown.way_is) now.settled;
+  settled = subst (λ w. IsSettledBy w inputs.case net new) (sym shown.way_is) now.settled;
 }
 
 -- the answer is this refusal

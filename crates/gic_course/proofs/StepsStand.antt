@@ -51,8 +51,8 @@ first_step inputs e own = record { from_first = omega arith; to_last = own.some 
 pub stands_in_epoch : (inputs : StormInputs) (now : SwitchedNet) (e : Epoch) → IsEpochOf inputs e → IsSwitchedFor inputs now → now.through ≡ e.through →
     (number : ℕ) → HasStep number e → standing now.net ≡ standing_at_step inputs number
 stands_in_epoch inputs now e own switched through number has =
-    let rows = rows_in inputs.inputs.switchings in
-    let network = elements_of inputs.inputs.case in
+    let rows = rows_in inputs.switchings in
+    let network = elements_of inputs.case in
     elements_so now.net rows now.through switched.stands.items ∙
     ap (λ (n : Network). standing_elements n (stands_after (take now.through rows))) switched.network ∙
     ap (λ n. standing_elements network (stands_after (take n rows))) through ∙

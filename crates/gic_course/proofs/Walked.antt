@@ -37,10 +37,10 @@ module _ (inputs : StormInputs) where
     pub from : ℕ
     pub least : 1 ≤ from
     pub cover : Cover from (length (steps_in inputs.storm.rows)) rest
-    pub in_force : AllByRecursion (HoldsIn inputs.storm.rows (rows_in inputs.inputs.switchings)) rest
+    pub in_force : AllByRecursion (HoldsIn inputs.storm.rows (rows_in inputs.switchings)) rest
     pub met : (number : ℕ) → 1 ≤ number → number < from → IsSolvable (standing_at_step inputs number)
 
-  pub walk_begins : (es : List Epoch) → AreEpochs inputs.storm.rows (rows_in inputs.inputs.switchings) es → Walked es
+  pub walk_begins : (es : List Epoch) → AreEpochs inputs.storm.rows (rows_in inputs.switchings) es → Walked es
   walk_begins es h = record {
     from = 1;
     least = omega arith;
@@ -51,7 +51,7 @@ module _ (inputs : StormInputs) where
 
   -- the first of some that cover steps of the storm is an epoch of it
   epoch_of : (from : ℕ) (e : Epoch) (es : List Epoch) → 1 ≤ from → Cover from (length (steps_in inputs.storm.rows)) (e ∷ es) →
-      HoldsIn inputs.storm.rows (rows_in inputs.inputs.switchings) e → IsEpochOf inputs e
+      HoldsIn inputs.storm.rows (rows_in inputs.switchings) e → IsEpochOf inputs e
   epoch_of from e es least cover in_force =
       let most = cover_most (e.last + 1) (length (steps_in inputs.storm.rows)) es cover.2 in
       record {
@@ -85,8 +85,8 @@ module _ (inputs : StormInputs) where
       subst IsSolvable (sym (stands_at inputs place inside)) (h.met (suc place) (omega arith) (omega (arith, inside, h.cover)))
 
   -- where the next can't, its first step is the first that can't
-  pub walk_stops : (e : Epoch) (es : List Epoch) (refusal : NetworkRefusal) → Walked (e ∷ es) → Fails Solved inputs.inputs.case e.first (standing_at_step inputs e.first) refusal →
-      IsUnmet Solved inputs.inputs.case (storm_steps inputs) refusal
+  pub walk_stops : (e : Epoch) (es : List Epoch) (refusal : NetworkRefusal) → Walked (e ∷ es) → Fails Solved inputs.case e.first (standing_at_step inputs e.first) refusal →
+      IsUnmet Solved inputs.case (storm_steps inputs) refusal
   walk_stops e es refusal h fails =
       let own = next_epoch e es h in
       let steps = length (steps_in inputs.storm.rows) in
@@ -99,8 +99,8 @@ module _ (inputs : StormInputs) where
             let within : earlier < steps = omega (arith, before, inside) in
             subst IsSolvable (sym (stands_at inputs earlier within)) (h.met (suc earlier) (omega arith) (omega (arith, before, h.cover.0)));
         fails =
-            subst (λ standing. Fails Solved inputs.inputs.case (suc (e.first - 1)) standing refusal) (sym (stands_at inputs (e.first - 1) inside))
-            (subst (λ n. Fails Solved inputs.inputs.case n (standing_at_step inputs n) refusal) (sym at) fails);
+            subst (λ standing. Fails Solved inputs.case (suc (e.first - 1)) standing refusal) (sym (stands_at inputs (e.first - 1) inside))
+            (subst (λ n. Fails Solved inputs.case n (standing_at_step inputs n) refusal) (sym at) fails);
       }
 
   -- the next one by its place
@@ -111,14 +111,14 @@ module _ (inputs : StormInputs) where
 
   -- all epochs of the storm are
   each_left : (from : ℕ) (es : List Epoch) → 1 ≤ from → Cover from (length (steps_in inputs.storm.rows)) es →
-      AllByRecursion (HoldsIn inputs.storm.rows (rows_in inputs.inputs.switchings)) es → All (IsEpochOf inputs) es
+      AllByRecursion (HoldsIn inputs.storm.rows (rows_in inputs.switchings)) es → All (IsEpochOf inputs) es
   each_left from [] least cover in_force = All-nil (IsEpochOf inputs)
   each_left from (e ∷ es) least cover in_force =
       All-cons (IsEpochOf inputs) e es (epoch_of from e es least cover in_force.0) (each_left (e.last + 1) es (omega arith) cover.2 in_force.1)
 
-  pub each_epoch : (es : List Epoch) → AreEpochs inputs.storm.rows (rows_in inputs.inputs.switchings) es → All (IsEpochOf inputs) es
+  pub each_epoch : (es : List Epoch) → AreEpochs inputs.storm.rows (rows_in inputs.switchings) es → All (IsEpochOf inputs) es
   each_epoch es h = each_left 1 es (omega arith) h.cover h.in_force
 
   -- one of them that is listed
-  pub listed_epoch : (es lent : List Epoch) (e : Epoch) → lent ≡ es → AreEpochs inputs.storm.rows (rows_in inputs.inputs.switchings) es → Contains lent e → IsEpochOf inputs e
+  pub listed_epoch : (es lent : List Epoch) (e : Epoch) → lent ≡ es → AreEpochs inputs.storm.rows (rows_in inputs.switchings) es → Contains lent e → IsEpochOf inputs e
   listed_epoch es lent e same all listed = All-contains (IsEpochOf inputs) es e (each_epoch es all) (subst (λ (l : List Epoch). Contains l e) same listed)

@@ -11,9 +11,9 @@ use Rattle.gic_course.specs.Steps.{storm_steps}
 -- its epochs are the storm's under the switchings, its net and its room are the case's, and what it has ready for an epoch is ready for each of its steps
 pub record IsCourseOf (inputs : StormInputs) (course : Course) : Type 0 where
   pub storm : IsStormOf inputs
-  pub epochs : AreEpochs inputs.storm.rows (rows_in inputs.inputs.switchings) course.epochs.items
+  pub epochs : AreEpochs inputs.storm.rows (rows_in inputs.switchings) course.epochs.items
   pub switched : IsSwitchedFor inputs course.switched
-  pub space : IsRoomForCourse inputs.inputs.case course.room
+  pub space : IsRoomForCourse inputs.case course.room
   pub ready : IsReady inputs course.ready course.switched.net course.room
 
 -- it is, and the network can be solved at each step

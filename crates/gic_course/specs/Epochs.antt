@@ -16,4 +16,4 @@ pub record IsEpochOf (inputs : StormInputs) (epoch : Epoch) : Type 0 where
   pub some : epoch.first ≤ epoch.last
   pub least : 1 ≤ epoch.first
   pub most : epoch.last ≤ length (steps_in inputs.storm.rows)
-  pub in_force : HoldsIn inputs.storm.rows (rows_in inputs.inputs.switchings) epoch
+  pub in_force : HoldsIn inputs.storm.rows (rows_in inputs.switchings) epoch

@@ -20,8 +20,8 @@ use Rattle.gic_course.specs.Switched.{StandsThrough}
 
 -- the net is the case's, with the first rows of its switchings in force
 pub record IsSwitchedFor (inputs : StormInputs) (now : SwitchedNet) : Type 0 where
-  pub network : now.net.network ≡ elements_of inputs.inputs.case
-  pub stands : StandsThrough (rows_in inputs.inputs.switchings) now
+  pub network : now.net.network ≡ elements_of inputs.case
+  pub stands : StandsThrough (rows_in inputs.switchings) now
 
 -- what this way of showing steps takes is there: a bound vector of the net, and for superposing certified base fields too
 abbrev pub IsSettledBy : Way → Lists → NetView → Room → Type 0
@@ -39,15 +39,15 @@ pub record CanShowBy (way : Way) (case : Lists) (net : NetView) (room : Room) : 
 pub record IsReadyAt (inputs : StormInputs) (number : ℕ) (way : Way) (net : NetView) (room : Room) : Type 0 where
   pub storm : IsStormOf inputs
   pub step : IsStepOf inputs number
-  pub network : net.network ≡ elements_of inputs.inputs.case
+  pub network : net.network ≡ elements_of inputs.case
   pub stands : standing net ≡ standing_at_step inputs number
-  pub space : IsRoomForCourse inputs.inputs.case room
-  pub settled : IsSettledBy way inputs.inputs.case net room
+  pub space : IsRoomForCourse inputs.case room
+  pub settled : IsSettledBy way inputs.case net room
 
 -- the net is that of each step of the epoch, and what its way takes is there
 pub record IsReadyInEpoch (inputs : StormInputs) (ready : Ready) (net : NetView) (room : Room) : Type 0 where
   pub steps : (number : ℕ) → HasStep number ready.epoch → IsStepOf inputs number × (standing net ≡ standing_at_step inputs number)
-  pub settled : IsSettledBy ready.way inputs.inputs.case net room
+  pub settled : IsSettledBy ready.way inputs.case net room
 
 -- what is said to be ready is
 abbrev pub IsReady : StormInputs → Option Ready → NetView → Room → Type 0

@@ -18,7 +18,7 @@ pub record IsStepOf (inputs : StormInputs) (number : ℕ) : Type 0 where
 
 -- the elements that stand at a time, in seconds: the switchings in force are those that are not of a later time
 abbrev pub standing_at_time : StormInputs → (time : ℕ) → List Placed
-standing_at_time inputs time = standing_in inputs.inputs.case (rows_in_force time (rows_in inputs.inputs.switchings))
+standing_at_time inputs time = standing_in inputs.case (rows_in_force time (rows_in inputs.switchings))
 
 -- the elements that stand at a step
 abbrev pub standing_at_step : StormInputs → (number : ℕ) → List Placed
@@ -34,4 +34,4 @@ storm_fields inputs number = fields_at_step inputs.storm.zones (step_at inputs.s
 
 -- the voltages in nanovolts that they induce in the elements of the case, by their places
 abbrev pub storm_volts : StormInputs → (number : ℕ) → ℕ → ℤ
-storm_volts inputs number = number_at (volts_of inputs.inputs.case (storm_fields inputs number) (elements_of inputs.inputs.case).list)
+storm_volts inputs number = number_at (volts_of inputs.case (storm_fields inputs number) (elements_of inputs.case).list)

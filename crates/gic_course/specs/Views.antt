@@ -27,13 +27,13 @@ pub record IsShownIn (case : Lists) (standing : List Placed) (fields : List (ℤ
 pub record IsRightStep (inputs : StormInputs) (step : ℕ) (view : View) : Type 0 where
   pub number : view.number ≡ step
   pub time : view.time ≡ time_of_step inputs.storm.rows step
-  pub right : IsRightView inputs.inputs.case (standing_at_step inputs step) (storm_volts inputs step) view
+  pub right : IsRightView inputs.case (standing_at_step inputs step) (storm_volts inputs step) view
 
 -- the same of a view that is solved: no interval of it is wider than this, and no effective current is beyond 2^52 mA per phase
 pub record IsSolvedStep (inputs : StormInputs) (width step : ℕ) (view : View) : Type 0 where
   pub number : view.number ≡ step
   pub time : view.time ≡ time_of_step inputs.storm.rows step
-  pub solved : IsSolvedView inputs.inputs.case (standing_at_step inputs step) (storm_volts inputs step) width view
+  pub solved : IsSolvedView inputs.case (standing_at_step inputs step) (storm_volts inputs step) width view
 
 -- the view at a place; one without places past the end
 abbrev pub view_at : List View → (place : ℕ) → View

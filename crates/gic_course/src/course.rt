@@ -59,8 +59,8 @@ impl Course {
         requires { IsStormOf inputs.now }
         ensures { IfOk result (IsCourseOf inputs.now) }
     {
-        let case = &inputs.inputs.case;
-        let epochs = epochs_under(alloc, &inputs.storm, &inputs.inputs.switchings)?;
+        let case = &inputs.case;
+        let epochs = epochs_under(alloc, &inputs.storm, &inputs.switchings)?;
         let elements = elements(alloc, case)?;
         let switched = SwitchedNet::new(alloc, &elements)?;
         let room = make_room(alloc, case, &elements, inputs.storm.zones())?;
@@ -75,11 +75,11 @@ impl Course {
     /// A view of the case in which nothing shows yet, for `show` to fill. Its number and its time are 0.
     pub fn blank_view(&self, alloc: Global, inputs: &StormInputs) -> Result<StepView, OutOfMemory>
         requires { IsCourseOf inputs.now self.now }
-        ensures lengths { IfOk result (HasViewLengths inputs.now.inputs.case) }
-        ensures blank { IfOk result (λ view. let case = inputs.now.inputs.case in let elements = elements_of case in
+        ensures lengths { IfOk result (HasViewLengths inputs.now.case) }
+        ensures blank { IfOk result (λ view. let case = inputs.now.case in let elements = elements_of case in
             view ≡ blank_view elements.nodes (length elements.list) (length case.transformers)) }
     {
-        let view = view_of_case(alloc, &inputs.inputs.case, &self.switched.net)?;
+        let view = view_of_case(alloc, &inputs.case, &self.switched.net)?;
         Ok(view)
     }
 
@@ -88,7 +88,7 @@ impl Course {
     pub fn expect_solvable(&mut self, inputs: &StormInputs) -> Result<(), NetworkRefusal>
         requires { IsCourseOf inputs.now self.old }
         ensures met { OnOk result (CanShow inputs.now self.new) }
-        ensures unmet { IfErr result (IsUnmet Solved inputs.now.inputs.case (storm_steps inputs.now)) }
+        ensures unmet { IfErr result (IsUnmet Solved inputs.now.case (storm_steps inputs.now)) }
         ensures course { IsCourseOf inputs.now self.new }
     {
         self.ready = None;
@@ -142,7 +142,7 @@ impl Course {
         requires shows { CanShow inputs.now self.old }
         requires step { IsStepOf inputs.now number }
         requires width { IsWidth width }
-        requires view { HasViewLengths inputs.now.inputs.case view.old }
+        requires view { HasViewLengths inputs.now.case view.old }
         ensures solved { IsSolvedStep inputs.now width number view.new }
         ensures absolutes { HasAbsolutes view.new }
         ensures shows { CanShow inputs.now self.new }
@@ -150,7 +150,7 @@ impl Course {
         existence_law();
         potential_law();
         limits_law();
-        inputs.inputs.case.keeps_rules();
+        inputs.case.keeps_rules();
         let way = self.be_ready_for(inputs, number);
         show_step(
             inputs,

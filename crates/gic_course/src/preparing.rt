@@ -49,17 +49,17 @@ fn prepare_uncounted<L: Ledger>(case: &Case, net: &Net, room: &mut Room, blank: 
 /// shown.
 fn settle_epoch(inputs: &StormInputs, epoch: Epoch, net: &Net, room: &mut Room) -> Way
     requires epoch { IsEpochOf inputs.now epoch }
-    requires network { net.now.network ≡ elements_of inputs.now.inputs.case }
-    requires room { IsRoomForCourse inputs.now.inputs.case room.old }
+    requires network { net.now.network ≡ elements_of inputs.now.case }
+    requires room { IsRoomForCourse inputs.now.case room.old }
     requires bound { IsBoundWithin (standing net.now) MOST_WALK (slice_index room.old.workspace.vector) }
-    ensures settled { IsSettledBy result inputs.now.inputs.case net.now room.new }
-    ensures way { result ≡ way_by_count epoch inputs.now.storm.zones (can_superpose inputs.now.inputs.case) }
-    ensures room { IsRoomForCourse inputs.now.inputs.case room.new }
+    ensures settled { IsSettledBy result inputs.now.case net.now room.new }
+    ensures way { result ≡ way_by_count epoch inputs.now.storm.zones (can_superpose inputs.now.case) }
+    ensures room { IsRoomForCourse inputs.now.case room.new }
 {
     match Way::by_count(epoch, inputs.storm.zones(), room.bases.is_some()) {
         Way::Solve => Way::Solve,
         Way::Superpose => {
-            prepare_uncounted::<Brand>(&inputs.inputs.case, net, room, Blank::new(1));
+            prepare_uncounted::<Brand>(&inputs.case, net, room, Blank::new(1));
             Way::Superpose
         }
     }
@@ -76,12 +76,12 @@ pub(crate) fn prepare_epoch(
 ) -> Way
     requires epoch { IsEpochOf inputs.now epoch }
     requires solvable { IsSolvable (standing net.now) }
-    requires network { net.now.network ≡ elements_of inputs.now.inputs.case }
-    requires room { IsRoomForCourse inputs.now.inputs.case room.old }
-    requires kept { IfSome kept (λ way. IsSettledBy way inputs.now.inputs.case net.now room.old) }
-    ensures settled { IsSettledBy result inputs.now.inputs.case net.now room.new }
-    ensures way { result ≡ way_from kept epoch inputs.now.storm.zones (can_superpose inputs.now.inputs.case) }
-    ensures room { IsRoomForCourse inputs.now.inputs.case room.new }
+    requires network { net.now.network ≡ elements_of inputs.now.case }
+    requires room { IsRoomForCourse inputs.now.case room.old }
+    requires kept { IfSome kept (λ way. IsSettledBy way inputs.now.case net.now room.old) }
+    ensures settled { IsSettledBy result inputs.now.case net.now room.new }
+    ensures way { result ≡ way_from kept epoch inputs.now.storm.zones (can_superpose inputs.now.case) }
+    ensures room { IsRoomForCourse inputs.now.case room.new }
 {
     match kept {
         Some(Way::Superpose) => Way::Superpose,

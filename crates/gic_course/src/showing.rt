@@ -110,13 +110,13 @@ pub(crate) fn show_step(
     requires ready { IsReadyAt inputs.now number way net.now room.old }
     requires solvable { IsSolvable (standing net.now) }
     requires width { IsWidth width }
-    requires view { HasViewLengths inputs.now.inputs.case view.old }
-    ensures shown { IsShownIn inputs.now.inputs.case (standing_at_step inputs.now number) (storm_fields inputs.now number) width view.new }
+    requires view { HasViewLengths inputs.now.case view.old }
+    ensures shown { IsShownIn inputs.now.case (standing_at_step inputs.now number) (storm_fields inputs.now number) width view.new }
     ensures number { view.new.number ≡ number }
     ensures time { view.new.time ≡ time_of_step inputs.now.storm.rows number }
     ensures stays { IsReadyAt inputs.now number way net.now room.new }
 {
-    let case = &inputs.inputs.case;
+    let case = &inputs.case;
     fill_fields(&inputs.storm, number, &mut room.fields);
     show_fields(way, case, net, width, room, view);
     view.set_number(number);

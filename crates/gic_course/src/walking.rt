@@ -23,7 +23,7 @@ pub(crate) fn put_in_force(inputs: &StormInputs, epoch: Epoch, switched: &mut Sw
     requires switched { IsSwitchedFor inputs.now switched.old }
     ensures stands { (number : ℕ) → HasStep number epoch → standing switched.new.net ≡ standing_at_step inputs.now number }
     ensures switched { IsSwitchedFor inputs.now switched.new }
-    ensures changed { result ≡ changes_to switched.old (rows_in inputs.now.inputs.switchings) epoch.through }
+    ensures changed { result ≡ changes_to switched.old (rows_in inputs.now.switchings) epoch.through }
     ensures same { IsFalse result → switched.new.net ≡ switched.old.net }
 {
     switched.switch_to(inputs.rows(), epoch.through)
@@ -40,20 +40,20 @@ fn expect_epoch(
 ) -> Result<(), NetworkRefusal>
     requires epoch { IsEpochOf inputs.now epoch }
     requires switched { IsSwitchedFor inputs.now switched.old }
-    requires room { IsRoomForCourse inputs.now.inputs.case room.old }
+    requires room { IsRoomForCourse inputs.now.case room.old }
     requires seen { IsTrue seen → IsSolvable (standing switched.old.net) }
     ensures net { OnOk result (IsSolvable (standing switched.new.net)) }
     ensures solvable { OnOk result ((number : ℕ) → HasStep number epoch → IsSolvable (standing_at_step inputs.now number)) }
-    ensures err { IfErr result (Fails Solved inputs.now.inputs.case epoch.first (standing_at_step inputs.now epoch.first)) }
+    ensures err { IfErr result (Fails Solved inputs.now.case epoch.first (standing_at_step inputs.now epoch.first)) }
     ensures switched { IsSwitchedFor inputs.now switched.new }
-    ensures room { IsRoomForCourse inputs.now.inputs.case room.new }
+    ensures room { IsRoomForCourse inputs.now.case room.new }
 {
     let changed = put_in_force(inputs, epoch, switched);
     if seen && !changed {
         return Ok(());
     }
     room.workspace
-        .look(&inputs.inputs.case, &switched.net, epoch.first)?;
+        .look(&inputs.case, &switched.net, epoch.first)?;
     Ok(())
 }
 
@@ -64,13 +64,13 @@ pub(crate) fn expect_epochs(
     switched: &mut SwitchedNet,
     room: &mut Room,
 ) -> Result<(), NetworkRefusal>
-    requires epochs { AreEpochs inputs.now.storm.rows (rows_in inputs.now.inputs.switchings) epochs.now }
+    requires epochs { AreEpochs inputs.now.storm.rows (rows_in inputs.now.switchings) epochs.now }
     requires switched { IsSwitchedFor inputs.now switched.old }
-    requires room { IsRoomForCourse inputs.now.inputs.case room.old }
+    requires room { IsRoomForCourse inputs.now.case room.old }
     ensures met { OnOk result (IsMet Solved (storm_steps inputs.now)) }
-    ensures unmet { IfErr result (IsUnmet Solved inputs.now.inputs.case (storm_steps inputs.now)) }
+    ensures unmet { IfErr result (IsUnmet Solved inputs.now.case (storm_steps inputs.now)) }
     ensures switched { IsSwitchedFor inputs.now switched.new }
-    ensures room { IsRoomForCourse inputs.now.inputs.case room.new }
+    ensures room { IsRoomForCourse inputs.now.case room.new }
 {
     for (place, epoch) in epochs.iter().enumerate() {
         expect_epoch(inputs, *epoch, place > 0, switched, room)?;

@@ -1,7 +1,7 @@
 -- What an output in memory holds after a run over files in memory.
 use Rattle.std.specs.Prelude.{◌≡◌, ℕ, List}
 use Rattle.gic_files.specs.Files.{Files}
-use Rattle.gic_words.specs.Options.{options_of}
+use Rattle.gic_words.specs.Requests.{request_of}
 use Rattle.gic_ask.specs.Held.{held_for}
 use Rattle.gic_ask.specs.Outcome.{outcome, Accepts}
 use Rattle.gic_ask.specs.declared.request.Asked.{Asked}
@@ -11,5 +11,5 @@ use Rattle.gic_program.specs.ProgramPlans.{program_plans}
 -- the words and these files ask for a report, and the text is all of a right one, with the monitors of the program
 pub record IsReport (words : List (List ℕ)) (files : Files) (text : List ℕ) : Type 0 where
   pub asked : Asked
-  pub accepted : outcome words (held_for files (options_of words)) ≡ Accepts asked
+  pub accepted : outcome words (held_for files (request_of words)) ≡ Accepts asked
   pub right : IsRightText program_plans asked text

@@ -9,4 +9,4 @@ rows_in switchings = unwrap_or switchings []
 
 -- the storm was read with the case: it has as many zones
 abbrev pub IsStormOf : StormInputs → Type 0
-IsStormOf inputs = inputs.storm.zones ≡ length inputs.inputs.case.zones
+IsStormOf inputs = inputs.storm.zones ≡ length inputs.case.zones

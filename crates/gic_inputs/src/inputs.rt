@@ -24,18 +24,23 @@ impl Drop for Inputs {
     }
 }
 
-/// What a mode over a storm is given: what every mode is, and a storm, read and accepted.
+/// What a mode over a storm is given: the files that are named, read and accepted, and what is asked of the network.
 pub struct StormInputs {
-    pub inputs: Inputs,
+    pub case: Case,
+    /// None where the words name no switchings.
+    pub switchings: Option<Switchings>,
     pub storm: Storm,
+    pub question: Question,
 }
 
 impl Drop for StormInputs {
     /// Lets go of everything, in one step for whoever drops it.
     fn drop(self) {
         let StormInputs {
-            inputs: _inputs,
+            case: _case,
+            switchings: _switchings,
             storm: _storm,
+            question: _question,
         } = self;
     }
 }
@@ -46,9 +51,9 @@ impl StormInputs {
 
     /// The rows of the switchings, none where there are no switchings.
     pub fn rows(&self) -> &[Switching]
-        ensures { result.now ≡ rows_in self.now.inputs.switchings }
+        ensures { result.now ≡ rows_in self.now.switchings }
     {
-        match &self.inputs.switchings {
+        match &self.switchings {
             Some(switchings) => switchings.rows(),
             None => &[],
         }

@@ -9,5 +9,5 @@ use Rattle.gic_series.specs.declared.room.Room.{Room}
 -- the course is that of the storm, the view has a place for each node, element and transformer of the case, and there is a row for each step
 pub record IsMadeFor (inputs : StormInputs) (room : Room) : Type 0 where
   pub course : IsCourseOf inputs room.course
-  pub view : HasViewLengths inputs.inputs.case room.view
+  pub view : HasViewLengths inputs.case room.view
   pub one_each : length room.rows ≡ length (steps_in inputs.storm.rows)

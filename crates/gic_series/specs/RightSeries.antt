@@ -19,8 +19,8 @@ series_text case width transformer rows = lines_text (series_report width (trans
 pub record IsRightRow (inputs : StormInputs) (transformer number : ℕ) (row : Row) : Type 0 where
   pub number_is : row.number ≡ number
   pub time_is : row.time ≡ time_of_step inputs.storm.rows number
-  pub right : IsRightEffective inputs.inputs.case (standing_at_step inputs number) (storm_volts inputs number) transformer row.effective
-  pub narrow : IsAtMostWide inputs.inputs.question.width row.effective.low row.effective.high
+  pub right : IsRightEffective inputs.case (standing_at_step inputs number) (storm_volts inputs number) transformer row.effective
+  pub narrow : IsAtMostWide inputs.question.width row.effective.low row.effective.high
 
 -- one right row a step, in order
 pub record AreRightRows (inputs : StormInputs) (transformer : ℕ) (rows : List Row) : Type 0 where
@@ -31,4 +31,4 @@ pub record AreRightRows (inputs : StormInputs) (transformer : ℕ) (rows : List 
 pub record IsRightSeries (inputs : StormInputs) (transformer : ℕ) (text : List ℕ) : Type 0 where
   pub rows : List Row
   pub right : AreRightRows inputs transformer rows
-  pub text_is : text ≡ series_text inputs.inputs.case inputs.inputs.question.width transformer rows
+  pub text_is : text ≡ series_text inputs.case inputs.question.width transformer rows

@@ -28,19 +28,19 @@ fn write_rows<S: Sink>(
     line: &mut LineBuilder,
     out: &mut S,
 ) -> Result<(), WriteFailed>
-    requires transformer { transformer < length inputs.now.inputs.case.transformers }
+    requires transformer { transformer < length inputs.now.case.transformers }
     requires one_each { length rows.now ≡ length (steps_in inputs.now.storm.rows) }
     ensures all { OnOk result (Appends (S.written out.old) (S.written out.new)
-        (series_text inputs.now.inputs.case inputs.now.inputs.question.width transformer rows.now)) }
+        (series_text inputs.now.case inputs.now.question.width transformer rows.now)) }
     ensures part { AppendsPart (S.written out.old) (S.written out.new)
-        (series_text inputs.now.inputs.case inputs.now.inputs.question.width transformer rows.now) }
+        (series_text inputs.now.case inputs.now.question.width transformer rows.now) }
     ensures cause { HasCause (S.faults out.old) (S.faults out.new) result }
 {
     // A storm has few steps, so there are few rows.
     let _steps = inputs.storm.steps();
-    let shown = &inputs.inputs.case.transformers()[transformer as usize];
+    let shown = &inputs.case.transformers()[transformer as usize];
     write_series(
-        inputs.inputs.question.width,
+        inputs.question.width,
         &shown.name,
         rows.rows(),
         line,
@@ -56,10 +56,10 @@ pub fn series<S: Sink>(
     room: &mut Room,
     out: &mut S,
 ) -> Result<(), ReportFault>
-    requires ranges { IsWithinRanges inputs.now.inputs.question }
-    requires transformer { transformer < length inputs.now.inputs.case.transformers }
+    requires ranges { IsWithinRanges inputs.now.question }
+    requires transformer { transformer < length inputs.now.case.transformers }
     requires room { IsMadeFor inputs.now room.old }
-    ensures { Serves Solved inputs.now.inputs.case (storm_steps inputs.now)
+    ensures { Serves Solved inputs.now.case (storm_steps inputs.now)
         (IsRightSeries inputs.now transformer)
         (shown S.written S.faults out.old) (shown S.written S.faults out.new) result }
 {

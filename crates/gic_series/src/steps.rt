@@ -21,16 +21,16 @@ fn row_of_step(
     course: &mut Course,
     view: &mut StepView,
 ) -> SeriesRow
-    requires ranges { IsWithinRanges inputs.now.inputs.question }
-    requires transformer { transformer < length inputs.now.inputs.case.transformers }
+    requires ranges { IsWithinRanges inputs.now.question }
+    requires transformer { transformer < length inputs.now.case.transformers }
     requires step { IsStepOf inputs.now number }
     requires shows { CanShow inputs.now course.old }
-    requires view { HasViewLengths inputs.now.inputs.case view.old }
+    requires view { HasViewLengths inputs.now.case view.old }
     ensures right { IsRightRow inputs.now transformer number (series_row_of result) }
     ensures shows { CanShow inputs.now course.new }
-    ensures view { HasViewLengths inputs.now.inputs.case view.new }
+    ensures view { HasViewLengths inputs.now.case view.new }
 {
-    course.show(inputs, number, inputs.inputs.question.width, view);
+    course.show(inputs, number, inputs.question.width, view);
     shown_row(view, transformer)
 }
 
@@ -42,10 +42,10 @@ pub(crate) fn fill_rows(
     view: &mut StepView,
     rows: &mut SeriesRows,
 )
-    requires ranges { IsWithinRanges inputs.now.inputs.question }
-    requires transformer { transformer < length inputs.now.inputs.case.transformers }
+    requires ranges { IsWithinRanges inputs.now.question }
+    requires transformer { transformer < length inputs.now.case.transformers }
     requires shows { CanShow inputs.now course.old }
-    requires view { HasViewLengths inputs.now.inputs.case view.old }
+    requires view { HasViewLengths inputs.now.case view.old }
     requires one_each { length rows.old ≡ length (steps_in inputs.now.storm.rows) }
     ensures { AreRightRows inputs.now transformer rows.new }
 {

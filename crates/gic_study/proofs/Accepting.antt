@@ -1,8 +1,7 @@
 -- What holds of what is accepted.
-use Rattle.std.proofs.Common.{Option, Some, None, Result, Ok, Err}
-use Rattle.std.specs.Prelude.{IfOk, IfSome, ⊤}
-use Rattle.gic_words.specs.declared.option.Opt.{Opt}
-use Rattle.gic_ask.specs.Outcome.{Outcome, Refuses, Lacks, Accepts, ◌>>=◌, reading, if_given, needing}
+use Rattle.std.proofs.Common.{Result, Ok, Err}
+use Rattle.std.specs.Prelude.{IfOk, ⊤}
+use Rattle.gic_ask.specs.Outcome.{Outcome, Refuses, Lacks, Accepts, ◌>>=◌, reading}
 use Rattle.gic_ask.specs.declared.fault.InputRefusal.{InputRefusal}
 
 abbrev pub Holds : {A : Type 0} → (A → Type 0) → Outcome A → Type 0
@@ -28,10 +27,5 @@ pub reading_holds : {A E : Type 0} (P : A → Type 0) (refusal : E → InputRefu
 reading_holds P refusal (Ok a) h = h
 reading_holds P refusal (Err e) h = tt
 
-pub given_holds : {X A : Type 0} (P : A → Type 0) (named : Option X) (next : X → Outcome A) → ((x : X) → Holds P (next x)) → Holds (λ (found : Option A). IfSome found P) (if_given named next)
-given_holds P None next h = tt
-given_holds P (Some x) next h = then_holds P (λ found. IfSome found P) (next x) (λ a. Accepts (Some a)) (h x) (λ a p. p)
-
-pub needing_holds : {A : Type 0} (P : A → Type 0) (option : Opt) (named : Option A) → IfSome named P → Holds P (needing option named)
-needing_holds P option None h = tt
-needing_holds P option (Some a) h = h
+pub made_holds : {A B : Type 0} (P : A → Type 0) (Q : B → Type 0) (o : Outcome A) (make : A → B) → Holds P o → ((a : A) → P a → Q (make a)) → Holds Q (o >>= (λ a. Accepts (make a)))
+made_holds P Q o make h more = then_holds P Q o (λ a. Accepts (make a)) h more

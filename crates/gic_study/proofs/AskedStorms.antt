@@ -1,25 +1,26 @@
 -- The storm of what is asked for has a step.
 use Rattle.std.proofs.Common.{◌≡◌, ℕ, ◌≤◌, List, length, Option, Result, Ok, Err, refl, subst, arith}
-use Rattle.std.specs.Prelude.{IfOk, IfSome}
+use Rattle.std.specs.Prelude.{IfOk}
 use Rattle.gic_case.specs.Lists.{Lists}
 use Rattle.gic_storm.specs.Rules.{storm_of}
 use Rattle.gic_storm.specs.Steps.{steps_in}
 use Rattle.gic_storm.specs.StormView.{StormView, zone_names}
 use Rattle.gic_storm.specs.declared.refusal.StormRefusal.{StormRefusal}
 use Rattle.gic_study_mode.specs.Follows.{AcceptedStormsHaveSteps}
-use Rattle.gic_words.specs.Options.{options_of}
-use Rattle.gic_words.specs.declared.mode.Mode.{Mode}
-use Rattle.gic_words.specs.declared.mode.Mode.TheVariants as mode
-use Rattle.gic_words.specs.declared.option.Opt.TheVariants as opt
-use Rattle.gic_words.specs.declared.options.Options.{Options}
+use Rattle.gic_words.specs.Requests.{request_of}
+use Rattle.gic_words.specs.declared.request.Request.{Request}
+use Rattle.gic_words.specs.declared.request.Request.TheVariants as request
 use Rattle.gic_ask.specs.Contents.{Contents}
-use Rattle.gic_ask.specs.Outcome.{Accepts, ◌>>=◌, reading, handing, reading_file, reading_case, reading_storm, reading_switchings, reading_certificate, reading_over, reading_over_case, transformer_asked, gathering, needing, asking, outcome}
+use Rattle.gic_ask.specs.Outcome.{Outcome, Accepts, ◌>>=◌, reading, handing, reading_case, reading_storm, reading_switchings, reading_certificate, reading_network, reading_after_storm, reading_over, transformer_asked, asking, asking_study, asking_recheck, asking_series, outcome}
 use Rattle.gic_ask.specs.declared.fault.File.TheVariants as file
 use Rattle.gic_ask.specs.declared.fault.InputRefusal.TheVariants as refusals
-use Rattle.gic_ask.specs.declared.gathered.OverCase.{OverCase}
-use Rattle.gic_ask.specs.declared.gathered.Gathered.{Gathered}
+use Rattle.gic_inputs.specs.declared.inputs.Inputs.{Inputs}
+use Rattle.gic_inputs.specs.declared.inputs.StormInputs.{StormInputs}
+use Rattle.gic_question.specs.declared.asked.Question.{Question}
+use Rattle.gic_ask.specs.declared.request.Asked.{Asked}
+use Rattle.gic_ask.specs.declared.request.Asked.TheVariants.{Volts, List as ListAsked, Check, Field, Screen, Certify, Outage, Study, Make, Recheck, Series, Review}
 use Rattle.gic_study.specs.Laws.{StormHasStep, AskedStormsHaveSteps}
-use Rattle.gic_study.proofs.Accepting.{Holds, Any, then_holds, anyway, reading_holds, given_holds, needing_holds}
+use Rattle.gic_study.proofs.Accepting.{Holds, Any, then_holds, anyway, reading_holds, made_holds}
 
 -- ---- the storm
 
@@ -30,69 +31,51 @@ storm_or_refusal : AcceptedStormsHaveSteps → (zones : List (List ℕ)) (bytes 
 storm_or_refusal accepted zones bytes (Ok storm) is = accepted zones bytes storm is
 storm_or_refusal accepted zones bytes (Err refusal) is = tt
 
--- over a storm that has a step, where there is one
-abbrev IsOverStepped : OverCase → Type 0
-IsOverStepped over = IfSome over.storm IsStepped
+-- over a storm that has a step
+abbrev IsOverStepped : StormInputs → Type 0
+IsOverStepped inputs = IsStepped inputs.storm
 
-module _ (accepted : AcceptedStormsHaveSteps) (o : Options) (contents : Contents) where
-  storm_stepped : (case : Lists) → Holds (λ (found : Option StormView). IfSome found IsStepped) (reading_storm o case contents)
+module _ (accepted : AcceptedStormsHaveSteps) (contents : Contents) where
+  storm_stepped : (case : Lists) → Holds IsStepped (reading_storm case (contents file.Storm))
   storm_stepped case =
-      given_holds IsStepped o.storm (λ name. reading_file file.Storm refusals.Storm (storm_of (zone_names case.zones)) (contents file.Storm))
-      (λ name. then_holds Any IsStepped (handing file.Storm (contents file.Storm)) (λ bytes. reading refusals.Storm (storm_of (zone_names case.zones) bytes)) (anyway (handing file.Storm (contents file.Storm)))
+      then_holds Any IsStepped (handing file.Storm (contents file.Storm)) (λ bytes. reading refusals.Storm (storm_of (zone_names case.zones) bytes)) (anyway (handing file.Storm (contents file.Storm)))
       (λ bytes any. reading_holds IsStepped refusals.Storm (storm_of (zone_names case.zones) bytes)
-      (storm_or_refusal accepted (zone_names case.zones) bytes (storm_of (zone_names case.zones) bytes) refl)))
+      (storm_or_refusal accepted (zone_names case.zones) bytes (storm_of (zone_names case.zones) bytes) refl))
 
-  over_stepped : (case : Lists) → Holds IsOverStepped (reading_over o case contents)
-  over_stepped case =
-      then_holds Any IsOverStepped (reading (λ refusal. refusal) (transformer_asked case o.transformer))
-      (λ place. reading_storm o case contents >>= (λ storm. reading_switchings o case contents >>= (λ rows. Accepts (record { inputs = record { case = case; switchings = rows; question = o.question }; transformer = place; storm = storm }))))
-      (anyway (reading (λ refusal. refusal) (transformer_asked case o.transformer)))
-      (λ place any. then_holds (λ (found : Option StormView). IfSome found IsStepped) IsOverStepped (reading_storm o case contents)
-      (λ storm. reading_switchings o case contents >>= (λ rows. Accepts (record { inputs = record { case = case; switchings = rows; question = o.question }; transformer = place; storm = storm })))
-      (storm_stepped case)
-      (λ storm stepped. then_holds Any IsOverStepped (reading_switchings o case contents)
-      (λ rows. Accepts (record { inputs = record { case = case; switchings = rows; question = o.question }; transformer = place; storm = storm }))
-      (anyway (reading_switchings o case contents))
-      (λ rows any. stepped)))
+  over_stepped : (switch : Option (List ℕ)) (question : Question) (case : Lists) → Holds IsOverStepped (reading_over switch question case contents)
+  over_stepped switch question case =
+      then_holds IsStepped IsOverStepped (reading_storm case (contents file.Storm)) (λ storm. reading_after_storm switch question case storm contents) (storm_stepped case)
+      (λ storm stepped. made_holds Any IsOverStepped (reading_switchings switch case contents) _ (anyway (reading_switchings switch case contents)) (λ rows any. stepped))
 
-  over_case_stepped : Holds (λ (found : Option OverCase). IfSome found IsOverStepped) (reading_over_case o contents)
-  over_case_stepped =
-      given_holds IsOverStepped o.case (λ name. reading_case (contents file.Case) >>= (λ case. reading_over o case contents))
-      (λ name. then_holds Any IsOverStepped (reading_case (contents file.Case)) (λ case. reading_over o case contents) (anyway (reading_case (contents file.Case))) (λ case any. over_stepped case))
+  -- of a network alone
+  no_storm : (o : Outcome Inputs) (make : Inputs → Asked) → ((inputs : Inputs) → StormHasStep (make inputs)) → Holds StormHasStep (o >>= (λ i. Accepts (make i)))
+  no_storm o make h = made_holds Any StormHasStep o make (anyway o) (λ inputs any. h inputs)
 
-  gathered_stepped : Holds (λ (g : Gathered). IfSome g.over IsOverStepped) (gathering o contents)
-  gathered_stepped =
-      then_holds (λ found. IfSome found IsOverStepped) (λ (g : Gathered). IfSome g.over IsOverStepped) (reading_over_case o contents)
-      (λ over. reading_certificate o contents >>= (λ certificate. Accepts (record { over = over; certificate = certificate }))) over_case_stepped
-      (λ over stepped. then_holds Any (λ (g : Gathered). IfSome g.over IsOverStepped) (reading_certificate o contents) (λ certificate. Accepts (record { over = over; certificate = certificate }))
-      (anyway (reading_certificate o contents)) (λ certificate any. stepped))
-
--- ---- what is asked for
-
-module _ (o : Options) (g : Gathered) (stepped : IfSome g.over IsOverStepped) where
-  asking_stepped : (m : Mode) → Holds StormHasStep (asking m o g)
-  asking_stepped (mode.Network m) = then_holds Any StormHasStep (needing opt.Case g.over) _ (anyway (needing opt.Case g.over)) (λ over any. tt)
-  asking_stepped mode.Study =
-      then_holds IsOverStepped StormHasStep (needing opt.Case g.over) _ (needing_holds IsOverStepped opt.Case g.over stepped)
-      (λ over is_stepped. then_holds IsStepped StormHasStep (needing opt.Storm over.storm) _ (needing_holds IsStepped opt.Storm over.storm is_stepped)
-      (λ storm some. record { least = omega arith; most = some }))
-  asking_stepped mode.Make =
-      then_holds Any StormHasStep (needing opt.Seed o.seed) _ (anyway (needing opt.Seed o.seed))
-      (λ seed any. then_holds Any StormHasStep (needing opt.Size o.size) _ (anyway (needing opt.Size o.size)) (λ size other. tt))
-  asking_stepped mode.Recheck =
-      then_holds Any StormHasStep (needing opt.Case g.over) _ (anyway (needing opt.Case g.over))
-      (λ over any. then_holds Any StormHasStep (needing opt.Cert g.certificate) _ (anyway (needing opt.Cert g.certificate)) (λ certificate other. tt))
-  asking_stepped mode.Series =
-      then_holds IsOverStepped StormHasStep (needing opt.Case g.over) _ (needing_holds IsOverStepped opt.Case g.over stepped)
-      (λ over is_stepped. then_holds IsStepped StormHasStep (needing opt.Storm over.storm) _ (needing_holds IsStepped opt.Storm over.storm is_stepped)
-      (λ storm some. then_holds Any StormHasStep (needing opt.Transformer over.transformer) _ (anyway (needing opt.Transformer over.transformer))
-      (λ transformer any. record { least = omega arith; most = some })))
+  asking_stepped : (r : Request) → Holds StormHasStep (asking r contents)
+  asking_stepped (request.Volts case field) = no_storm _ Volts (λ inputs. tt)
+  asking_stepped (request.List case) = no_storm _ ListAsked (λ inputs. tt)
+  asking_stepped (request.Check case switch) = no_storm _ Check (λ inputs. tt)
+  asking_stepped (request.Field case switch field criteria) = no_storm _ Field (λ inputs. tt)
+  asking_stepped (request.Screen case switch criteria) = no_storm _ Screen (λ inputs. tt)
+  asking_stepped (request.Certify case switch field) = no_storm _ Certify (λ inputs. tt)
+  asking_stepped (request.Outage case switch criteria) = no_storm _ Outage (λ inputs. tt)
+  asking_stepped (request.Study case storm switch criteria detail) =
+      then_holds Any StormHasStep (reading_case (contents file.Case)) (λ lists. asking_study switch criteria detail lists contents) (anyway (reading_case (contents file.Case)))
+      (λ lists any. made_holds IsOverStepped StormHasStep _ (λ inputs. Study inputs detail) (over_stepped switch _ lists) (λ inputs some. record { least = omega arith; most = some }))
+  asking_stepped (request.Make seed size) = tt
+  asking_stepped (request.Recheck case switch cert) =
+      then_holds Any StormHasStep (reading_network switch _ contents) (λ inputs. asking_recheck inputs contents) (anyway (reading_network switch _ contents))
+      (λ inputs any. made_holds Any StormHasStep (reading_certificate (contents file.Certificate)) (Recheck inputs) (anyway (reading_certificate (contents file.Certificate))) (λ certificate other. tt))
+  asking_stepped (request.Series case storm switch width transformer) =
+      then_holds Any StormHasStep (reading_case (contents file.Case)) (λ lists. asking_series switch width transformer lists contents) (anyway (reading_case (contents file.Case)))
+      (λ lists any. then_holds Any StormHasStep (reading (λ refusal. refusal) (transformer_asked lists transformer)) _ (anyway (reading (λ refusal. refusal) (transformer_asked lists transformer)))
+      (λ place other. made_holds IsOverStepped StormHasStep _ (λ inputs. Series inputs place) (over_stepped switch _ lists) (λ inputs some. record { least = omega arith; most = some })))
+  asking_stepped (request.Review case) = no_storm _ Review (λ inputs. tt)
 
 outcome_stepped : AcceptedStormsHaveSteps → (words : List (List ℕ)) (contents : Contents) → Holds StormHasStep (outcome words contents)
 outcome_stepped accepted words contents =
-    then_holds Any StormHasStep (reading refusals.Usage (options_of words)) (λ o. gathering o contents >>= (λ g. asking o.mode o g)) (anyway (reading refusals.Usage (options_of words)))
-    (λ o any. then_holds (λ (g : Gathered). IfSome g.over IsOverStepped) StormHasStep (gathering o contents) (λ g. asking o.mode o g) (gathered_stepped accepted o contents)
-    (λ g stepped. asking_stepped o g stepped o.mode))
+    then_holds Any StormHasStep (reading refusals.Usage (request_of words)) (λ r. asking r contents) (anyway (reading refusals.Usage (request_of words)))
+    (λ r any. asking_stepped accepted contents r)
 
 pub asked_stepped : AcceptedStormsHaveSteps → AskedStormsHaveSteps
 asked_stepped accepted call asked asks = subst (Holds StormHasStep) asks.asked (outcome_stepped accepted call.words asks.contents)

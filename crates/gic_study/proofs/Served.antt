@@ -1,23 +1,18 @@
 -- What is asked for was served, by the call of its mode.
-use Rattle.std.proofs.Common.{◌≡◌, ℕ, ◌<◌, List, [], ◌∷◌, length, Option, None, Result, Ok, Err, sym, subst}
+use Rattle.std.proofs.Common.{◌≡◌, ℕ, ◌<◌, List, length, Option, Result, Ok, Err, sym, subst}
 use Rattle.std.specs.Prelude.{IsErrAnd}
 use Rattle.gic_base.proofs.Parts.{keeps-refl}
-use Rattle.gic_words.specs.declared.mode.NetworkMode.{NetworkMode}
 use Rattle.gic_inputs.specs.declared.inputs.Inputs.{Inputs}
-use Rattle.gic_stand.specs.Needs.{Nothing, Solved}
-use Rattle.gic_stand.specs.Serves.{Shown, Serves}
-use Rattle.gic_stand.specs.Standing.{standing_of, steps_of}
+use Rattle.gic_stand.specs.Serves.{Shown}
+use Rattle.gic_stand.specs.Standing.{standing_of}
 use Rattle.gic_stand.specs.declared.fault.ReportFault.{ReportFault}
 use Rattle.gic_stand.specs.declared.fault.ReportFault.TheVariants.{Refused, CannotWrite}
 use Rattle.gic_ask.specs.declared.request.Asked.{Asked}
-use Rattle.gic_ask.specs.declared.request.Asked.TheVariants.{Network, Study, Make, Recheck, Series}
+use Rattle.gic_ask.specs.declared.request.Asked.TheVariants.{Study, Recheck}
 use Rattle.gic_inputs.proofs.Answered.{answered}
 use Rattle.gic_inputs.specs.declared.inputs.StormInputs.{StormInputs}
 use Rattle.gic_monitor.specs.RosterView.{RosterView}
 use Rattle.gic_view.specs.View.{View}
-use Rattle.gic_course.specs.Steps.{storm_steps}
-use Rattle.gic_make.specs.Made.{made_case}
-use Rattle.gic_make_mode.specs.RightMake.{IsRightMake}
 use Rattle.gic_recheck.specs.RightRecheck.{ServesRecheck}
 use Rattle.gic_recheck.specs.declared.fault.RecheckFault.{RecheckFault}
 use Rattle.gic_recheck.specs.declared.fault.RecheckFault.TheVariants as recheck
@@ -30,9 +25,8 @@ use Rattle.gic_study_mode.specs.ServesStudy.{ServesStudy}
 use Rattle.gic_study_mode.specs.declared.fault.StudyFault.{StudyFault}
 use Rattle.gic_study_mode.specs.declared.fault.StudyFault.TheVariants as study
 use Rattle.gic_study_mode.proofs.RightStudies.{by_plans}
-use Rattle.gic_series.specs.RightSeries.{IsRightSeries}
 use Rattle.gic_study.specs.Concluding.{Answer, ServesMeaning, Concludes}
-use Rattle.gic_study.specs.ModeCalls.{reported, studied, rechecked, without_room, need_over_network, IsRightOverNetwork, ConcludesOverNetwork}
+use Rattle.gic_study.specs.ModeCalls.{reported, studied, rechecked, without_room}
 use Rattle.gic_study.specs.declared.fault.Fault.TheVariants.{Memory}
 use Rattle.gic_study.specs.declared.fault.Wanting.TheVariants.{Room}
 use Rattle.gic_study.specs.Modes.{Plans, meaning_of}
@@ -40,10 +34,6 @@ use Rattle.gic_study.specs.Modes.{Plans, meaning_of}
 -- what is asked for ended so
 pub of_asked : (plans : Plans) (asked is_asked : Asked) (before now : Shown) (answer : Answer) → asked ≡ is_asked → Concludes plans is_asked before now answer → Concludes plans asked before now answer
 of_asked plans asked is_asked before now answer is ended = subst (λ a. Concludes plans a before now answer) (sym is) ended
-
--- the call of this mode did
-pub by_mode : (mode m : NetworkMode) (inputs : Inputs) (before now : Shown) (answer : Answer) → mode ≡ m → ConcludesOverNetwork m inputs before now answer → ConcludesOverNetwork mode inputs before now answer
-by_mode mode m inputs before now answer is ended = subst (λ k. ConcludesOverNetwork k inputs before now answer) (sym is) ended
 
 -- how a call ends that was reported
 concludes_reported : (plans : Plans) (asked : Asked) (before now : Shown) (answer : Result (Unit {0}) ReportFault)
@@ -55,15 +45,13 @@ concludes_reported plans asked before now (Err fault) served = served
 abbrev ConcludesSo : Plans → (before now : Shown) → Answer → Asked → Type 0
 ConcludesSo plans before now answer asked = Concludes plans asked before now answer
 
-pub over_network : (plans : Plans) (asked : Asked) (m : NetworkMode) (inputs : Inputs) (before now : Shown) (answer : Result (Unit {0}) ReportFault) (whole : Answer) → asked ≡ Network m inputs
-    → Serves (need_over_network m) inputs.case (steps_of inputs) (IsRightOverNetwork m inputs) before now answer → whole ≡ reported answer
-    → Concludes plans asked before now whole
-over_network plans asked m inputs before now answer whole is served ends =
-    subst (ConcludesSo plans before now whole) (sym is) (subst (Concludes plans (Network m inputs) before now) (sym ends) (concludes_reported plans (Network m inputs) before now answer served))
+pub by_report : (plans : Plans) (asked : Asked) (before now : Shown) (answer : Result (Unit {0}) ReportFault) (whole : Answer)
+    → ServesMeaning (meaning_of asked) plans before now answer → whole ≡ reported answer → Concludes plans asked before now whole
+by_report plans asked before now answer whole served ends = subst (Concludes plans asked before now) (sym ends) (concludes_reported plans asked before now answer served)
 
 -- by the plans of monitors that have begun
 concludes_studied : (plans : Plans) (inputs : StormInputs) (detail : Option ℕ) (outlooks : List View → List (List ℕ)) (monitors : ℕ) (before now : Shown) (answer : Result (Unit {0}) StudyFault)
-    → ((views : List View) → outlooks views ≡ plans (roster_of inputs.inputs.case inputs.inputs.question.event) views)
+    → ((views : List View) → outlooks views ≡ plans (roster_of inputs.case inputs.question.event) views)
     → ((roster : RosterView) (views : List View) → length (plans roster views) ≡ monitors)
     → ServesStudy inputs monitors (IsRightStudy inputs detail (λ roster views. outlooks views)) before now answer → Concludes plans (Study inputs detail) before now (studied answer)
 concludes_studied plans inputs detail outlooks monitors before now (Ok done) same count served =
@@ -75,24 +63,12 @@ concludes_studied plans inputs detail outlooks monitors before now (Err study.Me
     ((λ roster views. subst (λ n. 0 < n) (sym (count roster views)) served.0, served.1.0), served.1.1)
 
 pub over_storm : (plans : Plans) (asked : Asked) (inputs : StormInputs) (detail : Option ℕ) (outlooks : List View → List (List ℕ)) (monitors : ℕ) (before now : Shown) (answer : Result (Unit {0}) StudyFault) (whole : Answer) → asked ≡ Study inputs detail
-    → ((views : List View) → outlooks views ≡ plans (roster_of inputs.inputs.case inputs.inputs.question.event) views)
+    → ((views : List View) → outlooks views ≡ plans (roster_of inputs.case inputs.question.event) views)
     → ((roster : RosterView) (views : List View) → length (plans roster views) ≡ monitors)
     → ServesStudy inputs monitors (IsRightStudy inputs detail (λ roster views. outlooks views)) before now answer → whole ≡ studied answer
     → Concludes plans asked before now whole
 over_storm plans asked inputs detail outlooks monitors before now answer whole is same count served ends =
     subst (ConcludesSo plans before now whole) (sym is) (subst (Concludes plans (Study inputs detail) before now) (sym ends) (concludes_studied plans inputs detail outlooks monitors before now answer same count served))
-
-pub of_transformer : (plans : Plans) (asked : Asked) (inputs : StormInputs) (transformer : ℕ) (before now : Shown) (answer : Result (Unit {0}) ReportFault) (whole : Answer) → asked ≡ Series inputs transformer
-    → Serves Solved inputs.inputs.case (storm_steps inputs) (IsRightSeries inputs transformer) before now answer → whole ≡ reported answer
-    → Concludes plans asked before now whole
-of_transformer plans asked inputs transformer before now answer whole is served ends =
-    subst (ConcludesSo plans before now whole) (sym is) (subst (Concludes plans (Series inputs transformer) before now) (sym ends) (concludes_reported plans (Series inputs transformer) before now answer served))
-
-pub of_made_case : (plans : Plans) (asked : Asked) (seed size : ℕ) (before now : Shown) (answer : Result (Unit {0}) ReportFault) (whole : Answer) → asked ≡ Make seed size
-    → Serves Nothing (made_case seed size) (standing_of (made_case seed size) None ∷ []) (IsRightMake seed size) before now answer → whole ≡ reported answer
-    → Concludes plans asked before now whole
-of_made_case plans asked seed size before now answer whole is served ends =
-    subst (ConcludesSo plans before now whole) (sym is) (subst (Concludes plans (Make seed size) before now) (sym ends) (concludes_reported plans (Make seed size) before now answer served))
 
 -- how a call of `recheck` ends
 concludes_rechecked : (plans : Plans) (inputs : Inputs) (certificate : List ℕ) (before now : Shown) (answer : Result (Unit {0}) RecheckFault)

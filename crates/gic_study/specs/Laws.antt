@@ -13,7 +13,7 @@ use Rattle.gic_recheck.specs.Accepted.{IsAccepted}
 use Rattle.gic_recheck.specs.declared.fault.CertificateRefusal.{CertificateRefusal}
 use Rattle.gic_storm.specs.declared.refusal.StormRefusal.{StormRefusal}
 use Rattle.gic_switch.specs.declared.refusal.SwitchRefusal.{SwitchRefusal}
-use Rattle.gic_words.specs.Options.{options_of}
+use Rattle.gic_words.specs.Requests.{request_of}
 use Rattle.gic_words.specs.declared.fault.Usage.{Usage as UsageFault}
 use Rattle.gic_words.specs.declared.mode.Mode.{Mode}
 use Rattle.gic_words.specs.declared.mode.Mode.TheVariants as mode
@@ -25,7 +25,7 @@ use Rattle.gic_ask.specs.declared.fault.InputFault.TheVariants.{Refused, CannotR
 use Rattle.gic_ask.specs.declared.fault.InputRefusal.{InputRefusal}
 use Rattle.gic_ask.specs.declared.fault.InputRefusal.TheVariants.{Usage, TooLong, Case, UnknownTransformer, Storm, Switch}
 use Rattle.gic_ask.specs.declared.request.Asked.{Asked}
-use Rattle.gic_ask.specs.declared.request.Asked.TheVariants.{Network, Study, Make, Recheck, Series}
+use Rattle.gic_ask.specs.declared.request.Asked.TheVariants.{Volts, List as ListAsked, Check, Field, Screen, Certify, Outage, Study, Make, Recheck, Series, Review}
 use Rattle.gic_course.specs.Steps.{IsStepOf}
 use Rattle.gic_stand.specs.Needs.{Need, IsMet, IsUnmet}
 use Rattle.gic_stand.specs.Standing.{standing_of}
@@ -43,11 +43,18 @@ use Rattle.gic_study.specs.declared.fault.Wanting.{Wanting}
 
 -- its mode
 abbrev pub mode_asked : Asked → Mode
-mode_asked (Network m inputs) = mode.Network m
+mode_asked (Volts inputs) = mode.Volts
+mode_asked (ListAsked inputs) = mode.List
+mode_asked (Check inputs) = mode.Check
+mode_asked (Field inputs) = mode.Field
+mode_asked (Screen inputs) = mode.Screen
+mode_asked (Certify inputs) = mode.Certify
+mode_asked (Outage inputs) = mode.Outage
 mode_asked (Study inputs detail) = mode.Study
 mode_asked (Make seed size) = mode.Make
 mode_asked (Recheck inputs certificate) = mode.Recheck
 mode_asked (Series inputs transformer) = mode.Series
+mode_asked (Review inputs) = mode.Review
 
 abbrev pub need_of : Asked → Need
 need_of asked = (meaning_of asked).need
@@ -84,7 +91,7 @@ pub record Finds (call : Call) (found : Outcome Asked) : Type 0 where
   pub files : Files
   pub told : call.files ≡ Some files
   pub read : (file : File) → ¬ CouldNotRead call.words file call.before.fetches.failures call.now.fetches.failures
-  pub found_is : outcome call.words (held_for files (options_of call.words)) ≡ found
+  pub found_is : outcome call.words (held_for files (request_of call.words)) ≡ found
 
 -- a refusal by the words and the files is answered, want of memory aside
 abbrev pub RefusalsAreAnswered : Type 0

@@ -2,13 +2,12 @@
 use Rattle.std.specs.Prelude.{ℕ, List, [], ◌∷◌, None}
 use Rattle.gic_case.specs.Lists.{Lists}
 use Rattle.gic_model.specs.Sums.{Placed}
-use Rattle.gic_words.specs.declared.mode.NetworkMode.{NetworkMode}
-use Rattle.gic_words.specs.declared.mode.NetworkMode.TheVariants as network
 use Rattle.gic_inputs.specs.declared.inputs.Inputs.{Inputs}
+use Rattle.gic_inputs.specs.declared.inputs.StormInputs.{StormInputs}
 use Rattle.gic_stand.specs.Needs.{Need, Nothing, Earthed, Solved}
 use Rattle.gic_stand.specs.Standing.{standing_of, steps_of}
 use Rattle.gic_ask.specs.declared.request.Asked.{Asked}
-use Rattle.gic_ask.specs.declared.request.Asked.TheVariants.{Network, Study, Make, Recheck, Series}
+use Rattle.gic_ask.specs.declared.request.Asked.TheVariants.{Volts, List as ListAsked, Check, Field, Screen, Certify, Outage, Study, Make, Recheck, Series, Review}
 use Rattle.gic_make.specs.Made.{made_case}
 use Rattle.gic_volts.specs.RightVolts.{IsRightVolts}
 use Rattle.gic_list.specs.RightList.{IsRightList}
@@ -32,22 +31,6 @@ use Rattle.gic_monitor.specs.RosterView.{RosterView}
 abbrev pub Plans : Type 0
 Plans = RosterView → List View → List (List ℕ)
 
--- a mode over the network of a case, with all its switchings in force: its need, and when a text is right
-pub record NetworkMeaning : Type 1 where
-  pub need : Need
-  pub IsRight : Inputs → (text : List ℕ) → Type 0
-
--- one row a mode
-abbrev pub over_network : NetworkMode → NetworkMeaning
-over_network network.Volts = record { need = Nothing; IsRight = IsRightVolts }
-over_network network.List = record { need = Nothing; IsRight = IsRightList }
-over_network network.Check = record { need = Earthed; IsRight = IsRightCheck }
-over_network network.Field = record { need = Solved; IsRight = IsRightField }
-over_network network.Screen = record { need = Solved; IsRight = IsRightScreen }
-over_network network.Certify = record { need = Solved; IsRight = IsRightCertify }
-over_network network.Outage = record { need = Solved; IsRight = IsRightOutage }
-over_network network.Review = record { need = Nothing; IsRight = IsRightReview }
-
 -- what is asked for: what it needs of the steps of a case, and when a text is right, where monitors with these plans see the steps of a study
 pub record Meaning : Type 1 where
   pub need : Need
@@ -56,13 +39,28 @@ pub record Meaning : Type 1 where
   pub steps : List (List Placed)
   pub IsRight : Plans → (text : List ℕ) → Type 0
 
+-- of the network of a case, with all its switchings in force
+abbrev over_network : Need → (Inputs → (text : List ℕ) → Type 0) → Inputs → Meaning
+over_network need IsRight inputs = record { need = need; case = inputs.case; steps = steps_of inputs; IsRight = λ plans. IsRight inputs }
+
+-- of a storm over the network of a case
+abbrev over_storm : StormInputs → (Plans → (text : List ℕ) → Type 0) → Meaning
+over_storm inputs IsRight = record { need = Solved; case = inputs.case; steps = storm_steps inputs; IsRight = IsRight }
+
 -- one row a mode
 abbrev pub meaning_of : Asked → Meaning
-meaning_of (Network m inputs) = record { need = (over_network m).need; case = inputs.case; steps = steps_of inputs; IsRight = λ plans. (over_network m).IsRight inputs }
-meaning_of (Study inputs detail) = record { need = Solved; case = inputs.inputs.case; steps = storm_steps inputs; IsRight = IsRightStudy inputs detail }
+meaning_of (Volts inputs) = over_network Nothing IsRightVolts inputs
+meaning_of (ListAsked inputs) = over_network Nothing IsRightList inputs
+meaning_of (Check inputs) = over_network Earthed IsRightCheck inputs
+meaning_of (Field inputs) = over_network Solved IsRightField inputs
+meaning_of (Screen inputs) = over_network Solved IsRightScreen inputs
+meaning_of (Certify inputs) = over_network Solved IsRightCertify inputs
+meaning_of (Outage inputs) = over_network Solved IsRightOutage inputs
+meaning_of (Study inputs detail) = over_storm inputs (IsRightStudy inputs detail)
 meaning_of (Make seed size) = record { need = Nothing; case = made_case seed size; steps = standing_of (made_case seed size) None ∷ []; IsRight = λ plans. IsRightMake seed size }
-meaning_of (Recheck inputs certificate) = record { need = Nothing; case = inputs.case; steps = steps_of inputs; IsRight = λ plans. IsRightRecheck inputs certificate }
-meaning_of (Series inputs transformer) = record { need = Solved; case = inputs.inputs.case; steps = storm_steps inputs; IsRight = λ plans. IsRightSeries inputs transformer }
+meaning_of (Recheck inputs certificate) = over_network Nothing (λ i. IsRightRecheck i certificate) inputs
+meaning_of (Series inputs transformer) = over_storm inputs (λ plans. IsRightSeries inputs transformer)
+meaning_of (Review inputs) = over_network Nothing IsRightReview inputs
 
 -- a text is a right report of what is asked for
 abbrev pub IsRightText : Plans → Asked → (text : List ℕ) → Type 0

@@ -6,11 +6,13 @@ use gic_case_reader::laws::accepted_law;
 use gic_make::laws::made_cases_law;
 use gic_recheck::laws::{accepted_is_not_refused_law, passing_text_is_accepted_law};
 use gic_study_mode::laws::accepted_storms_have_steps_law;
+use gic_words::laws::made_in_range_law;
 
 /// Whatever is asked for, its case is sound.
 pub fn asked_cases_are_sound_law()
     ensures { AskedCasesAreSound }
 {
+    made_in_range_law();
     accepted_law();
     made_cases_law();
 }

@@ -3,11 +3,9 @@ ghost use Rattle.std.specs.Prelude.{◌<◌, ◌≤◌, length, map};
 ghost use Rattle.gic_question.specs.Ranges.{IsWithinRanges};
 ghost use Rattle.gic_inputs.specs.Inputs.{IsStormOf};
 ghost use Rattle.gic_stand.specs.Serves.{shown};
-ghost use Rattle.gic_words.specs.declared.mode.NetworkMode.TheVariants as network;
 ghost use Rattle.gic_ask.specs.Within.{IsAskedWithinRanges};
-ghost use Rattle.gic_ask.specs.declared.request.Asked.TheVariants.{Make, Recheck, Series, Study};
+ghost use Rattle.gic_ask.specs.declared.request.Asked.TheVariants.{Volts, List, Check, Field, Screen, Certify, Outage, Study, Make, Recheck, Series, Review};
 ghost use Rattle.gic_study.specs.Concluding.{Concludes};
-ghost use Rattle.gic_study.specs.ModeCalls.{ConcludesOverNetwork};
 ghost use Rattle.gic_study.specs.Modes.{Plans};
 
 use crate::fault::{Fault, rechecked, reported, studied};
@@ -28,13 +26,12 @@ use gic_screen_mode::screen;
 use gic_series::series;
 use gic_study_mode::study;
 use gic_volts::volts;
-use gic_words::NetworkMode;
 use std::alloc::Global;
 
 /// Makes the room of `volts`, and writes its report.
 fn serve_volts<S: Sink>(alloc: Global, inputs: &Inputs, out: &mut S) -> Result<(), Fault>
     requires { IsWithinRanges inputs.now.question }
-    ensures { ConcludesOverNetwork network.Volts inputs.now
+    ensures { (plans : Plans) → Concludes plans (Volts inputs.now)
         (shown S.written S.faults out.old) (shown S.written S.faults out.new) result }
 {
     let mut room = gic_volts::make_room(alloc, inputs)?;
@@ -43,7 +40,7 @@ fn serve_volts<S: Sink>(alloc: Global, inputs: &Inputs, out: &mut S) -> Result<(
 
 /// Makes the room of `list`, and writes its report.
 fn serve_list<S: Sink>(alloc: Global, inputs: &Inputs, out: &mut S) -> Result<(), Fault>
-    ensures { ConcludesOverNetwork network.List inputs.now
+    ensures { (plans : Plans) → Concludes plans (List inputs.now)
         (shown S.written S.faults out.old) (shown S.written S.faults out.new) result }
 {
     let mut room = gic_list::make_room(alloc, inputs)?;
@@ -52,7 +49,7 @@ fn serve_list<S: Sink>(alloc: Global, inputs: &Inputs, out: &mut S) -> Result<()
 
 /// Makes the room of `check`, and writes its report.
 fn serve_check<S: Sink>(alloc: Global, inputs: &Inputs, out: &mut S) -> Result<(), Fault>
-    ensures { ConcludesOverNetwork network.Check inputs.now
+    ensures { (plans : Plans) → Concludes plans (Check inputs.now)
         (shown S.written S.faults out.old) (shown S.written S.faults out.new) result }
 {
     let mut room = gic_check::make_room(alloc, inputs)?;
@@ -62,7 +59,7 @@ fn serve_check<S: Sink>(alloc: Global, inputs: &Inputs, out: &mut S) -> Result<(
 /// Makes the room of `field`, and writes its report.
 fn serve_field<S: Sink>(alloc: Global, inputs: &Inputs, out: &mut S) -> Result<(), Fault>
     requires { IsWithinRanges inputs.now.question }
-    ensures { ConcludesOverNetwork network.Field inputs.now
+    ensures { (plans : Plans) → Concludes plans (Field inputs.now)
         (shown S.written S.faults out.old) (shown S.written S.faults out.new) result }
 {
     let mut room = gic_field::make_room(alloc, inputs)?;
@@ -72,7 +69,7 @@ fn serve_field<S: Sink>(alloc: Global, inputs: &Inputs, out: &mut S) -> Result<(
 /// Makes the room of `screen`, and writes its report.
 fn serve_screen<S: Sink>(alloc: Global, inputs: &Inputs, out: &mut S) -> Result<(), Fault>
     requires { IsWithinRanges inputs.now.question }
-    ensures { ConcludesOverNetwork network.Screen inputs.now
+    ensures { (plans : Plans) → Concludes plans (Screen inputs.now)
         (shown S.written S.faults out.old) (shown S.written S.faults out.new) result }
 {
     let mut room = gic_screen_mode::make_room(alloc, inputs)?;
@@ -82,7 +79,7 @@ fn serve_screen<S: Sink>(alloc: Global, inputs: &Inputs, out: &mut S) -> Result<
 /// Makes the room of `certify`, and writes its report.
 fn serve_certify<S: Sink>(alloc: Global, inputs: &Inputs, out: &mut S) -> Result<(), Fault>
     requires { IsWithinRanges inputs.now.question }
-    ensures { ConcludesOverNetwork network.Certify inputs.now
+    ensures { (plans : Plans) → Concludes plans (Certify inputs.now)
         (shown S.written S.faults out.old) (shown S.written S.faults out.new) result }
 {
     let room = gic_certify::make_room(alloc, inputs)?;
@@ -92,7 +89,7 @@ fn serve_certify<S: Sink>(alloc: Global, inputs: &Inputs, out: &mut S) -> Result
 /// Makes the room of `outage`, and writes its report.
 fn serve_outage<S: Sink>(alloc: Global, inputs: &Inputs, out: &mut S) -> Result<(), Fault>
     requires { IsWithinRanges inputs.now.question }
-    ensures { ConcludesOverNetwork network.Outage inputs.now
+    ensures { (plans : Plans) → Concludes plans (Outage inputs.now)
         (shown S.written S.faults out.old) (shown S.written S.faults out.new) result }
 {
     let mut room = gic_outage_mode::make_room(alloc, inputs)?;
@@ -101,34 +98,11 @@ fn serve_outage<S: Sink>(alloc: Global, inputs: &Inputs, out: &mut S) -> Result<
 
 /// Makes the room of `review`, and writes its report.
 fn serve_review<S: Sink>(alloc: Global, inputs: &Inputs, out: &mut S) -> Result<(), Fault>
-    ensures { ConcludesOverNetwork network.Review inputs.now
+    ensures { (plans : Plans) → Concludes plans (Review inputs.now)
         (shown S.written S.faults out.old) (shown S.written S.faults out.new) result }
 {
     let mut room = gic_review::make_room(alloc, inputs)?;
     reported(review(inputs, &mut room, out))
-}
-
-/// Makes the room of a mode over the network of a case, and writes its report.
-fn serve_network<S: Sink>(
-    alloc: Global,
-    mode: NetworkMode,
-    inputs: &Inputs,
-    out: &mut S,
-) -> Result<(), Fault>
-    requires { IsWithinRanges inputs.now.question }
-    ensures { ConcludesOverNetwork mode inputs.now
-        (shown S.written S.faults out.old) (shown S.written S.faults out.new) result }
-{
-    match mode {
-        NetworkMode::Volts => serve_volts(alloc, inputs, out),
-        NetworkMode::List => serve_list(alloc, inputs, out),
-        NetworkMode::Check => serve_check(alloc, inputs, out),
-        NetworkMode::Field => serve_field(alloc, inputs, out),
-        NetworkMode::Screen => serve_screen(alloc, inputs, out),
-        NetworkMode::Certify => serve_certify(alloc, inputs, out),
-        NetworkMode::Outage => serve_outage(alloc, inputs, out),
-        NetworkMode::Review => serve_review(alloc, inputs, out),
-    }
 }
 
 /// Makes the room of a study, and writes its report. The monitors see the steps.
@@ -139,7 +113,7 @@ fn serve_study<S: Sink>(
     monitors: Vec<Box<dyn Monitor>>,
     out: &mut S,
 ) -> Result<(), Fault>
-    requires ranges { IsWithinRanges inputs.now.inputs.question }
+    requires ranges { IsWithinRanges inputs.now.question }
     requires storm { IsStormOf inputs.now }
     ensures { Concludes (λ roster views. map (λ m. plan m roster views) monitors.items) (Study inputs.now detail)
         (shown S.written S.faults out.old) (shown S.written S.faults out.new) result }
@@ -180,9 +154,9 @@ fn serve_series<S: Sink>(
     transformer: u16,
     out: &mut S,
 ) -> Result<(), Fault>
-    requires ranges { IsWithinRanges inputs.now.inputs.question }
+    requires ranges { IsWithinRanges inputs.now.question }
     requires storm { IsStormOf inputs.now }
-    requires transformer { transformer < length inputs.now.inputs.case.transformers }
+    requires transformer { transformer < length inputs.now.case.transformers }
     ensures { (plans : Plans) → Concludes plans (Series inputs.now transformer)
         (shown S.written S.faults out.old) (shown S.written S.faults out.new) result }
 {
@@ -202,7 +176,13 @@ pub(crate) fn serve<S: Sink>(
         (shown S.written S.faults out.old) (shown S.written S.faults out.new) result }
 {
     match asked {
-        Asked::Network { mode, inputs } => serve_network(alloc, *mode, inputs, out),
+        Asked::Volts { inputs } => serve_volts(alloc, inputs, out),
+        Asked::List { inputs } => serve_list(alloc, inputs, out),
+        Asked::Check { inputs } => serve_check(alloc, inputs, out),
+        Asked::Field { inputs } => serve_field(alloc, inputs, out),
+        Asked::Screen { inputs } => serve_screen(alloc, inputs, out),
+        Asked::Certify { inputs } => serve_certify(alloc, inputs, out),
+        Asked::Outage { inputs } => serve_outage(alloc, inputs, out),
         Asked::Study { inputs, detail } => serve_study(alloc, inputs, *detail, monitors, out),
         Asked::Make { seed, size } => serve_make(alloc, *seed, *size, out),
         Asked::Recheck {
@@ -213,5 +193,6 @@ pub(crate) fn serve<S: Sink>(
             inputs,
             transformer,
         } => serve_series(alloc, inputs, *transformer, out),
+        Asked::Review { inputs } => serve_review(alloc, inputs, out),
     }
 }

@@ -113,10 +113,10 @@ some_peak : (inputs : StormInputs) (Counts : ℕ → Type 0) (n : ℕ → ℤ) (
 some_peak inputs Counts n d peak e is has = subst (EnclosesPeakIfAny inputs Counts n d) is has
 
 module _ (encloses : PeakEnclosesGreatest) (is_peak : TransformerPeakIsPeak) (inputs : StormInputs) (views : List View) (peaks : View) (right : AreRightViews inputs views)
-    (peaks_are : IsPeaksOf views peaks) (lengths : HasViewLengths inputs.inputs.case peaks) (some : 1 ≤ length (steps_in inputs.storm.rows))
+    (peaks_are : IsPeaksOf views peaks) (lengths : HasViewLengths inputs.case peaks) (some : 1 ≤ length (steps_in inputs.storm.rows))
     (solutions : ℕ → Solution) (solve : AreStepSolutions inputs solutions) where
   abbrev pub case : Lists
-  case = inputs.inputs.case
+  case = inputs.case
 
   abbrev pub no_view : View
   no_view = blank_view 0 0 0

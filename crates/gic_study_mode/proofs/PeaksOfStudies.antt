@@ -29,8 +29,8 @@ peak_lengths case width views peaks narrow peaks_are some =
 
 pub peaks_narrow : PeakIsNoWider → TransformerPeakIsPeak → PeaksAreNarrow
 peaks_narrow no_wider is_peak inputs detail plans text first report =
-    let case = inputs.inputs.case in
-    let width = inputs.inputs.question.width in
+    let case = inputs.case in
+    let width = inputs.question.width in
     let some : 0 < length report.views = omega (arith, first.most, report.right.one_each) in
     narrow_peaks no_wider is_peak case width report.views report.peaks report.narrow report.peaks_are (peak_lengths case width report.views report.peaks report.narrow report.peaks_are some) some
 
@@ -38,9 +38,9 @@ pub peaks_enclose : PeakEnclosesGreatest → TransformerPeakIsPeak → PeaksEncl
 peaks_enclose encloses is_peak inputs detail plans text first report =
     let some : 0 < length report.views = omega (arith, first.most, report.right.one_each) in
     enclosing encloses is_peak inputs report.views report.peaks report.right report.peaks_are
-    (peak_lengths inputs.inputs.case inputs.inputs.question.width report.views report.peaks report.narrow report.peaks_are some) first.most
+    (peak_lengths inputs.case inputs.question.width report.views report.peaks report.narrow report.peaks_are some) first.most
 
 pub verdicts_true : PeakEnclosesGreatest → TransformerPeakIsPeak → BelowIsUnder → ReachesIsAtLeast → UndecidedIsAcross → PeakVerdictsAreTrue
 verdicts_true encloses is_peak below reaches undecided inputs detail plans text first report sound =
-    true_verdicts below reaches undecided inputs (threshold_of inputs.inputs.question.event) report.peaks sound
+    true_verdicts below reaches undecided inputs (threshold_of inputs.question.event) report.peaks sound
     (peaks_enclose encloses is_peak inputs detail plans text first report)

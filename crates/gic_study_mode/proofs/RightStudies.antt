@@ -48,10 +48,10 @@ pub right_study : (inputs : StormInputs) (detail : Option ℕ) (asked : Option �
     → asked ≡ asked_step inputs detail → IfSome asked (IsStepOf inputs)
     → fields ≡ option_map (storm_fields inputs) (asked_step inputs detail) → texts ≡ now []
     → IsRightStudy inputs detail (λ roster views. before views)
-    (study_text inputs.inputs.case inputs.inputs.question.width (threshold_of inputs.inputs.question.event) (length (steps_in inputs.storm.rows)) (option_map (with_view seen.asked) fields) seen.peaks texts)
+    (study_text inputs.case inputs.question.width (threshold_of inputs.question.event) (length (steps_in inputs.storm.rows)) (option_map (with_view seen.asked) fields) seen.peaks texts)
 right_study inputs detail asked before now seen fields texts has asked_is step fields_are texts_are =
-    let case = inputs.inputs.case in
-    let q = inputs.inputs.question in
+    let case = inputs.case in
+    let q = inputs.question in
     let steps = length (steps_in inputs.storm.rows) in
     let right = all_right inputs has.views has.one_each has.right in
     let own : (number : ℕ) → asked_step inputs detail ≡ Some number → seen.asked ≡ view_at has.views (number - 1) = λ number is.
@@ -72,7 +72,7 @@ right_study inputs detail asked before now seen fields texts has asked_is step f
 
 -- by the plans of monitors that have begun
 pub by_plans : (inputs : StormInputs) (detail : Option ℕ) (outlooks : List View → List (List ℕ)) (plans : RosterView → List View → List (List ℕ))
-    → ((views : List View) → outlooks views ≡ plans (roster_of inputs.inputs.case inputs.inputs.question.event) views)
+    → ((views : List View) → outlooks views ≡ plans (roster_of inputs.case inputs.question.event) views)
     → (text : List ℕ) → IsRightStudy inputs detail (λ roster views. outlooks views) text → IsRightStudy inputs detail plans text
 by_plans inputs detail outlooks plans same text right = record {
   views = right.views;
@@ -81,7 +81,7 @@ by_plans inputs detail outlooks plans same text right = record {
   small = right.small;
   peaks = right.peaks;
   peaks_are = right.peaks_are;
-  text_is = right.text_is ∙ ap (study_text inputs.inputs.case inputs.inputs.question.width (threshold_of inputs.inputs.question.event) (length (steps_in inputs.storm.rows)) (option_map (detail_at inputs right.views) (asked_step inputs detail)) right.peaks) (same right.views);
+  text_is = right.text_is ∙ ap (study_text inputs.case inputs.question.width (threshold_of inputs.question.event) (length (steps_in inputs.storm.rows)) (option_map (detail_at inputs right.views) (asked_step inputs detail)) right.peaks) (same right.views);
 }
 
 -- a text that is right was written, or a front part of it
@@ -96,7 +96,7 @@ writing_served inputs monitors IsRight text before now (Err failed) answer met r
 
 -- nothing was written, since a step can't be solved
 pub unserved_steps : (inputs : StormInputs) (monitors : ℕ) (IsRight : List ℕ → Type 0) (s : Shown) (refusal : NetworkRefusal) (answer : Result (Unit {0}) StudyFault)
-    → IsErrAnd answer (λ e. e ≡ Report (Refused refusal)) → IsUnmet Solved inputs.inputs.case (storm_steps inputs) refusal → ServesStudy inputs monitors IsRight s s answer
+    → IsErrAnd answer (λ e. e ≡ Report (Refused refusal)) → IsUnmet Solved inputs.case (storm_steps inputs) refusal → ServesStudy inputs monitors IsRight s s answer
 unserved_steps inputs monitors IsRight s refusal answer h unmet =
     subst (ServesStudy inputs monitors IsRight s s) (sym (answered answer (Report (Refused refusal)) h)) (unmet, keeps-refl s.bytes)
 
@@ -107,7 +107,7 @@ lacking_texts inputs monitors IsRight s answer h some met =
     subst (ServesStudy inputs monitors IsRight s s) (sym (answered answer Memory h)) (some, (met, keeps-refl s.bytes))
 
 -- the step in detail has a field for each zone
-pub zones_of : (inputs : StormInputs) (asked : Option ℕ) (fields : Option (List (ℤ × ℤ))) → IsStormOf inputs → fields ≡ option_map (storm_fields inputs) asked → IfSome fields (λ f. length f ≡ length inputs.inputs.case.zones)
-zones_of inputs None fields storm is = subst (λ fs. IfSome fs (λ f. length f ≡ length inputs.inputs.case.zones)) (sym is) tt
+pub zones_of : (inputs : StormInputs) (asked : Option ℕ) (fields : Option (List (ℤ × ℤ))) → IsStormOf inputs → fields ≡ option_map (storm_fields inputs) asked → IfSome fields (λ f. length f ≡ length inputs.case.zones)
+zones_of inputs None fields storm is = subst (λ fs. IfSome fs (λ f. length f ≡ length inputs.case.zones)) (sym is) tt
 zones_of inputs (Some number) fields storm is =
-    subst (λ fs. IfSome fs (λ f. length f ≡ length inputs.inputs.case.zones)) (sym is) (fields-count inputs.storm.zones (step_at inputs.storm.rows number) ∙ storm)
+    subst (λ fs. IfSome fs (λ f. length f ≡ length inputs.case.zones)) (sym is) (fields-count inputs.storm.zones (step_at inputs.storm.rows number) ∙ storm)

@@ -17,13 +17,13 @@ use Rattle.gic_study_mode.specs.declared.views.Views.{Views}
 use Rattle.gic_study_mode.specs.Seen.{IsRoomForViews, is_asked, HasShown, HasSeen}
 
 -- nothing was seen
-pub none_seen : (inputs : StormInputs) (asked : Option ℕ) (texts : List View → List (List ℕ)) (views : Views) → IsPeaksOf [] views.peaks → IsRoomForViews inputs.inputs.case views → HasSeen inputs asked 0 texts texts views
+pub none_seen : (inputs : StormInputs) (asked : Option ℕ) (texts : List View → List (List ℕ)) (views : Views) → IsPeaksOf [] views.peaks → IsRoomForViews inputs.case views → HasSeen inputs asked 0 texts texts views
 none_seen inputs asked texts views none room = record {
   views = [];
   one_each = refl;
   right = none_so_far inputs;
-  narrow = All-nil (IsNarrowView inputs.inputs.case inputs.inputs.question.width);
-  small = All-nil (IsSmallView inputs.inputs.case);
+  narrow = All-nil (IsNarrowView inputs.case inputs.question.width);
+  small = All-nil (IsSmallView inputs.case);
   peaks_are = none;
   asked_is = λ number is least most. absurd (omega (arith, least, most));
   texts = λ rest. refl;
@@ -51,13 +51,13 @@ pub next_seen : (inputs : StormInputs) (asked : Option ℕ) (count : ℕ) (befor
 next_seen inputs asked count before mid now old new seen shown =
     let views = seen.views in
     let view = shown.view in
-    let own = right_step inputs inputs.inputs.question.width (count + 1) view shown.own in
+    let own = right_step inputs inputs.question.width (count + 1) view shown.own in
     record {
       views = views ++ view ∷ [];
       one_each = omega (arith, length-append views (view ∷ []), seen.one_each);
       right = one_more_right inputs views view seen.right (subst (λ n. IsRightStep inputs n view) (omega (arith, seen.one_each)) own);
-      narrow = one_more_narrow inputs.inputs.case inputs.inputs.question.width views view seen.narrow shown.own.solved.narrow;
-      small = one_more_small inputs.inputs.case views view seen.small shown.own.solved.small;
+      narrow = one_more_narrow inputs.case inputs.question.width views view seen.narrow shown.own.solved.narrow;
+      small = one_more_small inputs.case views view seen.small shown.own.solved.small;
       peaks_are = shown.raised views seen.peaks_are;
       asked_is = λ number is least most.
           asked_stays number count views view old.asked new.asked seen.one_each least most

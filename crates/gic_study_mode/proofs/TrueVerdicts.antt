@@ -13,11 +13,11 @@ use Rattle.gic_inputs.specs.declared.inputs.StormInputs.{StormInputs}
 use Rattle.gic_study_mode.specs.PeakEnclosure.{AreStepSolutions, AreEnclosing}
 use Rattle.gic_study_mode.specs.PeakVerdicts.{AreTruePeakVerdicts}
 
-pub true_verdicts : BelowIsUnder → ReachesIsAtLeast → UndecidedIsAcross → (inputs : StormInputs) (threshold : ℕ) (peaks : View) → IsSound inputs.inputs.case
+pub true_verdicts : BelowIsUnder → ReachesIsAtLeast → UndecidedIsAcross → (inputs : StormInputs) (threshold : ℕ) (peaks : View) → IsSound inputs.case
     → ((solutions : ℕ → Solution) → AreStepSolutions inputs solutions → AreEnclosing inputs peaks solutions)
     → AreTruePeakVerdicts inputs threshold peaks
 true_verdicts below reaches undecided inputs threshold peaks sound enclosing =
-    let case = inputs.inputs.case in
+    let case = inputs.case in
     let shown : ℕ → Ends = λ t. effective_at peaks t in
     let row = transformer_at case in
     record {

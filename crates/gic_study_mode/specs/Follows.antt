@@ -26,7 +26,7 @@ HoldsOfPeaks Holds = (inputs : StormInputs) (detail : Option ℕ) (plans : Roste
 
 -- none of them is wider than asked
 abbrev pub PeaksAreNarrow : Type 0
-PeaksAreNarrow = HoldsOfPeaks (λ inputs peaks. IsNarrowView inputs.inputs.case inputs.inputs.question.width peaks)
+PeaksAreNarrow = HoldsOfPeaks (λ inputs peaks. IsNarrowView inputs.case inputs.question.width peaks)
 
 -- whatever solves the network of each step, each of them encloses the greatest absolute value over the steps
 abbrev pub PeaksEnclose : Type 0
@@ -34,4 +34,4 @@ PeaksEnclose = HoldsOfPeaks (λ inputs peaks. (solutions : ℕ → Solution) →
 
 -- in a sound case the verdicts on them, by the threshold of the event that is asked for, are true
 abbrev pub PeakVerdictsAreTrue : Type 0
-PeakVerdictsAreTrue = HoldsOfPeaks (λ inputs peaks. IsSound inputs.inputs.case → AreTruePeakVerdicts inputs (threshold_of inputs.inputs.question.event) peaks)
+PeakVerdictsAreTrue = HoldsOfPeaks (λ inputs peaks. IsSound inputs.case → AreTruePeakVerdicts inputs (threshold_of inputs.question.event) peaks)

@@ -13,6 +13,6 @@ use Rattle.gic_study_mode.specs.Seen.{IsRoomForViews}
 pub record IsMadeFor (inputs : StormInputs) (detail : Option ℕ) (room : StepsRoom) : Type 0 where
   pub course : IsCourseOf inputs room.course
   pub fields : room.fields ≡ option_map (storm_fields inputs) (asked_step inputs detail)
-  pub roster : room.roster ≡ roster_of inputs.inputs.case inputs.inputs.question.event
-  pub views : IsRoomForViews inputs.inputs.case room.views
+  pub roster : room.roster ≡ roster_of inputs.case inputs.question.event
+  pub views : IsRoomForViews inputs.case room.views
   pub of_none : IsPeaksOf [] room.views.peaks

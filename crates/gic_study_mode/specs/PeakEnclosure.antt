@@ -40,10 +40,10 @@ EnclosesElementPeak inputs solutions peaks place =
 -- that of a transformer is that of its effective currents over all steps
 abbrev pub EnclosesTransformerPeak : StormInputs → (solutions : ℕ → Solution) → (peaks : View) → (t : ℕ) → Type 0
 EnclosesTransformerPeak inputs solutions peaks t =
-    EnclosesPeak inputs (λ number. ⊤) (λ number. effective_numerator inputs.inputs.case (solutions number) t) (λ number. effective_denominator inputs.inputs.case t (solutions number)) (effective_at peaks t)
+    EnclosesPeak inputs (λ number. ⊤) (λ number. effective_numerator inputs.case (solutions number) t) (λ number. effective_denominator inputs.case t (solutions number)) (effective_at peaks t)
 
 -- each peak encloses the greatest absolute value over the steps
 pub record AreEnclosing (inputs : StormInputs) (peaks : View) (solutions : ℕ → Solution) : Type 0 where
-  pub nodes : (k : ℕ) → k < length (node_names inputs.inputs.case) → EnclosesNodePeak inputs solutions peaks k
-  pub elements : (place : ℕ) → place < length (elements_of inputs.inputs.case).list → EnclosesElementPeak inputs solutions peaks place
-  pub transformers : (t : ℕ) → t < length inputs.inputs.case.transformers → EnclosesTransformerPeak inputs solutions peaks t
+  pub nodes : (k : ℕ) → k < length (node_names inputs.case) → EnclosesNodePeak inputs solutions peaks k
+  pub elements : (place : ℕ) → place < length (elements_of inputs.case).list → EnclosesElementPeak inputs solutions peaks place
+  pub transformers : (t : ℕ) → t < length inputs.case.transformers → EnclosesTransformerPeak inputs solutions peaks t

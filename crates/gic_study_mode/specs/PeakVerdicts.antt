@@ -16,7 +16,7 @@ use Rattle.gic_study_mode.specs.PeakEnclosure.{AreStepSolutions}
 pub record IsAtLeastOnce (inputs : StormInputs) (threshold t : ℕ) (solutions : ℕ → Solution) : Type 0 where
   pub step : ℕ
   pub own : IsStepOf inputs step
-  pub at_least : IsAtLeast inputs.inputs.case threshold t (solutions step)
+  pub at_least : IsAtLeast inputs.case threshold t (solutions step)
 
 -- the verdict on the peak of a transformer, which is an absolute interval
 abbrev pub peak_verdict : Lists → (threshold : ℕ) → (peaks : View) → (t : ℕ) → Verdict
@@ -24,9 +24,9 @@ peak_verdict case threshold peaks t = verdict_in threshold (transformer_at case 
 
 -- a transformer is told to be below a threshold only where it is at every step, to reach it only where it does at one, and undecided only where its peak lies across it
 pub record AreTruePeakVerdicts (inputs : StormInputs) (threshold : ℕ) (peaks : View) : Type 0 where
-  pub below : (t : ℕ) → t < length inputs.inputs.case.transformers → peak_verdict inputs.inputs.case threshold peaks t ≡ Below →
-      (solutions : ℕ → Solution) → AreStepSolutions inputs solutions → (number : ℕ) → IsStepOf inputs number → IsUnder inputs.inputs.case threshold t (solutions number)
-  pub reaches : (t : ℕ) → t < length inputs.inputs.case.transformers → peak_verdict inputs.inputs.case threshold peaks t ≡ Reaches →
+  pub below : (t : ℕ) → t < length inputs.case.transformers → peak_verdict inputs.case threshold peaks t ≡ Below →
+      (solutions : ℕ → Solution) → AreStepSolutions inputs solutions → (number : ℕ) → IsStepOf inputs number → IsUnder inputs.case threshold t (solutions number)
+  pub reaches : (t : ℕ) → t < length inputs.case.transformers → peak_verdict inputs.case threshold peaks t ≡ Reaches →
       (solutions : ℕ → Solution) → AreStepSolutions inputs solutions → IsAtLeastOnce inputs threshold t solutions
-  pub undecided : (t : ℕ) → t < length inputs.inputs.case.transformers → peak_verdict inputs.inputs.case threshold peaks t ≡ Undecided →
+  pub undecided : (t : ℕ) → t < length inputs.case.transformers → peak_verdict inputs.case threshold peaks t ≡ Undecided →
       IsAcross threshold (effective_at peaks t)

@@ -23,15 +23,15 @@ detail_of inputs detail views = option_map (detail_at inputs views) (asked_step 
 -- the text of a report of these views and of these peaks, with the texts that monitors plan for the roster of the case and these views
 abbrev pub report_text : StormInputs → (detail : Option ℕ) → (plans : RosterView → List View → List (List ℕ)) → List View → (peaks : View) → List ℕ
 report_text inputs detail plans views peaks =
-    study_text inputs.inputs.case inputs.inputs.question.width (threshold_of inputs.inputs.question.event) (length (steps_in inputs.storm.rows))
-    (detail_of inputs detail views) peaks (plans (roster_of inputs.inputs.case inputs.inputs.question.event) views)
+    study_text inputs.case inputs.question.width (threshold_of inputs.question.event) (length (steps_in inputs.storm.rows))
+    (detail_of inputs detail views) peaks (plans (roster_of inputs.case inputs.question.event) views)
 
 -- one list of views is behind the whole text, right for the steps in order; no interval of them is wider than asked, no effective current is beyond 2^52 mA per phase, and the peaks of the text are those of these views
 pub record IsRightStudy (inputs : StormInputs) (detail : Option ℕ) (plans : RosterView → List View → List (List ℕ)) (text : List ℕ) : Type 0 where
   pub views : List View
   pub right : AreRightViews inputs views
-  pub narrow : AreNarrowViews inputs.inputs.case inputs.inputs.question.width views
-  pub small : AreSmallViews inputs.inputs.case views
+  pub narrow : AreNarrowViews inputs.case inputs.question.width views
+  pub small : AreSmallViews inputs.case views
   pub peaks : View
   pub peaks_are : IsPeaksOf views peaks
   pub text_is : text ≡ report_text inputs detail plans views peaks

@@ -21,7 +21,7 @@ pub record IsRoomForViews (case : Lists) (views : Views) : Type 0 where
 
 -- the view is solved for the step, and none of its intervals is wider than asked
 abbrev pub IsViewOf : StormInputs → (number : ℕ) → View → Type 0
-IsViewOf inputs number view = IsSolvedStep inputs inputs.inputs.question.width number view
+IsViewOf inputs number view = IsSolvedStep inputs inputs.question.width number view
 
 -- one view more is behind the peaks
 abbrev pub AreRaisedBy : View → (old new : View) → Type 0
@@ -43,16 +43,16 @@ pub record HasShown (inputs : StormInputs) (asked : Option ℕ) (number : ℕ) (
   pub raised : AreRaisedBy view old.peaks new.peaks
   pub stays : new.asked ≡ (if is_asked asked number then view else old.asked)
   pub texts : AreShown view before now
-  pub room : IsRoomForViews inputs.inputs.case new
+  pub room : IsRoomForViews inputs.case new
 
 -- one list of views is behind the peaks, the asked view and the texts: right for the first steps, this many, narrow and small
 pub record HasSeen (inputs : StormInputs) (asked : Option ℕ) (count : ℕ) (before now : List View → List (List ℕ)) (seen : Views) : Type 0 where
   pub views : List View
   pub one_each : length views ≡ count
   pub right : AreRightSoFar inputs views
-  pub narrow : AreNarrowViews inputs.inputs.case inputs.inputs.question.width views
-  pub small : AreSmallViews inputs.inputs.case views
+  pub narrow : AreNarrowViews inputs.case inputs.question.width views
+  pub small : AreSmallViews inputs.case views
   pub peaks_are : IsPeaksOf views seen.peaks
   pub asked_is : (number : ℕ) → asked ≡ Some number → 1 ≤ number → number ≤ count → seen.asked ≡ view_at views (number - 1)
   pub texts : (rest : List View) → now rest ≡ before (views ++ rest)
-  pub room : IsRoomForViews inputs.inputs.case seen
+  pub room : IsRoomForViews inputs.case seen

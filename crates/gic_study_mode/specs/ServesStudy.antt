@@ -12,8 +12,8 @@ use Rattle.gic_study_mode.specs.declared.fault.StudyFault.TheVariants.{Report, M
 
 -- with so many monitors: as every mode that solves each step, or for want of memory, where the network can be solved at each step and there is a monitor
 abbrev pub ServesStudy : StormInputs → (monitors : ℕ) → (IsRight : List ℕ → Type 0) → (before now : Shown) → Result (Unit {0}) StudyFault → Type 0
-ServesStudy inputs monitors IsRight before now (Ok done) = Serves Solved inputs.inputs.case (storm_steps inputs) IsRight before now (Ok done)
-ServesStudy inputs monitors IsRight before now (Err (Report fault)) = Serves Solved inputs.inputs.case (storm_steps inputs) IsRight before now (Err fault)
+ServesStudy inputs monitors IsRight before now (Ok done) = Serves Solved inputs.case (storm_steps inputs) IsRight before now (Ok done)
+ServesStudy inputs monitors IsRight before now (Err (Report fault)) = Serves Solved inputs.case (storm_steps inputs) IsRight before now (Err fault)
 ServesStudy inputs monitors IsRight before now (Err Memory) = (0 < monitors) × (IsMet Solved (storm_steps inputs) × Keeps before.bytes now.bytes)
 
 -- how the writing of a study ends

@@ -39,7 +39,7 @@ fn study_steps<S: Sink>(
     board: &mut Board,
     out: &mut S,
 ) -> Result<(), StudyFault>
-    requires ranges { IsWithinRanges inputs.now.inputs.question }
+    requires ranges { IsWithinRanges inputs.now.question }
     requires room { IsMadeFor inputs.now detail room.old }
     ensures { ServesStudy inputs.now (length (monitors_of board.old))
         (IsRightStudy inputs.now detail (λ roster views. map (λ m. (⟦<dyn Monitor as Monitor>⟧ m.vtable).outlook m.value views) (monitors_of board.old)))
@@ -71,7 +71,7 @@ pub fn study<S: Sink>(
     room: &mut Room,
     out: &mut S,
 ) -> Result<(), StudyFault>
-    requires ranges { IsWithinRanges inputs.now.inputs.question }
+    requires ranges { IsWithinRanges inputs.now.question }
     requires room { IsMadeFor inputs.now detail room.old.steps }
     ensures { ServesStudy inputs.now (length (monitors_of room.old.board))
         (IsRightStudy inputs.now detail (λ roster views. map (λ m. (⟦<dyn Monitor as Monitor>⟧ m.vtable).outlook m.value views) (monitors_of room.old.board)))

@@ -52,7 +52,7 @@ fn make_steps_room(
     let line = LineBuilder::new(alloc)?;
     let asked = asked_step(inputs, detail);
     let fields = asked_fields(alloc, inputs, asked)?;
-    let roster = roster_of(alloc, &inputs.inputs.case, inputs.inputs.question.event)?;
+    let roster = roster_of(alloc, &inputs.case, inputs.question.event)?;
     let course = Course::new(alloc, inputs)?;
     let views = make_views(alloc, inputs, &course)?;
     Ok(StepsRoom {
@@ -91,7 +91,7 @@ pub fn make_room(
     ensures made { IfOk result (λ room. IsMadeFor inputs.now detail room.steps) }
     ensures count { IfOk result (λ room. length (monitors_of room.board) ≡ length monitors.items) }
     ensures plans { IfOk result (λ room. (views : List View) → map (λ m. (⟦<dyn Monitor as Monitor>⟧ m.vtable).outlook m.value views) (monitors_of room.board)
-        ≡ map (λ m. plan m (roster_of inputs.now.inputs.case inputs.now.inputs.question.event) views) monitors.items) }
+        ≡ map (λ m. plan m (roster_of inputs.now.case inputs.now.question.event) views) monitors.items) }
 {
     let steps = make_steps_room(alloc, inputs, detail)?;
     let mut board = Board::new(monitors);

@@ -35,18 +35,18 @@ fn see_step(
     peaks: &mut Peaks,
     board: &mut Board,
 )
-    requires ranges { IsWithinRanges inputs.now.inputs.question }
+    requires ranges { IsWithinRanges inputs.now.question }
     requires shows { CanShow inputs.now course.old }
     requires step { IsStepOf inputs.now number }
-    requires view { HasViewLengths inputs.now.inputs.case view.old }
-    requires peaks { HasViewLengths inputs.now.inputs.case peaks.old }
+    requires view { HasViewLengths inputs.now.case view.old }
+    requires peaks { HasViewLengths inputs.now.case peaks.old }
     ensures shows { CanShow inputs.now course.new }
     ensures view { IsViewOf inputs.now number view.new }
     ensures raised { AreRaisedBy view.new peaks.old peaks.new }
-    ensures lengths { HasViewLengths inputs.now.inputs.case peaks.new }
+    ensures lengths { HasViewLengths inputs.now.case peaks.new }
     ensures texts { AreShown view.new (λ views. map (λ m. (⟦<dyn Monitor as Monitor>⟧ m.vtable).outlook m.value views) (monitors_of board.old)) (λ views. map (λ m. (⟦<dyn Monitor as Monitor>⟧ m.vtable).outlook m.value views) (monitors_of board.new)) }
 {
-    let width = inputs.inputs.question.width;
+    let width = inputs.question.width;
     course.show(inputs, number, width, view);
     peaks.see(view);
     board.see(view);
@@ -61,10 +61,10 @@ fn see_next(
     views: &mut Views,
     board: &mut Board,
 )
-    requires ranges { IsWithinRanges inputs.now.inputs.question }
+    requires ranges { IsWithinRanges inputs.now.question }
     requires shows { CanShow inputs.now course.old }
     requires step { IsStepOf inputs.now number }
-    requires room { IsRoomForViews inputs.now.inputs.case views.old }
+    requires room { IsRoomForViews inputs.now.case views.old }
     ensures shows { CanShow inputs.now course.new }
     ensures shown { HasShown inputs.now asked number (λ rest. map (λ m. (⟦<dyn Monitor as Monitor>⟧ m.vtable).outlook m.value rest) (monitors_of board.old)) (λ rest. map (λ m. (⟦<dyn Monitor as Monitor>⟧ m.vtable).outlook m.value rest) (monitors_of board.new)) views.old views.new }
 {
@@ -98,9 +98,9 @@ pub(crate) fn see_steps(
     views: &mut Views,
     board: &mut Board,
 )
-    requires ranges { IsWithinRanges inputs.now.inputs.question }
+    requires ranges { IsWithinRanges inputs.now.question }
     requires shows { CanShow inputs.now course.old }
-    requires room { IsRoomForViews inputs.now.inputs.case views.old }
+    requires room { IsRoomForViews inputs.now.case views.old }
     requires of_none { IsPeaksOf [] views.old.peaks }
     ensures seen { HasSeen inputs.now asked (length (steps_in inputs.now.storm.rows)) (λ rest. map (λ m. (⟦<dyn Monitor as Monitor>⟧ m.vtable).outlook m.value rest) (monitors_of board.old)) (λ rest. map (λ m. (⟦<dyn Monitor as Monitor>⟧ m.vtable).outlook m.value rest) (monitors_of board.new)) views.new }
 {

@@ -40,7 +40,7 @@ pub(crate) fn make_views(
     course: &Course,
 ) -> Result<Views, OutOfMemory>
     requires { IsCourseOf inputs.now course.now }
-    ensures room { IfOk result (IsRoomForViews inputs.now.inputs.case) }
+    ensures room { IfOk result (IsRoomForViews inputs.now.case) }
     ensures of_none { IfOk result (λ views. IsPeaksOf [] views.peaks) }
 {
     let asked = course.blank_view(alloc, inputs)?;

@@ -36,16 +36,16 @@ pub(crate) fn write_seen<S: Sink>(
     line: &mut LineBuilder,
     out: &mut S,
 ) -> Result<(), WriteFailed>
-    requires { IfSome fields.now (λ fields. length fields ≡ length inputs.now.inputs.case.zones) }
-    ensures all { let question = inputs.now.inputs.question in OnOk result (Appends (S.written out.old) (S.written out.new)
-        (study_text inputs.now.inputs.case question.width (threshold_of question.event) (length (steps_in inputs.now.storm.rows))
+    requires { IfSome fields.now (λ fields. length fields ≡ length inputs.now.case.zones) }
+    ensures all { let question = inputs.now.question in OnOk result (Appends (S.written out.old) (S.written out.new)
+        (study_text inputs.now.case question.width (threshold_of question.event) (length (steps_in inputs.now.storm.rows))
         (option_map (with_view views.now.asked) fields.now) views.now.peaks (map (λ text. text.items) texts.now))) }
-    ensures part { let question = inputs.now.inputs.question in AppendsPart (S.written out.old) (S.written out.new)
-        (study_text inputs.now.inputs.case question.width (threshold_of question.event) (length (steps_in inputs.now.storm.rows))
+    ensures part { let question = inputs.now.question in AppendsPart (S.written out.old) (S.written out.new)
+        (study_text inputs.now.case question.width (threshold_of question.event) (length (steps_in inputs.now.storm.rows))
         (option_map (with_view views.now.asked) fields.now) views.now.peaks (map (λ text. text.items) texts.now)) }
     ensures cause { HasCause (S.faults out.old) (S.faults out.new) result }
 {
-    let question = &inputs.inputs.question;
+    let question = &inputs.question;
     let setting = Setting {
         width: question.width,
         threshold: question.event.threshold(),
@@ -53,7 +53,7 @@ pub(crate) fn write_seen<S: Sink>(
     };
     let detail = detail_with(fields, &views.asked);
     write_study(
-        &inputs.inputs.case,
+        &inputs.case,
         &setting,
         detail,
         views.peaks.view(),

@@ -37,12 +37,12 @@ equal_enclosed lo hi n q d m some same e =
 wider : (lo hi : ℤ) → IsWithin (2 ^ 52) lo hi → IsWithin most_counted_current lo hi
 wider lo hi small = record { low = omega (arith, small.low); high = omega (arith, small.high) }
 
-pub shown_units : (inputs : StormInputs) (detail : Option ℕ) (plans : RosterView → List View → List (List ℕ)) (text : List ℕ) → IsSound inputs.inputs.case
+pub shown_units : (inputs : StormInputs) (detail : Option ℕ) (plans : RosterView → List View → List (List ℕ)) (text : List ℕ) → IsSound inputs.case
     → (study : IsRightStudy inputs detail plans text) (place : ℕ) → place < length study.views
     → (s : Solution) → IsSolution (standing_at_step inputs (suc place)) (storm_volts inputs (suc place)) s
-    → (currents : Currents) → AreEffectiveCurrents inputs.inputs.case s currents → ShowsUnits (length inputs.inputs.case.transformers) (view_at study.views place) currents
+    → (currents : Currents) → AreEffectiveCurrents inputs.case s currents → ShowsUnits (length inputs.case.transformers) (view_at study.views place) currents
 shown_units inputs detail plans text sound study place within s solves currents own =
-    let case = inputs.inputs.case in
+    let case = inputs.case in
     let view = view_at study.views place in
     let step = study.right.right place within in
     let small : IsSmallView case view = All-get_or (IsSmallView case) study.views place (blank_view 0 0 0) within study.small in

@@ -40,10 +40,10 @@ unit_at case t d within =
     ∙ ap (λ k. pair k (get_or units t d.1)) (zero-add t)
     ∙ ap (pair t) (get_or-map rated_of case.transformers t no_transformer d.1 within)
 
-module _ (fewest : CertainAreFewest) (most : PossibleAreMost) (inputs : StormInputs) (detail : Option ℕ) (plans : RosterView → List View → List (List ℕ)) (text : List ℕ) (sound : IsSound inputs.inputs.case)
+module _ (fewest : CertainAreFewest) (most : PossibleAreMost) (inputs : StormInputs) (detail : Option ℕ) (plans : RosterView → List View → List (List ℕ)) (text : List ℕ) (sound : IsSound inputs.case)
     (study : IsRightStudy inputs detail plans text) (solutions : ℕ → Solution) (solve : AreStepSolutions inputs solutions) where
   abbrev case : Lists
-  case = inputs.inputs.case
+  case = inputs.case
 
   abbrev threshold : ℕ
   threshold = threshold_asked inputs
@@ -132,7 +132,7 @@ module _ (fewest : CertainAreFewest) (most : PossibleAreMost) (inputs : StormInp
   count : length units ≡ length case.transformers
   count = length-enumerate_from 0 (map rated_of case.transformers) ∙ length-map case.transformers rated_of
 
-  pub true_dwells : HasTrueLines (length case.transformers) (IsTrueDwell inputs solutions) (dwell_text (roster_of case inputs.inputs.question.event) views)
+  pub true_dwells : HasTrueLines (length case.transformers) (IsTrueDwell inputs solutions) (dwell_text (roster_of case inputs.question.event) views)
   true_dwells = record {
     lines = map (unit_line threshold views) units;
     text_is = refl;

@@ -86,7 +86,7 @@ near_high lo hi n d width narrow e =
 module _ (law : RangeHoldsEach) (inputs : StormInputs) (detail : Option ℕ) (plans : RosterView → List View → List (List ℕ)) (text : List ℕ)
     (study : IsRightStudy inputs detail plans text) (solutions : ℕ → Solution) (solve : AreStepSolutions inputs solutions) where
   abbrev case : Lists
-  case = inputs.inputs.case
+  case = inputs.case
 
   abbrev width : ℕ
   width = width_asked inputs
@@ -151,7 +151,7 @@ module _ (law : RangeHoldsEach) (inputs : StormInputs) (detail : Option ℕ) (pl
   count : length (seats_of case) ≡ length earthings
   count = length-map (enumerate_from 0 earthings) seat_of ∙ length-enumerate_from 0 earthings
 
-  pub true_earthings : HasTrueLines (length earthings) (IsTrueEarthing inputs solutions) (earth_text (roster_of case inputs.inputs.question.event) views)
+  pub true_earthings : HasTrueLines (length earthings) (IsTrueEarthing inputs solutions) (earth_text (roster_of case inputs.question.event) views)
   true_earthings = record {
     lines = map (seat_line views) (seats_of case);
     text_is = refl;

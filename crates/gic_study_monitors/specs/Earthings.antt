@@ -32,11 +32,11 @@ IsTrueRangeIfAny inputs solutions place (Some range) = IsTrueRange inputs soluti
 -- the line has the name of the earthing at this place among the elements, and its range, or `open` where there is none
 pub record IsTrueEarthing (inputs : StormInputs) (solutions : ℕ → Solution) (place : ℕ) (line : List (List ℕ)) : Type 0 where
   pub earthing : Element
-  pub own : slice_get (elements_of inputs.inputs.case).list place ≡ Some earthing
+  pub own : slice_get (elements_of inputs.case).list place ≡ Some earthing
   pub range : Option Ends
-  pub line_is : line ≡ earth_line (item_name inputs.inputs.case earthing.item) range
+  pub line_is : line ≡ earth_line (item_name inputs.case earthing.item) range
   pub is_true : IsTrueRangeIfAny inputs solutions place range
 
 -- a monitor of earthings prints such a line for each earthing of the case, in order: the earthings are its first elements
 abbrev pub EarthingsAreTrue : Type 0
-EarthingsAreTrue = PrintsTrue earth_text (λ inputs solutions. HasTrueLines (length (earthings_of inputs.inputs.case)) (IsTrueEarthing inputs solutions))
+EarthingsAreTrue = PrintsTrue earth_text (λ inputs solutions. HasTrueLines (length (earthings_of inputs.case)) (IsTrueEarthing inputs solutions))

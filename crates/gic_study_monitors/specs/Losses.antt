@@ -24,8 +24,8 @@ CurrentsExist = (case : Lists) (s : Solution) → IsSound case → 0 < s.denomin
 
 -- whatever solves the network of a step, the step's view in a right study shows these currents as `losses_are_bounded_law` asks
 abbrev pub StudiesShowUnits : Type 0
-StudiesShowUnits = (inputs : StormInputs) (detail : Option ℕ) (plans : RosterView → List View → List (List ℕ)) (text : List ℕ) → IsSound inputs.inputs.case →
+StudiesShowUnits = (inputs : StormInputs) (detail : Option ℕ) (plans : RosterView → List View → List (List ℕ)) (text : List ℕ) → IsSound inputs.case →
     (study : IsRightStudy inputs detail plans text) → (place : ℕ) → place < length study.views →
     (s : Solution) → IsSolution (standing_at_step inputs (suc place)) (storm_volts inputs (suc place)) s →
-    (currents : Currents) → AreEffectiveCurrents inputs.inputs.case s currents →
-    ShowsUnits (length inputs.inputs.case.transformers) (view_at study.views place) currents
+    (currents : Currents) → AreEffectiveCurrents inputs.case s currents →
+    ShowsUnits (length inputs.case.transformers) (view_at study.views place) currents

@@ -12,7 +12,7 @@ use Rattle.gic_study_mode.specs.Roster.{roster_of}
 
 -- the width that is asked for, in mA
 abbrev pub width_asked : StormInputs → ℕ
-width_asked inputs = inputs.inputs.question.width
+width_asked inputs = inputs.question.width
 
 -- the text has so many lines, and each of them is true of its place
 pub record HasTrueLines (count : ℕ) (IsTrueOf : ℕ → List (List ℕ) → Type 0) (text : List ℕ) : Type 0 where
@@ -23,6 +23,6 @@ pub record HasTrueLines (count : ℕ) (IsTrueOf : ℕ → List (List ℕ) → Ty
 
 -- what a monitor of this plan prints of the views behind a right study of a sound case is true, whatever solves the network of each step
 abbrev pub PrintsTrue : (plan : RosterView → List View → List ℕ) → (IsTrueText : StormInputs → (solutions : ℕ → Solution) → List ℕ → Type 0) → Type 0
-PrintsTrue plan IsTrueText = (inputs : StormInputs) (detail : Option ℕ) (plans : RosterView → List View → List (List ℕ)) (text : List ℕ) → IsSound inputs.inputs.case →
+PrintsTrue plan IsTrueText = (inputs : StormInputs) (detail : Option ℕ) (plans : RosterView → List View → List (List ℕ)) (text : List ℕ) → IsSound inputs.case →
     (study : IsRightStudy inputs detail plans text) → (solutions : ℕ → Solution) → AreStepSolutions inputs solutions →
-    IsTrueText inputs solutions (plan (roster_of inputs.inputs.case inputs.inputs.question.event) study.views)
+    IsTrueText inputs solutions (plan (roster_of inputs.case inputs.question.event) study.views)

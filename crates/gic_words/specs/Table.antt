@@ -6,7 +6,6 @@ use Rattle.std.specs.Str.{bytes_eq}
 use Rattle.gic_base.specs.declared.limits.TheConstants.{MOST_FIELD, MOST_ROWS}
 use Rattle.gic_words.specs.declared.option.Form.{Form}
 use Rattle.gic_words.specs.declared.option.Form.TheVariants as form
-use Rattle.gic_words.specs.declared.mode.NetworkMode.TheVariants as network
 use Rattle.gic_words.specs.declared.mode.Mode.{Mode}
 use Rattle.gic_words.specs.declared.mode.Mode.TheVariants as mode
 use Rattle.gic_words.specs.declared.mode.Use.{Use}
@@ -76,18 +75,18 @@ mode_row m word required allowed = record { mode = m; word = word; required = re
 -- one row a mode
 abbrev pub mode_rows : List ModeRow
 mode_rows =
-    mode_row (mode.Network network.Volts) (codes "volts") (Case ∷ []) (North ∷ East ∷ [])
-    ∷ mode_row (mode.Network network.List) (codes "list") (Case ∷ []) []
-    ∷ mode_row (mode.Network network.Check) (codes "check") (Case ∷ []) (Switch ∷ [])
-    ∷ mode_row (mode.Network network.Field) (codes "field") (Case ∷ []) (North ∷ East ∷ Switch ∷ Width ∷ Event ∷ [])
-    ∷ mode_row (mode.Network network.Screen) (codes "screen") (Case ∷ []) (Switch ∷ Width ∷ Event ∷ [])
-    ∷ mode_row (mode.Network network.Certify) (codes "certify") (Case ∷ []) (North ∷ East ∷ Switch ∷ [])
-    ∷ mode_row (mode.Network network.Outage) (codes "outage") (Case ∷ []) (Switch ∷ Width ∷ Event ∷ [])
+    mode_row mode.Volts (codes "volts") (Case ∷ []) (North ∷ East ∷ [])
+    ∷ mode_row mode.List (codes "list") (Case ∷ []) []
+    ∷ mode_row mode.Check (codes "check") (Case ∷ []) (Switch ∷ [])
+    ∷ mode_row mode.Field (codes "field") (Case ∷ []) (North ∷ East ∷ Switch ∷ Width ∷ Event ∷ [])
+    ∷ mode_row mode.Screen (codes "screen") (Case ∷ []) (Switch ∷ Width ∷ Event ∷ [])
+    ∷ mode_row mode.Certify (codes "certify") (Case ∷ []) (North ∷ East ∷ Switch ∷ [])
+    ∷ mode_row mode.Outage (codes "outage") (Case ∷ []) (Switch ∷ Width ∷ Event ∷ [])
     ∷ mode_row mode.Study (codes "study") (Case ∷ Storm ∷ []) (Switch ∷ Width ∷ Detail ∷ Event ∷ [])
     ∷ mode_row mode.Make (codes "make") (Seed ∷ Size ∷ []) []
     ∷ mode_row mode.Recheck (codes "recheck") (Case ∷ Cert ∷ []) (Switch ∷ [])
     ∷ mode_row mode.Series (codes "series") (Case ∷ Storm ∷ Transformer ∷ []) (Switch ∷ Width ∷ [])
-    ∷ mode_row (mode.Network network.Review) (codes "review") (Case ∷ []) []
+    ∷ mode_row mode.Review (codes "review") (Case ∷ []) []
     ∷ []
 
 -- the first of these rows that has the word

@@ -5,9 +5,9 @@ ghost use Rattle.gic_words.specs.Seen.{row_seen};
 
 use crate::option::Opt;
 
-/// What words may ask of the network of a case.
+/// What words may ask for.
 #[derive(Clone, Copy, Debug, PartialEq, Eq)]
-pub enum NetworkMode {
+pub enum Mode {
     /// The voltage of each line in one field.
     Volts,
     /// The elements of the direct-current network.
@@ -22,23 +22,16 @@ pub enum NetworkMode {
     Certify,
     /// The worst orientations once more without each line and without each transformer, one at a time.
     Outage,
-    /// What the case says that its writer may not have meant.
-    Review,
-}
-
-/// What words may ask for.
-#[derive(Clone, Copy, Debug, PartialEq, Eq)]
-pub enum Mode {
-    /// Something of the network of a case, with all its switchings in force.
-    Network(NetworkMode),
     /// A storm over the network of a case, with the switchings in its course: peaks and verdicts.
     Study,
     /// A summary of a made case in the field of the benchmark event.
     Make,
-    /// The potentials that a certificate shows of the network of a case, with all its switchings in force.
+    /// The potentials that a certificate shows of the network of a case.
     Recheck,
     /// One transformer at each step of a storm over the network of a case, with the switchings in its course.
     Series,
+    /// What the case says that its writer may not have meant.
+    Review,
 }
 
 /// Whether a mode has a use for an option.
@@ -66,43 +59,43 @@ pub(crate) struct ModeRow {
 /// One row a mode.
 static ROWS: [ModeRow; 12] = [
     ModeRow {
-        mode: Mode::Network(NetworkMode::Volts),
+        mode: Mode::Volts,
         word: "volts",
         required: &[Opt::Case],
         allowed: &[Opt::North, Opt::East],
     },
     ModeRow {
-        mode: Mode::Network(NetworkMode::List),
+        mode: Mode::List,
         word: "list",
         required: &[Opt::Case],
         allowed: &[],
     },
     ModeRow {
-        mode: Mode::Network(NetworkMode::Check),
+        mode: Mode::Check,
         word: "check",
         required: &[Opt::Case],
         allowed: &[Opt::Switch],
     },
     ModeRow {
-        mode: Mode::Network(NetworkMode::Field),
+        mode: Mode::Field,
         word: "field",
         required: &[Opt::Case],
         allowed: &[Opt::North, Opt::East, Opt::Switch, Opt::Width, Opt::Event],
     },
     ModeRow {
-        mode: Mode::Network(NetworkMode::Screen),
+        mode: Mode::Screen,
         word: "screen",
         required: &[Opt::Case],
         allowed: &[Opt::Switch, Opt::Width, Opt::Event],
     },
     ModeRow {
-        mode: Mode::Network(NetworkMode::Certify),
+        mode: Mode::Certify,
         word: "certify",
         required: &[Opt::Case],
         allowed: &[Opt::North, Opt::East, Opt::Switch],
     },
     ModeRow {
-        mode: Mode::Network(NetworkMode::Outage),
+        mode: Mode::Outage,
         word: "outage",
         required: &[Opt::Case],
         allowed: &[Opt::Switch, Opt::Width, Opt::Event],
@@ -132,7 +125,7 @@ static ROWS: [ModeRow; 12] = [
         allowed: &[Opt::Switch, Opt::Width],
     },
     ModeRow {
-        mode: Mode::Network(NetworkMode::Review),
+        mode: Mode::Review,
         word: "review",
         required: &[Opt::Case],
         allowed: &[],

@@ -1,42 +1,32 @@
-use Rattle.std.proofs.Common.{rules}
-use Rattle.std.specs.Prelude.{Ok, Err}
-use Rattle.gic_ask.proofs.InTurn.{reads_by, last_step, last_fails}
-use Rattle.gic_ask.proofs.AllNamed.{no_case, case_fails, after_case, unfound, found, storm_fails, storm_read, over_with}
+use Rattle.std.proofs.Common.{List, ℕ, Option, Some, Ok, Err, refl}
+use Rattle.gic_inputs.specs.declared.inputs.StormInputs.{StormInputs}
+use Rattle.gic_model.specs.declared.parts.Switching.{Switching}
+use Rattle.gic_ask.specs.Contents.{Names, file_named, of_case}
+use Rattle.gic_ask.specs.Outcome.{reading_storm, reading_after_storm}
+use Rattle.gic_ask.specs.declared.fault.File.TheVariants as file
+use Rattle.gic_ask.proofs.InTurn.{reads_by, file_fails, file_read, last_step, last_fails}
+use Rattle.gic_ask.proofs.AllNamed.{up_to_storm}
 use Rattle.gic_ask.proofs.gathering.over_case.Goals as goal
 
-pub returns-in_err-case-clause-reads : goal.returns-in_err-case-clause-reads
-returns-in_err-case-clause-reads g c =
-    reads_by _ _ _ _ _ _ c.from_residual.result c.in_err-case.field-0.0 c.from_residual.ensures.1
-    (case_fails _ _ _ _ c.as_str.result.now c.in_err-case.field-0.0 (search (rules, c.in-Some.is, c.as_str.ensures)) c.in_err-case.ensures.gives)
-
-pub returns-in-Err-clause-reads : goal.returns-in-Err-clause-reads
-returns-in-Err-clause-reads g c =
-    unfound _ _ _ _ c.as_str.result.now c.in_ok-case.case c.in-Err.refusal (search (rules, c.in-Some.is, c.as_str.ensures)) c.in_ok-case.ensures.gives c.in-Err.ensures.place
-
 pub returns-in_err-storm-clause-reads : goal.returns-in_err-storm-clause-reads
-returns-in_err-storm-clause-reads g c =
-    reads_by _ _ _ _ _ _ c.from_residual-in_err-storm.result c.in_err-storm.field-0.0 c.from_residual-in_err-storm.ensures.1
-    (after_case _ _ _ _ _ _ c.as_str.result.now c.in_ok-case.case (Err c.in_err-storm.field-0.0) (search (rules, c.in-Some.is, c.as_str.ensures))
-    c.in_ok-case.ensures.gives c.in_ok-case.ensures.content
-    (found _ _ _ _ c.in_ok-case.case c.in-Ok.place (Err c.in_err-storm.field-0.0) c.in-Ok.ensures.place
-    (storm_fails _ _ _ _ c.in_ok-case.case c.in-Ok.place c.in_err-storm.field-0.0 c.in_err-storm.ensures.reads)))
+returns-in_err-storm-clause-reads g c = λ case_name.
+    reads_by _ _ _ _ _ _ c.from_residual.result c.in_err-storm.field-0.0 c.from_residual.ensures.1
+    (file_fails _ (record (of_case case_name c.args.switch.now) { storm = Some c.args.name.now }) file.Storm c.args.name.now (reading_storm c.args.case) (file_named file.Switch c.args.switch.now)
+    (reading_after_storm c.args.switch.now c.args.question c.args.case) _ _ c.in_err-storm.field-0.0 refl c.in_err-storm.ensures.gives)
 
 pub returns-in_err-switchings-clause-reads : goal.returns-in_err-switchings-clause-reads
-returns-in_err-switchings-clause-reads g c =
-    reads_by _ _ _ _ _ _ c.from_residual-in_err-switchings.result c.in_err-switchings.field-0.0 c.from_residual-in_err-switchings.ensures.1
-    (after_case _ _ _ _ _ _ c.as_str.result.now c.in_ok-case.case (Err c.in_err-switchings.field-0.0) (search (rules, c.in-Some.is, c.as_str.ensures))
-    c.in_ok-case.ensures.gives c.in_ok-case.ensures.content
-    (found _ _ _ _ c.in_ok-case.case c.in-Ok.place (Err c.in_err-switchings.field-0.0) c.in-Ok.ensures.place
-    (storm_read _ _ _ _ _ _ c.in_ok-case.case c.in-Ok.place c.in_ok-storm.storm _ c.in_ok-storm.ensures.reads c.in_ok-storm.ensures.content
-    (last_fails _ _ _ _ (over_with c.args.options.now c.in_ok-case.case c.in-Ok.place c.in_ok-storm.storm) _ _ c.in_err-switchings.field-0.0 c.in_err-switchings.ensures.reads))))
+returns-in_err-switchings-clause-reads g c = λ case_name.
+    let names : Names = record (of_case case_name c.args.switch.now) { storm = Some c.args.name.now } in
+    let make : Option (List Switching) → StormInputs = λ rows. record { case = c.args.case; switchings = rows; storm = c.in_ok-storm.storm; question = c.args.question } in
+    reads_by _ names _ _ _ _ c.from_residual-in_err-switchings.result c.in_err-switchings.field-0.0 c.from_residual-in_err-switchings.ensures.1
+    (file_read _ names file.Storm c.args.name.now (reading_storm c.args.case) (file_named file.Switch c.args.switch.now) (reading_after_storm c.args.switch.now c.args.question c.args.case)
+    up_to_storm _ _ _ _ c.in_ok-storm.storm (Err c.in_err-switchings.field-0.0) refl refl (λ one two. refl) c.in_ok-storm.ensures.gives c.in_ok-storm.ensures.content
+    (last_fails _ names _ _ make _ _ c.in_err-switchings.field-0.0 (c.in_err-switchings.ensures.reads names)))
 
 pub returns-clause-reads : goal.returns-clause-reads
-returns-clause-reads g c =
-    after_case _ _ _ _ _ _ c.as_str.result.now c.in_ok-case.case (Ok (over_with c.args.options.now c.in_ok-case.case c.in-Ok.place c.in_ok-storm.storm c.in_ok-switchings.switchings))
-    (search (rules, c.in-Some.is, c.as_str.ensures)) c.in_ok-case.ensures.gives c.in_ok-case.ensures.content
-    (found _ _ _ _ c.in_ok-case.case c.in-Ok.place _ c.in-Ok.ensures.place
-    (storm_read _ _ _ _ _ _ c.in_ok-case.case c.in-Ok.place c.in_ok-storm.storm _ c.in_ok-storm.ensures.reads c.in_ok-storm.ensures.content
-    (last_step _ _ _ _ (over_with c.args.options.now c.in_ok-case.case c.in-Ok.place c.in_ok-storm.storm) _ _ c.in_ok-switchings.switchings c.in_ok-switchings.ensures.reads)))
-
-pub returns-in_default-clause-reads : goal.returns-in_default-clause-reads
-returns-in_default-clause-reads g c = no_case _ c.args.options.now _ (search rules)
+returns-clause-reads g c = λ case_name.
+    let names : Names = record (of_case case_name c.args.switch.now) { storm = Some c.args.name.now } in
+    let make : Option (List Switching) → StormInputs = λ rows. record { case = c.args.case; switchings = rows; storm = c.in_ok-storm.storm; question = c.args.question } in
+    file_read _ names file.Storm c.args.name.now (reading_storm c.args.case) (file_named file.Switch c.args.switch.now) (reading_after_storm c.args.switch.now c.args.question c.args.case)
+    up_to_storm _ _ _ _ c.in_ok-storm.storm (Ok (make c.in_ok-switchings.switchings)) refl refl (λ one two. refl) c.in_ok-storm.ensures.gives c.in_ok-storm.ensures.content
+    (last_step _ names _ _ make _ _ c.in_ok-switchings.switchings (c.in_ok-switchings.ensures.reads names))

@@ -12,7 +12,7 @@ use Rattle.gic_course.proofs.preparing.settle_epoch.Goals as goal
 
 pub returns-in-Superpose-clause-settled : goal.returns-in-Superpose-clause-settled
 returns-in-Superpose-clause-settled c =
-    let case = c.args.inputs.now.inputs.case in
+    let case = c.args.inputs.now.case in
     let stand = standing c.args.net.now in
     let done = c.prepare_uncounted.ensures in
     let there : is_some c.args.room.now.bases ≡ true = sym c.is_some.ensures ∙ superposes_with c.args.epoch c.zones.result c.is_some.result (sym c.by_count.ensures ∙ c.in-Superpose.is) in

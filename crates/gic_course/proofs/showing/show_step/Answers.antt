@@ -21,7 +21,7 @@ show_fields-requires-clause-can c =
         superposes = ready.space.superposes;
         base_room = ready.space.base_room;
       };
-      settled = settled_with_fields c.args.way c.args.inputs.now.inputs.case c.args.net.now c.args.room.now _ ready.settled;
+      settled = settled_with_fields c.args.way c.args.inputs.now.case c.args.net.now c.args.room.now _ ready.settled;
     }
 
 both_told : (view numbered timed : View) (number time : ℕ) → numbered ≡ record view { number = number } → timed ≡ record numbered { time = time } → timed ≡ record view { number = number; time = time }
@@ -33,7 +33,7 @@ told c = both_told c.show_fields.new.view c.set_number.new.self c.set_time.new.s
 pub returns-clause-shown : goal.returns-clause-shown
 returns-clause-shown c =
     let inputs = c.args.inputs.now in
-    let case = inputs.inputs.case in
+    let case = inputs.case in
     let stands = standing_at_step inputs c.args.number in
     let fields = storm_fields inputs c.args.number in
     subst (IsShownIn case stands fields c.args.width) (sym (told c))

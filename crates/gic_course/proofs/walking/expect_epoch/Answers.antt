@@ -19,8 +19,8 @@ returns-in_err-look-clause-err c =
     let e = c.args.epoch in
     let refusal = c.in_err-look.field-0.0 in
     let stands = c.put_in_force-changed.ensures.stands e.first (first_step inputs e c.requires.epoch) in
-    refused c.from_residual.result refusal (Fails Solved inputs.inputs.case e.first (standing_at_step inputs e.first)) c.from_residual.ensures.1
-    (subst (λ (s : List Placed). Fails Solved inputs.inputs.case e.first s refusal) stands c.in_err-look.ensures.err)
+    refused c.from_residual.result refusal (Fails Solved inputs.case e.first (standing_at_step inputs e.first)) c.from_residual.ensures.1
+    (subst (λ (s : List Placed). Fails Solved inputs.case e.first s refusal) stands c.in_err-look.ensures.err)
 
 pub returns-clause-solvable : goal.returns-clause-solvable
 returns-clause-solvable c = λ number has. subst IsSolvable (c.put_in_force-changed.ensures.stands number has) c.in_ok-look.ensures.ready.solvable

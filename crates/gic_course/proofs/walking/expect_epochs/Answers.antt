@@ -16,7 +16,7 @@ pub returns-in_err-expect_epoch-clause-unmet : goal.returns-in_err-expect_epoch-
 returns-in_err-expect_epoch-clause-unmet c =
     let inputs = c.args.inputs.now in
     let i = c.loop-place.place in
-    refused c.from_residual.result c.in_err-expect_epoch.field-0.0 (IsUnmet Solved inputs.inputs.case (storm_steps inputs)) c.from_residual.ensures.1
+    refused c.from_residual.result c.in_err-expect_epoch.field-0.0 (IsUnmet Solved inputs.case (storm_steps inputs)) c.from_residual.ensures.1
     (walk_stops inputs _ (drop (i + 1) c.args.epochs.now) c.in_err-expect_epoch.field-0.0
     (walked_at inputs c.args.epochs.now i _ c.loop-place-test.true c.loop-place.invariant.walked) c.in_err-expect_epoch.ensures.err)
 

@@ -12,5 +12,5 @@ invariant-loop-place l = record {
   walked : Walked l.inputs (drop l.place l.epochs);
   seen : 0 < l.place → IsSolvable (standing l.switched.net);
   switched : IsSwitchedFor l.inputs l.switched;
-  space : IsRoomForCourse l.inputs.inputs.case l.room;
+  space : IsRoomForCourse l.inputs.case l.room;
 }

@@ -7,9 +7,33 @@ use Rattle.gic_study.specs.Modes.{Plans}
 use Rattle.gic_study.proofs.Served.{of_asked}
 use Rattle.gic_study.proofs.modes.serve.Goals as goal
 
-pub returns-in-Network : goal.returns-in-Network
-returns-in-Network g c =
-    of_asked _ c.args.asked.now _ (shown g.S.Sink.written g.S.Sink.faults c.args.out.now) (shown g.S.Sink.written g.S.Sink.faults c.serve_network.new.out) c.serve_network.result c.in-Network.is (c.serve_network.ensures _)
+pub returns-in-Volts : goal.returns-in-Volts
+returns-in-Volts g c =
+    of_asked _ c.args.asked.now _ (shown g.S.Sink.written g.S.Sink.faults c.args.out.now) (shown g.S.Sink.written g.S.Sink.faults c.serve_volts.new.out) c.serve_volts.result c.in-Volts.is (c.serve_volts.ensures _)
+
+pub returns-in-List : goal.returns-in-List
+returns-in-List g c =
+    of_asked _ c.args.asked.now _ (shown g.S.Sink.written g.S.Sink.faults c.args.out.now) (shown g.S.Sink.written g.S.Sink.faults c.serve_list.new.out) c.serve_list.result c.in-List.is (c.serve_list.ensures _)
+
+pub returns-in-Check : goal.returns-in-Check
+returns-in-Check g c =
+    of_asked _ c.args.asked.now _ (shown g.S.Sink.written g.S.Sink.faults c.args.out.now) (shown g.S.Sink.written g.S.Sink.faults c.serve_check.new.out) c.serve_check.result c.in-Check.is (c.serve_check.ensures _)
+
+pub returns-in-Field : goal.returns-in-Field
+returns-in-Field g c =
+    of_asked _ c.args.asked.now _ (shown g.S.Sink.written g.S.Sink.faults c.args.out.now) (shown g.S.Sink.written g.S.Sink.faults c.serve_field.new.out) c.serve_field.result c.in-Field.is (c.serve_field.ensures _)
+
+pub returns-in-Screen : goal.returns-in-Screen
+returns-in-Screen g c =
+    of_asked _ c.args.asked.now _ (shown g.S.Sink.written g.S.Sink.faults c.args.out.now) (shown g.S.Sink.written g.S.Sink.faults c.serve_screen.new.out) c.serve_screen.result c.in-Screen.is (c.serve_screen.ensures _)
+
+pub returns-in-Certify : goal.returns-in-Certify
+returns-in-Certify g c =
+    of_asked _ c.args.asked.now _ (shown g.S.Sink.written g.S.Sink.faults c.args.out.now) (shown g.S.Sink.written g.S.Sink.faults c.serve_certify.new.out) c.serve_certify.result c.in-Certify.is (c.serve_certify.ensures _)
+
+pub returns-in-Outage : goal.returns-in-Outage
+returns-in-Outage g c =
+    of_asked _ c.args.asked.now _ (shown g.S.Sink.written g.S.Sink.faults c.args.out.now) (shown g.S.Sink.written g.S.Sink.faults c.serve_outage.new.out) c.serve_outage.result c.in-Outage.is (c.serve_outage.ensures _)
 
 pub returns-in-Study : goal.returns-in-Study
 returns-in-Study g c =
@@ -30,3 +54,7 @@ returns-in-Recheck g c =
 pub returns-in-Series : goal.returns-in-Series
 returns-in-Series g c =
     of_asked _ c.args.asked.now _ (shown g.S.Sink.written g.S.Sink.faults c.args.out.now) (shown g.S.Sink.written g.S.Sink.faults c.serve_series.new.out) c.serve_series.result c.in-Series.is (c.serve_series.ensures _)
+
+pub returns-in-Review : goal.returns-in-Review
+returns-in-Review g c =
+    of_asked _ c.args.asked.now _ (shown g.S.Sink.written g.S.Sink.faults c.args.out.now) (shown g.S.Sink.written g.S.Sink.faults c.serve_review.new.out) c.serve_review.result c.in-Review.is (c.serve_review.ensures _)

@@ -1,7 +1,6 @@
-use Rattle.std.proofs.Common.{refl}
 use Rattle.gic_ask.specs.declared.request.Asked.TheVariants.{Make}
 use Rattle.gic_stand.specs.Serves.{shown}
-use Rattle.gic_study.proofs.Served.{of_made_case, lacking_room}
+use Rattle.gic_study.proofs.Served.{by_report, lacking_room}
 use Rattle.gic_study.proofs.modes.serve_make.Goals as goal
 
 pub returns-in_err-room : goal.returns-in_err-room
@@ -10,5 +9,5 @@ returns-in_err-room g c = λ plans.
 
 pub returns : goal.returns
 returns g c = λ plans.
-    of_made_case plans (Make c.args.seed c.args.size) c.args.seed c.args.size (shown g.S.Sink.written g.S.Sink.faults c.args.out.now) (shown g.S.Sink.written g.S.Sink.faults c.make.new.out)
-    c.make.result c.reported.result refl c.make.ensures c.reported.ensures
+    by_report plans (Make c.args.seed c.args.size) (shown g.S.Sink.written g.S.Sink.faults c.args.out.now) (shown g.S.Sink.written g.S.Sink.faults c.make.new.out)
+    c.make.result c.reported.result c.make.ensures c.reported.ensures

@@ -1,7 +1,6 @@
-use Rattle.std.proofs.Common.{refl}
 use Rattle.gic_ask.specs.declared.request.Asked.TheVariants.{Series}
 use Rattle.gic_stand.specs.Serves.{shown}
-use Rattle.gic_study.proofs.Served.{of_transformer, lacking_room}
+use Rattle.gic_study.proofs.Served.{by_report, lacking_room}
 use Rattle.gic_study.proofs.modes.serve_series.Goals as goal
 
 pub returns-in_err-room : goal.returns-in_err-room
@@ -10,5 +9,5 @@ returns-in_err-room g c = λ plans.
 
 pub returns : goal.returns
 returns g c = λ plans.
-    of_transformer plans (Series c.args.inputs.now c.args.transformer) c.args.inputs.now c.args.transformer (shown g.S.Sink.written g.S.Sink.faults c.args.out.now) (shown g.S.Sink.written g.S.Sink.faults c.series.new.out)
-    c.series.result c.reported.result refl c.series.ensures c.reported.ensures
+    by_report plans (Series c.args.inputs.now c.args.transformer) (shown g.S.Sink.written g.S.Sink.faults c.args.out.now) (shown g.S.Sink.written g.S.Sink.faults c.series.new.out)
+    c.series.result c.reported.result c.series.ensures c.reported.ensures

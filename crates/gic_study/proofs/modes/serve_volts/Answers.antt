@@ -1,15 +1,13 @@
-use Rattle.std.proofs.Common.{refl}
-use Rattle.gic_ask.specs.declared.request.Asked.TheVariants.{Network}
+use Rattle.gic_ask.specs.declared.request.Asked.TheVariants.{Volts}
 use Rattle.gic_stand.specs.Serves.{shown}
-use Rattle.gic_words.specs.declared.mode.NetworkMode.TheVariants.{Volts}
-use Rattle.gic_study.proofs.Served.{over_network, lacking_room}
+use Rattle.gic_study.proofs.Served.{by_report, lacking_room}
 use Rattle.gic_study.proofs.modes.serve_volts.Goals as goal
 
 pub returns-in_err-room : goal.returns-in_err-room
 returns-in_err-room g c = λ plans.
-    lacking_room plans (Network Volts c.args.inputs.now) (shown g.S.Sink.written g.S.Sink.faults c.args.out.now) c.from_residual.result c.from_residual.ensures.1
+    lacking_room plans (Volts c.args.inputs.now) (shown g.S.Sink.written g.S.Sink.faults c.args.out.now) c.from_residual.result c.from_residual.ensures.1
 
 pub returns : goal.returns
 returns g c = λ plans.
-    over_network plans (Network Volts c.args.inputs.now) Volts c.args.inputs.now (shown g.S.Sink.written g.S.Sink.faults c.args.out.now) (shown g.S.Sink.written g.S.Sink.faults c.volts.new.out)
-    c.volts.result c.reported.result refl c.volts.ensures c.reported.ensures
+    by_report plans (Volts c.args.inputs.now) (shown g.S.Sink.written g.S.Sink.faults c.args.out.now) (shown g.S.Sink.written g.S.Sink.faults c.volts.new.out)
+    c.volts.result c.reported.result c.volts.ensures c.reported.ensures

@@ -8,7 +8,7 @@ returns c = record {
   epochs = c.in_ok-epochs.ensures;
   switched = record {
     network = c.in_ok-switched.ensures.network ∙ c.in_ok-elements.ensures;
-    stands = c.in_ok-switched.ensures.stands (rows_in c.args.inputs.now.inputs.switchings);
+    stands = c.in_ok-switched.ensures.stands (rows_in c.args.inputs.now.switchings);
   };
   space = c.in_ok-room.ensures;
   ready = tt;

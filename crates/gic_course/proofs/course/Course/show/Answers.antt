@@ -33,8 +33,8 @@ returns-clause-shows c =
 pub returns-clause-solved : goal.returns-clause-solved
 returns-clause-solved c =
     let inputs = c.args.inputs.now in
-    let case = inputs.inputs.case in
-    let rows = rows_in_force (time_of_step inputs.storm.rows c.args.number) (rows_in inputs.inputs.switchings) in
+    let case = inputs.case in
+    let rows = rows_in_force (time_of_step inputs.storm.rows c.args.number) (rows_in inputs.switchings) in
     let shown = c.show_step.ensures.shown in
     record {
       number = c.show_step.ensures.number;
@@ -51,9 +51,9 @@ returns-clause-solved c =
 pub returns-clause-absolutes : goal.returns-clause-absolutes
 returns-clause-absolutes c =
     let inputs = c.args.inputs.now in
-    let case = inputs.inputs.case in
+    let case = inputs.case in
     let shown = c.show_step.ensures.shown in
-    let rows = rows_in_force (time_of_step inputs.storm.rows c.args.number) (rows_in inputs.inputs.switchings) in
+    let rows = rows_in_force (time_of_step inputs.storm.rows c.args.number) (rows_in inputs.switchings) in
     view_absolutes c.existence_law.ensures c.potential_law.ensures case (elements_of case) (stands_after rows) (storm_volts inputs c.args.number) c.args.width c.show_step.new.view
     (c.limits_law.ensures case c.keeps_rules.ensures) (solvable_at inputs c.args.number c.requires.shows.solvable c.requires.step) shown.driven c.requires.width.most
     shown.right shown.narrow shown.absolutes

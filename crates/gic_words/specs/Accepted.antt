@@ -1,0 +1,61 @@
+-- What accepted words give: what their mode requires, with numbers in their ranges.
+use Rattle.std.specs.Prelude.{ℕ, ◌≤◌, ◌≡◌, List, IsSome, IsOk, IfOk, IfSome, None, ⊤}
+use Rattle.clap.specs.Words.{Row}
+use Rattle.gic_question.specs.Ranges.{IsWidth, IsWithinCriteria, IsWithinField}
+use Rattle.gic_words.specs.Command.{given}
+use Rattle.gic_words.specs.Requests.{first_fault, mode_in, number_given, request_by, request_of}
+use Rattle.gic_words.specs.Table.{all_options}
+use Rattle.gic_words.specs.declared.mode.Mode.{Mode}
+use Rattle.gic_words.specs.declared.mode.Mode.TheVariants as mode
+use Rattle.gic_words.specs.declared.option.Opt.TheVariants.{Case, Storm, Seed, Size, Cert, Transformer}
+use Rattle.gic_words.specs.declared.request.Request.{Request}
+use Rattle.gic_words.specs.declared.request.Request.TheVariants as request
+
+-- what the mode requires is given
+abbrev pub HasRequiredOf : Mode → List Row → Type 0
+HasRequiredOf mode.Volts rows = IsSome (given rows Case)
+HasRequiredOf mode.List rows = IsSome (given rows Case)
+HasRequiredOf mode.Check rows = IsSome (given rows Case)
+HasRequiredOf mode.Field rows = IsSome (given rows Case)
+HasRequiredOf mode.Screen rows = IsSome (given rows Case)
+HasRequiredOf mode.Certify rows = IsSome (given rows Case)
+HasRequiredOf mode.Outage rows = IsSome (given rows Case)
+HasRequiredOf mode.Study rows = IsSome (given rows Case) × IsSome (given rows Storm)
+HasRequiredOf mode.Make rows = IsSome (number_given rows Seed) × IsSome (number_given rows Size)
+HasRequiredOf mode.Recheck rows = IsSome (given rows Case) × IsSome (given rows Cert)
+HasRequiredOf mode.Series rows = IsSome (given rows Case) × (IsSome (given rows Storm) × IsSome (given rows Transformer))
+HasRequiredOf mode.Review rows = IsSome (given rows Case)
+
+-- matches without a fault have all that their mode's request is made of
+abbrev pub RequiredIsGiven : List Row → Type 0
+RequiredIsGiven rows = IfSome (mode_in rows) (λ r. first_fault r rows all_options ≡ None → HasRequiredOf r.mode rows × IsOk (request_by r.mode rows))
+
+-- a number of sites that a made case may have
+pub record IsSize (n : ℕ) : Type 0 where
+  pub least : 2 ≤ n
+  pub most : n ≤ 1000
+
+-- the numbers of a made case are in their ranges
+pub record AreOfMade (seed size : ℕ) : Type 0 where
+  pub seed_fits : seed ≤ 4294967295
+  pub size_fits : IsSize size
+
+abbrev pub CanBeMade : Request → Type 0
+CanBeMade (request.Make seed size) = AreOfMade seed size
+CanBeMade _ = ⊤
+
+-- those of accepted words are
+abbrev pub MadeInRange : Type 0
+MadeInRange = (words : List (List ℕ)) → IfOk (request_of words) CanBeMade
+
+-- the numbers are in their ranges
+abbrev pub AreWithinRanges : Request → Type 0
+AreWithinRanges (request.Volts case field) = IsWithinField field
+AreWithinRanges (request.Field case switch field criteria) = IsWithinField field × IsWithinCriteria criteria
+AreWithinRanges (request.Screen case switch criteria) = IsWithinCriteria criteria
+AreWithinRanges (request.Certify case switch field) = IsWithinField field
+AreWithinRanges (request.Outage case switch criteria) = IsWithinCriteria criteria
+AreWithinRanges (request.Study case storm switch criteria detail) = IsWithinCriteria criteria
+AreWithinRanges (request.Make seed size) = IsSize size
+AreWithinRanges (request.Series case storm switch width transformer) = IsWidth width
+AreWithinRanges _ = ⊤

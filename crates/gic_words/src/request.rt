@@ -1,0 +1,344 @@
+//! The words, read as a request.
+ghost use Rattle.std.specs.Prelude.{◌≡◌, ◌≤◌, IfOk, IfSome, IsSome, Ok, Some, map, option_map, string_bytes, unsigned_abs};
+ghost use Rattle.clap.specs.Words.{rows_of, found_of};
+ghost use Rattle.gic_base.specs.declared.limits.TheConstants.{MOST_FIELD};
+ghost use Rattle.gic_question.specs.Ranges.{IsWidth, IsWithinCriteria, IsWithinField};
+ghost use Rattle.gic_words.specs.Accepted.{AreWithinRanges, HasRequiredOf, IsSize};
+ghost use Rattle.gic_words.specs.Command.{given};
+ghost use Rattle.gic_words.specs.Within.{IsWithinOption};
+ghost use Rattle.gic_words.specs.Requests.{number_given, count_given, part_given, field_given, width_given, event_given, criteria_given, mode_in};
+ghost use Rattle.gic_words.specs.Requests.{request_by, request_of, request_of_rows};
+ghost use Rattle.gic_words.specs.Reads.{ReadsWords, KeepsTaken};
+ghost use Rattle.gic_words.specs.Seen.{row_seen};
+
+use crate::command::{ParseRefusal, mode_word, parse, value_of};
+use crate::fault::{Usage, WordsRefusal, first_fault};
+use crate::mode::{Mode, ModeRow};
+use crate::name::{FileName, Text};
+use crate::option::Opt;
+use crate::value::{read_event, read_number};
+use clap::ArgMatches;
+use gic_question::{Criteria, UniformField};
+use gic_screen::Event;
+use std::alloc::{AllocError, Global};
+
+/// What words ask for: a mode, and what that mode is given. `case`, `storm`, `switch` and `cert` are the names of the files
+/// of the case, of the storm, of the switchings and of the certificate.
+#[derive(Drop)]
+pub enum Request {
+    /// The voltage of each line in one field.
+    Volts {
+        case: FileName,
+        field: UniformField,
+    },
+    /// The elements of the direct-current network.
+    List {
+        case: FileName,
+    },
+    /// The live and the dead nodes, where each live one is earthed.
+    Check {
+        case: FileName,
+        switch: Option<FileName>,
+    },
+    /// Potentials and currents in one field, with verdicts.
+    Field {
+        case: FileName,
+        switch: Option<FileName>,
+        field: UniformField,
+        criteria: Criteria,
+    },
+    /// The worst orientation of the event's uniform field for each transformer, with verdicts.
+    Screen {
+        case: FileName,
+        switch: Option<FileName>,
+        criteria: Criteria,
+    },
+    /// A certificate of the potentials in one field.
+    Certify {
+        case: FileName,
+        switch: Option<FileName>,
+        field: UniformField,
+    },
+    /// The worst orientations once more without each line and without each transformer.
+    Outage {
+        case: FileName,
+        switch: Option<FileName>,
+        criteria: Criteria,
+    },
+    /// A storm over the network of a case. `detail` is the step that is shown in detail, from 1 to 20000.
+    Study {
+        case: FileName,
+        storm: FileName,
+        switch: Option<FileName>,
+        criteria: Criteria,
+        detail: Option<u32>,
+    },
+    /// A summary of the made case of a seed and a number of sites, from 2 to 1000.
+    Make {
+        seed: u32,
+        size: u16,
+    },
+    /// The potentials that a certificate shows.
+    Recheck {
+        case: FileName,
+        switch: Option<FileName>,
+        cert: FileName,
+    },
+    /// One transformer at each step of a storm: its name in the case, and the width of an interval, from 10 to 10000 mA.
+    Series {
+        case: FileName,
+        storm: FileName,
+        switch: Option<FileName>,
+        width: u32,
+        transformer: Text,
+    },
+    /// What the case says that its writer may not have meant.
+    Review {
+        case: FileName,
+    },
+}
+
+/// The text of an option that is given.
+fn text_given<'a>(matches: &ArgMatches<'a>, option: Opt) -> &'a str
+    requires { IsSome (given (rows_of (found_of matches.now)) option) }
+    ensures { given (rows_of (found_of matches.now)) option ≡ Some result.now }
+{
+    value_of(matches, option).unwrap()
+}
+
+/// The name of a file that is given.
+fn file(alloc: Global, matches: &ArgMatches<'_>, option: Opt) -> Result<FileName, AllocError>
+    requires { IsSome (given (rows_of (found_of matches.now)) option) }
+    ensures { IfOk result (λ name. given (rows_of (found_of matches.now)) option ≡ Some name) }
+{
+    FileName::copy(alloc, text_given(matches, option))
+}
+
+/// The name of the switchings' file, where it is given.
+fn switchings_file(alloc: Global, matches: &ArgMatches<'_>) -> Result<Option<FileName>, AllocError>
+    ensures { IfOk result (λ name. name ≡ given (rows_of (found_of matches.now)) Opt.Switch) }
+{
+    match value_of(matches, Opt::Switch) {
+        Some(text) => {
+            let name = FileName::copy(alloc, text)?;
+            Ok(Some(name))
+        }
+        None => Ok(None),
+    }
+}
+
+/// The name of a transformer that is given.
+fn transformer(alloc: Global, matches: &ArgMatches<'_>) -> Result<Text, AllocError>
+    requires { IsSome (given (rows_of (found_of matches.now)) Opt.Transformer) }
+    ensures { IfOk result (λ name. given (rows_of (found_of matches.now)) Opt.Transformer ≡ Some name) }
+{
+    Text::copy(alloc, text_given(matches, Opt::Transformer))
+}
+
+/// A number that may be given.
+fn number(matches: &ArgMatches<'_>, option: Opt) -> Option<i64>
+    ensures value { result ≡ number_given (rows_of (found_of matches.now)) option }
+    ensures within { IfSome result (IsWithinOption option) }
+{
+    read_number(option, value_of(matches, option)?)
+}
+
+/// The field to the north, in mV/km.
+fn north(matches: &ArgMatches<'_>) -> i32
+    ensures value { result ≡ part_given (rows_of (found_of matches.now)) Opt.North }
+    ensures small { unsigned_abs result ≤ MOST_FIELD }
+{
+    match number(matches, Opt::North) {
+        Some(value) => value as i32,
+        None => 0,
+    }
+}
+
+/// The field to the east, in mV/km.
+fn east(matches: &ArgMatches<'_>) -> i32
+    ensures value { result ≡ part_given (rows_of (found_of matches.now)) Opt.East }
+    ensures small { unsigned_abs result ≤ MOST_FIELD }
+{
+    match number(matches, Opt::East) {
+        Some(value) => value as i32,
+        None => 0,
+    }
+}
+
+/// The field.
+fn field(matches: &ArgMatches<'_>) -> UniformField
+    ensures value { result ≡ field_given (rows_of (found_of matches.now)) }
+    ensures within { IsWithinField result }
+{
+    UniformField {
+        north: north(matches),
+        east: east(matches),
+    }
+}
+
+/// The width of an interval, in mV or mA.
+fn width(matches: &ArgMatches<'_>) -> u32
+    ensures value { result ≡ width_given (rows_of (found_of matches.now)) }
+    ensures within { IsWidth result }
+{
+    match number(matches, Opt::Width) {
+        Some(value) => value as u32,
+        None => 100,
+    }
+}
+
+/// The event that transformers are screened for.
+fn event(matches: &ArgMatches<'_>) -> Event
+    ensures { result ≡ event_given (rows_of (found_of matches.now)) }
+{
+    match value_of(matches, Opt::Event) {
+        Some(text) => match read_event(text) {
+            Some(event) => event,
+            None => Event::Benchmark,
+        },
+        None => Event::Benchmark,
+    }
+}
+
+/// The criteria of a report.
+fn criteria(matches: &ArgMatches<'_>) -> Criteria
+    ensures value { result ≡ criteria_given (rows_of (found_of matches.now)) }
+    ensures within { IsWithinCriteria result }
+{
+    Criteria {
+        width: width(matches),
+        event: event(matches),
+    }
+}
+
+/// The step that is shown in detail.
+fn detail(matches: &ArgMatches<'_>) -> Option<u32>
+    ensures { result ≡ count_given (rows_of (found_of matches.now)) Opt.Detail }
+{
+    match number(matches, Opt::Detail) {
+        Some(value) => Some(value as u32),
+        None => None,
+    }
+}
+
+/// The seed of a made case, which is given.
+fn seed(matches: &ArgMatches<'_>) -> u32
+    requires { IsSome (number_given (rows_of (found_of matches.now)) Opt.Seed) }
+    ensures { count_given (rows_of (found_of matches.now)) Opt.Seed ≡ Some result }
+{
+    number(matches, Opt::Seed).unwrap() as u32
+}
+
+/// The number of sites of a made case, which is given.
+fn size(matches: &ArgMatches<'_>) -> u16
+    requires { IsSome (number_given (rows_of (found_of matches.now)) Opt.Size) }
+    ensures value { count_given (rows_of (found_of matches.now)) Opt.Size ≡ Some result }
+    ensures within { IsSize result }
+{
+    number(matches, Opt::Size).unwrap() as u16
+}
+
+/// What the matches of a mode ask for, which give all that the mode requires.
+fn request_by(alloc: Global, mode: Mode, matches: &ArgMatches<'_>) -> Result<Request, AllocError>
+    requires { HasRequiredOf mode (rows_of (found_of matches.now)) }
+    ensures value { IfOk result (λ r. request_by mode (rows_of (found_of matches.now)) ≡ Ok r) }
+    ensures within { IfOk result AreWithinRanges }
+{
+    match mode {
+        Mode::Volts => Ok(Request::Volts {
+            case: file(alloc, matches, Opt::Case)?,
+            field: field(matches),
+        }),
+        Mode::List => Ok(Request::List {
+            case: file(alloc, matches, Opt::Case)?,
+        }),
+        Mode::Check => Ok(Request::Check {
+            case: file(alloc, matches, Opt::Case)?,
+            switch: switchings_file(alloc, matches)?,
+        }),
+        Mode::Field => Ok(Request::Field {
+            case: file(alloc, matches, Opt::Case)?,
+            switch: switchings_file(alloc, matches)?,
+            field: field(matches),
+            criteria: criteria(matches),
+        }),
+        Mode::Screen => Ok(Request::Screen {
+            case: file(alloc, matches, Opt::Case)?,
+            switch: switchings_file(alloc, matches)?,
+            criteria: criteria(matches),
+        }),
+        Mode::Certify => Ok(Request::Certify {
+            case: file(alloc, matches, Opt::Case)?,
+            switch: switchings_file(alloc, matches)?,
+            field: field(matches),
+        }),
+        Mode::Outage => Ok(Request::Outage {
+            case: file(alloc, matches, Opt::Case)?,
+            switch: switchings_file(alloc, matches)?,
+            criteria: criteria(matches),
+        }),
+        Mode::Study => Ok(Request::Study {
+            case: file(alloc, matches, Opt::Case)?,
+            storm: file(alloc, matches, Opt::Storm)?,
+            switch: switchings_file(alloc, matches)?,
+            criteria: criteria(matches),
+            detail: detail(matches),
+        }),
+        Mode::Make => Ok(Request::Make {
+            seed: seed(matches),
+            size: size(matches),
+        }),
+        Mode::Recheck => Ok(Request::Recheck {
+            case: file(alloc, matches, Opt::Case)?,
+            switch: switchings_file(alloc, matches)?,
+            cert: file(alloc, matches, Opt::Cert)?,
+        }),
+        Mode::Series => Ok(Request::Series {
+            case: file(alloc, matches, Opt::Case)?,
+            storm: file(alloc, matches, Opt::Storm)?,
+            switch: switchings_file(alloc, matches)?,
+            width: width(matches),
+            transformer: transformer(alloc, matches)?,
+        }),
+        Mode::Review => Ok(Request::Review {
+            case: file(alloc, matches, Opt::Case)?,
+        }),
+    }
+}
+
+/// The row of the mode that the matches name.
+fn mode_in(matches: &ArgMatches<'_>) -> Option<&'static ModeRow>
+    ensures { option_map (λ r. row_seen r.now) result ≡ mode_in (rows_of (found_of matches.now)) }
+{
+    ModeRow::named(mode_word(matches)?)
+}
+
+/// What the matches ask for, or their first fault.
+fn read_matches(alloc: Global, matches: &ArgMatches<'_>) -> Result<Request, WordsRefusal>
+    ensures right { ReadsWords (request_of_rows (rows_of (found_of matches.now))) result }
+    ensures within { IfOk result AreWithinRanges }
+{
+    let Some(row) = mode_in(matches) else {
+        return Err(WordsRefusal::Usage(Usage::Mode));
+    };
+    if let Some(fault) = first_fault(row, matches) {
+        return Err(WordsRefusal::Usage(fault));
+    }
+    let request = request_by(alloc, row.mode, matches)?;
+    Ok(request)
+}
+
+/// What the words ask for, or their first fault: `Words`, then `Mode`, then those of the options in the order of their
+/// table. `Memory` comes for want of memory alone.
+pub fn read_words(alloc: Global, words: &[String]) -> Result<Request, WordsRefusal>
+    ensures right { ReadsWords (request_of (map string_bytes words.now)) result }
+    ensures taken { KeepsTaken (map string_bytes words.now) result }
+    // The numbers are in their ranges.
+    ensures within { IfOk result AreWithinRanges }
+{
+    match parse(alloc, words) {
+        Ok(matches) => read_matches(alloc, &matches),
+        Err(ParseRefusal::NotTaken) => Err(WordsRefusal::Usage(Usage::Words)),
+        Err(ParseRefusal::Memory) => Err(WordsRefusal::Memory),
+    }
+}
