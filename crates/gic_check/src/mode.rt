@@ -1,8 +1,6 @@
 //! The report of the mode.
-ghost use Rattle.std.specs.Prelude.{◌≡◌, OnOk, length};
-ghost use Rattle.std.specs.Io.KnownBytes.{Appends};
-ghost use Rattle.gic_base.specs.Causes.{HasCause};
-ghost use Rattle.gic_base.specs.Pieces.{AppendsPart};
+ghost use Rattle.std.specs.Prelude.{◌≡◌, length};
+ghost use Rattle.gic_base.specs.Writes.{Writes};
 ghost use Rattle.gic_net.specs.Net.{standing};
 ghost use Rattle.gic_winding.specs.ElementList.{elements_of};
 ghost use Rattle.gic_stand.specs.Needs.{Earthed};
@@ -31,9 +29,7 @@ fn write_live<S: Sink>(
 ) -> Result<(), WriteFailed>
     requires network { net.now.network ≡ elements_of case.now }
     requires room { length live.old ≡ net.now.network.nodes }
-    ensures all { OnOk result (Appends (S.written out.old) (S.written out.new) (check_text case.now (standing net.now))) }
-    ensures part { AppendsPart (S.written out.old) (S.written out.new) (check_text case.now (standing net.now)) }
-    ensures cause { HasCause (S.faults out.old) (S.faults out.new) result }
+    ensures { Writes S.written S.faults out.old out.new (check_text case.now (standing net.now)) result }
 {
     fill_live(net, live);
     write_check(case, live, line, out)

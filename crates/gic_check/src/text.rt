@@ -1,8 +1,6 @@
 //! The report of the live and the dead nodes.
-ghost use Rattle.std.specs.Prelude.{◌≡◌, ◌≤◌, length, OnOk};
-ghost use Rattle.std.specs.Io.KnownBytes.{Appends};
-ghost use Rattle.gic_base.specs.Causes.{HasCause};
-ghost use Rattle.gic_base.specs.Pieces.{AppendsPart};
+ghost use Rattle.std.specs.Prelude.{◌≡◌, ◌≤◌, length};
+ghost use Rattle.gic_base.specs.Writes.{Writes};
 ghost use Rattle.gic_text.specs.Lines.{line_text, lines_text};
 ghost use Rattle.gic_case.specs.Lists.{node_names};
 ghost use Rattle.gic_check.specs.CheckText.{state_word, state_line, state_lines, live_count, live_count_line, check_report};
@@ -28,11 +26,7 @@ fn write_state<S: Sink>(
     line: &mut LineBuilder,
     out: &mut S,
 ) -> Result<(), WriteFailed>
-    ensures all { OnOk result (Appends (S.written out.old) (S.written out.new)
-        (line_text (state_line name.now live))) }
-    ensures part { AppendsPart (S.written out.old) (S.written out.new)
-        (line_text (state_line name.now live)) }
-    ensures cause { HasCause (S.faults out.old) (S.faults out.new) result }
+    ensures { Writes S.written S.faults out.old out.new (line_text (state_line name.now live)) result }
 {
     line.start();
     line.word(b"node");
@@ -48,11 +42,7 @@ fn write_states<S: Sink>(
     line: &mut LineBuilder,
     out: &mut S,
 ) -> Result<(), WriteFailed>
-    ensures all { OnOk result (Appends (S.written out.old) (S.written out.new)
-        (lines_text (state_lines (node_names case.now) live.now))) }
-    ensures part { AppendsPart (S.written out.old) (S.written out.new)
-        (lines_text (state_lines (node_names case.now) live.now)) }
-    ensures cause { HasCause (S.faults out.old) (S.faults out.new) result }
+    ensures { Writes S.written S.faults out.old out.new (lines_text (state_lines (node_names case.now) live.now)) result }
 {
     for (name, is_live) in NodeNames::of(case).zip(live) {
         write_state(&name, *is_live, line, out)?;
@@ -74,11 +64,7 @@ fn write_live_count<S: Sink>(
     line: &mut LineBuilder,
     out: &mut S,
 ) -> Result<(), WriteFailed>
-    ensures all { OnOk result (Appends (S.written out.old) (S.written out.new)
-        (line_text (live_count_line (live_count live.now)))) }
-    ensures part { AppendsPart (S.written out.old) (S.written out.new)
-        (line_text (live_count_line (live_count live.now))) }
-    ensures cause { HasCause (S.faults out.old) (S.faults out.new) result }
+    ensures { Writes S.written S.faults out.old out.new (line_text (live_count_line (live_count live.now))) result }
 {
     line.start();
     line.word(b"live");
@@ -93,11 +79,7 @@ pub(crate) fn write_check<S: Sink>(
     line: &mut LineBuilder,
     out: &mut S,
 ) -> Result<(), WriteFailed>
-    ensures all { OnOk result (Appends (S.written out.old) (S.written out.new)
-        (lines_text (check_report case.now live.now))) }
-    ensures part { AppendsPart (S.written out.old) (S.written out.new)
-        (lines_text (check_report case.now live.now)) }
-    ensures cause { HasCause (S.faults out.old) (S.faults out.new) result }
+    ensures { Writes S.written S.faults out.old out.new (lines_text (check_report case.now live.now)) result }
 {
     write_word(b"check", line, out)?;
     write_states(case, live, line, out)?;

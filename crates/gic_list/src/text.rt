@@ -1,8 +1,6 @@
 //! The report of the elements of a network.
-ghost use Rattle.std.specs.Prelude.{◌≡◌, ◌≤◌, ◌+◌, length, map, Contains, OnOk};
-ghost use Rattle.std.specs.Io.KnownBytes.{Appends};
-ghost use Rattle.gic_base.specs.Causes.{HasCause};
-ghost use Rattle.gic_base.specs.Pieces.{AppendsPart};
+ghost use Rattle.std.specs.Prelude.{◌≡◌, ◌≤◌, ◌+◌, length, map, Contains};
+ghost use Rattle.gic_base.specs.Writes.{Writes};
 ghost use Rattle.gic_text.specs.Lines.{line_text, lines_text, with_word};
 ghost use Rattle.gic_winding.specs.ElementList.{elements_of};
 ghost use Rattle.gic_list.specs.ListText.{end_name, element_line, list_report};
@@ -36,11 +34,7 @@ fn write_element<S: Sink>(
     out: &mut S,
 ) -> Result<(), WriteFailed>
     requires { Contains (elements_of case.now).list element.now }
-    ensures all { OnOk result (Appends (S.written out.old) (S.written out.new)
-        (line_text (element_line case.now element.now))) }
-    ensures part { AppendsPart (S.written out.old) (S.written out.new)
-        (line_text (element_line case.now element.now)) }
-    ensures cause { HasCause (S.faults out.old) (S.faults out.new) result }
+    ensures { Writes S.written S.faults out.old out.new (line_text (element_line case.now element.now)) result }
 {
     line.start();
     line.word(b"element");
@@ -61,11 +55,7 @@ fn write_elements<S: Sink>(
     out: &mut S,
 ) -> Result<(), WriteFailed>
     requires { elements.now ≡ (elements_of case.now).list }
-    ensures all { OnOk result (Appends (S.written out.old) (S.written out.new)
-        (lines_text (map (element_line case.now) elements.now))) }
-    ensures part { AppendsPart (S.written out.old) (S.written out.new)
-        (lines_text (map (element_line case.now) elements.now)) }
-    ensures cause { HasCause (S.faults out.old) (S.faults out.new) result }
+    ensures { Writes S.written S.faults out.old out.new (lines_text (map (element_line case.now) elements.now)) result }
 {
     for element in elements {
         write_element(case, element, line, out)?;
@@ -82,11 +72,7 @@ pub(crate) fn write_list<S: Sink>(
     out: &mut S,
 ) -> Result<(), WriteFailed>
     requires { elements.now ≡ (elements_of case.now).list }
-    ensures all { OnOk result (Appends (S.written out.old) (S.written out.new)
-        (lines_text (list_report case.now nodes elements.now))) }
-    ensures part { AppendsPart (S.written out.old) (S.written out.new)
-        (lines_text (list_report case.now nodes elements.now)) }
-    ensures cause { HasCause (S.faults out.old) (S.faults out.new) result }
+    ensures { Writes S.written S.faults out.old out.new (lines_text (list_report case.now nodes elements.now)) result }
 {
     write_word(b"list", line, out)?;
     write_sizes(nodes, elements.len(), line, out)?;

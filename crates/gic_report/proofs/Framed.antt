@@ -1,9 +1,5 @@
--- A report of two lines, more lines and a last one, as it is written.
-use Rattle.std.proofs.Common.{◌≡◌, ℕ, ◌+◌, ◌<◌, List, [], ◌∷◌, ◌++◌, length, map, drop, get_or, sym, ap, ◌∙◌, subst, append-nil, add-one, drop-cons}
-use Rattle.std.specs.declared.option.Option.{Option}
-use Rattle.std.specs.Io.KnownBytes.{Appends}
-use Rattle.gic_base.specs.Pieces.{AppendsPart}
-use Rattle.gic_base.proofs.Parts.{appends-trans, part-after, part-before}
+-- Reports in the pieces in which they are written.
+use Rattle.std.proofs.Common.{◌≡◌, ℕ, ◌+◌, ◌<◌, List, [], ◌∷◌, ◌++◌, length, map, drop, get_or, sym, ap, ◌∙◌, append-nil, add-one, drop-cons}
 use Rattle.gic_text.specs.Lines.{line_text, lines_text}
 use Rattle.gic_text.proofs.Joined.{lines_text-append}
 use Rattle.gic_report.specs.SharedLines.{Words}
@@ -15,34 +11,13 @@ next_line f xs i d h =
     ap (λ l. lines_text (map f l)) (drop-cons xs i d h)
     ∙ ap (λ k. line_text (f (get_or xs i d)) ++ lines_text (map f (drop k xs))) (sym (add-one i))
 
-module _ (first second : Words) (body : List Words) (last : Words) where
-  abbrev pub whole : List ℕ
-  whole = lines_text (first ∷ second ∷ (body ++ last ∷ []))
+-- a report of two lines, more lines and a last one
+pub framed : (first second : Words) (body : List Words) (last : Words)
+    → line_text first ++ (line_text second ++ (lines_text body ++ line_text last)) ≡ lines_text (first ∷ second ∷ (body ++ last ∷ []))
+framed first second body last = sym (ap (λ l. line_text first ++ (line_text second ++ l)) (lines_text-append body (last ∷ []) ∙ ap (λ l. lines_text body ++ l) (append-nil (line_text last))))
 
-  -- the text in the pieces in which it is written
-  pieces : whole ≡ line_text first ++ (line_text second ++ (lines_text body ++ line_text last))
-  pieces = ap (λ l. line_text first ++ (line_text second ++ l)) (lines_text-append body (last ∷ []) ∙ ap (λ l. lines_text body ++ l) (append-nil (line_text last)))
-
-  -- what was written where each piece ends
-  pub part_first : (old new : Option (List ℕ)) → AppendsPart old new (line_text first) → AppendsPart old new whole
-  part_first old new p = subst (AppendsPart old new) (sym pieces) (part-before old new (line_text first) _ p)
-
-  pub part_second : (old a new : Option (List ℕ)) → Appends old a (line_text first) → AppendsPart a new (line_text second) → AppendsPart old new whole
-  part_second old a new p q = subst (AppendsPart old new) (sym pieces) (part-after old a new (line_text first) _ p (part-before a new (line_text second) _ q))
-
-  pub part_body : (old a b new : Option (List ℕ)) → Appends old a (line_text first) → Appends a b (line_text second) → AppendsPart b new (lines_text body) → AppendsPart old new whole
-  part_body old a b new p q r =
-      subst (AppendsPart old new) (sym pieces)
-      (part-after old a new (line_text first) _ p (part-after a b new (line_text second) _ q (part-before b new (lines_text body) _ r)))
-
-  pub part_last : (old a b c new : Option (List ℕ)) → Appends old a (line_text first) → Appends a b (line_text second) → Appends b c (lines_text body) →
-      AppendsPart c new (line_text last) → AppendsPart old new whole
-  part_last old a b c new p q r s =
-      subst (AppendsPart old new) (sym pieces)
-      (part-after old a new (line_text first) _ p (part-after a b new (line_text second) _ q (part-after b c new (lines_text body) _ r s)))
-
-  pub all_written : (old a b c new : Option (List ℕ)) → Appends old a (line_text first) → Appends a b (line_text second) → Appends b c (lines_text body) →
-      Appends c new (line_text last) → Appends old new whole
-  all_written old a b c new p q r s =
-      subst (Appends old new) (sym pieces)
-      (appends-trans old a new (line_text first) _ p (appends-trans a b new (line_text second) _ q (appends-trans b c new (lines_text body) _ r s)))
+-- a report of one line, more lines and two last ones
+pub headed : (first : Words) (body : List Words) (count last : Words)
+    → line_text first ++ (lines_text body ++ (line_text count ++ line_text last)) ≡ lines_text (first ∷ (body ++ count ∷ last ∷ []))
+headed first body count last =
+    sym (ap (λ l. line_text first ++ l) (lines_text-append body (count ∷ last ∷ []) ∙ ap (λ l. lines_text body ++ (line_text count ++ l)) (append-nil (line_text last))))

@@ -1,3 +1,4 @@
+pub mod Chained
 pub mod Written
 pub mod Framed
 pub mod PassedField
@@ -6,7 +7,6 @@ pub mod RowsWritten
 pub mod ListParts
 pub mod NeutralNames
 pub mod Transformers
-pub mod LinesWritten
 pub mod RowHeads
 pub mod RowCounts
 pub mod LinePlaces

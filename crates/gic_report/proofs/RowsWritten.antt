@@ -1,21 +1,10 @@
 -- Rows and lines of nodes that are written part by part.
-use Rattle.std.proofs.Common.{◌≡◌, ◌∙◌, ℕ, Option, List, [], ◌∷◌, ◌++◌, drop, sym, ap, append-nil}
-use Rattle.std.specs.Io.KnownBytes.{Appends}
-use Rattle.gic_base.specs.Pieces.{AppendsPart}
+use Rattle.std.proofs.Common.{◌≡◌, ◌∙◌, ℕ, Option, List, ◌∷◌, ◌++◌, drop, sym, ap}
 use Rattle.gic_fixed.specs.Ends.{Ends}
 use Rattle.gic_text.specs.Lines.{line_text, lines_text}
 use Rattle.gic_report.specs.Cells.{first_cell}
 use Rattle.gic_report.specs.declared.rows.ItemRow.{ItemRow}
 use Rattle.gic_report.specs.ItemText.{left_behind, node_line, node_lines, item_row_line, row_lines}
-use Rattle.gic_report.proofs.Written.{Written, goes_on, same_left, stops, ends}
-
--- a part of all that was left was written
-pub last_stop : (old now new : Option (List ℕ)) (whole left : List ℕ) → Written old now whole left → AppendsPart now new left → AppendsPart old new whole
-last_stop old now new whole left w p = stops old now new whole left [] (same_left old now whole _ _ w (sym (append-nil left))) p
-
--- all that was left was written
-pub last_written : (old now new : Option (List ℕ)) (whole left : List ℕ) → Written old now whole left → Appends now new left → Appends old new whole
-last_written old now new whole left w p = ends old new whole (goes_on old now new whole left [] (same_left old now whole _ _ w (sym (append-nil left))) p)
 
 -- what is left of the nodes begins with the line of the next
 pub next_node : (names others : List (List ℕ)) (cells left : List (Option Ends)) (name : List ℕ) (shown : Option Ends) → names ≡ name ∷ others → shown ≡ first_cell cells → left ≡ drop 1 cells

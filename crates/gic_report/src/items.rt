@@ -1,8 +1,6 @@
 //! The lines of the items of a view: nodes, grounds, lines, windings, neutral devices and effective currents.
-ghost use Rattle.std.specs.Prelude.{◌≡◌, ◌+◌, ◌≤◌, length, OnOk};
-ghost use Rattle.std.specs.Io.KnownBytes.{Appends};
-ghost use Rattle.gic_base.specs.Causes.{HasCause};
-ghost use Rattle.gic_base.specs.Pieces.{AppendsPart};
+ghost use Rattle.std.specs.Prelude.{◌≡◌, ◌+◌, ◌≤◌, length};
+ghost use Rattle.gic_base.specs.Writes.{Writes};
 ghost use Rattle.gic_fixed.specs.Ends.{ends_of};
 ghost use Rattle.gic_view.specs.Kept.{optional_ends};
 ghost use Rattle.gic_text.specs.Lines.{with_words, line_text, lines_text};
@@ -98,11 +96,7 @@ fn write_row<S: Sink>(
     line: &mut LineBuilder,
     out: &mut S,
 ) -> Result<(), WriteFailed>
-    ensures all { OnOk result (Appends (S.written out.old) (S.written out.new)
-        (line_text (item_row_line row.now cells.old))) }
-    ensures part { AppendsPart (S.written out.old) (S.written out.new)
-        (line_text (item_row_line row.now cells.old)) }
-    ensures cause { HasCause (S.faults out.old) (S.faults out.new) result }
+    ensures written { Writes S.written S.faults out.old out.new (line_text (item_row_line row.now cells.old)) result }
     ensures left { cells.new ≡ left_behind row.now.blocked cells.old }
 {
     line.start();
@@ -118,11 +112,7 @@ pub fn write_nodes<S: Sink>(
     line: &mut LineBuilder,
     out: &mut S,
 ) -> Result<(), WriteFailed>
-    ensures all { OnOk result (Appends (S.written out.old) (S.written out.new)
-        (lines_text (node_lines (node_names case.now) view.now.nodes))) }
-    ensures part { AppendsPart (S.written out.old) (S.written out.new)
-        (lines_text (node_lines (node_names case.now) view.now.nodes)) }
-    ensures cause { HasCause (S.faults out.old) (S.faults out.new) result }
+    ensures { Writes S.written S.faults out.old out.new (lines_text (node_lines (node_names case.now) view.now.nodes)) result }
 {
     let mut cells = Cells::of_nodes(view);
     for name in NodeNames::of(case) {
@@ -139,11 +129,7 @@ fn write_node<S: Sink>(
     line: &mut LineBuilder,
     out: &mut S,
 ) -> Result<(), WriteFailed>
-    ensures all { OnOk result (Appends (S.written out.old) (S.written out.new)
-        (line_text (node_line name.now (optional_ends cell)))) }
-    ensures part { AppendsPart (S.written out.old) (S.written out.new)
-        (line_text (node_line name.now (optional_ends cell))) }
-    ensures cause { HasCause (S.faults out.old) (S.faults out.new) result }
+    ensures { Writes S.written S.faults out.old out.new (line_text (node_line name.now (optional_ends cell))) result }
 {
     line.start();
     line.word(b"node");
@@ -160,11 +146,7 @@ pub fn write_rows<S: Sink>(
     line: &mut LineBuilder,
     out: &mut S,
 ) -> Result<(), WriteFailed>
-    ensures all { OnOk result (Appends (S.written out.old) (S.written out.new)
-        (lines_text (row_lines (item_rows_of case.now) view.now.elements))) }
-    ensures part { AppendsPart (S.written out.old) (S.written out.new)
-        (lines_text (row_lines (item_rows_of case.now) view.now.elements)) }
-    ensures cause { HasCause (S.faults out.old) (S.faults out.new) result }
+    ensures { Writes S.written S.faults out.old out.new (lines_text (row_lines (item_rows_of case.now) view.now.elements)) result }
 {
     let mut cells = Cells::of_elements(view);
     for row in ItemRows::of(case) {
@@ -181,11 +163,7 @@ fn write_effective<S: Sink>(
     line: &mut LineBuilder,
     out: &mut S,
 ) -> Result<(), WriteFailed>
-    ensures all { OnOk result (Appends (S.written out.old) (S.written out.new)
-        (line_text (effective_line name.now (ends_of signed)))) }
-    ensures part { AppendsPart (S.written out.old) (S.written out.new)
-        (line_text (effective_line name.now (ends_of signed))) }
-    ensures cause { HasCause (S.faults out.old) (S.faults out.new) result }
+    ensures { Writes S.written S.faults out.old out.new (line_text (effective_line name.now (ends_of signed))) result }
 {
     line.start();
     line.word(b"effective");
@@ -201,11 +179,7 @@ fn write_effectives<S: Sink>(
     line: &mut LineBuilder,
     out: &mut S,
 ) -> Result<(), WriteFailed>
-    ensures all { OnOk result (Appends (S.written out.old) (S.written out.new)
-        (lines_text (effective_lines transformers.now view.now.effective))) }
-    ensures part { AppendsPart (S.written out.old) (S.written out.new)
-        (lines_text (effective_lines transformers.now view.now.effective)) }
-    ensures cause { HasCause (S.faults out.old) (S.faults out.new) result }
+    ensures { Writes S.written S.faults out.old out.new (lines_text (effective_lines transformers.now view.now.effective)) result }
 {
     let mut cells = EffectiveCells::of(view);
     for transformer in transformers {
@@ -221,11 +195,7 @@ pub fn write_signed<S: Sink>(
     line: &mut LineBuilder,
     out: &mut S,
 ) -> Result<(), WriteFailed>
-    ensures all { OnOk result (Appends (S.written out.old) (S.written out.new)
-        (lines_text (signed_lines case.now view.now))) }
-    ensures part { AppendsPart (S.written out.old) (S.written out.new)
-        (lines_text (signed_lines case.now view.now)) }
-    ensures cause { HasCause (S.faults out.old) (S.faults out.new) result }
+    ensures { Writes S.written S.faults out.old out.new (lines_text (signed_lines case.now view.now)) result }
 {
     write_nodes(case, view, line, out)?;
     write_rows(case, view, line, out)?;

@@ -1,8 +1,6 @@
 //! The lines of the verdicts on transformers.
-ghost use Rattle.std.specs.Prelude.{◌≡◌, ◌+◌, ◌≤◌, length, All, OnOk};
-ghost use Rattle.std.specs.Io.KnownBytes.{Appends};
-ghost use Rattle.gic_base.specs.Causes.{HasCause};
-ghost use Rattle.gic_base.specs.Pieces.{AppendsPart};
+ghost use Rattle.std.specs.Prelude.{◌≡◌, ◌+◌, ◌≤◌, length, All};
+ghost use Rattle.gic_base.specs.Writes.{Writes};
 ghost use Rattle.gic_fixed.specs.Ends.{ends_of};
 ghost use Rattle.gic_text.specs.Lines.{with_word, line_text, lines_text};
 ghost use Rattle.gic_view.specs.Absolute.{HasAbsolute};
@@ -59,11 +57,7 @@ fn write_judged<S: Sink>(
     line: &mut LineBuilder,
     out: &mut S,
 ) -> Result<(), WriteFailed>
-    ensures all { OnOk result (Appends (S.written out.old) (S.written out.new)
-        (line_text (judged_line name.now (ends_of current) said))) }
-    ensures part { AppendsPart (S.written out.old) (S.written out.new)
-        (line_text (judged_line name.now (ends_of current) said)) }
-    ensures cause { HasCause (S.faults out.old) (S.faults out.new) result }
+    ensures { Writes S.written S.faults out.old out.new (line_text (judged_line name.now (ends_of current) said)) result }
 {
     line.start();
     line.word(b"transformer");
@@ -81,11 +75,7 @@ fn write_absolute<S: Sink>(
     line: &mut LineBuilder,
     out: &mut S,
 ) -> Result<(), WriteFailed>
-    ensures all { OnOk result (Appends (S.written out.old) (S.written out.new)
-        (line_text (absolute_line threshold transformer.now (ends_of current)))) }
-    ensures part { AppendsPart (S.written out.old) (S.written out.new)
-        (line_text (absolute_line threshold transformer.now (ends_of current))) }
-    ensures cause { HasCause (S.faults out.old) (S.faults out.new) result }
+    ensures { Writes S.written S.faults out.old out.new (line_text (absolute_line threshold transformer.now (ends_of current))) result }
 {
     let said = verdict_in(transformer, current, threshold);
     write_judged(&transformer.name, current, said, line, out)
@@ -100,11 +90,7 @@ fn write_transformer<S: Sink>(
     out: &mut S,
 ) -> Result<(), WriteFailed>
     requires { HasAbsolute (ends_of signed) }
-    ensures all { OnOk result (Appends (S.written out.old) (S.written out.new)
-        (line_text (transformer_line threshold transformer.now (ends_of signed)))) }
-    ensures part { AppendsPart (S.written out.old) (S.written out.new)
-        (line_text (transformer_line threshold transformer.now (ends_of signed))) }
-    ensures cause { HasCause (S.faults out.old) (S.faults out.new) result }
+    ensures { Writes S.written S.faults out.old out.new (line_text (transformer_line threshold transformer.now (ends_of signed))) result }
 {
     write_absolute(transformer, signed.abs(), threshold, line, out)
 }
@@ -118,11 +104,7 @@ pub fn write_absolutes<S: Sink>(
     line: &mut LineBuilder,
     out: &mut S,
 ) -> Result<(), WriteFailed>
-    ensures all { OnOk result (Appends (S.written out.old) (S.written out.new)
-        (lines_text (absolute_lines threshold transformers.now view.now.effective))) }
-    ensures part { AppendsPart (S.written out.old) (S.written out.new)
-        (lines_text (absolute_lines threshold transformers.now view.now.effective)) }
-    ensures cause { HasCause (S.faults out.old) (S.faults out.new) result }
+    ensures { Writes S.written S.faults out.old out.new (lines_text (absolute_lines threshold transformers.now view.now.effective)) result }
 {
     let mut cells = EffectiveCells::of(view);
     for transformer in transformers {
@@ -140,11 +122,8 @@ pub fn write_transformers<S: Sink>(
     out: &mut S,
 ) -> Result<(), WriteFailed>
     requires { All HasAbsolute view.now.effective }
-    ensures all { OnOk result (Appends (S.written out.old) (S.written out.new)
-        (lines_text (transformer_lines threshold transformers.now view.now.effective))) }
-    ensures part { AppendsPart (S.written out.old) (S.written out.new)
-        (lines_text (transformer_lines threshold transformers.now view.now.effective)) }
-    ensures cause { HasCause (S.faults out.old) (S.faults out.new) result }
+    ensures { Writes S.written S.faults out.old out.new
+        (lines_text (transformer_lines threshold transformers.now view.now.effective)) result }
 {
     let mut cells = EffectiveCells::of(view);
     for transformer in transformers {

@@ -1,8 +1,6 @@
 //! Lines that several reports have.
-ghost use Rattle.std.specs.Prelude.{◌<◌, length, OnOk};
-ghost use Rattle.std.specs.Io.KnownBytes.{Appends};
-ghost use Rattle.gic_base.specs.Causes.{HasCause};
-ghost use Rattle.gic_base.specs.Pieces.{AppendsPart};
+ghost use Rattle.std.specs.Prelude.{◌<◌, length};
+ghost use Rattle.gic_base.specs.Writes.{Writes};
 ghost use Rattle.gic_text.specs.Lines.{line_text};
 ghost use Rattle.gic_report.specs.SharedLines.{word_line, field_line, sizes_line};
 
@@ -16,11 +14,7 @@ pub fn write_word<S: Sink>(
     out: &mut S,
 ) -> Result<(), WriteFailed>
     requires { length word.now < 512 }
-    ensures all { OnOk result (Appends (S.written out.old) (S.written out.new)
-        (line_text (word_line word.now))) }
-    ensures part { AppendsPart (S.written out.old) (S.written out.new)
-        (line_text (word_line word.now)) }
-    ensures cause { HasCause (S.faults out.old) (S.faults out.new) result }
+    ensures { Writes S.written S.faults out.old out.new (line_text (word_line word.now)) result }
 {
     line.start();
     line.word(word);
@@ -35,11 +29,7 @@ pub fn write_field_line<S: Sink>(
     line: &mut LineBuilder,
     out: &mut S,
 ) -> Result<(), WriteFailed>
-    ensures all { OnOk result (Appends (S.written out.old) (S.written out.new)
-        (line_text (field_line north east))) }
-    ensures part { AppendsPart (S.written out.old) (S.written out.new)
-        (line_text (field_line north east)) }
-    ensures cause { HasCause (S.faults out.old) (S.faults out.new) result }
+    ensures { Writes S.written S.faults out.old out.new (line_text (field_line north east)) result }
 {
     line.start();
     line.word(b"north");
@@ -57,11 +47,7 @@ pub fn write_sizes<S: Sink>(
     line: &mut LineBuilder,
     out: &mut S,
 ) -> Result<(), WriteFailed>
-    ensures all { OnOk result (Appends (S.written out.old) (S.written out.new)
-        (line_text (sizes_line nodes elements))) }
-    ensures part { AppendsPart (S.written out.old) (S.written out.new)
-        (line_text (sizes_line nodes elements)) }
-    ensures cause { HasCause (S.faults out.old) (S.faults out.new) result }
+    ensures { Writes S.written S.faults out.old out.new (line_text (sizes_line nodes elements)) result }
 {
     line.start();
     line.word(b"nodes");

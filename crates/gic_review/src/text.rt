@@ -1,8 +1,6 @@
 //! The report of what is found in a case.
-ghost use Rattle.std.specs.Prelude.{◌≡◌, ◌≤◌, ◌+◌, [], ◌∷◌, length, map, OnOk};
-ghost use Rattle.std.specs.Io.KnownBytes.{Appends};
-ghost use Rattle.gic_base.specs.Causes.{HasCause};
-ghost use Rattle.gic_base.specs.Pieces.{AppendsPart};
+ghost use Rattle.std.specs.Prelude.{◌≡◌, ◌≤◌, ◌+◌, [], ◌∷◌, length, map};
+ghost use Rattle.gic_base.specs.Writes.{Writes};
 ghost use Rattle.gic_text.specs.Lines.{with_words, line_text, lines_text};
 ghost use Rattle.gic_review.specs.FindingText.{list_word, field_word, finding_line};
 ghost use Rattle.gic_review.specs.ReviewText.{findings_line, review_report};
@@ -32,11 +30,7 @@ fn write_finding<S: Sink>(
     line: &mut LineBuilder,
     out: &mut S,
 ) -> Result<(), WriteFailed>
-    ensures all { OnOk result (Appends (S.written out.old) (S.written out.new)
-        (line_text (finding_line finding.now))) }
-    ensures part { AppendsPart (S.written out.old) (S.written out.new)
-        (line_text (finding_line finding.now)) }
-    ensures cause { HasCause (S.faults out.old) (S.faults out.new) result }
+    ensures { Writes S.written S.faults out.old out.new (line_text (finding_line finding.now)) result }
 {
     line.start();
     match finding {
@@ -91,11 +85,7 @@ fn write_each<S: Sink>(
     line: &mut LineBuilder,
     out: &mut S,
 ) -> Result<(), WriteFailed>
-    ensures all { OnOk result (Appends (S.written out.old) (S.written out.new)
-        (lines_text (map finding_line findings.now))) }
-    ensures part { AppendsPart (S.written out.old) (S.written out.new)
-        (lines_text (map finding_line findings.now)) }
-    ensures cause { HasCause (S.faults out.old) (S.faults out.new) result }
+    ensures { Writes S.written S.faults out.old out.new (lines_text (map finding_line findings.now)) result }
 {
     for finding in findings {
         write_finding(finding, line, out)?;
@@ -110,11 +100,7 @@ fn write_count<S: Sink>(
     line: &mut LineBuilder,
     out: &mut S,
 ) -> Result<(), WriteFailed>
-    ensures all { OnOk result (Appends (S.written out.old) (S.written out.new)
-        (line_text (findings_line count))) }
-    ensures part { AppendsPart (S.written out.old) (S.written out.new)
-        (line_text (findings_line count)) }
-    ensures cause { HasCause (S.faults out.old) (S.faults out.new) result }
+    ensures { Writes S.written S.faults out.old out.new (line_text (findings_line count)) result }
 {
     line.start();
     line.word(b"findings");
@@ -128,11 +114,7 @@ pub(crate) fn write_review<S: Sink>(
     line: &mut LineBuilder,
     out: &mut S,
 ) -> Result<(), WriteFailed>
-    ensures all { OnOk result (Appends (S.written out.old) (S.written out.new)
-        (lines_text (review_report findings.now))) }
-    ensures part { AppendsPart (S.written out.old) (S.written out.new)
-        (lines_text (review_report findings.now)) }
-    ensures cause { HasCause (S.faults out.old) (S.faults out.new) result }
+    ensures { Writes S.written S.faults out.old out.new (lines_text (review_report findings.now)) result }
 {
     write_word(b"review", line, out)?;
     write_each(findings, line, out)?;

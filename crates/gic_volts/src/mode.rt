@@ -1,8 +1,5 @@
 //! The report of the mode.
-ghost use Rattle.std.specs.Prelude.{OnOk};
-ghost use Rattle.std.specs.Io.KnownBytes.{Appends};
-ghost use Rattle.gic_base.specs.Causes.{HasCause};
-ghost use Rattle.gic_base.specs.Pieces.{AppendsPart};
+ghost use Rattle.gic_base.specs.Writes.{Writes};
 ghost use Rattle.gic_text.specs.Lines.{lines_text};
 ghost use Rattle.gic_volts.specs.VoltsText.{volts_report};
 ghost use Rattle.gic_stand.specs.Needs.{Nothing};
@@ -28,11 +25,8 @@ fn write_lines<S: Sink>(
     line: &mut LineBuilder,
     out: &mut S,
 ) -> Result<(), WriteFailed>
-    ensures all { OnOk result (Appends (S.written out.old) (S.written out.new)
-        (lines_text (volts_report case.now.lines question.now.north question.now.east nanovolts.now))) }
-    ensures part { AppendsPart (S.written out.old) (S.written out.new)
-        (lines_text (volts_report case.now.lines question.now.north question.now.east nanovolts.now)) }
-    ensures cause { HasCause (S.faults out.old) (S.faults out.new) result }
+    ensures { Writes S.written S.faults out.old out.new
+        (lines_text (volts_report case.now.lines question.now.north question.now.east nanovolts.now)) result }
 {
     write_volts(
         case.lines(),

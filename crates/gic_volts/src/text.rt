@@ -1,8 +1,5 @@
 //! The report of the voltages along the lines.
-ghost use Rattle.std.specs.Prelude.{OnOk};
-ghost use Rattle.std.specs.Io.KnownBytes.{Appends};
-ghost use Rattle.gic_base.specs.Causes.{HasCause};
-ghost use Rattle.gic_base.specs.Pieces.{AppendsPart};
+ghost use Rattle.gic_base.specs.Writes.{Writes};
 ghost use Rattle.gic_text.specs.Lines.{line_text, lines_text};
 ghost use Rattle.gic_volts.specs.VoltsText.{volts_line, volts_lines, volts_report};
 
@@ -19,11 +16,7 @@ fn write_volts_line<S: Sink>(
     line: &mut LineBuilder,
     out: &mut S,
 ) -> Result<(), WriteFailed>
-    ensures all { OnOk result (Appends (S.written out.old) (S.written out.new)
-        (line_text (volts_line name.now nanovolts))) }
-    ensures part { AppendsPart (S.written out.old) (S.written out.new)
-        (line_text (volts_line name.now nanovolts)) }
-    ensures cause { HasCause (S.faults out.old) (S.faults out.new) result }
+    ensures { Writes S.written S.faults out.old out.new (line_text (volts_line name.now nanovolts)) result }
 {
     line.start();
     line.word(b"line");
@@ -39,11 +32,7 @@ fn write_volts_lines<S: Sink>(
     line: &mut LineBuilder,
     out: &mut S,
 ) -> Result<(), WriteFailed>
-    ensures all { OnOk result (Appends (S.written out.old) (S.written out.new)
-        (lines_text (volts_lines lines.now nanovolts.now))) }
-    ensures part { AppendsPart (S.written out.old) (S.written out.new)
-        (lines_text (volts_lines lines.now nanovolts.now)) }
-    ensures cause { HasCause (S.faults out.old) (S.faults out.new) result }
+    ensures { Writes S.written S.faults out.old out.new (lines_text (volts_lines lines.now nanovolts.now)) result }
 {
     for (item, number) in lines.iter().zip(nanovolts) {
         write_volts_line(&item.name, *number, line, out)?;
@@ -60,11 +49,7 @@ pub(crate) fn write_volts<S: Sink>(
     line: &mut LineBuilder,
     out: &mut S,
 ) -> Result<(), WriteFailed>
-    ensures all { OnOk result (Appends (S.written out.old) (S.written out.new)
-        (lines_text (volts_report lines.now north east nanovolts.now))) }
-    ensures part { AppendsPart (S.written out.old) (S.written out.new)
-        (lines_text (volts_report lines.now north east nanovolts.now)) }
-    ensures cause { HasCause (S.faults out.old) (S.faults out.new) result }
+    ensures { Writes S.written S.faults out.old out.new (lines_text (volts_report lines.now north east nanovolts.now)) result }
 {
     write_word(b"volts", line, out)?;
     write_field_line(north, east, line, out)?;

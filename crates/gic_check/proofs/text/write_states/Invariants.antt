@@ -1,4 +1,3 @@
-use Rattle.std.proofs.Common.{◌≤◌}
 use Rattle.std.specs.Iterator.Adapters.{zip_first, zip_second}
 use Rattle.std.specs.Slice.Iter.{iter_rest}
 use Rattle.gic_text.specs.Lines.{lines_text}
@@ -11,6 +10,5 @@ use Rattle.gic_check.proofs.text.write_states.Given as goal
 -- all is written but the lines of the nodes that are left
 abbrev pub invariant-loop-name : goal.invariant-loop-name
 invariant-loop-name g l = record {
-  written : Written (g.S.Sink.written l.fn.out) (g.S.Sink.written l.out) (lines_text (state_lines (node_names l.case) l.live)) (lines_text (state_lines (names_left (zip_first l.name-iterator)) (iter_rest (zip_second l.name-iterator))));
-  kept : g.S.Sink.faults l.fn.out ≤ g.S.Sink.faults l.out;
+  written : Written g.S.Sink.written g.S.Sink.faults l.fn.out l.out (lines_text (state_lines (node_names l.case) l.live)) (lines_text (state_lines (names_left (zip_first l.name-iterator)) (iter_rest (zip_second l.name-iterator))));
 }

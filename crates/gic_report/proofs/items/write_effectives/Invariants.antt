@@ -1,4 +1,4 @@
-use Rattle.std.proofs.Common.{◌≤◌, drop}
+use Rattle.std.proofs.Common.{drop}
 use Rattle.gic_text.specs.Lines.{lines_text}
 use Rattle.gic_report.specs.ItemText.{effective_lines}
 use Rattle.gic_report.proofs.Written.{Written}
@@ -7,6 +7,5 @@ use Rattle.gic_report.proofs.items.write_effectives.Given as goal
 -- all is written but the lines of the transformers that are left
 abbrev pub invariant-loop-transformer : goal.invariant-loop-transformer
 invariant-loop-transformer g l = record {
-  written : Written (g.S.Sink.written l.fn.out) (g.S.Sink.written l.out) (lines_text (effective_lines l.transformers l.view.effective)) (lines_text (effective_lines (drop l.transformer-index l.transformers) l.cells));
-  kept : g.S.Sink.faults l.fn.out ≤ g.S.Sink.faults l.out;
+  written : Written g.S.Sink.written g.S.Sink.faults l.fn.out l.out (lines_text (effective_lines l.transformers l.view.effective)) (lines_text (effective_lines (drop l.transformer-index l.transformers) l.cells));
 }

@@ -1,4 +1,3 @@
-use Rattle.std.proofs.Common.{◌≤◌}
 use Rattle.gic_text.specs.Lines.{lines_text}
 use Rattle.gic_case.specs.Lists.{node_names}
 use Rattle.gic_report.specs.ItemText.{node_lines}
@@ -9,6 +8,5 @@ use Rattle.gic_report.proofs.items.write_nodes.Given as goal
 -- all is written but the lines of the nodes that are left
 abbrev pub invariant-loop-name : goal.invariant-loop-name
 invariant-loop-name g l = record {
-  written : Written (g.S.Sink.written l.fn.out) (g.S.Sink.written l.out) (lines_text (node_lines (node_names l.case) l.view.nodes)) (lines_text (node_lines (names_left l.name-iterator) l.cells));
-  kept : g.S.Sink.faults l.fn.out ≤ g.S.Sink.faults l.out;
+  written : Written g.S.Sink.written g.S.Sink.faults l.fn.out l.out (lines_text (node_lines (node_names l.case) l.view.nodes)) (lines_text (node_lines (names_left l.name-iterator) l.cells));
 }

@@ -1,13 +1,10 @@
-use Rattle.std.proofs.Common.{◌++◌, List, ap, refl, sym}
-use Rattle.std.proofs.lemmas.Result.{on_ok_weaker}
+use Rattle.std.proofs.Common.{◌++◌, List, ap}
 use Rattle.gic_case.specs.Lists.{Lists, node_names}
 use Rattle.gic_view.specs.View.{View}
 use Rattle.gic_text.specs.Lines.{lines_text}
 use Rattle.gic_report.specs.SharedLines.{Words}
 use Rattle.gic_report.specs.ItemText.{effective_lines, node_lines, row_lines, item_rows_of}
-use Rattle.gic_report.proofs.LinesWritten.{lines_go_on, lines_stop}
-use Rattle.gic_report.proofs.Written.{begins, same_left}
-use Rattle.gic_report.proofs.RowsWritten.{last_stop, last_written}
+use Rattle.gic_report.proofs.Chained.{writes_as, lines_then, lines_stop}
 use Rattle.gic_report.proofs.items.write_signed.Goals as goal
 
 nodes : Lists → View → List Words
@@ -19,28 +16,26 @@ rows case view = row_lines (item_rows_of case) view.elements
 effectives : Lists → View → List Words
 effectives case view = effective_lines case.transformers view.effective
 
-pub returns-in_err-write_nodes-clause-part : goal.returns-in_err-write_nodes-clause-part
+pub returns-in_err-write_nodes : goal.returns-in_err-write_nodes
 unfolding nodes rows effectives
-returns-in_err-write_nodes-clause-part g c =
-    lines_stop _ _ _ _ (nodes c.args.case.now c.args.view.now) (rows c.args.case.now c.args.view.now ++ effectives c.args.case.now c.args.view.now) (begins _ _ _ refl) c.write_nodes.ensures.part
+returns-in_err-write_nodes g c =
+    let case = c.args.case.now in
+    let view = c.args.view.now in
+    lines_stop (nodes case view) (rows case view ++ effectives case view) c.in_err-write_nodes.ensures c.from_residual.ensures.1
 
-pub returns-in_err-write_rows-clause-part : goal.returns-in_err-write_rows-clause-part
+pub returns-in_err-write_rows : goal.returns-in_err-write_rows
 unfolding nodes rows effectives
-returns-in_err-write_rows-clause-part g c =
-    let w1 = lines_go_on _ _ _ _ (nodes c.args.case.now c.args.view.now) (rows c.args.case.now c.args.view.now ++ effectives c.args.case.now c.args.view.now) (begins _ _ _ refl) c.in_ok-write_nodes.ensures.all in
-    lines_stop _ _ _ _ (rows c.args.case.now c.args.view.now) (effectives c.args.case.now c.args.view.now) w1 c.write_rows.ensures.part
+returns-in_err-write_rows g c =
+    let case = c.args.case.now in
+    let view = c.args.view.now in
+    lines_then (nodes case view) (rows case view ++ effectives case view) c.in_ok-write_nodes.ensures
+    (lines_stop (rows case view) (effectives case view) c.in_err-write_rows.ensures c.from_residual-in_err-write_rows.ensures.1)
 
-pub returns-clause-part : goal.returns-clause-part
+pub returns : goal.returns
 unfolding nodes rows effectives
-returns-clause-part g c =
-    let w1 = lines_go_on _ _ _ _ (nodes c.args.case.now c.args.view.now) (rows c.args.case.now c.args.view.now ++ effectives c.args.case.now c.args.view.now) (begins _ _ _ refl) c.in_ok-write_nodes.ensures.all in
-    let w2 = lines_go_on _ _ _ _ (rows c.args.case.now c.args.view.now) (effectives c.args.case.now c.args.view.now) w1 c.in_ok-write_rows.ensures.all in
-    last_stop _ _ _ _ _ (same_left _ _ _ _ _ w2 (ap (λ ts. lines_text (effective_lines ts c.args.view.now.effective)) (sym c.transformers.ensures.value))) c.write_effectives.ensures.part
-
-pub returns-clause-all : goal.returns-clause-all
-unfolding nodes rows effectives
-returns-clause-all g c =
-    let w1 = lines_go_on _ _ _ _ (nodes c.args.case.now c.args.view.now) (rows c.args.case.now c.args.view.now ++ effectives c.args.case.now c.args.view.now) (begins _ _ _ refl) c.in_ok-write_nodes.ensures.all in
-    let w2 = lines_go_on _ _ _ _ (rows c.args.case.now c.args.view.now) (effectives c.args.case.now c.args.view.now) w1 c.in_ok-write_rows.ensures.all in
-    on_ok_weaker c.write_effectives.result
-    (last_written _ _ _ _ _ (same_left _ _ _ _ _ w2 (ap (λ ts. lines_text (effective_lines ts c.args.view.now.effective)) (sym c.transformers.ensures.value)))) c.write_effectives.ensures.all
+returns g c =
+    let case = c.args.case.now in
+    let view = c.args.view.now in
+    lines_then (nodes case view) (rows case view ++ effectives case view) c.in_ok-write_nodes.ensures
+    (lines_then (rows case view) (effectives case view) c.in_ok-write_rows.ensures
+    (writes_as (ap (λ ts. lines_text (effective_lines ts view.effective)) c.transformers.ensures.value) c.write_effectives.ensures))

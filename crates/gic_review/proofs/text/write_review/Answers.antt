@@ -1,54 +1,36 @@
-use Rattle.std.proofs.Common.{ℕ, List, [], ◌∷◌, ◌++◌, map, length, ap}
+use Rattle.std.proofs.Common.{◌≡◌, List, ◌++◌, map, length}
 use Rattle.std.specs.Prelude.{codes}
-use Rattle.std.specs.declared.option.Option.{Option}
-use Rattle.std.proofs.lemmas.Result.{on_ok_weaker}
 use Rattle.gic_text.specs.Lines.{line_text, lines_text}
-use Rattle.gic_text.proofs.Joined.{lines_text-append}
 use Rattle.gic_findings.specs.declared.finding.Finding.{Finding}
 use Rattle.gic_report.specs.SharedLines.{word_line}
-use Rattle.gic_report.proofs.Written.{Written, begins, goes_on, stops, ends}
+use Rattle.gic_report.proofs.Chained.{writes_as, writes_then, writes_stop}
+use Rattle.gic_report.proofs.Framed.{headed}
 use Rattle.gic_review.specs.FindingText.{finding_line}
 use Rattle.gic_review.specs.ReviewText.{findings_line, review_report}
 use Rattle.gic_review.proofs.text.write_review.Goals as goal
 
--- the pieces in which the report is written
-abbrev first : List ℕ
-first = line_text (word_line (codes "review"))
+-- the report in the pieces in which it is written
+pieces : (findings : List Finding)
+    → line_text (word_line (codes "review")) ++ (lines_text (map finding_line findings) ++ (line_text (findings_line (length findings)) ++ line_text (word_line (codes "end"))))
+    ≡ lines_text (review_report findings)
+pieces findings = headed (word_line (codes "review")) (map finding_line findings) (findings_line (length findings)) (word_line (codes "end"))
 
-abbrev each : List Finding → List ℕ
-each findings = lines_text (map finding_line findings)
+pub returns-in_err-write_word : goal.returns-in_err-write_word
+returns-in_err-write_word g c =
+    writes_as (pieces c.args.findings.now)
+    (writes_stop _ c.in_err-write_word.ensures c.from_residual.ensures.1)
 
-abbrev count : List Finding → List ℕ
-count findings = line_text (findings_line (length findings))
+pub returns-in_err-write_each : goal.returns-in_err-write_each
+returns-in_err-write_each g c =
+    writes_as (pieces c.args.findings.now)
+    (writes_then c.in_ok-write_word.ensures (writes_stop _ c.in_err-write_each.ensures c.from_residual-in_err-write_each.ensures.1))
 
-abbrev last : List ℕ
-last = line_text (word_line (codes "end")) ++ []
+pub returns-in_err-write_count : goal.returns-in_err-write_count
+returns-in_err-write_count g c =
+    writes_as (pieces c.args.findings.now)
+    (writes_then c.in_ok-write_word.ensures (writes_then c.in_ok-write_each.ensures (writes_stop _ c.in_err-write_count.ensures c.from_residual-in_err-write_count.ensures.1)))
 
-nothing : (old : Option (List ℕ)) (findings : List Finding) → Written old old (lines_text (review_report findings)) (first ++ (each findings ++ (count findings ++ last)))
-nothing old findings = begins old _ _ (ap (λ l. first ++ l) (lines_text-append (map finding_line findings) (findings_line (length findings) ∷ word_line (codes "end") ∷ [])))
-
-pub returns-in_err-write_word-clause-part : goal.returns-in_err-write_word-clause-part
-returns-in_err-write_word-clause-part g c = stops _ _ _ _ _ _ (nothing _ c.args.findings.now) c.write_word.ensures.part
-
-pub returns-in_err-write_each-clause-part : goal.returns-in_err-write_each-clause-part
-returns-in_err-write_each-clause-part g c = stops _ _ _ _ _ _ (goes_on _ _ _ _ _ _ (nothing _ c.args.findings.now) c.in_ok-write_word.ensures.all) c.write_each.ensures.part
-
-pub returns-in_err-write_count-clause-part : goal.returns-in_err-write_count-clause-part
-returns-in_err-write_count-clause-part g c =
-    let w1 = goes_on _ _ _ _ _ _ (nothing _ c.args.findings.now) c.in_ok-write_word.ensures.all in
-    let w2 = goes_on _ _ _ _ _ _ w1 c.in_ok-write_each.ensures.all in
-    stops _ _ _ _ _ _ w2 c.write_count.ensures.part
-
-pub returns-clause-part : goal.returns-clause-part
-returns-clause-part g c =
-    let w1 = goes_on _ _ _ _ _ _ (nothing _ c.args.findings.now) c.in_ok-write_word.ensures.all in
-    let w2 = goes_on _ _ _ _ _ _ w1 c.in_ok-write_each.ensures.all in
-    let w3 = goes_on _ _ _ _ _ _ w2 c.in_ok-write_count.ensures.all in
-    stops _ _ _ _ _ _ w3 c.write_word-2.ensures.part
-
-pub returns-clause-all : goal.returns-clause-all
-returns-clause-all g c =
-    let w1 = goes_on _ _ _ _ _ _ (nothing _ c.args.findings.now) c.in_ok-write_word.ensures.all in
-    let w2 = goes_on _ _ _ _ _ _ w1 c.in_ok-write_each.ensures.all in
-    let w3 = goes_on _ _ _ _ _ _ w2 c.in_ok-write_count.ensures.all in
-    on_ok_weaker c.write_word-2.result (λ p. ends _ _ _ (goes_on _ _ _ _ _ _ w3 p)) c.write_word-2.ensures.all
+pub returns : goal.returns
+returns g c =
+    writes_as (pieces c.args.findings.now)
+    (writes_then c.in_ok-write_word.ensures (writes_then c.in_ok-write_each.ensures (writes_then c.in_ok-write_count.ensures c.write_word-2.ensures)))

@@ -1,54 +1,39 @@
-use Rattle.std.proofs.Common.{◌≡◌, ℤ, FitsSigned, w32, List, subst}
+use Rattle.std.proofs.Common.{◌≡◌, ℤ, FitsSigned, w32, List, ◌++◌}
 use Rattle.std.specs.Prelude.{codes}
-use Rattle.std.specs.Io.KnownBytes.{Appends}
-use Rattle.std.proofs.lemmas.Result.{on_ok_weaker}
-use Rattle.gic_base.specs.Pieces.{AppendsPart}
-use Rattle.gic_text.specs.Lines.{lines_text}
+use Rattle.gic_text.specs.Lines.{line_text, lines_text}
 use Rattle.gic_case.specs.declared.item.Line.{Line}
 use Rattle.gic_report.specs.SharedLines.{word_line}
 use Rattle.gic_volts.specs.VoltsText.{volts_lines, volts_report}
-use Rattle.gic_report.proofs.Framed.{whole, part_first, part_second, part_body, part_last, all_written}
-use Rattle.gic_report.proofs.PassedField.{passed_line, same_whole}
+use Rattle.gic_report.proofs.Chained.{writes_as, writes_then, writes_stop}
+use Rattle.gic_report.proofs.PassedField.{passed_line, framed_field}
 use Rattle.gic_volts.proofs.text.write_volts.Goals as goal
 
--- the report with the line that was passed
-same_report : (lines : List Line) (north east : ℤ) (numbers : List ℤ) → FitsSigned w32 north → FitsSigned w32 east →
-    whole (word_line (codes "volts")) (passed_line north east) (volts_lines lines numbers) (word_line (codes "end")) ≡ lines_text (volts_report lines north east numbers)
-same_report lines north east numbers n e =
-    same_whole (word_line (codes "volts")) north east (volts_lines lines numbers) (word_line (codes "end")) n e
+-- the report in the pieces in which it is written, with the line that was passed
+pieces : (lines : List Line) (north east : ℤ) (numbers : List ℤ) → FitsSigned w32 north → FitsSigned w32 east
+    → line_text (word_line (codes "volts")) ++ (line_text (passed_line north east) ++ (lines_text (volts_lines lines numbers) ++ line_text (word_line (codes "end"))))
+    ≡ lines_text (volts_report lines north east numbers)
+pieces lines north east numbers n e = framed_field (word_line (codes "volts")) north east (volts_lines lines numbers) (word_line (codes "end")) n e
 
-pub returns-in_err-write_word-clause-part : goal.returns-in_err-write_word-clause-part
-returns-in_err-write_word-clause-part g c =
-    subst (AppendsPart _ _) (same_report c.args.lines.now c.args.north c.args.east c.args.nanovolts.now c.ranges.north c.ranges.east)
-    (part_first (word_line (codes "volts")) (passed_line c.args.north c.args.east) (volts_lines c.args.lines.now c.args.nanovolts.now) (word_line (codes "end"))
-    _ _ c.write_word.ensures.part)
-
-pub returns-in_err-write_field_line-clause-part : goal.returns-in_err-write_field_line-clause-part
+pub returns-in_err-write_word : goal.returns-in_err-write_word
 unfolding passed_line
-returns-in_err-write_field_line-clause-part g c =
-    subst (AppendsPart _ _) (same_report c.args.lines.now c.args.north c.args.east c.args.nanovolts.now c.ranges.north c.ranges.east)
-    (part_second (word_line (codes "volts")) (passed_line c.args.north c.args.east) (volts_lines c.args.lines.now c.args.nanovolts.now) (word_line (codes "end"))
-    _ _ _ c.in_ok-write_word.ensures.all c.write_field_line.ensures.part)
+returns-in_err-write_word g c =
+    writes_as (pieces c.args.lines.now c.args.north c.args.east c.args.nanovolts.now c.ranges.north c.ranges.east)
+    (writes_stop _ c.in_err-write_word.ensures c.from_residual.ensures.1)
 
-pub returns-in_err-write_volts_lines-clause-part : goal.returns-in_err-write_volts_lines-clause-part
+pub returns-in_err-write_field_line : goal.returns-in_err-write_field_line
 unfolding passed_line
-returns-in_err-write_volts_lines-clause-part g c =
-    subst (AppendsPart _ _) (same_report c.args.lines.now c.args.north c.args.east c.args.nanovolts.now c.ranges.north c.ranges.east)
-    (part_body (word_line (codes "volts")) (passed_line c.args.north c.args.east) (volts_lines c.args.lines.now c.args.nanovolts.now) (word_line (codes "end"))
-    _ _ _ _ c.in_ok-write_word.ensures.all c.in_ok-write_field_line.ensures.all c.write_volts_lines.ensures.part)
+returns-in_err-write_field_line g c =
+    writes_as (pieces c.args.lines.now c.args.north c.args.east c.args.nanovolts.now c.ranges.north c.ranges.east)
+    (writes_then c.in_ok-write_word.ensures (writes_stop _ c.in_err-write_field_line.ensures c.from_residual-in_err-write_field_line.ensures.1))
 
-pub returns-clause-part : goal.returns-clause-part
+pub returns-in_err-write_volts_lines : goal.returns-in_err-write_volts_lines
 unfolding passed_line
-returns-clause-part g c =
-    subst (AppendsPart _ _) (same_report c.args.lines.now c.args.north c.args.east c.args.nanovolts.now c.ranges.north c.ranges.east)
-    (part_last (word_line (codes "volts")) (passed_line c.args.north c.args.east) (volts_lines c.args.lines.now c.args.nanovolts.now) (word_line (codes "end"))
-    _ _ _ _ _ c.in_ok-write_word.ensures.all c.in_ok-write_field_line.ensures.all c.in_ok-write_volts_lines.ensures.all c.write_word-2.ensures.part)
+returns-in_err-write_volts_lines g c =
+    writes_as (pieces c.args.lines.now c.args.north c.args.east c.args.nanovolts.now c.ranges.north c.ranges.east)
+    (writes_then c.in_ok-write_word.ensures (writes_then c.in_ok-write_field_line.ensures (writes_stop _ c.in_err-write_volts_lines.ensures c.from_residual-in_err-write_volts_lines.ensures.1)))
 
-pub returns-clause-all : goal.returns-clause-all
+pub returns : goal.returns
 unfolding passed_line
-returns-clause-all g c =
-    on_ok_weaker c.write_word-2.result (λ p.
-    subst (Appends _ _) (same_report c.args.lines.now c.args.north c.args.east c.args.nanovolts.now c.ranges.north c.ranges.east)
-    (all_written (word_line (codes "volts")) (passed_line c.args.north c.args.east) (volts_lines c.args.lines.now c.args.nanovolts.now) (word_line (codes "end"))
-    _ _ _ _ _ c.in_ok-write_word.ensures.all c.in_ok-write_field_line.ensures.all c.in_ok-write_volts_lines.ensures.all p))
-    c.write_word-2.ensures.all
+returns g c =
+    writes_as (pieces c.args.lines.now c.args.north c.args.east c.args.nanovolts.now c.ranges.north c.ranges.east)
+    (writes_then c.in_ok-write_word.ensures (writes_then c.in_ok-write_field_line.ensures (writes_then c.in_ok-write_volts_lines.ensures c.write_word-2.ensures)))

@@ -1,4 +1,4 @@
-use Rattle.std.proofs.Common.{rules, arith, ◌≡◌, ℤ, FitsSigned, w64, to_z, of_z, List, [], ◌∷◌, ◌++◌, ◌⊎◌, inl, inr, refl, sym, ap, ◌∙◌}
+use Rattle.std.proofs.Common.{rules, ◌≡◌, ℤ, FitsSigned, w64, to_z, of_z, List, [], ◌∷◌, ◌++◌, ◌⊎◌, inl, inr, refl, sym, ap, ◌∙◌}
 use Rattle.std.specs.Iterator.Adapters.{zip_first, zip_second}
 use Rattle.std.specs.Slice.Iter.{iter_rest}
 use Rattle.std.proofs.lemmas.Int.{to_z-of_z}
@@ -6,7 +6,7 @@ use Rattle.std.proofs.lemmas.Slice.Zip.{Zip-more, either_empty_from_Zip}
 use Rattle.gic_text.specs.Lines.{line_text, lines_text}
 use Rattle.gic_case.specs.declared.item.Line.{Line}
 use Rattle.gic_volts.specs.VoltsText.{volts_line, volts_lines}
-use Rattle.gic_report.proofs.Written.{begins, goes_on, same_left, stops, ends}
+use Rattle.gic_report.proofs.Written.{begins, goes_on, stops, ends}
 use Rattle.gic_volts.proofs.text.write_volts_lines.Goals as goal
 
 -- what is left begins with the next line; the number is passed by its bits
@@ -29,26 +29,23 @@ loop-item-init g c =
     let second : iter_rest (zip_second c.into_iter-item-iterator.result) ≡ c.args.nanovolts.now = search rules in
     let same = ap (λ l. lines_text (volts_lines l c.args.nanovolts.now)) (sym first)
     ∙ ap (λ n. lines_text (volts_lines (iter_rest (zip_first c.into_iter-item-iterator.result)) n)) (sym second) in
-    record { written = begins _ _ _ same; kept = omega arith }
+    record { written = begins same }
 
 pub loop-item-preserved : goal.loop-item-preserved
 loop-item-preserved g c =
     let more = Zip-more c.loop-item.item-iterator c.next.new.self c.next.result (c.in-Some.item, c.in-Some.number) c.in-Some.is c.next.ensures.steps in
     let fits : FitsSigned w64 c.in-Some.number.now = search rules in
     let next = next_line _ _ _ _ c.in-Some.item.now c.in-Some.number.now more fits in
-    record {
-      written = goes_on _ _ _ _ _ _ (same_left _ _ _ _ _ c.loop-item.invariant.written next) c.in_ok-write_volts_line.ensures.all;
-      kept = grind (arith, c.loop-item.invariant.kept, c.in_ok-write_volts_line.ensures.cause.kept);
-    }
+    record { written = goes_on c.loop-item.invariant.written next c.in_ok-write_volts_line.ensures }
 
-pub returns-in_err-write_volts_line-clause-part : goal.returns-in_err-write_volts_line-clause-part
-returns-in_err-write_volts_line-clause-part g c =
+pub returns-in_err-write_volts_line : goal.returns-in_err-write_volts_line
+returns-in_err-write_volts_line g c =
     let more = Zip-more c.loop-item.item-iterator c.next.new.self c.next.result (c.in-Some.item, c.in-Some.number) c.in-Some.is c.next.ensures.steps in
     let fits : FitsSigned w64 c.in-Some.number.now = search rules in
     let next = next_line _ _ _ _ c.in-Some.item.now c.in-Some.number.now more fits in
-    stops _ _ _ _ _ _ (same_left _ _ _ _ _ c.loop-item.invariant.written next) c.write_volts_line.ensures.part
+    stops _ c.loop-item.invariant.written next c.in_err-write_volts_line.ensures c.from_residual.ensures.1
 
-pub returns-clause-all : goal.returns-clause-all
-returns-clause-all g c =
+pub returns : goal.returns
+returns g c =
     let none = either_empty_from_Zip c.loop-item.item-iterator c.next.new.self c.next.result c.in-None.is c.next.ensures.steps in
-    ends _ _ _ (same_left _ _ _ _ _ c.loop-item.invariant.written (no_line_left _ _ none))
+    ends c.loop-item.invariant.written (no_line_left _ _ none)
