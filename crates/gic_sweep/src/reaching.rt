@@ -37,7 +37,8 @@ pub struct ResidualEnds<'a> {
 fn greatest_at(ends: &ResidualEnds, node: NodeId) -> u128
     requires low { node.0 < length ends.now.low.now }
     requires high { node.0 < length ends.now.high.now }
-    ensures either { (result ≡ unsigned_abs (number_at ends.now.low.now node.0)) ⊎ (result ≡ unsigned_abs (number_at ends.now.high.now node.0)) }
+    ensures either { (result ≡ unsigned_abs (number_at ends.now.low.now node.0)) ⊎
+        (result ≡ unsigned_abs (number_at ends.now.high.now node.0)) }
     ensures low { unsigned_abs (number_at ends.now.low.now node.0) ≤ result }
     ensures high { unsigned_abs (number_at ends.now.high.now node.0) ≤ result }
 {
