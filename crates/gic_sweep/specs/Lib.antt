@@ -2,3 +2,4 @@ pub mod Guesses
 pub mod Sweep
 pub mod Passes
 pub mod Residuals
+pub mod ResidualEnds

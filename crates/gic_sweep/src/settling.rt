@@ -6,7 +6,7 @@ ghost use Rattle.gic_net.specs.Net.{standing};
 ghost use Rattle.gic_sweep.specs.Guesses.{AreCut};
 
 use crate::passing::residuals_into;
-use crate::reaching::reach_between;
+use crate::reaching::{ResidualEnds, reach_between};
 use gic_model::Volts;
 use gic_model::laws::rounded_residual_law;
 use gic_net::Net;
@@ -36,5 +36,5 @@ pub fn are_settled(
     rounded_residual_law();
     net.within_limits();
     residuals_into(net, volts, guesses, low, high);
-    reach_between(net, low, high) <= SETTLED
+    reach_between(net, &ResidualEnds { low, high }) <= SETTLED
 }

@@ -3,7 +3,7 @@ use crate::guesses::Guesses;
 use crate::improving::propose_all;
 use crate::node_sums::rounded_residual;
 use crate::passing::residuals_into;
-use crate::reaching::reach_between;
+use crate::reaching::{ResidualEnds, reach_between};
 use crate::settling::are_settled;
 use crate::steps::Steps;
 use crate::sweeping::sweep_over;
@@ -323,5 +323,5 @@ pub fn reach(net: &Net, volts: &Volts, solver: &Solver, low: &mut [i128], high: 
     ensures close { (t : ℕ) → IsSettledWithin (standing net.now) (number_at volts.now) (number_at solver.now) t → result ≤ most_reach t }
 {
     residuals(net, volts, solver, low, high);
-    reach_between(net, low, high)
+    reach_between(net, &ResidualEnds { low, high })
 }

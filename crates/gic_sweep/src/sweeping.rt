@@ -1,10 +1,10 @@
 //! One sweep over the guesses, node by node.
-ghost use Rattle.std.specs.Prelude.{◌≡◌, ℕ, ◌+◌, ◌*◌, ◌^◌, ◌<◌, ◌≤◌, length, unsigned_abs};
+ghost use Rattle.std.specs.Prelude.{◌≡◌, ◌+◌, ◌^◌, ◌<◌, ◌≤◌, length, unsigned_abs};
 ghost use Rattle.gic_model.specs.Standing.{IsLive};
 ghost use Rattle.gic_model.specs.Voltages.{number_at};
-ghost use Rattle.gic_model.specs.Guess.{most_guess, residual_down, diagonal as diagonal_at};
+ghost use Rattle.gic_model.specs.Guess.{most_guess};
 ghost use Rattle.gic_net.specs.Net.{standing};
-ghost use Rattle.gic_sweep.specs.Guesses.{AreCut};
+ghost use Rattle.gic_sweep.specs.Residuals.{AreRoundedDown};
 ghost use Rattle.gic_sweep.specs.Sweep.{IsTarget, IsSweptTo, IsSweep};
 
 use crate::fall::fall;
@@ -20,14 +20,9 @@ use std::sync::ledger::Ledger;
 
 /// Where a sweep moves a guess to, before the cut, as its residual rounded down tells.
 fn target(net: &Net, volts: &Volts, guesses: &[i128], low: &[i128], node: NodeId) -> i128
-    requires volts { length volts.now ≡ length net.now.network.list }
-    requires nodes { length guesses.now ≡ net.now.network.nodes }
-    requires live { IsLive (standing net.now) node.0 }
+    requires residuals { AreRoundedDown net.now volts.now guesses.now low.now }
     requires node { node.0 < net.now.network.nodes }
-    requires guesses { AreCut (number_at guesses.now) }
-    requires low_count { length low.now ≡ net.now.network.nodes }
-    requires low { (k : ℕ) → number_at low.now k ≡ residual_down (standing net.now) (number_at volts.now) (number_at guesses.now) k }
-    requires low_small { (k : ℕ) → unsigned_abs (number_at low.now k) ≤ diagonal_at (standing net.now) k * 2 ^ 86 }
+    requires live { IsLive (standing net.now) node.0 }
     ensures value { IsTarget (standing net.now) (number_at volts.now) (number_at guesses.now) node.0 result }
     ensures small { unsigned_abs result ≤ 2 ^ 100 }
 {
@@ -40,13 +35,8 @@ fn target(net: &Net, volts: &Volts, guesses: &[i128], low: &[i128], node: NodeId
 
 /// The new guess at a node.
 fn next_guess(net: &Net, volts: &Volts, guesses: &[i128], low: &[i128], node: NodeId) -> i128
-    requires volts { length volts.now ≡ length net.now.network.list }
-    requires nodes { length guesses.now ≡ net.now.network.nodes }
+    requires residuals { AreRoundedDown net.now volts.now guesses.now low.now }
     requires node { node.0 < net.now.network.nodes }
-    requires guesses { AreCut (number_at guesses.now) }
-    requires low_count { length low.now ≡ net.now.network.nodes }
-    requires low { (k : ℕ) → number_at low.now k ≡ residual_down (standing net.now) (number_at volts.now) (number_at guesses.now) k }
-    requires low_small { (k : ℕ) → unsigned_abs (number_at low.now k) ≤ diagonal_at (standing net.now) k * 2 ^ 86 }
     ensures swept { IsSweptTo (standing net.now) (number_at volts.now) (number_at guesses.now) node.0 result }
     ensures small { unsigned_abs result ≤ most_guess }
 {
@@ -66,12 +56,7 @@ fn sweep_from<L: Ledger>(
     guesses: &mut Guesses,
     steps: &mut Steps<L>,
 )
-    requires volts { length volts.now ≡ length net.now.network.list }
-    requires nodes { length old.now ≡ net.now.network.nodes }
-    requires old { AreCut (number_at old.now) }
-    requires low_count { length low.now ≡ net.now.network.nodes }
-    requires low { (k : ℕ) → number_at low.now k ≡ residual_down (standing net.now) (number_at volts.now) (number_at old.now) k }
-    requires low_small { (k : ℕ) → unsigned_abs (number_at low.now k) ≤ diagonal_at (standing net.now) k * 2 ^ 86 }
+    requires residuals { AreRoundedDown net.now volts.now old.now low.now }
     requires guesses { length guesses.old ≡ net.now.network.nodes }
     ensures sweep { IsSweep (standing net.now) (number_at volts.now) (number_at old.now) (number_at guesses.new) }
     ensures same_length { length guesses.new ≡ length guesses.old }
@@ -79,13 +64,8 @@ fn sweep_from<L: Ledger>(
 {
     net.within_limits();
     let moved = |node: NodeId| -> i128
-        requires volts { length volts.now ≡ length net.now.network.list }
-        requires nodes { length old.now ≡ net.now.network.nodes }
+        requires residuals { AreRoundedDown net.now volts.now old.now low.now }
         requires node { node.0 < net.now.network.nodes }
-        requires old { AreCut (number_at old.now) }
-        requires low_count { length low.now ≡ net.now.network.nodes }
-        requires low { (k : ℕ) → number_at low.now k ≡ residual_down (standing net.now) (number_at volts.now) (number_at old.now) k }
-        requires low_small { (k : ℕ) → unsigned_abs (number_at low.now k) ≤ diagonal_at (standing net.now) k * 2 ^ 86 }
         ensures swept { IsSweptTo (standing net.entry.now) (number_at volts.entry.now) (number_at old.entry.now) node.0 result }
         ensures small { unsigned_abs result ≤ most_guess }
     { next_guess(net, volts, old, low, node) };

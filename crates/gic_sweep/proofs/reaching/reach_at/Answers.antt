@@ -12,8 +12,8 @@ quotient_up-requires-clause-most c =
     let twice = diagonal_twice net c.args.node.0 c.within_limits.ensures in
     let value = c.conductance.ensures.value in
     ⊎_elim
-    (λ e. omega (arith, e, c.requires.ends.low, twice, value))
-    (λ e. omega (arith, e, c.requires.ends.high, twice, value))
+    (λ e. omega (arith, e, (c.requires.ends.small c.args.node.0).low, twice, value))
+    (λ e. omega (arith, e, (c.requires.ends.small c.args.node.0).high, twice, value))
     c.greatest_at-most.ensures.either
 
 pub returns-clause-settled : goal.returns-clause-settled
@@ -23,7 +23,7 @@ returns-clause-settled c volts x holds =
     let t = c.quotient_up.result in
     let scaled : t * c.conductance.result ≡ t * least_conductance (standing net) k = ap (λ n. t * n) c.conductance.ensures.value in
     let covers = c.quotient_up.ensures.covers in
-    c.settled_law.ensures net.network (stands net) volts x t k (number_at c.args.low.now k) (number_at c.args.high.now k) c.within_limits.ensures holds
+    c.settled_law.ensures net.network (stands net) volts x t k (number_at c.args.ends.now.low.now k) (number_at c.args.ends.now.high.now k) c.within_limits.ensures holds
     (omega (arith, scaled, covers, c.greatest_at-most.ensures.low)) (omega (arith, scaled, covers, c.greatest_at-most.ensures.high))
 
 pub returns-clause-close : goal.returns-clause-close
@@ -33,7 +33,7 @@ returns-clause-close c volts x t holds settled =
     let limits = c.within_limits.ensures in
     let value : c.conductance.result ≡ least_conductance (standing net) k = c.conductance.ensures.value in
     let scaled : most_reach t * c.conductance.result ≡ most_reach t * least_conductance (standing net) k = ap (λ n. most_reach t * n) value in
-    let both = close_at net k limits volts x (number_at c.args.low.now k) (number_at c.args.high.now k) holds c.requires.narrow (c.diagonal_law.ensures.at_least net.network (stands net) k limits) t settled in
+    let both = close_at net k limits volts x (number_at c.args.ends.now.low.now k) (number_at c.args.ends.now.high.now k) holds (c.requires.ends.narrow k) (c.diagonal_law.ensures.at_least net.network (stands net) k limits) t settled in
     ⊎_elim
     (λ e. c.quotient_up.ensures.least (most_reach t) (omega (arith, e, both.0, scaled)))
     (λ e. c.quotient_up.ensures.least (most_reach t) (omega (arith, e, both.1, scaled)))

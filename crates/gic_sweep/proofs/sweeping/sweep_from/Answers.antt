@@ -13,6 +13,6 @@ returns-clause-sweep g c = λ k.
     (λ below. (c.fill.ensures.each (record { 0 = k }) (omega (arith, below, c.requires.guesses))).1.0)
     (λ after. record {
       live = λ some. absurd (omega (arith, after, live_within net.network.nodes (standing net) k within some));
-      dead = λ none. past c.fill.new.self c.args.old.now k (omega (arith, after, c.fill.ensures.same_length, c.requires.guesses)) (omega (arith, after, c.requires.nodes));
+      dead = λ none. past c.fill.new.self c.args.old.now k (omega (arith, after, c.fill.ensures.same_length, c.requires.guesses)) (omega (arith, after, c.requires.residuals.guess_count));
     })
     (cases_lt k net.network.nodes)
