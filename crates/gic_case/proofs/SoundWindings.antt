@@ -1,11 +1,10 @@
 -- The windings of transformers: how many there are, and what the first of them tells.
-use Rattle.std.proofs.Common.{◌≡◌, ℕ, ◌≤◌, true, not, List, [], ◌∷◌, length, slice_get, is_some, Option, Some, None, refl, arith}
+use Rattle.std.proofs.Common.{◌≡◌, ℕ, ◌≤◌, not, List, [], ◌∷◌, length, slice_get, is_some, Some, None, refl, arith}
 use Rattle.std.proofs.lemmas.Bool.Decides.{nat_tests}
 use Rattle.std.specs.Prelude.{◌==◌}
-use Rattle.gic_case.specs.declared.item.Third.{Third}
 use Rattle.gic_case.specs.declared.item.Kind.{Kind}
 use Rattle.gic_case.specs.declared.item.Kind.TheVariants as kinds
-use Rattle.gic_case.specs.Windings.{third_windings, windings_by}
+use Rattle.gic_case.specs.Windings.{windings_by}
 
 -- a list that isn't empty has a first item
 pub some_first : {X : Type 0} (xs : List X) → not (length xs == 0) ≡ is_some (slice_get xs 0)

@@ -56,7 +56,11 @@ impl Windings {
             Some(third) => {
                 let from = terminal(third.bus, third.volts);
                 Windings {
-                    list: [first, second, to_neutral(WindingRole::Third, from, third.resistance)],
+                    list: [
+                        first,
+                        second,
+                        to_neutral(WindingRole::Third, from, third.resistance),
+                    ],
                     count: 3,
                 }
             }

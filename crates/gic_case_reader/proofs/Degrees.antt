@@ -98,7 +98,7 @@ length-device_ends neutral grid (Some devices.Blocked) = omega arith
 length-transformer_ends : (c : Lists) → length (transformer_ends c) ≤ 8 * length c.transformers
 length-transformer_ends c =
     let many = length-neutrals_of c in
-    let windings = length-flat_map {A = ℕ × Transformer} (λ p. winding_ends (length c.substations) p.0 (windings_of p.1)) 6 (λ p. length-winding_ends (length c.substations) p.0 (windings_of p.1)) (neutrals_of c) in
+    let windings = length-flat_map {A = ℕ × Transformer} (λ p. winding_ends (length c.substations) p.0 (windings_of p.1)) 6 (λ p. length-winding_ends (length c.substations) p.0 p.1) (neutrals_of c) in
     let devices = length-flat_map {A = ℕ × Transformer} (λ p. device_ends p.0 (grid_of c.buses p.1) p.1.neutral) 2 (λ p. length-device_ends p.0 (grid_of c.buses p.1) p.1.neutral) (neutrals_of c) in
     rw length-append (omega (arith, many, windings, devices))
 

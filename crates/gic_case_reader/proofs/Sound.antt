@@ -176,7 +176,7 @@ abbrev HaveTwoBuses : Winding → Winding → Type 0
 HaveTwoBuses v w = v.from.bus ≢ w.from.bus
 
 differ_by : (ws : List Winding) → sides_differ ws ≡ true → AllPairs HaveTwoBuses ws
-differ_by [] h i j d before within = absurd (omega arith)
+differ_by [] h = λ i j d before within. absurd (omega arith)
 differ_by (w ∷ ws) h =
     let both = and_parts (list_all (λ v. not (w.from.bus == v.from.bus)) ws) (sides_differ ws) h in
     let others = weaker (λ v. not (w.from.bus == v.from.bus) ≡ true) (HaveTwoBuses w) (λ v apart. unequal w.from.bus v.from.bus apart) ws (all_hold (λ v. not (w.from.bus == v.from.bus)) ws both.0) in
@@ -189,7 +189,7 @@ at_one_place place n ws each i j d before within =
     sym (all i d (omega arith)) ∙ all j d within
 
 together_by : (buses : List Bus) (ws : List Winding) → are_together buses ws ≡ true → AllPairs (λ v w. substation_at buses v.from.bus ≡ substation_at buses w.from.bus) ws
-together_by buses [] h i j d before within = absurd (omega arith)
+together_by buses [] h = λ i j d before within. absurd (omega arith)
 together_by buses (w ∷ ws) h =
     let here = substation_at buses w.from.bus in
     let others = weaker (λ v. (here == substation_at buses v.from.bus) ≡ true) (λ v. here ≡ substation_at buses v.from.bus) (λ v one. eqb-true here (substation_at buses v.from.bus) one) ws
@@ -234,8 +234,7 @@ module _ (c : Lists) (w : Written) (many : length c.buses ≡ length w.buses) (v
   windings_sound_by (rows.WyeWye high low low_volts high_resistance low_resistance third) rated measured placed differ ordered =
       let third_row = option_map (third_with_place w) third in
       let first = and_parts (nat_le volts volts) (nat_le low_volts volts && are_ordered volts (third_windings third_row)) ordered in
-      let second = and_parts (nat_le low_volts volts) (are_ordered volts (third_windings third_row)) first.1 in
-      (
+      let second = and_parts (nat_le low_volts volts) (are_ordered volts (third_windings third_row)) first.1 in (
         one_by roles.High (side_place w high) volts high_resistance placed.0 rated first.0 measured.1.0,
         (one_by roles.Low (side_place w low) low_volts low_resistance placed.1 measured.0 second.0 measured.1.1, third_by third measured.2 placed.2 second.1),
       )
@@ -245,8 +244,7 @@ module _ (c : Lists) (w : Written) (many : length c.buses ≡ length w.buses) (v
       let second = and_parts (nat_le low_volts volts) (are_ordered volts (third_windings third_row)) first.1 in
       let others : List Winding = to_neutral roles.Common (terminal (side_place w low) low_volts) common_resistance ∷ third_windings third_row in
       let apart = and_parts (list_all (λ v. not (side_place w high == v.from.bus)) others) (sides_differ others) differ in
-      let two = and_parts (not (side_place w high == side_place w low)) (list_all (λ v. not (side_place w high == v.from.bus)) (third_windings third_row)) apart.0 in
-      (
+      let two = and_parts (not (side_place w high == side_place w low)) (list_all (λ v. not (side_place w high == v.from.bus)) (third_windings third_row)) apart.0 in (
         series_by (side_place w high) (side_place w low) low_volts series_resistance placed.0 placed.1 rated first.0 second.0 two.0 measured.1.0,
         (one_by roles.Common (side_place w low) low_volts common_resistance placed.1 measured.0 second.0 measured.1.1, third_by third measured.2 placed.2 second.1),
       )

@@ -2,6 +2,7 @@
 ghost use Rattle.std.specs.Prelude.{◌≡◌, ◌<◌, ◌^◌, ◌==◌, not, length};
 ghost use Rattle.std.specs.List.{list_all};
 ghost use Rattle.gic_base.specs.Refusals.{AnswersExactly, settle};
+ghost use Rattle.gic_case.specs.Lists.{substation_at};
 ghost use Rattle.gic_case_reader.specs.Sides.{sides_differ, are_together, are_ordered};
 ghost use Rattle.gic_case_reader.specs.OneByOne.{breaks_same_ends_from, breaks_same_sides_from, breaks_apart_from, breaks_voltage_order_from};
 
@@ -31,17 +32,19 @@ fn sides_differ(windings: &[Winding]) -> bool
     true
 }
 
+/// Whether these windings run from buses of the substation at a place.
+fn are_at(buses: &[Bus], substation: u16, windings: &[Winding]) -> bool
+    ensures { result ≡ list_all (λ v. substation == substation_at buses.now v.from.bus) windings.now }
+{
+    windings.iter().all(|winding| substation == substation_at(buses, winding.from.bus))
+}
+
 /// Whether these windings run from buses of one substation.
 fn are_together(buses: &[Bus], windings: &[Winding]) -> bool
     ensures { result ≡ are_together buses.now windings.now }
 {
     match windings.split_first() {
-        Some((winding, others)) => {
-            let substation = substation_at(buses, winding.from.bus);
-            others
-                .iter()
-                .all(|other| substation == substation_at(buses, other.from.bus))
-        }
+        Some((first, others)) => are_at(buses, substation_at(buses, first.from.bus), others),
         None => true,
     }
 }

@@ -1,6 +1,6 @@
 -- The items of the elements of a case, and the names of the nodes at which they end.
 use Rattle.std.proofs.Common.{◌≡◌, ◌∙◌, ℕ, ◌+◌, ◌<◌, ◌≤◌, Bool, true, false, Option, Some, None, List, [], ◌∷◌, ◌++◌, length, map, get_or, refl, sym, ap, subst, arith, inl, inr}
-use Rattle.std.specs.Prelude.{◌==◌, if◌then◌else◌, is_some, slice_get, Contains, IfSome, IsTrue, ⊤}
+use Rattle.std.specs.Prelude.{◌==◌, if◌then◌else◌, is_some, slice_get, Contains, IsTrue, ⊤}
 use Rattle.std.specs.List.{AllByRecursion}
 use Rattle.std.proofs.lemmas.Bool.{eqb-true, or_cases}
 use Rattle.std.proofs.lemmas.List.{get_or-map, length-map}

@@ -1,10 +1,11 @@
 -- The rows of a case that aren't blocked are named as its elements, in their order.
-use Rattle.std.proofs.Common.{◌≡◌, ◌∙◌, ℕ, ◌+◌, ◌<◌, true, false, Option, Some, None, List, [], ◌∷◌, ◌++◌, map, not, length, drop, get_or, refl, sym, ap, ap₂, arith}
+use Rattle.std.proofs.Common.{◌≡◌, ◌∙◌, ℕ, ◌+◌, ◌<◌, ◌≤◌, true, false, Option, Some, None, List, [], ◌∷◌, ◌++◌, map, not, length, drop, get_or, refl, sym, ap, ap₂, arith}
 use Rattle.std.proofs.lemmas.List.{get_or-map, length-map, map-append}
 use Rattle.std.proofs.lemmas.List.Elements.{filter-append}
-use Rattle.std.proofs.lemmas.Option.{slice_get-map}
+use Rattle.std.proofs.lemmas.Option.{none-some, same_Some, slice_get-map}
 use Rattle.std.specs.Prelude.{if◌then◌else◌, slice_get}
-use Rattle.std.specs.Option.{option_map}
+use Rattle.std.specs.Option.{option_map, option_to_list}
+use Rattle.gic_case.proofs.SoundWindings.{few_windings}
 use Rattle.std.specs.List.{enumerate_from, filter, flat_map}
 use Rattle.gic_case.specs.declared.item.Line.{Line}
 use Rattle.gic_case.specs.declared.item.Neutral.{Neutral}
@@ -27,6 +28,28 @@ use Rattle.gic_report.proofs.NeutralNames.{transformers_of_neutrals}
 -- the row of the winding at a place
 pub row_at : (name : List ℕ) (ws : List Winding) (place : ℕ) → slice_get (winding_rows name ws) place ≡ option_map (λ w. item_row_of (role_of w.role) name false) (slice_get ws place)
 row_at name ws place = slice_get-map (λ w. item_row_of (role_of w.role) name false) ws place
+
+few_rows : (name : List ℕ) (t : Transformer) → length (winding_rows name (windings_of t)) ≤ 3
+few_rows name t = omega (arith, length-map (windings_of t) (λ w. item_row_of (role_of w.role) name false), few_windings t.high_volts t.kind)
+
+no_first : (rows : List ItemRow) → None ≡ slice_get rows 0 → rows ≡ []
+no_first [] none = refl
+no_first (r ∷ rows) none = absurd (none-some r none)
+
+some_first : (rows : List ItemRow) (x : ItemRow) → length rows ≤ 3 → Some x ≡ slice_get rows 0 → rows ≡ x ∷ (option_to_list (slice_get rows 1) ++ option_to_list (slice_get rows 2))
+some_first [] x few first = absurd (none-some x (sym first))
+some_first (r ∷ []) x few first = ap (λ y. y ∷ []) (sym (same_Some x r first))
+some_first (r ∷ s ∷ []) x few first = ap (λ y. y ∷ s ∷ []) (sym (same_Some x r first))
+some_first (r ∷ s ∷ t ∷ []) x few first = ap (λ y. y ∷ s ∷ t ∷ []) (sym (same_Some x r first))
+some_first (r ∷ s ∷ t ∷ u ∷ rows) x few first = absurd (omega arith)
+
+-- the rows of a transformer's windings, by the first of them
+pub no_rows : (name : List ℕ) (t : Transformer) → None ≡ slice_get (winding_rows name (windings_of t)) 0 → winding_rows name (windings_of t) ≡ []
+no_rows name t none = no_first (winding_rows name (windings_of t)) none
+
+pub three_rows : (name : List ℕ) (t : Transformer) (x : ItemRow) → Some x ≡ slice_get (winding_rows name (windings_of t)) 0
+    → winding_rows name (windings_of t) ≡ x ∷ (option_to_list (slice_get (winding_rows name (windings_of t)) 1) ++ option_to_list (slice_get (winding_rows name (windings_of t)) 2))
+three_rows name t x first = some_first (winding_rows name (windings_of t)) x (few_rows name t) first
 
 -- what names the rows that aren't blocked
 abbrev pub heads : List ItemRow → List Words

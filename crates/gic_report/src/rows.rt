@@ -101,6 +101,7 @@ fn winding_row(name: Name, windings: &[Winding], place: usize) -> Option<ItemRow
 
 /// The rows of a transformer's windings, if it has any: of the first one, and of the second and the third one if there are
 /// such.
+#[tactic(auto, using(crate::proofs::RowHeads::no_rows, crate::proofs::RowHeads::three_rows))]
 fn winding_rows(transformer: &Transformer) -> Option<(ItemRow, Option<ItemRow>, Option<ItemRow>)>
     ensures { MatchOption result
         (winding_rows transformer.now.name (windings_of transformer.now) ≡ [])
@@ -110,10 +111,13 @@ fn winding_rows(transformer: &Transformer) -> Option<(ItemRow, Option<ItemRow>, 
     let name = transformer.name;
     let windings = transformer.windings();
     let windings = windings.as_slice();
-    let first = winding_row(name, windings, 0)?;
+    let first = winding_row(name, windings, 0);
     let second = winding_row(name, windings, 1);
     let third = winding_row(name, windings, 2);
-    Some((first, second, third))
+    match first {
+        Some(first) => Some((first, second, third)),
+        None => None,
+    }
 }
 
 /// The row of a transformer's neutral device, if it has one.

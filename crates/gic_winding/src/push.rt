@@ -86,13 +86,7 @@ pub fn push_windings(
         list.old.items ++ winding_elements (length case.now.substations) place neutral.0 (windings_of transformer.now)) }
 {
     let windings = transformer.windings();
-    push_elements(
-        list,
-        case,
-        place,
-        neutral,
-        windings.as_slice(),
-    )
+    push_elements(list, case, place, neutral, windings.as_slice())
 }
 
 /// These windings of the transformer at a place.
