@@ -91,7 +91,7 @@ pub in_question : {A : Type 0} (files : Option Files) (o : Names) (named : List 
 in_question files o named step question known before now answer is r = subst (λ (q : Question). Reads files o named (step q) before now answer) is r
 
 -- one of a network, and what is made of it
-module _ (files : Option Files) (request known : Request) (case : List ℕ) (switch : Option (List ℕ)) (question : Question) (make : Inputs → Asked) (before now : Fetches) where
+module _ (files : Option Files) (case : List ℕ) (switch : Option (List ℕ)) (question : Question) (make : Inputs → Asked) (before now : Fetches) where
   abbrev network_files : List NamedFile
   network_files = file_named file.Case (Some case) ++ file_named file.Switch switch
 
