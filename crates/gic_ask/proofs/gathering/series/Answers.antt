@@ -1,4 +1,4 @@
-use Rattle.std.proofs.Common.{rules, Some, Ok, Err, refl, sym}
+use Rattle.std.proofs.Common.{rules, Some, Ok, Err, refl}
 use Rattle.gic_ask.specs.Contents.{Names, of_case}
 use Rattle.gic_ask.specs.Outcome.{Accepts, ◌>>=◌, reading_case, reading_over, asking_series}
 use Rattle.gic_ask.specs.declared.fault.File.TheVariants as file

@@ -1,5 +1,5 @@
-use Rattle.std.proofs.Common.{rules, Some, Ok, Err, refl, ◌++◌}
-use Rattle.gic_ask.specs.Contents.{Names, file_named, of_case}
+use Rattle.std.proofs.Common.{rules, Some, Ok, Err, refl}
+use Rattle.gic_ask.specs.Contents.{Names, of_case}
 use Rattle.gic_ask.specs.Outcome.{reading_case, reading_over, asking_study}
 use Rattle.gic_ask.specs.declared.fault.File.TheVariants as file
 use Rattle.gic_ask.specs.declared.request.Asked.TheVariants.{Study}
