@@ -1,19 +1,16 @@
 -- All that a request names is read one file after another.
 use Rattle.std.proofs.Common.{◌≡◌, ℕ, List, [], ◌++◌, Bool, true, false, Option, Some, None, Result, Ok, Err, refl, sym, ap, subst, append-nil, arith}
-use Rattle.std.specs.Prelude.{IfOk, IfErr, IfSome, IsSomeAnd, IsOkAnd, IsErrAnd, ok_or}
+use Rattle.std.specs.Prelude.{IfOk, IfErr, IfSome, IsSomeAnd, IsOkAnd, ok_or}
 use Rattle.gic_files.specs.Files.{Files, Fetches, HasFailed}
 use Rattle.gic_case.specs.Lists.{Lists}
 use Rattle.gic_inputs.specs.declared.inputs.Inputs.{Inputs}
-use Rattle.gic_inputs.specs.declared.inputs.StormInputs.{StormInputs}
-use Rattle.gic_model.specs.declared.parts.Switching.{Switching}
 use Rattle.gic_question.specs.declared.asked.Question.{Question}
-use Rattle.gic_storm.specs.StormView.{StormView}
 use Rattle.gic_words.specs.Requests.{request_of}
 use Rattle.gic_words.specs.declared.fault.Usage.{Usage}
 use Rattle.gic_words.specs.declared.request.Request.{Request}
 use Rattle.gic_ask.specs.Asks.{Asks, IsAnswer, EndsAt, FetchesInOrder, CouldNotRead, file_of, files_given}
 use Rattle.gic_ask.specs.Contents.{Nothing, Contents, Names, NamedFile, MayHandOut, file_named, files_named, name_of_file, names_in, of_case}
-use Rattle.gic_ask.specs.Outcome.{Outcome, Accepts, ◌>>=◌, reading, reading_case, reading_storm, reading_switchings, reading_inputs, reading_network, reading_after_storm, reading_over, transformer_named, transformer_asked, asking, outcome}
+use Rattle.gic_ask.specs.Outcome.{Outcome, Accepts, ◌>>=◌, reading, reading_case, reading_network, transformer_named, transformer_asked, asking, outcome}
 use Rattle.gic_ask.specs.Steps.{Gives, Reads}
 use Rattle.gic_ask.specs.declared.fault.File.{File}
 use Rattle.gic_ask.specs.declared.fault.File.TheVariants as file
@@ -91,7 +88,7 @@ pub in_question : {A : Type 0} (files : Option Files) (o : Names) (named : List 
 in_question files o named step question known before now answer is r = subst (λ (q : Question). Reads files o named (step q) before now answer) is r
 
 -- one of a network, and what is made of it
-module _ (files : Option Files) (request known : Request) (case : List ℕ) (switch : Option (List ℕ)) (question : Question) (make : Inputs → Asked) (before now : Fetches) where
+module _ (files : Option Files) (case : List ℕ) (switch : Option (List ℕ)) (question : Question) (make : Inputs → Asked) (before now : Fetches) where
   abbrev network_files : List NamedFile
   network_files = file_named file.Case (Some case) ++ file_named file.Switch switch
 

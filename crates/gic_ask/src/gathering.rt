@@ -56,7 +56,7 @@ fn over_case<L: Library>(
     question: Question,
 ) -> Result<StormInputs, InputFault>
     ensures content { L.content library.new ≡ L.content library.old }
-    ensures reads { (case_name : List ℕ) → Reads (L.content library.old) (record (of_case case_name switch.now) { storm = Some name.now })
+    ensures reads { (of : List ℕ) → Reads (L.content library.old) (record (of_case of switch.now) { storm = Some name.now })
         (file_named file.Storm (Some name.now) ++ file_named file.Switch switch.now) (reading_over switch.now question case)
         (fetches L.fetched L.failures library.old) (fetches L.fetched L.failures library.new) result }
     ensures given { IfOk result (λ inputs. (inputs.question ≡ question) × (inputs.case ≡ case)) }

@@ -39,13 +39,7 @@ fn write_rows<S: Sink>(
     // A storm has few steps, so there are few rows.
     let _steps = inputs.storm.steps();
     let shown = &inputs.case.transformers()[transformer as usize];
-    write_series(
-        inputs.question.width,
-        &shown.name,
-        rows.rows(),
-        line,
-        out,
-    )
+    write_series(inputs.question.width, &shown.name, rows.rows(), line, out)
 }
 
 /// Writes the signed effective current, in milliamperes per phase, of the transformer at this place of the case at each

@@ -1,4 +1,4 @@
-use Rattle.std.proofs.Common.{List, ℕ, Option, Ok, Err, refl}
+use Rattle.std.proofs.Common.{List, Option, Ok, Err, refl}
 use Rattle.gic_inputs.specs.declared.inputs.Inputs.{Inputs}
 use Rattle.gic_model.specs.declared.parts.Switching.{Switching}
 use Rattle.gic_ask.specs.Contents.{Names, file_named, of_case}

@@ -1,4 +1,4 @@
-use Rattle.std.proofs.Common.{rules, Some, Ok, Err, refl, sym}
+use Rattle.std.proofs.Common.{rules, Some, Ok, Err, refl}
 use Rattle.gic_ask.specs.Contents.{Names, of_case}
 use Rattle.gic_ask.specs.Outcome.{Accepts, ◌>>=◌, reading_case, reading_over, asking_series}
 use Rattle.gic_ask.specs.declared.fault.File.TheVariants as file
@@ -30,8 +30,8 @@ returns-in_err-inputs-clause-reads g c =
     (λ place contents. reading_over c.args.switch.now (question_of no_field (record usual_criteria { width = c.args.width })) c.in_ok-case.case contents >>= (λ inputs. Accepts (Series inputs place)))
     _ c.in-Ok.ensures.place
     (last_fails _ names _ _ (λ inputs. Series inputs c.in-Ok.place) _ _ c.in_err-inputs.field-0.0
-    (in_question _ names _ (λ q. reading_over c.args.switch.now q c.in_ok-case.case) c.new.result (question_of no_field (record usual_criteria { width = c.args.width })) _ _ _
-    (search (rules, c.new.ensures.value, c.none.ensures.value, c.usual.ensures.value)) (c.in_err-inputs.ensures.reads c.args.name.now)))))
+    (in_question _ names _ (λ q. reading_over c.args.switch.now q c.in_ok-case.case) c.new-question.result (question_of no_field (record usual_criteria { width = c.args.width })) _ _ _
+    (search (rules, c.new-question.ensures.value, c.none.ensures.value, c.usual.ensures.value)) (c.in_err-inputs.ensures.reads c.args.name.now)))))
 
 pub returns-clause-reads : goal.returns-clause-reads
 returns-clause-reads g c =
@@ -42,5 +42,5 @@ returns-clause-reads g c =
     (λ place contents. reading_over c.args.switch.now (question_of no_field (record usual_criteria { width = c.args.width })) c.in_ok-case.case contents >>= (λ inputs. Accepts (Series inputs place)))
     _ c.in-Ok.ensures.place
     (last_step _ names _ _ (λ inputs. Series inputs c.in-Ok.place) _ _ c.in_ok-inputs.inputs
-    (in_question _ names _ (λ q. reading_over c.args.switch.now q c.in_ok-case.case) c.new.result (question_of no_field (record usual_criteria { width = c.args.width })) _ _ _
-    (search (rules, c.new.ensures.value, c.none.ensures.value, c.usual.ensures.value)) (c.in_ok-inputs.ensures.reads c.args.name.now))))
+    (in_question _ names _ (λ q. reading_over c.args.switch.now q c.in_ok-case.case) c.new-question.result (question_of no_field (record usual_criteria { width = c.args.width })) _ _ _
+    (search (rules, c.new-question.ensures.value, c.none.ensures.value, c.usual.ensures.value)) (c.in_ok-inputs.ensures.reads c.args.name.now))))

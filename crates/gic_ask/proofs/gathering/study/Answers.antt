@@ -1,5 +1,5 @@
-use Rattle.std.proofs.Common.{rules, Some, Ok, Err, refl, ◌++◌}
-use Rattle.gic_ask.specs.Contents.{Names, file_named, of_case}
+use Rattle.std.proofs.Common.{rules, Some, Ok, Err, refl}
+use Rattle.gic_ask.specs.Contents.{Names, of_case}
 use Rattle.gic_ask.specs.Outcome.{reading_case, reading_over, asking_study}
 use Rattle.gic_ask.specs.declared.fault.File.TheVariants as file
 use Rattle.gic_ask.specs.declared.request.Asked.TheVariants.{Study}
@@ -21,7 +21,7 @@ returns-in_err-inputs-clause-reads g c =
     (file_read _ names file.Case c.args.name.now reading_case _ (asking_study c.args.switch.now c.args.criteria c.args.detail)
     up_to_case _ _ _ _ c.in_ok-case.case (Err c.in_err-inputs.field-0.0) refl refl (λ one two. refl) c.in_ok-case.ensures.gives c.in_ok-case.ensures.content
     (last_fails _ names _ _ (λ inputs. Study inputs c.args.detail) _ _ c.in_err-inputs.field-0.0
-    (in_question _ names _ (λ q. reading_over c.args.switch.now q c.in_ok-case.case) c.new.result (question_of no_field c.args.criteria) _ _ _ (search (rules, c.new.ensures.value, c.none.ensures.value))
+    (in_question _ names _ (λ q. reading_over c.args.switch.now q c.in_ok-case.case) c.new-question.result (question_of no_field c.args.criteria) _ _ _ (search (rules, c.new-question.ensures.value, c.none.ensures.value))
     (c.in_err-inputs.ensures.reads c.args.name.now))))
 
 pub returns-clause-reads : goal.returns-clause-reads
@@ -30,5 +30,5 @@ returns-clause-reads g c =
     file_read _ names file.Case c.args.name.now reading_case _ (asking_study c.args.switch.now c.args.criteria c.args.detail)
     up_to_case _ _ _ _ c.in_ok-case.case (Ok (Study c.in_ok-inputs.inputs c.args.detail)) refl refl (λ one two. refl) c.in_ok-case.ensures.gives c.in_ok-case.ensures.content
     (last_step _ names _ _ (λ inputs. Study inputs c.args.detail) _ _ c.in_ok-inputs.inputs
-    (in_question _ names _ (λ q. reading_over c.args.switch.now q c.in_ok-case.case) c.new.result (question_of no_field c.args.criteria) _ _ _ (search (rules, c.new.ensures.value, c.none.ensures.value))
+    (in_question _ names _ (λ q. reading_over c.args.switch.now q c.in_ok-case.case) c.new-question.result (question_of no_field c.args.criteria) _ _ _ (search (rules, c.new-question.ensures.value, c.none.ensures.value))
     (c.in_ok-inputs.ensures.reads c.args.name.now)))
