@@ -1,8 +1,6 @@
 //! Writes the text of a certificate.
-ghost use Rattle.std.specs.Prelude.{◌≡◌, ◌<◌, length, OnOk};
-ghost use Rattle.std.specs.Io.KnownBytes.{Appends};
-ghost use Rattle.gic_base.specs.Causes.{HasCause};
-ghost use Rattle.gic_base.specs.Pieces.{AppendsPart};
+ghost use Rattle.std.specs.Prelude.{◌≡◌, ◌<◌, length};
+ghost use Rattle.gic_base.specs.Writes.{Writes};
 ghost use Rattle.gic_text.specs.Lines.{line_text, lines_text};
 ghost use Rattle.gic_case.specs.Lists.{node_names};
 ghost use Rattle.gic_cert.specs.Text.{nodes_line, written_line, written_lines, cert_text};
@@ -24,11 +22,7 @@ fn write_nodes_line<S: Sink>(
     line: &mut LineBuilder,
     out: &mut S,
 ) -> Result<(), WriteFailed>
-    ensures all { OnOk result (Appends (S.written out.old) (S.written out.new)
-        (line_text (nodes_line count field.now.north field.now.east))) }
-    ensures part { AppendsPart (S.written out.old) (S.written out.new)
-        (line_text (nodes_line count field.now.north field.now.east)) }
-    ensures cause { HasCause (S.faults out.old) (S.faults out.new) result }
+    ensures { Writes S.written S.faults out.old out.new (line_text (nodes_line count field.now.north field.now.east)) result }
 {
     line.start();
     line.word(b"nodes");
@@ -42,11 +36,8 @@ fn write_nodes_line<S: Sink>(
 
 /// Writes the second line of a certificate.
 fn write_field<S: Sink>(cert: &Cert, line: &mut LineBuilder, out: &mut S) -> Result<(), WriteFailed>
-    ensures all { OnOk result (Appends (S.written out.old) (S.written out.new)
-        (line_text (nodes_line (length cert.now.nodes) cert.now.north cert.now.east))) }
-    ensures part { AppendsPart (S.written out.old) (S.written out.new)
-        (line_text (nodes_line (length cert.now.nodes) cert.now.north cert.now.east)) }
-    ensures cause { HasCause (S.faults out.old) (S.faults out.new) result }
+    ensures { Writes S.written S.faults out.old out.new
+        (line_text (nodes_line (length cert.now.nodes) cert.now.north cert.now.east)) result }
 {
     write_nodes_line(cert.count(), cert.field(), line, out)
 }
@@ -60,11 +51,7 @@ fn write_node<S: Sink>(
     out: &mut S,
 ) -> Result<(), WriteFailed>
     requires { IsNodeRow row.now }
-    ensures all { OnOk result (Appends (S.written out.old) (S.written out.new)
-        (line_text (written_line name.now (row_written row.now)))) }
-    ensures part { AppendsPart (S.written out.old) (S.written out.new)
-        (line_text (written_line name.now (row_written row.now))) }
-    ensures cause { HasCause (S.faults out.old) (S.faults out.new) result }
+    ensures { Writes S.written S.faults out.old out.new (line_text (written_line name.now (row_written row.now))) result }
 {
     line.start();
     line.word(b"cert");
@@ -88,11 +75,7 @@ fn write_node_at<S: Sink>(
     out: &mut S,
 ) -> Result<(), WriteFailed>
     requires { node.0 < length cert.now.nodes }
-    ensures all { OnOk result (Appends (S.written out.old) (S.written out.new)
-        (line_text (written_line name.now (written_at cert.now node.0)))) }
-    ensures part { AppendsPart (S.written out.old) (S.written out.new)
-        (line_text (written_line name.now (written_at cert.now node.0))) }
-    ensures cause { HasCause (S.faults out.old) (S.faults out.new) result }
+    ensures { Writes S.written S.faults out.old out.new (line_text (written_line name.now (written_at cert.now node.0))) result }
 {
     let row = cert.row(node);
     write_node(name, &row, line, out)
@@ -106,11 +89,7 @@ fn write_nodes<S: Sink>(
     out: &mut S,
 ) -> Result<(), WriteFailed>
     requires { length cert.now.nodes ≡ length (node_names case.now) }
-    ensures all { OnOk result (Appends (S.written out.old) (S.written out.new)
-        (lines_text (written_lines (node_names case.now) cert.now.nodes))) }
-    ensures part { AppendsPart (S.written out.old) (S.written out.new)
-        (lines_text (written_lines (node_names case.now) cert.now.nodes)) }
-    ensures cause { HasCause (S.faults out.old) (S.faults out.new) result }
+    ensures { Writes S.written S.faults out.old out.new (lines_text (written_lines (node_names case.now) cert.now.nodes)) result }
 {
     // A case has few nodes, so the count of them below is one of 16 bits.
     let _count = node_count(case);
@@ -130,9 +109,7 @@ pub fn write_cert<S: Sink>(
     out: &mut S,
 ) -> Result<(), WriteFailed>
     requires { length cert.now.nodes ≡ length (node_names case.now) }
-    ensures all { OnOk result (Appends (S.written out.old) (S.written out.new) (cert_text (node_names case.now) cert.now)) }
-    ensures part { AppendsPart (S.written out.old) (S.written out.new) (cert_text (node_names case.now) cert.now) }
-    ensures cause { HasCause (S.faults out.old) (S.faults out.new) result }
+    ensures { Writes S.written S.faults out.old out.new (cert_text (node_names case.now) cert.now) result }
 {
     write_word(b"certificate", line, out)?;
     write_field(cert, line, out)?;

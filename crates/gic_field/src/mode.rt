@@ -1,8 +1,6 @@
 //! The report of the mode.
-ghost use Rattle.std.specs.Prelude.{All, OnOk};
-ghost use Rattle.std.specs.Io.KnownBytes.{Appends};
-ghost use Rattle.gic_base.specs.Causes.{HasCause};
-ghost use Rattle.gic_base.specs.Pieces.{AppendsPart};
+ghost use Rattle.std.specs.Prelude.{All};
+ghost use Rattle.gic_base.specs.Writes.{Writes};
 ghost use Rattle.gic_view.specs.Absolute.{HasAbsolute};
 ghost use Rattle.gic_question.specs.Ranges.{IsWithinRanges};
 ghost use Rattle.gic_stand.specs.Needs.{Solved};
@@ -31,11 +29,7 @@ fn write_view<S: Sink>(
     out: &mut S,
 ) -> Result<(), WriteFailed>
     requires { All HasAbsolute view.now.effective }
-    ensures all { OnOk result (Appends (S.written out.old) (S.written out.new)
-        (field_text case.now question.now view.now)) }
-    ensures part { AppendsPart (S.written out.old) (S.written out.new)
-        (field_text case.now question.now view.now) }
-    ensures cause { HasCause (S.faults out.old) (S.faults out.new) result }
+    ensures { Writes S.written S.faults out.old out.new (field_text case.now question.now view.now) result }
 {
     let setting = Setting {
         north: question.north,

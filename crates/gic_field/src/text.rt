@@ -1,8 +1,6 @@
 //! The report of the potentials and the currents in one uniform field.
-ghost use Rattle.std.specs.Prelude.{◌++◌, All, OnOk};
-ghost use Rattle.std.specs.Io.KnownBytes.{Appends};
-ghost use Rattle.gic_base.specs.Causes.{HasCause};
-ghost use Rattle.gic_base.specs.Pieces.{AppendsPart};
+ghost use Rattle.std.specs.Prelude.{◌++◌, All};
+ghost use Rattle.gic_base.specs.Writes.{Writes};
 ghost use Rattle.gic_text.specs.Lines.{line_text, lines_text};
 ghost use Rattle.gic_view.specs.Absolute.{HasAbsolute};
 ghost use Rattle.gic_report.specs.ItemText.{signed_lines};
@@ -31,11 +29,8 @@ fn write_setting<S: Sink>(
     line: &mut LineBuilder,
     out: &mut S,
 ) -> Result<(), WriteFailed>
-    ensures all { OnOk result (Appends (S.written out.old) (S.written out.new)
-        (line_text (field_setting_line setting.now.north setting.now.east setting.now.width setting.now.threshold))) }
-    ensures part { AppendsPart (S.written out.old) (S.written out.new)
-        (line_text (field_setting_line setting.now.north setting.now.east setting.now.width setting.now.threshold)) }
-    ensures cause { HasCause (S.faults out.old) (S.faults out.new) result }
+    ensures { Writes S.written S.faults out.old out.new
+        (line_text (field_setting_line setting.now.north setting.now.east setting.now.width setting.now.threshold)) result }
 {
     line.start();
     line.word(b"north");
@@ -58,11 +53,8 @@ fn write_items<S: Sink>(
     out: &mut S,
 ) -> Result<(), WriteFailed>
     requires { All HasAbsolute view.now.effective }
-    ensures all { OnOk result (Appends (S.written out.old) (S.written out.new)
-        (lines_text (signed_lines case.now view.now ++ transformer_lines threshold case.now.transformers view.now.effective))) }
-    ensures part { AppendsPart (S.written out.old) (S.written out.new)
-        (lines_text (signed_lines case.now view.now ++ transformer_lines threshold case.now.transformers view.now.effective)) }
-    ensures cause { HasCause (S.faults out.old) (S.faults out.new) result }
+    ensures { Writes S.written S.faults out.old out.new
+        (lines_text (signed_lines case.now view.now ++ transformer_lines threshold case.now.transformers view.now.effective)) result }
 {
     write_signed(case, view, line, out)?;
     write_transformers(case.transformers(), view, threshold, line, out)
@@ -77,11 +69,8 @@ pub(crate) fn write_field<S: Sink>(
     out: &mut S,
 ) -> Result<(), WriteFailed>
     requires { All HasAbsolute view.now.effective }
-    ensures all { OnOk result (Appends (S.written out.old) (S.written out.new)
-        (lines_text (field_report case.now setting.now.north setting.now.east setting.now.width setting.now.threshold view.now))) }
-    ensures part { AppendsPart (S.written out.old) (S.written out.new)
-        (lines_text (field_report case.now setting.now.north setting.now.east setting.now.width setting.now.threshold view.now)) }
-    ensures cause { HasCause (S.faults out.old) (S.faults out.new) result }
+    ensures { Writes S.written S.faults out.old out.new
+        (lines_text (field_report case.now setting.now.north setting.now.east setting.now.width setting.now.threshold view.now)) result }
 {
     write_word(b"field", line, out)?;
     write_setting(setting, line, out)?;

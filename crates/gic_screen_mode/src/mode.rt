@@ -1,8 +1,5 @@
 //! The report of the mode.
-ghost use Rattle.std.specs.Prelude.{OnOk};
-ghost use Rattle.std.specs.Io.KnownBytes.{Appends};
-ghost use Rattle.gic_base.specs.Causes.{HasCause};
-ghost use Rattle.gic_base.specs.Pieces.{AppendsPart};
+ghost use Rattle.gic_base.specs.Writes.{Writes};
 ghost use Rattle.gic_question.specs.Ranges.{IsWithinRanges};
 ghost use Rattle.gic_stand.specs.Needs.{Solved};
 ghost use Rattle.gic_stand.specs.Serves.{Serves, shown};
@@ -28,11 +25,7 @@ fn write_rows<S: Sink>(
     line: &mut LineBuilder,
     out: &mut S,
 ) -> Result<(), WriteFailed>
-    ensures all { OnOk result (Appends (S.written out.old) (S.written out.new)
-        (screen_text case.now question.now rows.now)) }
-    ensures part { AppendsPart (S.written out.old) (S.written out.new)
-        (screen_text case.now question.now rows.now) }
-    ensures cause { HasCause (S.faults out.old) (S.faults out.new) result }
+    ensures { Writes S.written S.faults out.old out.new (screen_text case.now question.now rows.now) result }
 {
     let setting = setting_of(question);
     write_screen(case.transformers(), &setting, rows.rows(), line, out)

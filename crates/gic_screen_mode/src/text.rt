@@ -1,8 +1,6 @@
 //! The report of the currents for the worst orientation of an event's field.
-ghost use Rattle.std.specs.Prelude.{◌≡◌, ◌+◌, ◌≤◌, ◌∷◌, length, map, OnOk};
-ghost use Rattle.std.specs.Io.KnownBytes.{Appends};
-ghost use Rattle.gic_base.specs.Causes.{HasCause};
-ghost use Rattle.gic_base.specs.Pieces.{AppendsPart};
+ghost use Rattle.std.specs.Prelude.{◌≡◌, ◌+◌, ◌≤◌, ◌∷◌, length, map};
+ghost use Rattle.gic_base.specs.Writes.{Writes};
 ghost use Rattle.gic_fixed.specs.Ends.{ends_of};
 ghost use Rattle.gic_text.specs.Lines.{with_words, line_text, lines_text};
 ghost use Rattle.gic_report.specs.ItemText.{ends_words};
@@ -38,11 +36,7 @@ fn write_row<S: Sink>(
     line: &mut LineBuilder,
     out: &mut S,
 ) -> Result<(), WriteFailed>
-    ensures all { OnOk result (Appends (S.written out.old) (S.written out.new)
-        (line_text (screened_line name.now (screen_row_of row.now) said))) }
-    ensures part { AppendsPart (S.written out.old) (S.written out.new)
-        (line_text (screened_line name.now (screen_row_of row.now) said)) }
-    ensures cause { HasCause (S.faults out.old) (S.faults out.new) result }
+    ensures { Writes S.written S.faults out.old out.new (line_text (screened_line name.now (screen_row_of row.now) said)) result }
 {
     line.start();
     line.word(b"transformer");
@@ -62,11 +56,8 @@ fn write_transformer<S: Sink>(
     line: &mut LineBuilder,
     out: &mut S,
 ) -> Result<(), WriteFailed>
-    ensures all { OnOk result (Appends (S.written out.old) (S.written out.new)
-        (line_text (screened_transformer_line threshold transformer.now (screen_row_of row.now)))) }
-    ensures part { AppendsPart (S.written out.old) (S.written out.new)
-        (line_text (screened_transformer_line threshold transformer.now (screen_row_of row.now))) }
-    ensures cause { HasCause (S.faults out.old) (S.faults out.new) result }
+    ensures { Writes S.written S.faults out.old out.new
+        (line_text (screened_transformer_line threshold transformer.now (screen_row_of row.now))) result }
 {
     let said = verdict_in(transformer, row.worst, threshold);
     write_row(&transformer.name, row, said, line, out)
@@ -80,11 +71,8 @@ fn write_transformers<S: Sink>(
     line: &mut LineBuilder,
     out: &mut S,
 ) -> Result<(), WriteFailed>
-    ensures all { OnOk result (Appends (S.written out.old) (S.written out.new)
-        (lines_text (screened_transformer_lines threshold transformers.now (map screen_row_of rows.now)))) }
-    ensures part { AppendsPart (S.written out.old) (S.written out.new)
-        (lines_text (screened_transformer_lines threshold transformers.now (map screen_row_of rows.now))) }
-    ensures cause { HasCause (S.faults out.old) (S.faults out.new) result }
+    ensures { Writes S.written S.faults out.old out.new
+        (lines_text (screened_transformer_lines threshold transformers.now (map screen_row_of rows.now))) result }
 {
     for (transformer, row) in transformers.iter().zip(rows) {
         write_transformer(transformer, row, threshold, line, out)?;
@@ -100,11 +88,8 @@ pub(crate) fn write_screen<S: Sink>(
     line: &mut LineBuilder,
     out: &mut S,
 ) -> Result<(), WriteFailed>
-    ensures all { OnOk result (Appends (S.written out.old) (S.written out.new)
-        (lines_text (screen_report transformers.now setting.now.width setting.now.threshold setting.now.field (map screen_row_of rows.now)))) }
-    ensures part { AppendsPart (S.written out.old) (S.written out.new)
-        (lines_text (screen_report transformers.now setting.now.width setting.now.threshold setting.now.field (map screen_row_of rows.now))) }
-    ensures cause { HasCause (S.faults out.old) (S.faults out.new) result }
+    ensures { Writes S.written S.faults out.old out.new
+        (lines_text (screen_report transformers.now setting.now.width setting.now.threshold setting.now.field (map screen_row_of rows.now))) result }
 {
     write_word(b"screen", line, out)?;
     write_setting(setting, line, out)?;

@@ -1,8 +1,6 @@
 //! What is asked of a screen.
-ghost use Rattle.std.specs.Prelude.{◌≡◌, OnOk};
-ghost use Rattle.std.specs.Io.KnownBytes.{Appends};
-ghost use Rattle.gic_base.specs.Causes.{HasCause};
-ghost use Rattle.gic_base.specs.Pieces.{AppendsPart};
+ghost use Rattle.std.specs.Prelude.{◌≡◌};
+ghost use Rattle.gic_base.specs.Writes.{Writes};
 ghost use Rattle.gic_screen.specs.Event.{field_of, threshold_of};
 ghost use Rattle.gic_text.specs.Lines.{line_text};
 ghost use Rattle.gic_screening.specs.Setting.{event_setting_line};
@@ -39,11 +37,8 @@ pub fn write_setting<S: Sink>(
     line: &mut LineBuilder,
     out: &mut S,
 ) -> Result<(), WriteFailed>
-    ensures all { OnOk result (Appends (S.written out.old) (S.written out.new)
-        (line_text (event_setting_line setting.now.width setting.now.threshold setting.now.field))) }
-    ensures part { AppendsPart (S.written out.old) (S.written out.new)
-        (line_text (event_setting_line setting.now.width setting.now.threshold setting.now.field)) }
-    ensures cause { HasCause (S.faults out.old) (S.faults out.new) result }
+    ensures { Writes S.written S.faults out.old out.new
+        (line_text (event_setting_line setting.now.width setting.now.threshold setting.now.field)) result }
 {
     line.start();
     line.word(b"width");

@@ -1,8 +1,6 @@
 //! The report of a study.
-ghost use Rattle.std.specs.Prelude.{◌≡◌, ◌+◌, ◌<◌, map, length, OnOk};
-ghost use Rattle.std.specs.Io.KnownBytes.{Appends};
-ghost use Rattle.gic_base.specs.Causes.{HasCause};
-ghost use Rattle.gic_base.specs.Pieces.{AppendsPart};
+ghost use Rattle.std.specs.Prelude.{◌≡◌, ◌+◌, ◌<◌, map, length};
+ghost use Rattle.gic_base.specs.Writes.{Writes};
 ghost use Rattle.gic_induce.specs.Fields.{field_at};
 ghost use Rattle.gic_text.specs.Lines.{line_text, lines_text};
 ghost use Rattle.gic_study_text.specs.StudyText.{study_setting_line, detail_step_line, zone_line, zone_lines, detail_lines, detail_block, peak_lines, study_lines, monitor_line, monitor_text, monitor_texts, study_text};
@@ -38,11 +36,8 @@ fn write_setting<S: Sink>(
     line: &mut LineBuilder,
     out: &mut S,
 ) -> Result<(), WriteFailed>
-    ensures all { OnOk result (Appends (S.written out.old) (S.written out.new)
-        (line_text (study_setting_line setting.now.width setting.now.threshold setting.now.steps))) }
-    ensures part { AppendsPart (S.written out.old) (S.written out.new)
-        (line_text (study_setting_line setting.now.width setting.now.threshold setting.now.steps)) }
-    ensures cause { HasCause (S.faults out.old) (S.faults out.new) result }
+    ensures { Writes S.written S.faults out.old out.new
+        (line_text (study_setting_line setting.now.width setting.now.threshold setting.now.steps)) result }
 {
     line.start();
     line.word(b"width");
@@ -61,11 +56,7 @@ fn write_step<S: Sink>(
     line: &mut LineBuilder,
     out: &mut S,
 ) -> Result<(), WriteFailed>
-    ensures all { OnOk result (Appends (S.written out.old) (S.written out.new)
-        (line_text (detail_step_line view.now.number view.now.time))) }
-    ensures part { AppendsPart (S.written out.old) (S.written out.new)
-        (line_text (detail_step_line view.now.number view.now.time)) }
-    ensures cause { HasCause (S.faults out.old) (S.faults out.new) result }
+    ensures { Writes S.written S.faults out.old out.new (line_text (detail_step_line view.now.number view.now.time)) result }
 {
     line.start();
     line.word(b"step");
@@ -85,11 +76,7 @@ fn write_zone<S: Sink>(
     out: &mut S,
 ) -> Result<(), WriteFailed>
     requires { zone < length fields.now }
-    ensures all { OnOk result (Appends (S.written out.old) (S.written out.new)
-        (line_text (zone_line name.now (field_at fields.now zone)))) }
-    ensures part { AppendsPart (S.written out.old) (S.written out.new)
-        (line_text (zone_line name.now (field_at fields.now zone))) }
-    ensures cause { HasCause (S.faults out.old) (S.faults out.new) result }
+    ensures { Writes S.written S.faults out.old out.new (line_text (zone_line name.now (field_at fields.now zone))) result }
 {
     let (north, east) = fields.get(zone);
     line.start();
@@ -110,11 +97,7 @@ fn write_zones<S: Sink>(
     out: &mut S,
 ) -> Result<(), WriteFailed>
     requires { length fields.now ≡ length zones.now }
-    ensures all { OnOk result (Appends (S.written out.old) (S.written out.new)
-        (lines_text (zone_lines zones.now fields.now))) }
-    ensures part { AppendsPart (S.written out.old) (S.written out.new)
-        (lines_text (zone_lines zones.now fields.now)) }
-    ensures cause { HasCause (S.faults out.old) (S.faults out.new) result }
+    ensures { Writes S.written S.faults out.old out.new (lines_text (zone_lines zones.now fields.now)) result }
 {
     for place in 0..fields.zones() {
         let zone = &zones[place as usize];
@@ -131,11 +114,7 @@ fn write_detail<S: Sink>(
     out: &mut S,
 ) -> Result<(), WriteFailed>
     requires { HasZonesOf case.now (lent detail) }
-    ensures all { OnOk result (Appends (S.written out.old) (S.written out.new)
-        (lines_text (detail_lines case.now (lent detail.entry)))) }
-    ensures part { AppendsPart (S.written out.old) (S.written out.new)
-        (lines_text (detail_lines case.now (lent detail.entry))) }
-    ensures cause { HasCause (S.faults out.old) (S.faults out.new) result }
+    ensures { Writes S.written S.faults out.old out.new (lines_text (detail_lines case.now (lent detail.entry))) result }
 {
     write_step(detail.view, line, out)?;
     write_zones(case.zones(), detail.fields, line, out)?;
@@ -150,11 +129,7 @@ fn write_detail_block<S: Sink>(
     out: &mut S,
 ) -> Result<(), WriteFailed>
     requires { HasZones case.now (lent_detail detail) }
-    ensures all { OnOk result (Appends (S.written out.old) (S.written out.new)
-        (lines_text (detail_block case.now (lent_detail detail.entry)))) }
-    ensures part { AppendsPart (S.written out.old) (S.written out.new)
-        (lines_text (detail_block case.now (lent_detail detail.entry))) }
-    ensures cause { HasCause (S.faults out.old) (S.faults out.new) result }
+    ensures { Writes S.written S.faults out.old out.new (lines_text (detail_block case.now (lent_detail detail.entry))) result }
 {
     match detail {
         None => Ok(()),
@@ -170,11 +145,7 @@ fn write_peaks<S: Sink>(
     line: &mut LineBuilder,
     out: &mut S,
 ) -> Result<(), WriteFailed>
-    ensures all { OnOk result (Appends (S.written out.old) (S.written out.new)
-        (lines_text (peak_lines case.now threshold peaks.now))) }
-    ensures part { AppendsPart (S.written out.old) (S.written out.new)
-        (lines_text (peak_lines case.now threshold peaks.now)) }
-    ensures cause { HasCause (S.faults out.old) (S.faults out.new) result }
+    ensures { Writes S.written S.faults out.old out.new (lines_text (peak_lines case.now threshold peaks.now)) result }
 {
     write_nodes(case, peaks, line, out)?;
     write_rows(case, peaks, line, out)?;
@@ -191,11 +162,8 @@ fn write_lines<S: Sink>(
     out: &mut S,
 ) -> Result<(), WriteFailed>
     requires { HasZones case.now (lent_detail detail) }
-    ensures all { OnOk result (Appends (S.written out.old) (S.written out.new)
-        (lines_text (study_lines case.now setting.now.width setting.now.threshold setting.now.steps (lent_detail detail.entry) peaks.now))) }
-    ensures part { AppendsPart (S.written out.old) (S.written out.new)
-        (lines_text (study_lines case.now setting.now.width setting.now.threshold setting.now.steps (lent_detail detail.entry) peaks.now)) }
-    ensures cause { HasCause (S.faults out.old) (S.faults out.new) result }
+    ensures { Writes S.written S.faults out.old out.new
+        (lines_text (study_lines case.now setting.now.width setting.now.threshold setting.now.steps (lent_detail detail.entry) peaks.now)) result }
 {
     write_word(b"study", line, out)?;
     write_setting(setting, line, out)?;
@@ -212,11 +180,7 @@ fn write_monitor_line<S: Sink>(
     line: &mut LineBuilder,
     out: &mut S,
 ) -> Result<(), WriteFailed>
-    ensures all { OnOk result (Appends (S.written out.old) (S.written out.new)
-        (line_text (monitor_line number size))) }
-    ensures part { AppendsPart (S.written out.old) (S.written out.new)
-        (line_text (monitor_line number size)) }
-    ensures cause { HasCause (S.faults out.old) (S.faults out.new) result }
+    ensures { Writes S.written S.faults out.old out.new (line_text (monitor_line number size)) result }
 {
     line.start();
     line.word(b"monitor");
@@ -232,11 +196,7 @@ fn write_monitor<S: Sink>(
     line: &mut LineBuilder,
     out: &mut S,
 ) -> Result<(), WriteFailed>
-    ensures all { OnOk result (Appends (S.written out.old) (S.written out.new)
-        (monitor_text number text.now)) }
-    ensures part { AppendsPart (S.written out.old) (S.written out.new)
-        (monitor_text number text.now) }
-    ensures cause { HasCause (S.faults out.old) (S.faults out.new) result }
+    ensures { Writes S.written S.faults out.old out.new (monitor_text number text.now) result }
 {
     write_monitor_line(number, text.len() as u64, line, out)?;
     write_all(out, text)
@@ -248,11 +208,7 @@ fn write_monitors<S: Sink>(
     line: &mut LineBuilder,
     out: &mut S,
 ) -> Result<(), WriteFailed>
-    ensures all { OnOk result (Appends (S.written out.old) (S.written out.new)
-        (monitor_texts 1 (map (λ t. t.items) texts.now))) }
-    ensures part { AppendsPart (S.written out.old) (S.written out.new)
-        (monitor_texts 1 (map (λ t. t.items) texts.now)) }
-    ensures cause { HasCause (S.faults out.old) (S.faults out.new) result }
+    ensures { Writes S.written S.faults out.old out.new (monitor_texts 1 (map (λ t. t.items) texts.now)) result }
 {
     for (place, text) in texts.iter().enumerate() {
         write_monitor(place as u64 + 1, text, line, out)?;
@@ -272,11 +228,8 @@ pub fn write_study<S: Sink>(
     out: &mut S,
 ) -> Result<(), WriteFailed>
     requires { HasZones case.now (lent_detail detail) }
-    ensures all { OnOk result (Appends (S.written out.old) (S.written out.new)
-        (study_text case.now setting.now.width setting.now.threshold setting.now.steps (lent_detail detail.entry) peaks.now (map (λ t. t.items) texts.now))) }
-    ensures part { AppendsPart (S.written out.old) (S.written out.new)
-        (study_text case.now setting.now.width setting.now.threshold setting.now.steps (lent_detail detail.entry) peaks.now (map (λ t. t.items) texts.now)) }
-    ensures cause { HasCause (S.faults out.old) (S.faults out.new) result }
+    ensures { Writes S.written S.faults out.old out.new
+        (study_text case.now setting.now.width setting.now.threshold setting.now.steps (lent_detail detail.entry) peaks.now (map (λ t. t.items) texts.now)) result }
 {
     write_lines(case, setting, detail, peaks, line, out)?;
     write_monitors(texts, line, out)?;

@@ -1,14 +1,11 @@
-use Rattle.std.proofs.Common.{◌++◌, ℕ, List, ap, refl, sym}
-use Rattle.std.proofs.lemmas.Result.{on_ok_weaker}
+use Rattle.std.proofs.Common.{◌++◌, ℕ, List, ap}
 use Rattle.gic_case.specs.Lists.{Lists, node_names}
 use Rattle.gic_view.specs.View.{View}
 use Rattle.gic_text.specs.Lines.{lines_text}
 use Rattle.gic_report.specs.SharedLines.{Words}
 use Rattle.gic_report.specs.ItemText.{node_lines, row_lines, item_rows_of}
 use Rattle.gic_report.specs.VerdictText.{absolute_lines}
-use Rattle.gic_report.proofs.LinesWritten.{lines_go_on, lines_stop}
-use Rattle.gic_report.proofs.Written.{begins, same_left}
-use Rattle.gic_report.proofs.RowsWritten.{last_stop, last_written}
+use Rattle.gic_report.proofs.Chained.{writes_as, lines_then, lines_stop}
 use Rattle.gic_study_text.proofs.text.write_peaks.Goals as goal
 
 nodes : Lists → View → List Words
@@ -20,28 +17,26 @@ rows case peaks = row_lines (item_rows_of case) peaks.elements
 judged : ℕ → Lists → View → List Words
 judged threshold case peaks = absolute_lines threshold case.transformers peaks.effective
 
-pub returns-in_err-write_nodes-clause-part : goal.returns-in_err-write_nodes-clause-part
+pub returns-in_err-write_nodes : goal.returns-in_err-write_nodes
 unfolding nodes rows judged
-returns-in_err-write_nodes-clause-part g c =
-    lines_stop _ _ _ _ (nodes c.args.case.now c.args.peaks.now) (rows c.args.case.now c.args.peaks.now ++ judged c.args.threshold c.args.case.now c.args.peaks.now) (begins _ _ _ refl) c.write_nodes.ensures.part
+returns-in_err-write_nodes g c =
+    let case = c.args.case.now in
+    let peaks = c.args.peaks.now in
+    lines_stop (nodes case peaks) (rows case peaks ++ judged c.args.threshold case peaks) c.in_err-write_nodes.ensures c.from_residual.ensures.1
 
-pub returns-in_err-write_rows-clause-part : goal.returns-in_err-write_rows-clause-part
+pub returns-in_err-write_rows : goal.returns-in_err-write_rows
 unfolding nodes rows judged
-returns-in_err-write_rows-clause-part g c =
-    let w1 = lines_go_on _ _ _ _ (nodes c.args.case.now c.args.peaks.now) (rows c.args.case.now c.args.peaks.now ++ judged c.args.threshold c.args.case.now c.args.peaks.now) (begins _ _ _ refl) c.in_ok-write_nodes.ensures.all in
-    lines_stop _ _ _ _ (rows c.args.case.now c.args.peaks.now) (judged c.args.threshold c.args.case.now c.args.peaks.now) w1 c.write_rows.ensures.part
+returns-in_err-write_rows g c =
+    let case = c.args.case.now in
+    let peaks = c.args.peaks.now in
+    lines_then (nodes case peaks) (rows case peaks ++ judged c.args.threshold case peaks) c.in_ok-write_nodes.ensures
+    (lines_stop (rows case peaks) (judged c.args.threshold case peaks) c.in_err-write_rows.ensures c.from_residual-in_err-write_rows.ensures.1)
 
-pub returns-clause-part : goal.returns-clause-part
+pub returns : goal.returns
 unfolding nodes rows judged
-returns-clause-part g c =
-    let w1 = lines_go_on _ _ _ _ (nodes c.args.case.now c.args.peaks.now) (rows c.args.case.now c.args.peaks.now ++ judged c.args.threshold c.args.case.now c.args.peaks.now) (begins _ _ _ refl) c.in_ok-write_nodes.ensures.all in
-    let w2 = lines_go_on _ _ _ _ (rows c.args.case.now c.args.peaks.now) (judged c.args.threshold c.args.case.now c.args.peaks.now) w1 c.in_ok-write_rows.ensures.all in
-    last_stop _ _ _ _ _ (same_left _ _ _ _ _ w2 (ap (λ ts. lines_text (absolute_lines c.args.threshold ts c.args.peaks.now.effective)) (sym c.transformers.ensures.value))) c.write_absolutes.ensures.part
-
-pub returns-clause-all : goal.returns-clause-all
-unfolding nodes rows judged
-returns-clause-all g c =
-    let w1 = lines_go_on _ _ _ _ (nodes c.args.case.now c.args.peaks.now) (rows c.args.case.now c.args.peaks.now ++ judged c.args.threshold c.args.case.now c.args.peaks.now) (begins _ _ _ refl) c.in_ok-write_nodes.ensures.all in
-    let w2 = lines_go_on _ _ _ _ (rows c.args.case.now c.args.peaks.now) (judged c.args.threshold c.args.case.now c.args.peaks.now) w1 c.in_ok-write_rows.ensures.all in
-    on_ok_weaker c.write_absolutes.result
-    (last_written _ _ _ _ _ (same_left _ _ _ _ _ w2 (ap (λ ts. lines_text (absolute_lines c.args.threshold ts c.args.peaks.now.effective)) (sym c.transformers.ensures.value)))) c.write_absolutes.ensures.all
+returns g c =
+    let case = c.args.case.now in
+    let peaks = c.args.peaks.now in
+    lines_then (nodes case peaks) (rows case peaks ++ judged c.args.threshold case peaks) c.in_ok-write_nodes.ensures
+    (lines_then (rows case peaks) (judged c.args.threshold case peaks) c.in_ok-write_rows.ensures
+    (writes_as (ap (λ ts. lines_text (absolute_lines c.args.threshold ts peaks.effective)) c.transformers.ensures.value) c.write_absolutes.ensures))

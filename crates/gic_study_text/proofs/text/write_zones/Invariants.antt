@@ -1,4 +1,4 @@
-use Rattle.std.proofs.Common.{◌≤◌, drop}
+use Rattle.std.proofs.Common.{drop}
 use Rattle.gic_text.specs.Lines.{lines_text}
 use Rattle.gic_report.proofs.Written.{Written}
 use Rattle.gic_study_text.specs.StudyText.{zone_lines}
@@ -7,6 +7,5 @@ use Rattle.gic_study_text.proofs.text.write_zones.Given as goal
 -- all is written but the lines of the zones that are left
 abbrev pub invariant-loop-place : goal.invariant-loop-place
 invariant-loop-place g l = record {
-  written : Written (g.S.Sink.written l.fn.out) (g.S.Sink.written l.out) (lines_text (zone_lines l.zones l.fields)) (lines_text (zone_lines (drop l.place l.zones) (drop l.place l.fields)));
-  kept : g.S.Sink.faults l.fn.out ≤ g.S.Sink.faults l.out;
+  written : Written g.S.Sink.written g.S.Sink.faults l.fn.out l.out (lines_text (zone_lines l.zones l.fields)) (lines_text (zone_lines (drop l.place l.zones) (drop l.place l.fields)));
 }
