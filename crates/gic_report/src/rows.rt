@@ -101,7 +101,7 @@ fn winding_row(name: Name, windings: &[Winding], place: usize) -> Option<ItemRow
 
 /// The rows of a transformer's windings, if it has any: of the first one, and of the second and the third one if there are
 /// such.
-#[tactic(auto, using(crate::proofs::RowHeads::no_rows, crate::proofs::RowHeads::three_rows))]
+#[tactic(auto, using(crate::proofs::RowHeads::no_rows))]
 fn winding_rows(transformer: &Transformer) -> Option<(ItemRow, Option<ItemRow>, Option<ItemRow>)>
     ensures { MatchOption result
         (winding_rows transformer.now.name (windings_of transformer.now) ≡ [])
