@@ -1,16 +1,14 @@
 -- The reports of a study are right.
 use Rattle.std.proofs.Common.{◌≡◌, ℕ, ◌-◌, ◌<◌, List, [], length, Option, Some, None, Result, Ok, Err, ℤ, refl, sym, ap, subst, ◌∙◌, append-nil}
-use Rattle.std.specs.Prelude.{IfSome, IsErrAnd, OnOk, option_map}
-use Rattle.std.specs.Io.KnownBytes.{Appends}
-use Rattle.gic_base.specs.Causes.{HasCause}
-use Rattle.gic_base.specs.Pieces.{AppendsPart}
+use Rattle.std.specs.Prelude.{IfSome, IsErrAnd, option_map}
+use Rattle.gic_base.specs.Writes.{Writes}
 use Rattle.gic_base.specs.declared.sink.WriteFailed.{WriteFailed}
 use Rattle.gic_base.proofs.Parts.{keeps-refl}
 use Rattle.gic_storm.specs.Steps.{steps_in, step_at}
 use Rattle.gic_view.specs.View.{View}
 use Rattle.gic_screen.specs.Event.{threshold_of}
 use Rattle.gic_stand.specs.Needs.{Solved, IsMet, IsUnmet}
-use Rattle.gic_stand.specs.Serves.{Shown}
+use Rattle.gic_stand.specs.Serves.{Shown, shown}
 use Rattle.gic_inputs.specs.Inputs.{IsStormOf}
 use Rattle.gic_stand.specs.declared.fault.ReportFault.TheVariants.{Refused}
 use Rattle.gic_stand.specs.declared.fault.NetworkRefusal.{NetworkRefusal}
@@ -85,14 +83,14 @@ by_plans inputs detail outlooks plans same text right = record {
 }
 
 -- a text that is right was written, or a front part of it
-pub writing_served : (inputs : StormInputs) (monitors : ℕ) (IsRight : List ℕ → Type 0) (text : List ℕ) (before now : Shown) (writing : Result (Unit {0}) WriteFailed) (answer : Result (Unit {0}) StudyFault)
-    → IsMet Solved (storm_steps inputs) → IsRight text
-    → OnOk writing (Appends before.bytes now.bytes text) → AppendsPart before.bytes now.bytes text → HasCause before.faults now.faults writing
-    → answer ≡ written_so writing → ServesStudy inputs monitors IsRight before now answer
-writing_served inputs monitors IsRight text before now (Ok done) answer met right all part cause is =
-    subst (ServesStudy inputs monitors IsRight before now) (sym is) (record { met = met; text = text; right = right; written = all })
-writing_served inputs monitors IsRight text before now (Err failed) answer met right all part cause is =
-    subst (ServesStudy inputs monitors IsRight before now) (sym is) (record { met = met; text = text; right = right; part = part; cause = cause.failed })
+pub writing_served : {S : Type 0} {bytes : S → Option (List ℕ)} {faults : S → ℕ} {before now : S} {text : List ℕ}
+    (inputs : StormInputs) (monitors : ℕ) (IsRight : List ℕ → Type 0) (writing : Result (Unit {0}) WriteFailed) (answer : Result (Unit {0}) StudyFault)
+    → IsMet Solved (storm_steps inputs) → IsRight text → Writes bytes faults before now text writing → answer ≡ written_so writing
+    → ServesStudy inputs monitors IsRight (shown bytes faults before) (shown bytes faults now) answer
+writing_served inputs monitors IsRight (Ok done) answer met right written is =
+    subst (ServesStudy inputs monitors IsRight _ _) (sym is) (record { met = met; text = _; right = right; written = written.all })
+writing_served inputs monitors IsRight (Err failed) answer met right written is =
+    subst (ServesStudy inputs monitors IsRight _ _) (sym is) (record { met = met; text = _; right = right; part = written.part; cause = written.cause.failed })
 
 -- nothing was written, since a step can't be solved
 pub unserved_steps : (inputs : StormInputs) (monitors : ℕ) (IsRight : List ℕ → Type 0) (s : Shown) (refusal : NetworkRefusal) (answer : Result (Unit {0}) StudyFault)

@@ -1,8 +1,6 @@
 //! The report of what was seen.
-ghost use Rattle.std.specs.Prelude.{◌≡◌, length, map, option_map, IfSome, OnOk};
-ghost use Rattle.std.specs.Io.KnownBytes.{Appends};
-ghost use Rattle.gic_base.specs.Causes.{HasCause};
-ghost use Rattle.gic_base.specs.Pieces.{AppendsPart};
+ghost use Rattle.std.specs.Prelude.{◌≡◌, length, map, option_map, IfSome};
+ghost use Rattle.gic_base.specs.Writes.{Writes};
 ghost use Rattle.gic_storm.specs.Steps.{steps_in};
 ghost use Rattle.gic_screen.specs.Event.{threshold_of};
 ghost use Rattle.gic_study_text.specs.Given.{lent_detail};
@@ -37,13 +35,9 @@ pub(crate) fn write_seen<S: Sink>(
     out: &mut S,
 ) -> Result<(), WriteFailed>
     requires { IfSome fields.now (λ fields. length fields ≡ length inputs.now.inputs.case.zones) }
-    ensures all { let question = inputs.now.inputs.question in OnOk result (Appends (S.written out.old) (S.written out.new)
+    ensures { let question = inputs.now.inputs.question in Writes S.written S.faults out.old out.new
         (study_text inputs.now.inputs.case question.width (threshold_of question.event) (length (steps_in inputs.now.storm.rows))
-        (option_map (with_view views.now.asked) fields.now) views.now.peaks (map (λ text. text.items) texts.now))) }
-    ensures part { let question = inputs.now.inputs.question in AppendsPart (S.written out.old) (S.written out.new)
-        (study_text inputs.now.inputs.case question.width (threshold_of question.event) (length (steps_in inputs.now.storm.rows))
-        (option_map (with_view views.now.asked) fields.now) views.now.peaks (map (λ text. text.items) texts.now)) }
-    ensures cause { HasCause (S.faults out.old) (S.faults out.new) result }
+        (option_map (with_view views.now.asked) fields.now) views.now.peaks (map (λ text. text.items) texts.now)) result }
 {
     let question = &inputs.inputs.question;
     let setting = Setting {

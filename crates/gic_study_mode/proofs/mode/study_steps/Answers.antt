@@ -16,11 +16,11 @@ pub returns : goal.returns
 returns g c =
     let inputs = c.args.inputs.now in
     let before : List View → List (List ℕ) = λ views. map (λ m. (goal.Monitor-dyn g (m.vtable, m.value)).outlook m.value views) (monitors_of c.args.board.now) in
-    writing_served inputs _ (IsRightStudy inputs c.args.detail (λ roster views. before views)) _ _ _
+    writing_served inputs _ (IsRightStudy inputs c.args.detail (λ roster views. before views))
     c.write_seen-writing.result c.written_so.result c.in_ok-expect_solvable.ensures.met.solvable
     (right_study inputs c.args.detail c.asked_step-asked.result before _ c.see_steps.new.views c.args.room.now.fields (map (λ text. text.items) c.as_slice.result.now)
     c.see_steps.ensures.seen c.asked_step-asked.ensures.value c.asked_step-asked.ensures.step c.requires.room.fields (ap (map (λ text. text.items)) c.as_slice.ensures.value ∙ c.in_ok-texts.ensures.texts))
-    c.write_seen-writing.ensures.all c.write_seen-writing.ensures.part c.write_seen-writing.ensures.cause c.written_so.ensures
+    c.write_seen-writing.ensures c.written_so.ensures
 
 pub returns-in_err-expect_solvable : goal.returns-in_err-expect_solvable
 returns-in_err-expect_solvable g c =
