@@ -1,9 +1,7 @@
 //! The report of the potentials that a certificate shows.
-ghost use Rattle.std.specs.Prelude.{◌++◌, [], map, OnOk};
+ghost use Rattle.std.specs.Prelude.{◌++◌, [], map};
 ghost use Rattle.std.specs.Option.{option_to_list};
-ghost use Rattle.std.specs.Io.KnownBytes.{Appends};
-ghost use Rattle.gic_base.specs.Causes.{HasCause};
-ghost use Rattle.gic_base.specs.Pieces.{AppendsPart};
+ghost use Rattle.gic_base.specs.Writes.{Writes};
 ghost use Rattle.gic_case.specs.Lists.{node_names};
 ghost use Rattle.gic_recheck.specs.RecheckText.{potential_line, potential_lines, recheck_report};
 ghost use Rattle.gic_text.specs.Lines.{lines_text};
@@ -23,11 +21,8 @@ fn write_potential<S: Sink>(
     line: &mut LineBuilder,
     out: &mut S,
 ) -> Result<(), WriteFailed>
-    ensures all { OnOk result (Appends (S.written out.old) (S.written out.new)
-        (lines_text (option_to_list (potential_line name.now (optional_ends interval))))) }
-    ensures part { AppendsPart (S.written out.old) (S.written out.new)
-        (lines_text (option_to_list (potential_line name.now (optional_ends interval)))) }
-    ensures cause { HasCause (S.faults out.old) (S.faults out.new) result }
+    ensures { Writes S.written S.faults out.old out.new
+        (lines_text (option_to_list (potential_line name.now (optional_ends interval)))) result }
 {
     let Some(ends) = interval else {
         return Ok(());
@@ -46,11 +41,8 @@ fn write_potentials<S: Sink>(
     line: &mut LineBuilder,
     out: &mut S,
 ) -> Result<(), WriteFailed>
-    ensures all { OnOk result (Appends (S.written out.old) (S.written out.new)
-        (lines_text (potential_lines (node_names case.now) (map optional_ends intervals.now)))) }
-    ensures part { AppendsPart (S.written out.old) (S.written out.new)
-        (lines_text (potential_lines (node_names case.now) (map optional_ends intervals.now))) }
-    ensures cause { HasCause (S.faults out.old) (S.faults out.new) result }
+    ensures { Writes S.written S.faults out.old out.new
+        (lines_text (potential_lines (node_names case.now) (map optional_ends intervals.now))) result }
 {
     for (name, interval) in NodeNames::of(case).zip(intervals) {
         write_potential(&name, *interval, line, out)?;
@@ -67,11 +59,8 @@ pub(crate) fn write_recheck<S: Sink>(
     line: &mut LineBuilder,
     out: &mut S,
 ) -> Result<(), WriteFailed>
-    ensures all { OnOk result (Appends (S.written out.old) (S.written out.new)
-        (lines_text (recheck_report case.now north east (map optional_ends intervals.now)))) }
-    ensures part { AppendsPart (S.written out.old) (S.written out.new)
-        (lines_text (recheck_report case.now north east (map optional_ends intervals.now))) }
-    ensures cause { HasCause (S.faults out.old) (S.faults out.new) result }
+    ensures { Writes S.written S.faults out.old out.new
+        (lines_text (recheck_report case.now north east (map optional_ends intervals.now))) result }
 {
     write_word(b"recheck", line, out)?;
     write_field_line(north, east, line, out)?;

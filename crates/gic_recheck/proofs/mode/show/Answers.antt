@@ -1,7 +1,4 @@
 use Rattle.std.proofs.Common.{◌≡◌, ℕ, ℤ, length, map, refl, sym, ap, subst, ◌∙◌, arith}
-use Rattle.std.specs.Io.KnownBytes.{Appends}
-use Rattle.std.proofs.lemmas.Result.{on_ok_weaker}
-use Rattle.gic_base.specs.Pieces.{AppendsPart}
 use Rattle.gic_case.specs.Lists.{node_names}
 use Rattle.gic_cert.specs.Passing.{IsPassing}
 use Rattle.gic_cert.specs.Written.{entry_of}
@@ -15,6 +12,7 @@ use Rattle.gic_uniform.specs.Uniform.{uniform_volts}
 use Rattle.gic_view.specs.Kept.{optional_ends}
 use Rattle.gic_winding.specs.ElementList.{elements_of}
 use Rattle.gic_recheck.specs.RecheckText.{recheck_report}
+use Rattle.gic_report.proofs.Chained.{writes_as}
 use Rattle.gic_recheck.proofs.Endings.{writing_served, refusal_served}
 use Rattle.gic_recheck.proofs.Holds.{shows_right}
 use Rattle.gic_recheck.proofs.Telling.{break_told}
@@ -37,7 +35,7 @@ returns-in-Ok g c = λ bytes read.
     let named : net.network.nodes ≡ length (node_names case) = nodes ∙ nodes_named case in
     let own = c.in-Ok.ensures.passes in
     let passes = subst (λ (n : ℕ). IsPassing n (standing net) (uniform_volts case cert.north cert.east) cert) (sym nodes) own in
-    writing_served case (standing net) bytes _ _ _ c.write_recheck-writing.result c.shown_so.result
+    writing_served case (standing net) bytes c.write_recheck-writing.result c.shown_so.result
     (record {
       certificate = cert;
       accepted = record { read = read; passes = own };
@@ -45,9 +43,7 @@ returns-in-Ok g c = λ bytes read.
       holds = λ k within. shows_right c.passing_law.ensures net.network (stands net) (uniform_volts case cert.north cert.east) cert c.within_limits.ensures passes k (omega (arith, within, named));
       text_is = refl;
     })
-    (on_ok_weaker c.write_recheck-writing.result (λ p. subst (Appends _ _) text p) c.write_recheck-writing.ensures.all)
-    (subst (AppendsPart _ _) text c.write_recheck-writing.ensures.part)
-    c.write_recheck-writing.ensures.cause c.shown_so.ensures
+    (writes_as text c.write_recheck-writing.ensures) c.shown_so.ensures
 
 pub returns-in-Err : goal.returns-in-Err
 returns-in-Err g c = λ bytes read.

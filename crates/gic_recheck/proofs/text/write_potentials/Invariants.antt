@@ -1,4 +1,4 @@
-use Rattle.std.proofs.Common.{◌≤◌, map}
+use Rattle.std.proofs.Common.{map}
 use Rattle.std.specs.Iterator.Adapters.{zip_first, zip_second}
 use Rattle.std.specs.Slice.Iter.{iter_rest}
 use Rattle.gic_text.specs.Lines.{lines_text}
@@ -12,6 +12,5 @@ use Rattle.gic_recheck.proofs.text.write_potentials.Given as goal
 -- all is written but the lines of the nodes that are left
 abbrev pub invariant-loop-name : goal.invariant-loop-name
 invariant-loop-name g l = record {
-  written : Written (g.S.Sink.written l.fn.out) (g.S.Sink.written l.out) (lines_text (potential_lines (node_names l.case) (map optional_ends l.intervals))) (lines_text (potential_lines (names_left (zip_first l.name-iterator)) (map optional_ends (iter_rest (zip_second l.name-iterator)))));
-  kept : g.S.Sink.faults l.fn.out ≤ g.S.Sink.faults l.out;
+  written : Written g.S.Sink.written g.S.Sink.faults l.fn.out l.out (lines_text (potential_lines (node_names l.case) (map optional_ends l.intervals))) (lines_text (potential_lines (names_left (zip_first l.name-iterator)) (map optional_ends (iter_rest (zip_second l.name-iterator)))));
 }
