@@ -1,8 +1,6 @@
 //! The report of the mode.
-ghost use Rattle.std.specs.Prelude.{◌≡◌, ◌<◌, OnOk, length};
-ghost use Rattle.std.specs.Io.KnownBytes.{Appends};
-ghost use Rattle.gic_base.specs.Causes.{HasCause};
-ghost use Rattle.gic_base.specs.Pieces.{AppendsPart};
+ghost use Rattle.std.specs.Prelude.{◌≡◌, ◌<◌, length};
+ghost use Rattle.gic_base.specs.Writes.{Writes};
 ghost use Rattle.gic_question.specs.Ranges.{IsWithinRanges};
 ghost use Rattle.gic_stand.specs.Needs.{Solved};
 ghost use Rattle.gic_stand.specs.Serves.{Serves, shown};
@@ -30,11 +28,8 @@ fn write_rows<S: Sink>(
 ) -> Result<(), WriteFailed>
     requires transformer { transformer < length inputs.now.inputs.case.transformers }
     requires one_each { length rows.now ≡ length (steps_in inputs.now.storm.rows) }
-    ensures all { OnOk result (Appends (S.written out.old) (S.written out.new)
-        (series_text inputs.now.inputs.case inputs.now.inputs.question.width transformer rows.now)) }
-    ensures part { AppendsPart (S.written out.old) (S.written out.new)
-        (series_text inputs.now.inputs.case inputs.now.inputs.question.width transformer rows.now) }
-    ensures cause { HasCause (S.faults out.old) (S.faults out.new) result }
+    ensures { Writes S.written S.faults out.old out.new
+        (series_text inputs.now.inputs.case inputs.now.inputs.question.width transformer rows.now) result }
 {
     // A storm has few steps, so there are few rows.
     let _steps = inputs.storm.steps();

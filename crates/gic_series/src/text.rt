@@ -1,8 +1,6 @@
 //! The report of one transformer's effective current at each step of a storm.
-ghost use Rattle.std.specs.Prelude.{◌≤◌, length, map, OnOk};
-ghost use Rattle.std.specs.Io.KnownBytes.{Appends};
-ghost use Rattle.gic_base.specs.Causes.{HasCause};
-ghost use Rattle.gic_base.specs.Pieces.{AppendsPart};
+ghost use Rattle.std.specs.Prelude.{◌≤◌, length, map};
+ghost use Rattle.gic_base.specs.Writes.{Writes};
 ghost use Rattle.gic_base.specs.declared.limits.TheConstants.{MOST_ROWS};
 ghost use Rattle.gic_text.specs.Lines.{line_text, lines_text};
 ghost use Rattle.gic_series.specs.Rows.{series_row_of};
@@ -22,11 +20,7 @@ fn write_setting<S: Sink>(
     line: &mut LineBuilder,
     out: &mut S,
 ) -> Result<(), WriteFailed>
-    ensures all { OnOk result (Appends (S.written out.old) (S.written out.new)
-        (line_text (series_setting_line width name.now steps))) }
-    ensures part { AppendsPart (S.written out.old) (S.written out.new)
-        (line_text (series_setting_line width name.now steps)) }
-    ensures cause { HasCause (S.faults out.old) (S.faults out.new) result }
+    ensures { Writes S.written S.faults out.old out.new (line_text (series_setting_line width name.now steps)) result }
 {
     line.start();
     line.word(b"width");
@@ -45,11 +39,7 @@ fn write_step<S: Sink>(
     line: &mut LineBuilder,
     out: &mut S,
 ) -> Result<(), WriteFailed>
-    ensures all { OnOk result (Appends (S.written out.old) (S.written out.new)
-        (line_text (series_step_line (series_row_of row.now)))) }
-    ensures part { AppendsPart (S.written out.old) (S.written out.new)
-        (line_text (series_step_line (series_row_of row.now))) }
-    ensures cause { HasCause (S.faults out.old) (S.faults out.new) result }
+    ensures { Writes S.written S.faults out.old out.new (line_text (series_step_line (series_row_of row.now))) result }
 {
     line.start();
     line.word(b"step");
@@ -66,11 +56,7 @@ fn write_steps<S: Sink>(
     line: &mut LineBuilder,
     out: &mut S,
 ) -> Result<(), WriteFailed>
-    ensures all { OnOk result (Appends (S.written out.old) (S.written out.new)
-        (lines_text (map series_step_line (map series_row_of rows.now)))) }
-    ensures part { AppendsPart (S.written out.old) (S.written out.new)
-        (lines_text (map series_step_line (map series_row_of rows.now))) }
-    ensures cause { HasCause (S.faults out.old) (S.faults out.new) result }
+    ensures { Writes S.written S.faults out.old out.new (lines_text (map series_step_line (map series_row_of rows.now))) result }
 {
     for row in rows {
         write_step(row, line, out)?;
@@ -87,11 +73,7 @@ pub(crate) fn write_series<S: Sink>(
     out: &mut S,
 ) -> Result<(), WriteFailed>
     requires { length rows.now ≤ MOST_ROWS }
-    ensures all { OnOk result (Appends (S.written out.old) (S.written out.new)
-        (lines_text (series_report width name.now (map series_row_of rows.now)))) }
-    ensures part { AppendsPart (S.written out.old) (S.written out.new)
-        (lines_text (series_report width name.now (map series_row_of rows.now))) }
-    ensures cause { HasCause (S.faults out.old) (S.faults out.new) result }
+    ensures { Writes S.written S.faults out.old out.new (lines_text (series_report width name.now (map series_row_of rows.now))) result }
 {
     write_word(b"series", line, out)?;
     write_setting(width, name, rows.len() as u32, line, out)?;

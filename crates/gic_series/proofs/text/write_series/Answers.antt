@@ -1,12 +1,10 @@
-use Rattle.std.proofs.Common.{◌≡◌, ℕ, List, map, length, sym, ap, subst}
+use Rattle.std.proofs.Common.{◌≡◌, ◌∙◌, ℕ, List, [], ◌∷◌, ◌++◌, map, length, sym, ap}
 use Rattle.std.specs.Prelude.{codes}
-use Rattle.std.specs.Io.KnownBytes.{Appends}
 use Rattle.std.proofs.lemmas.List.{length-map}
-use Rattle.std.proofs.lemmas.Result.{on_ok_weaker}
-use Rattle.gic_base.specs.Pieces.{AppendsPart}
-use Rattle.gic_text.specs.Lines.{lines_text}
+use Rattle.gic_text.specs.Lines.{line_text, lines_text}
 use Rattle.gic_report.specs.SharedLines.{Words, word_line}
-use Rattle.gic_report.proofs.Framed.{whole, part_first, part_second, part_body, part_last, all_written}
+use Rattle.gic_report.proofs.Chained.{writes_as, writes_then, writes_stop}
+use Rattle.gic_report.proofs.Framed.{framed}
 use Rattle.gic_series.specs.declared.rows.SeriesRow.{SeriesRow}
 use Rattle.gic_series.specs.Rows.{series_row_of}
 use Rattle.gic_series.specs.SeriesText.{series_setting_line, series_step_line, series_report}
@@ -19,43 +17,35 @@ asked width name rows = series_setting_line width name (length rows)
 steps : List SeriesRow → List Words
 steps rows = map series_step_line (map series_row_of rows)
 
-same_report : (width : ℕ) (name : List ℕ) (rows : List SeriesRow)
-    → whole (word_line (codes "series")) (asked width name rows) (steps rows) (word_line (codes "end")) ≡ lines_text (series_report width name (map series_row_of rows))
+-- the report in the pieces in which it is written
+pieces : (width : ℕ) (name : List ℕ) (rows : List SeriesRow)
+    → line_text (word_line (codes "series")) ++ (line_text (asked width name rows) ++ (lines_text (steps rows) ++ line_text (word_line (codes "end"))))
+    ≡ lines_text (series_report width name (map series_row_of rows))
 unfolding asked steps
-same_report width name rows =
-    ap (λ (n : ℕ). whole (word_line (codes "series")) (series_setting_line width name n) (map series_step_line (map series_row_of rows)) (word_line (codes "end"))) (sym (length-map rows series_row_of))
+pieces width name rows =
+    framed (word_line (codes "series")) (asked width name rows) (steps rows) (word_line (codes "end"))
+    ∙ ap (λ (n : ℕ). lines_text (word_line (codes "series") ∷ series_setting_line width name n ∷ (map series_step_line (map series_row_of rows) ++ word_line (codes "end") ∷ []))) (sym (length-map rows series_row_of))
 
-pub returns-in_err-write_word-clause-part : goal.returns-in_err-write_word-clause-part
-returns-in_err-write_word-clause-part g c =
-    subst (AppendsPart _ _) (same_report c.args.width c.args.name.now c.args.rows.now)
-    (part_first (word_line (codes "series")) (asked c.args.width c.args.name.now c.args.rows.now) (steps c.args.rows.now) (word_line (codes "end")) _ _ c.write_word.ensures.part)
-
-pub returns-in_err-write_setting-clause-part : goal.returns-in_err-write_setting-clause-part
-unfolding asked
-returns-in_err-write_setting-clause-part g c =
-    subst (AppendsPart _ _) (same_report c.args.width c.args.name.now c.args.rows.now)
-    (part_second (word_line (codes "series")) (asked c.args.width c.args.name.now c.args.rows.now) (steps c.args.rows.now) (word_line (codes "end"))
-    _ _ _ c.in_ok-write_word.ensures.all c.write_setting.ensures.part)
-
-pub returns-in_err-write_steps-clause-part : goal.returns-in_err-write_steps-clause-part
+pub returns-in_err-write_word : goal.returns-in_err-write_word
 unfolding asked steps
-returns-in_err-write_steps-clause-part g c =
-    subst (AppendsPart _ _) (same_report c.args.width c.args.name.now c.args.rows.now)
-    (part_body (word_line (codes "series")) (asked c.args.width c.args.name.now c.args.rows.now) (steps c.args.rows.now) (word_line (codes "end"))
-    _ _ _ _ c.in_ok-write_word.ensures.all c.in_ok-write_setting.ensures.all c.write_steps.ensures.part)
+returns-in_err-write_word g c =
+    writes_as (pieces c.args.width c.args.name.now c.args.rows.now)
+    (writes_stop _ c.in_err-write_word.ensures c.from_residual.ensures.1)
 
-pub returns-clause-part : goal.returns-clause-part
+pub returns-in_err-write_setting : goal.returns-in_err-write_setting
 unfolding asked steps
-returns-clause-part g c =
-    subst (AppendsPart _ _) (same_report c.args.width c.args.name.now c.args.rows.now)
-    (part_last (word_line (codes "series")) (asked c.args.width c.args.name.now c.args.rows.now) (steps c.args.rows.now) (word_line (codes "end"))
-    _ _ _ _ _ c.in_ok-write_word.ensures.all c.in_ok-write_setting.ensures.all c.in_ok-write_steps.ensures.all c.write_word-2.ensures.part)
+returns-in_err-write_setting g c =
+    writes_as (pieces c.args.width c.args.name.now c.args.rows.now)
+    (writes_then c.in_ok-write_word.ensures (writes_stop _ c.in_err-write_setting.ensures c.from_residual-in_err-write_setting.ensures.1))
 
-pub returns-clause-all : goal.returns-clause-all
+pub returns-in_err-write_steps : goal.returns-in_err-write_steps
 unfolding asked steps
-returns-clause-all g c =
-    on_ok_weaker c.write_word-2.result (λ p.
-    subst (Appends _ _) (same_report c.args.width c.args.name.now c.args.rows.now)
-    (all_written (word_line (codes "series")) (asked c.args.width c.args.name.now c.args.rows.now) (steps c.args.rows.now) (word_line (codes "end"))
-    _ _ _ _ _ c.in_ok-write_word.ensures.all c.in_ok-write_setting.ensures.all c.in_ok-write_steps.ensures.all p))
-    c.write_word-2.ensures.all
+returns-in_err-write_steps g c =
+    writes_as (pieces c.args.width c.args.name.now c.args.rows.now)
+    (writes_then c.in_ok-write_word.ensures (writes_then c.in_ok-write_setting.ensures (writes_stop _ c.in_err-write_steps.ensures c.from_residual-in_err-write_steps.ensures.1)))
+
+pub returns : goal.returns
+unfolding asked steps
+returns g c =
+    writes_as (pieces c.args.width c.args.name.now c.args.rows.now)
+    (writes_then c.in_ok-write_word.ensures (writes_then c.in_ok-write_setting.ensures (writes_then c.in_ok-write_steps.ensures c.write_word-2.ensures)))

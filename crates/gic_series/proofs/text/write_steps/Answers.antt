@@ -1,6 +1,6 @@
-use Rattle.std.proofs.Common.{rules, arith, ◌≡◌, ℕ, suc, ◌+◌, ◌<◌, ◌++◌, List, map, length, drop, get_or, sym, ap, ◌∙◌, add-one, drop-cons}
+use Rattle.std.proofs.Common.{rules, ◌≡◌, ℕ, suc, ◌+◌, ◌<◌, ◌++◌, List, map, length, drop, get_or, sym, ap, ◌∙◌, add-one, drop-cons}
 use Rattle.gic_text.specs.Lines.{line_text, lines_text}
-use Rattle.gic_report.proofs.Written.{goes_on, same_left, stops}
+use Rattle.gic_report.proofs.Written.{goes_on, stops}
 use Rattle.gic_series.specs.declared.rows.SeriesRow.{SeriesRow}
 use Rattle.gic_series.specs.Rows.{series_row_of}
 use Rattle.gic_series.specs.SeriesText.{series_step_line}
@@ -17,12 +17,9 @@ next_step rows i row within is =
 pub loop-row-preserved : goal.loop-row-preserved
 loop-row-preserved g c =
     let next = next_step c.args.rows.now c.loop-row.row-index c.row-item.result (search rules) c.row-item.is in
-    record {
-      written = goes_on _ _ _ _ _ _ (same_left _ _ _ _ _ c.loop-row.invariant.written next) c.in_ok-write_step.ensures.all;
-      kept = grind (arith, c.loop-row.invariant.kept, c.in_ok-write_step.ensures.cause.kept);
-    }
+    record { written = goes_on c.loop-row.invariant.written next c.in_ok-write_step.ensures }
 
-pub returns-in_err-write_step-clause-part : goal.returns-in_err-write_step-clause-part
-returns-in_err-write_step-clause-part g c =
+pub returns-in_err-write_step : goal.returns-in_err-write_step
+returns-in_err-write_step g c =
     let next = next_step c.args.rows.now c.loop-row.row-index c.row-item.result (search rules) c.row-item.is in
-    stops _ _ _ _ _ _ (same_left _ _ _ _ _ c.loop-row.invariant.written next) c.write_step.ensures.part
+    stops _ c.loop-row.invariant.written next c.in_err-write_step.ensures c.from_residual.ensures.1
