@@ -1,8 +1,5 @@
 //! The report of the mode.
-ghost use Rattle.std.specs.Prelude.{OnOk};
-ghost use Rattle.std.specs.Io.KnownBytes.{Appends};
-ghost use Rattle.gic_base.specs.Causes.{HasCause};
-ghost use Rattle.gic_base.specs.Pieces.{AppendsPart};
+ghost use Rattle.gic_base.specs.Writes.{Writes};
 ghost use Rattle.gic_question.specs.Ranges.{IsWithinRanges};
 ghost use Rattle.gic_stand.specs.Needs.{Solved};
 ghost use Rattle.gic_stand.specs.Serves.{Serves, shown};
@@ -31,11 +28,7 @@ fn write_report<S: Sink>(
     line: &mut LineBuilder,
     out: &mut S,
 ) -> Result<(), WriteFailed>
-    ensures all { OnOk result (Appends (S.written out.old) (S.written out.new)
-        (outage_text inputs.now.case inputs.now.question outcomes.now greatest.now)) }
-    ensures part { AppendsPart (S.written out.old) (S.written out.new)
-        (outage_text inputs.now.case inputs.now.question outcomes.now greatest.now) }
-    ensures cause { HasCause (S.faults out.old) (S.faults out.new) result }
+    ensures { Writes S.written S.faults out.old out.new (outage_text inputs.now.case inputs.now.question outcomes.now greatest.now) result }
 {
     let setting = setting_of(&inputs.question);
     write_outage(

@@ -1,8 +1,6 @@
 //! The report of one item out at a time.
-ghost use Rattle.std.specs.Prelude.{◌≡◌, ◌+◌, ◌≤◌, length, map, slice_get, OnOk};
-ghost use Rattle.std.specs.Io.KnownBytes.{Appends};
-ghost use Rattle.gic_base.specs.Causes.{HasCause};
-ghost use Rattle.gic_base.specs.Pieces.{AppendsPart};
+ghost use Rattle.std.specs.Prelude.{◌≡◌, ◌+◌, ◌≤◌, length, map, slice_get};
+ghost use Rattle.gic_base.specs.Writes.{Writes};
 ghost use Rattle.gic_fixed.specs.Ends.{ends_of};
 ghost use Rattle.gic_view.specs.Kept.{optional_ends};
 ghost use Rattle.gic_text.specs.Lines.{with_words, line_text, lines_text};
@@ -47,11 +45,7 @@ fn write_outcome<S: Sink>(
     line: &mut LineBuilder,
     out: &mut S,
 ) -> Result<(), WriteFailed>
-    ensures all { OnOk result (Appends (S.written out.old) (S.written out.new)
-        (line_text (outcome_line name.now outcome.now))) }
-    ensures part { AppendsPart (S.written out.old) (S.written out.new)
-        (line_text (outcome_line name.now outcome.now)) }
-    ensures cause { HasCause (S.faults out.old) (S.faults out.new) result }
+    ensures { Writes S.written S.faults out.old out.new (line_text (outcome_line name.now outcome.now)) result }
 {
     line.start();
     line.word(b"outage");
@@ -83,11 +77,7 @@ fn write_outcomes<S: Sink>(
     line: &mut LineBuilder,
     out: &mut S,
 ) -> Result<(), WriteFailed>
-    ensures all { OnOk result (Appends (S.written out.old) (S.written out.new)
-        (lines_text (outcome_lines (plan_names case.now) outcomes.now))) }
-    ensures part { AppendsPart (S.written out.old) (S.written out.new)
-        (lines_text (outcome_lines (plan_names case.now) outcomes.now)) }
-    ensures cause { HasCause (S.faults out.old) (S.faults out.new) result }
+    ensures { Writes S.written S.faults out.old out.new (lines_text (outcome_lines (plan_names case.now) outcomes.now)) result }
 {
     for (place, outcome) in outcomes.iter().enumerate() {
         let Some(name) = planned_name(case, place) else {
@@ -101,11 +91,7 @@ fn write_outcomes<S: Sink>(
 /// Writes the line of a transformer that no outage shows.
 #[tactic(auto, using(gic_text::proofs::Sizes::line_room))]
 fn write_none<S: Sink>(name: &Name, line: &mut LineBuilder, out: &mut S) -> Result<(), WriteFailed>
-    ensures all { OnOk result (Appends (S.written out.old) (S.written out.new)
-        (line_text (none_line name.now))) }
-    ensures part { AppendsPart (S.written out.old) (S.written out.new)
-        (line_text (none_line name.now)) }
-    ensures cause { HasCause (S.faults out.old) (S.faults out.new) result }
+    ensures { Writes S.written S.faults out.old out.new (line_text (none_line name.now)) result }
 {
     line.start();
     line.word(b"transformer");
@@ -123,11 +109,7 @@ fn write_worst<S: Sink>(
     line: &mut LineBuilder,
     out: &mut S,
 ) -> Result<(), WriteFailed>
-    ensures all { OnOk result (Appends (S.written out.old) (S.written out.new)
-        (line_text (greatest_line name.now (ends_of worst) said))) }
-    ensures part { AppendsPart (S.written out.old) (S.written out.new)
-        (line_text (greatest_line name.now (ends_of worst) said)) }
-    ensures cause { HasCause (S.faults out.old) (S.faults out.new) result }
+    ensures { Writes S.written S.faults out.old out.new (line_text (greatest_line name.now (ends_of worst) said)) result }
 {
     line.start();
     line.word(b"transformer");
@@ -146,11 +128,8 @@ fn write_greatest<S: Sink>(
     line: &mut LineBuilder,
     out: &mut S,
 ) -> Result<(), WriteFailed>
-    ensures all { OnOk result (Appends (S.written out.old) (S.written out.new)
-        (line_text (greatest_worst_line threshold transformer.now (optional_ends greatest)))) }
-    ensures part { AppendsPart (S.written out.old) (S.written out.new)
-        (line_text (greatest_worst_line threshold transformer.now (optional_ends greatest))) }
-    ensures cause { HasCause (S.faults out.old) (S.faults out.new) result }
+    ensures { Writes S.written S.faults out.old out.new
+        (line_text (greatest_worst_line threshold transformer.now (optional_ends greatest))) result }
 {
     let name = &transformer.name;
     let Some(worst) = greatest else {
@@ -168,11 +147,8 @@ fn write_transformers<S: Sink>(
     line: &mut LineBuilder,
     out: &mut S,
 ) -> Result<(), WriteFailed>
-    ensures all { OnOk result (Appends (S.written out.old) (S.written out.new)
-        (lines_text (greatest_worst_lines threshold case.now.transformers (map optional_ends greatest.now)))) }
-    ensures part { AppendsPart (S.written out.old) (S.written out.new)
-        (lines_text (greatest_worst_lines threshold case.now.transformers (map optional_ends greatest.now))) }
-    ensures cause { HasCause (S.faults out.old) (S.faults out.new) result }
+    ensures { Writes S.written S.faults out.old out.new
+        (lines_text (greatest_worst_lines threshold case.now.transformers (map optional_ends greatest.now))) result }
 {
     for (transformer, cell) in case.transformers().iter().zip(greatest) {
         write_greatest(transformer, *cell, threshold, line, out)?;
@@ -189,11 +165,8 @@ pub(crate) fn write_outage<S: Sink>(
     line: &mut LineBuilder,
     out: &mut S,
 ) -> Result<(), WriteFailed>
-    ensures all { OnOk result (Appends (S.written out.old) (S.written out.new)
-        (lines_text (outage_report case.now setting.now.width setting.now.threshold setting.now.field outcomes.now (map optional_ends greatest.now)))) }
-    ensures part { AppendsPart (S.written out.old) (S.written out.new)
-        (lines_text (outage_report case.now setting.now.width setting.now.threshold setting.now.field outcomes.now (map optional_ends greatest.now))) }
-    ensures cause { HasCause (S.faults out.old) (S.faults out.new) result }
+    ensures { Writes S.written S.faults out.old out.new
+        (lines_text (outage_report case.now setting.now.width setting.now.threshold setting.now.field outcomes.now (map optional_ends greatest.now))) result }
 {
     write_word(b"outage", line, out)?;
     write_setting(setting, line, out)?;

@@ -1,4 +1,4 @@
-use Rattle.std.proofs.Common.{rules, arith, ◌≡◌, ℕ, Option, List, [], ◌∷◌, ◌++◌, ◌⊎◌, inl, inr, map, refl, sym, ap, ◌∙◌}
+use Rattle.std.proofs.Common.{rules, ◌≡◌, ℕ, Option, List, [], ◌∷◌, ◌++◌, ◌⊎◌, inl, inr, map, refl, sym, ap, ◌∙◌}
 use Rattle.std.specs.Iterator.Adapters.{zip_first, zip_second}
 use Rattle.std.specs.Slice.Iter.{iter_rest}
 use Rattle.std.proofs.lemmas.Slice.Zip.{Zip-more, either_empty_from_Zip}
@@ -6,7 +6,7 @@ use Rattle.gic_text.specs.Lines.{line_text, lines_text}
 use Rattle.gic_case.specs.declared.item.Transformer.{Transformer}
 use Rattle.gic_fixed.specs.declared.interval.Interval.{Interval}
 use Rattle.gic_view.specs.Kept.{optional_ends}
-use Rattle.gic_report.proofs.Written.{begins, goes_on, same_left, stops, ends}
+use Rattle.gic_report.proofs.Written.{begins, goes_on, stops, ends}
 use Rattle.gic_outage_mode.specs.OutageText.{greatest_worst_line, greatest_worst_lines}
 use Rattle.gic_outage_mode.proofs.text.write_transformers.Goals as goal
 
@@ -30,24 +30,21 @@ loop-transformer-init g c =
     let second : iter_rest (zip_second c.into_iter-transformer-iterator.result) ≡ c.args.greatest.now = search rules in
     let same = ap (λ l. lines_text (greatest_worst_lines c.args.threshold l (map optional_ends c.args.greatest.now))) (sym first)
     ∙ ap (λ l. lines_text (greatest_worst_lines c.args.threshold (iter_rest (zip_first c.into_iter-transformer-iterator.result)) (map optional_ends l))) (sym second) in
-    record { written = begins _ _ _ same; kept = omega arith }
+    record { written = begins same }
 
 pub loop-transformer-preserved : goal.loop-transformer-preserved
 loop-transformer-preserved g c =
     let more = Zip-more c.loop-transformer.transformer-iterator c.next.new.self c.next.result (c.in-Some.transformer, c.in-Some.cell) c.in-Some.is c.next.ensures.steps in
     let next = next_line c.args.threshold _ _ _ _ c.in-Some.transformer.now c.in-Some.cell.now more in
-    record {
-      written = goes_on _ _ _ _ _ _ (same_left _ _ _ _ _ c.loop-transformer.invariant.written next) c.in_ok-write_greatest.ensures.all;
-      kept = grind (arith, c.loop-transformer.invariant.kept, c.in_ok-write_greatest.ensures.cause.kept);
-    }
+    record { written = goes_on c.loop-transformer.invariant.written next c.in_ok-write_greatest.ensures }
 
-pub returns-in_err-write_greatest-clause-part : goal.returns-in_err-write_greatest-clause-part
-returns-in_err-write_greatest-clause-part g c =
+pub returns-in_err-write_greatest : goal.returns-in_err-write_greatest
+returns-in_err-write_greatest g c =
     let more = Zip-more c.loop-transformer.transformer-iterator c.next.new.self c.next.result (c.in-Some.transformer, c.in-Some.cell) c.in-Some.is c.next.ensures.steps in
     let next = next_line c.args.threshold _ _ _ _ c.in-Some.transformer.now c.in-Some.cell.now more in
-    stops _ _ _ _ _ _ (same_left _ _ _ _ _ c.loop-transformer.invariant.written next) c.write_greatest.ensures.part
+    stops _ c.loop-transformer.invariant.written next c.in_err-write_greatest.ensures c.from_residual.ensures.1
 
-pub returns-clause-all : goal.returns-clause-all
-returns-clause-all g c =
+pub returns : goal.returns
+returns g c =
     let none = either_empty_from_Zip c.loop-transformer.transformer-iterator c.next.new.self c.next.result c.in-None.is c.next.ensures.steps in
-    ends _ _ _ (same_left _ _ _ _ _ c.loop-transformer.invariant.written (no_line_left c.args.threshold _ _ none))
+    ends c.loop-transformer.invariant.written (no_line_left c.args.threshold _ _ none)
