@@ -1,8 +1,6 @@
 //! The line that tells a fault.
-ghost use Rattle.std.specs.Prelude.{◌≡◌, ◌∷◌, ◌++◌, [], OnOk, map, codes};
-ghost use Rattle.std.specs.Io.KnownBytes.{Appends};
-ghost use Rattle.gic_base.specs.Causes.{HasCause};
-ghost use Rattle.gic_base.specs.Pieces.{AppendsPart};
+ghost use Rattle.std.specs.Prelude.{◌≡◌, ◌∷◌, ◌++◌, [], map, codes};
+ghost use Rattle.gic_base.specs.Writes.{Writes};
 ghost use Rattle.gic_text.specs.Words.{spaced};
 ghost use Rattle.gic_storm.specs.declared.refusal.StormRefusal.TheVariants.{Number};
 ghost use Rattle.gic_study.specs.Faults.{usage_words, case_words, column_word, record_words, storm_words, switch_words, input_words, network_words, certificate_words, memory_words, file_word, part_word, row_words, field_words, node_words, told_line, line_of_fault};
@@ -19,9 +17,7 @@ use gic_words::Usage;
 
 /// Writes a space and a word.
 fn write_after_space<E: Sink>(word: &str, err: &mut E) -> Result<(), WriteFailed>
-    ensures all { OnOk result (Appends (E.written err.old) (E.written err.new) (32 ∷ word.now)) }
-    ensures part { AppendsPart (E.written err.old) (E.written err.new) (32 ∷ word.now) }
-    ensures cause { HasCause (E.faults err.old) (E.faults err.new) result }
+    ensures { Writes E.written E.faults err.old err.new (32 ∷ word.now) result }
 {
     write_all(err, b" ")?;
     write_all(err, word.as_bytes())
@@ -29,9 +25,7 @@ fn write_after_space<E: Sink>(word: &str, err: &mut E) -> Result<(), WriteFailed
 
 /// Writes words, each after a space.
 fn write_spaced<E: Sink>(words: &[&str], err: &mut E) -> Result<(), WriteFailed>
-    ensures all { OnOk result (Appends (E.written err.old) (E.written err.new) (spaced (map (λ w. w.now) words.entry.now))) }
-    ensures part { AppendsPart (E.written err.old) (E.written err.new) (spaced (map (λ w. w.now) words.entry.now)) }
-    ensures cause { HasCause (E.faults err.old) (E.faults err.new) result }
+    ensures { Writes E.written E.faults err.old err.new (spaced (map (λ w. w.now) words.entry.now)) result }
 {
     for word in words {
         write_after_space(word, err)?;
@@ -41,10 +35,8 @@ fn write_spaced<E: Sink>(words: &[&str], err: &mut E) -> Result<(), WriteFailed>
 
 /// Writes the line of the program's name, words and more words.
 fn write_joined<E: Sink>(words: &[&str], more: &[&str], err: &mut E) -> Result<(), WriteFailed>
-    ensures all { OnOk result (Appends (E.written err.old) (E.written err.new)
-        (told_line (map (λ w. w.now) words.entry.now ++ map (λ w. w.now) more.entry.now))) }
-    ensures part { AppendsPart (E.written err.old) (E.written err.new) (told_line (map (λ w. w.now) words.entry.now ++ map (λ w. w.now) more.entry.now)) }
-    ensures cause { HasCause (E.faults err.old) (E.faults err.new) result }
+    ensures { Writes E.written E.faults err.old err.new
+        (told_line (map (λ w. w.now) words.entry.now ++ map (λ w. w.now) more.entry.now)) result }
 {
     write_all(err, b"gicstudy:")?;
     write_spaced(words, err)?;
@@ -54,9 +46,7 @@ fn write_joined<E: Sink>(words: &[&str], more: &[&str], err: &mut E) -> Result<(
 
 /// Writes the line of the program's name and words.
 fn write_line<E: Sink>(words: &[&str], err: &mut E) -> Result<(), WriteFailed>
-    ensures all { OnOk result (Appends (E.written err.old) (E.written err.new) (told_line (map (λ w. w.now) words.entry.now))) }
-    ensures part { AppendsPart (E.written err.old) (E.written err.new) (told_line (map (λ w. w.now) words.entry.now)) }
-    ensures cause { HasCause (E.faults err.old) (E.faults err.new) result }
+    ensures { Writes E.written E.faults err.old err.new (told_line (map (λ w. w.now) words.entry.now)) result }
 {
     write_joined(words, &[], err)
 }
@@ -89,9 +79,7 @@ fn part_word(list: Part) -> &'static str
 
 /// Writes the line of a fault of the words.
 fn write_usage<E: Sink>(usage: Usage, err: &mut E) -> Result<(), WriteFailed>
-    ensures all { OnOk result (Appends (E.written err.old) (E.written err.new) (told_line (codes "usage:" ∷ usage_words usage))) }
-    ensures part { AppendsPart (E.written err.old) (E.written err.new) (told_line (codes "usage:" ∷ usage_words usage)) }
-    ensures cause { HasCause (E.faults err.old) (E.faults err.new) result }
+    ensures { Writes E.written E.faults err.old err.new (told_line (codes "usage:" ∷ usage_words usage)) result }
 {
     match usage {
         Usage::Words => write_line(&["usage:", "words"], err),
@@ -105,9 +93,7 @@ fn write_usage<E: Sink>(usage: Usage, err: &mut E) -> Result<(), WriteFailed>
 
 /// Writes the line of words, a list and a row.
 fn write_row<E: Sink>(words: &[&str], list: Part, row: u32, err: &mut E) -> Result<(), WriteFailed>
-    ensures all { OnOk result (Appends (E.written err.old) (E.written err.new) (told_line (row_words (map (λ w. w.now) words.entry.now) list row))) }
-    ensures part { AppendsPart (E.written err.old) (E.written err.new) (told_line (row_words (map (λ w. w.now) words.entry.now) list row)) }
-    ensures cause { HasCause (E.faults err.old) (E.faults err.new) result }
+    ensures { Writes E.written E.faults err.old err.new (told_line (row_words (map (λ w. w.now) words.entry.now) list row)) result }
 {
     let mut buffer = itoa::Buffer::new();
     write_joined(words, &[part_word(list), "row", buffer.format(row)], err)
@@ -121,9 +107,7 @@ fn write_field<E: Sink>(
     field: Field,
     err: &mut E,
 ) -> Result<(), WriteFailed>
-    ensures all { OnOk result (Appends (E.written err.old) (E.written err.new) (told_line (field_words (map (λ w. w.now) words.entry.now) list row field))) }
-    ensures part { AppendsPart (E.written err.old) (E.written err.new) (told_line (field_words (map (λ w. w.now) words.entry.now) list row field)) }
-    ensures cause { HasCause (E.faults err.old) (E.faults err.new) result }
+    ensures { Writes E.written E.faults err.old err.new (told_line (field_words (map (λ w. w.now) words.entry.now) list row field)) result }
 {
     let mut buffer = itoa::Buffer::new();
     let place = [
@@ -138,9 +122,7 @@ fn write_field<E: Sink>(
 
 /// Writes a space and a name.
 fn write_name<E: Sink>(name: Name, err: &mut E) -> Result<(), WriteFailed>
-    ensures all { OnOk result (Appends (E.written err.old) (E.written err.new) (32 ∷ name)) }
-    ensures part { AppendsPart (E.written err.old) (E.written err.new) (32 ∷ name) }
-    ensures cause { HasCause (E.faults err.old) (E.faults err.new) result }
+    ensures { Writes E.written E.faults err.old err.new (32 ∷ name) result }
 {
     write_all(err, b" ")?;
     write_all(err, name.as_bytes())
@@ -148,9 +130,7 @@ fn write_name<E: Sink>(name: Name, err: &mut E) -> Result<(), WriteFailed>
 
 /// Writes the line of the program's name, words and the name of a node.
 fn write_named<E: Sink>(words: &[&str], name: Name, err: &mut E) -> Result<(), WriteFailed>
-    ensures all { OnOk result (Appends (E.written err.old) (E.written err.new) (told_line (map (λ w. w.now) words.entry.now ++ name ∷ []))) }
-    ensures part { AppendsPart (E.written err.old) (E.written err.new) (told_line (map (λ w. w.now) words.entry.now ++ name ∷ [])) }
-    ensures cause { HasCause (E.faults err.old) (E.faults err.new) result }
+    ensures { Writes E.written E.faults err.old err.new (told_line (map (λ w. w.now) words.entry.now ++ name ∷ [])) result }
 {
     write_all(err, b"gicstudy:")?;
     write_spaced(words, err)?;
@@ -160,9 +140,7 @@ fn write_named<E: Sink>(words: &[&str], name: Name, err: &mut E) -> Result<(), W
 
 /// Writes the line of a refused case.
 fn write_case<E: Sink>(refusal: CaseRefusal, err: &mut E) -> Result<(), WriteFailed>
-    ensures all { OnOk result (Appends (E.written err.old) (E.written err.new) (told_line (case_words refusal))) }
-    ensures part { AppendsPart (E.written err.old) (E.written err.new) (told_line (case_words refusal)) }
-    ensures cause { HasCause (E.faults err.old) (E.faults err.new) result }
+    ensures { Writes E.written E.faults err.old err.new (told_line (case_words refusal)) result }
 {
     match refusal {
         CaseRefusal::NotToml => write_line(&["case:", "not", "toml"], err),
@@ -212,9 +190,7 @@ fn column_word(field: StormField) -> &'static str
 
 /// Writes the line of what a row of a file breaks; the first word names the file.
 fn write_record<E: Sink>(file: &str, what: &str, row: u32, err: &mut E) -> Result<(), WriteFailed>
-    ensures all { OnOk result (Appends (E.written err.old) (E.written err.new) (told_line (record_words file.now what.now row))) }
-    ensures part { AppendsPart (E.written err.old) (E.written err.new) (told_line (record_words file.now what.now row)) }
-    ensures cause { HasCause (E.faults err.old) (E.faults err.new) result }
+    ensures { Writes E.written E.faults err.old err.new (told_line (record_words file.now what.now row)) result }
 {
     let mut buffer = itoa::Buffer::new();
     write_line(&[file, what, "in", "row", buffer.format(row)], err)
@@ -222,9 +198,7 @@ fn write_record<E: Sink>(file: &str, what: &str, row: u32, err: &mut E) -> Resul
 
 /// Writes the line of a number in a row of the storm.
 fn write_storm_number<E: Sink>(row: u32, field: StormField, err: &mut E) -> Result<(), WriteFailed>
-    ensures all { OnOk result (Appends (E.written err.old) (E.written err.new) (told_line (storm_words (Number row field)))) }
-    ensures part { AppendsPart (E.written err.old) (E.written err.new) (told_line (storm_words (Number row field))) }
-    ensures cause { HasCause (E.faults err.old) (E.faults err.new) result }
+    ensures { Writes E.written E.faults err.old err.new (told_line (storm_words (Number row field))) result }
 {
     let mut buffer = itoa::Buffer::new();
     let place = ["row", buffer.format(row), "field", column_word(field)];
@@ -233,9 +207,7 @@ fn write_storm_number<E: Sink>(row: u32, field: StormField, err: &mut E) -> Resu
 
 /// Writes the line of a refused storm.
 fn write_storm<E: Sink>(refusal: StormRefusal, err: &mut E) -> Result<(), WriteFailed>
-    ensures all { OnOk result (Appends (E.written err.old) (E.written err.new) (told_line (storm_words refusal))) }
-    ensures part { AppendsPart (E.written err.old) (E.written err.new) (told_line (storm_words refusal)) }
-    ensures cause { HasCause (E.faults err.old) (E.faults err.new) result }
+    ensures { Writes E.written E.faults err.old err.new (told_line (storm_words refusal)) result }
 {
     match refusal {
         StormRefusal::Shape { row } => write_record("storm:", "shape", row, err),
@@ -249,9 +221,7 @@ fn write_storm<E: Sink>(refusal: StormRefusal, err: &mut E) -> Result<(), WriteF
 
 /// Writes the line of refused switchings.
 fn write_switchings<E: Sink>(refusal: SwitchRefusal, err: &mut E) -> Result<(), WriteFailed>
-    ensures all { OnOk result (Appends (E.written err.old) (E.written err.new) (told_line (switch_words refusal))) }
-    ensures part { AppendsPart (E.written err.old) (E.written err.new) (told_line (switch_words refusal)) }
-    ensures cause { HasCause (E.faults err.old) (E.faults err.new) result }
+    ensures { Writes E.written E.faults err.old err.new (told_line (switch_words refusal)) result }
 {
     match refusal {
         SwitchRefusal::Shape { row } => write_record("switch:", "shape", row, err),
@@ -265,9 +235,7 @@ fn write_switchings<E: Sink>(refusal: SwitchRefusal, err: &mut E) -> Result<(), 
 
 /// Writes the line of what is wrong with the network at a step, and of the first node that shows it.
 fn write_node<E: Sink>(what: &str, step: u32, node: Name, err: &mut E) -> Result<(), WriteFailed>
-    ensures all { OnOk result (Appends (E.written err.old) (E.written err.new) (told_line (node_words what.now step node))) }
-    ensures part { AppendsPart (E.written err.old) (E.written err.new) (told_line (node_words what.now step node)) }
-    ensures cause { HasCause (E.faults err.old) (E.faults err.new) result }
+    ensures { Writes E.written E.faults err.old err.new (told_line (node_words what.now step node)) result }
 {
     let mut buffer = itoa::Buffer::new();
     write_named(&[what, "step", buffer.format(step), "node"], node, err)
@@ -275,9 +243,7 @@ fn write_node<E: Sink>(what: &str, step: u32, node: Name, err: &mut E) -> Result
 
 /// Writes the line of refused words or files.
 fn write_input<E: Sink>(refusal: InputRefusal, err: &mut E) -> Result<(), WriteFailed>
-    ensures all { OnOk result (Appends (E.written err.old) (E.written err.new) (told_line (input_words refusal))) }
-    ensures part { AppendsPart (E.written err.old) (E.written err.new) (told_line (input_words refusal)) }
-    ensures cause { HasCause (E.faults err.old) (E.faults err.new) result }
+    ensures { Writes E.written E.faults err.old err.new (told_line (input_words refusal)) result }
 {
     match refusal {
         InputRefusal::Usage(usage) => write_usage(usage, err),
@@ -291,9 +257,7 @@ fn write_input<E: Sink>(refusal: InputRefusal, err: &mut E) -> Result<(), WriteF
 
 /// Writes the line of a refused network.
 fn write_network<E: Sink>(refusal: NetworkRefusal, err: &mut E) -> Result<(), WriteFailed>
-    ensures all { OnOk result (Appends (E.written err.old) (E.written err.new) (told_line (network_words refusal))) }
-    ensures part { AppendsPart (E.written err.old) (E.written err.new) (told_line (network_words refusal)) }
-    ensures cause { HasCause (E.faults err.old) (E.faults err.new) result }
+    ensures { Writes E.written E.faults err.old err.new (told_line (network_words refusal)) result }
 {
     match refusal {
         NetworkRefusal::Unearthed { step, node } => write_node("unearthed:", step, node, err),
@@ -303,9 +267,7 @@ fn write_network<E: Sink>(refusal: NetworkRefusal, err: &mut E) -> Result<(), Wr
 
 /// Writes the line of a refused certificate.
 fn write_certificate<E: Sink>(refusal: CertificateRefusal, err: &mut E) -> Result<(), WriteFailed>
-    ensures all { OnOk result (Appends (E.written err.old) (E.written err.new) (told_line (certificate_words refusal))) }
-    ensures part { AppendsPart (E.written err.old) (E.written err.new) (told_line (certificate_words refusal)) }
-    ensures cause { HasCause (E.faults err.old) (E.faults err.new) result }
+    ensures { Writes E.written E.faults err.old err.new (told_line (certificate_words refusal)) result }
 {
     match refusal {
         CertificateRefusal::Shape { row } => write_record("cert:", "shape", row, err),
@@ -323,18 +285,14 @@ fn write_certificate<E: Sink>(refusal: CertificateRefusal, err: &mut E) -> Resul
 
 /// Writes the line of want of memory.
 fn write_memory<E: Sink>(err: &mut E) -> Result<(), WriteFailed>
-    ensures all { OnOk result (Appends (E.written err.old) (E.written err.new) (told_line memory_words)) }
-    ensures part { AppendsPart (E.written err.old) (E.written err.new) (told_line memory_words) }
-    ensures cause { HasCause (E.faults err.old) (E.faults err.new) result }
+    ensures { Writes E.written E.faults err.old err.new (told_line memory_words) result }
 {
     write_line(&["out", "of", "memory"], err)
 }
 
 /// Writes the line that tells a fault. Takes no memory.
 pub(crate) fn write_fault<E: Sink>(fault: &Fault, err: &mut E) -> Result<(), WriteFailed>
-    ensures all { OnOk result (Appends (E.written err.old) (E.written err.new) (line_of_fault fault.now)) }
-    ensures part { AppendsPart (E.written err.old) (E.written err.new) (line_of_fault fault.now) }
-    ensures cause { HasCause (E.faults err.old) (E.faults err.new) result }
+    ensures { Writes E.written E.faults err.old err.new (line_of_fault fault.now) result }
 {
     match fault {
         Fault::Input(InputFault::Refused(refusal)) => write_input(*refusal, err),
