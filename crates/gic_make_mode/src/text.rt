@@ -1,8 +1,5 @@
 //! The report of a made case.
-ghost use Rattle.std.specs.Prelude.{OnOk};
-ghost use Rattle.std.specs.Io.KnownBytes.{Appends};
-ghost use Rattle.gic_base.specs.Causes.{HasCause};
-ghost use Rattle.gic_base.specs.Pieces.{AppendsPart};
+ghost use Rattle.gic_base.specs.Writes.{Writes};
 ghost use Rattle.gic_text.specs.Lines.{line_text, lines_text};
 ghost use Rattle.gic_report.specs.Counts.{counts_words};
 ghost use Rattle.gic_make_mode.specs.MakeText.{seed_line, walk_line, summary_lines, make_text};
@@ -29,11 +26,7 @@ fn write_seed<S: Sink>(
     line: &mut LineBuilder,
     out: &mut S,
 ) -> Result<(), WriteFailed>
-    ensures all { OnOk result (Appends (S.written out.old) (S.written out.new)
-        (line_text (seed_line seed size))) }
-    ensures part { AppendsPart (S.written out.old) (S.written out.new)
-        (line_text (seed_line seed size)) }
-    ensures cause { HasCause (S.faults out.old) (S.faults out.new) result }
+    ensures { Writes S.written S.faults out.old out.new (line_text (seed_line seed size)) result }
 {
     line.start();
     line.word(b"seed");
@@ -46,11 +39,7 @@ fn write_seed<S: Sink>(
 /// Writes the line of the walk.
 #[tactic(auto, using(gic_text::proofs::Sizes::line_room))]
 fn write_walk<S: Sink>(walk: u16, line: &mut LineBuilder, out: &mut S) -> Result<(), WriteFailed>
-    ensures all { OnOk result (Appends (S.written out.old) (S.written out.new)
-        (line_text (walk_line walk))) }
-    ensures part { AppendsPart (S.written out.old) (S.written out.new)
-        (line_text (walk_line walk)) }
-    ensures cause { HasCause (S.faults out.old) (S.faults out.new) result }
+    ensures { Writes S.written S.faults out.old out.new (line_text (walk_line walk)) result }
 {
     line.start();
     line.word(b"walk");
@@ -65,11 +54,7 @@ fn write_counts<S: Sink>(
     line: &mut LineBuilder,
     out: &mut S,
 ) -> Result<(), WriteFailed>
-    ensures all { OnOk result (Appends (S.written out.old) (S.written out.new)
-        (line_text (counts_words counts.now))) }
-    ensures part { AppendsPart (S.written out.old) (S.written out.new)
-        (line_text (counts_words counts.now)) }
-    ensures cause { HasCause (S.faults out.old) (S.faults out.new) result }
+    ensures { Writes S.written S.faults out.old out.new (line_text (counts_words counts.now)) result }
 {
     line.start();
     add_counts(counts, line);
@@ -82,11 +67,7 @@ fn write_summary<S: Sink>(
     line: &mut LineBuilder,
     out: &mut S,
 ) -> Result<(), WriteFailed>
-    ensures all { OnOk result (Appends (S.written out.old) (S.written out.new)
-        (lines_text (summary_lines summary.now))) }
-    ensures part { AppendsPart (S.written out.old) (S.written out.new)
-        (lines_text (summary_lines summary.now)) }
-    ensures cause { HasCause (S.faults out.old) (S.faults out.new) result }
+    ensures { Writes S.written S.faults out.old out.new (lines_text (summary_lines summary.now)) result }
 {
     write_sizes(summary.nodes, summary.elements as usize, line, out)?;
     write_walk(summary.walk, line, out)?;
@@ -101,11 +82,7 @@ pub(crate) fn write_make<S: Sink>(
     line: &mut LineBuilder,
     out: &mut S,
 ) -> Result<(), WriteFailed>
-    ensures all { OnOk result (Appends (S.written out.old) (S.written out.new)
-        (make_text seed size summary.now)) }
-    ensures part { AppendsPart (S.written out.old) (S.written out.new)
-        (make_text seed size summary.now) }
-    ensures cause { HasCause (S.faults out.old) (S.faults out.new) result }
+    ensures { Writes S.written S.faults out.old out.new (make_text seed size summary.now) result }
 {
     write_word(b"make", line, out)?;
     write_seed(seed, size, line, out)?;

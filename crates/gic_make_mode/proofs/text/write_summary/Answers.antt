@@ -1,43 +1,27 @@
-use Rattle.std.proofs.Common.{ℕ, List, [], ◌++◌, refl}
-use Rattle.std.specs.declared.option.Option.{Option}
-use Rattle.std.proofs.lemmas.Result.{on_ok_weaker}
+use Rattle.std.proofs.Common.{◌≡◌, ◌++◌, ap, append-nil, sym}
 use Rattle.gic_text.specs.Lines.{line_text, lines_text}
 use Rattle.gic_report.specs.Counts.{counts_words}
-use Rattle.gic_report.proofs.Written.{Written, begins, goes_on, stops, ends}
 use Rattle.gic_report.specs.SharedLines.{sizes_line}
+use Rattle.gic_report.proofs.Chained.{writes_as, writes_then, writes_stop}
 use Rattle.gic_make_mode.specs.declared.text.Summary.{Summary}
 use Rattle.gic_make_mode.specs.MakeText.{walk_line, summary_lines}
 use Rattle.gic_make_mode.proofs.text.write_summary.Goals as goal
 
--- the pieces in which the lines are written
-abbrev sizes : Summary → List ℕ
-sizes shown = line_text (sizes_line shown.nodes shown.elements)
+-- the lines in the pieces in which they are written
+pieces : (shown : Summary) → line_text (sizes_line shown.nodes shown.elements) ++ (line_text (walk_line shown.walk) ++ line_text (counts_words shown.counts)) ≡ lines_text (summary_lines shown)
+pieces shown = ap (λ l. line_text (sizes_line shown.nodes shown.elements) ++ (line_text (walk_line shown.walk) ++ l)) (sym (append-nil (line_text (counts_words shown.counts))))
 
-abbrev walk : Summary → List ℕ
-walk shown = line_text (walk_line shown.walk)
+pub returns-in_err-write_sizes : goal.returns-in_err-write_sizes
+returns-in_err-write_sizes g c =
+    writes_as (pieces c.args.summary.now)
+    (writes_stop _ c.in_err-write_sizes.ensures c.from_residual.ensures.1)
 
-abbrev counts : Summary → List ℕ
-counts shown = line_text (counts_words shown.counts)
+pub returns-in_err-write_walk : goal.returns-in_err-write_walk
+returns-in_err-write_walk g c =
+    writes_as (pieces c.args.summary.now)
+    (writes_then c.in_ok-write_sizes.ensures (writes_stop _ c.in_err-write_walk.ensures c.from_residual-in_err-write_walk.ensures.1))
 
-nothing : (old : Option (List ℕ)) (shown : Summary) → Written old old (lines_text (summary_lines shown)) (sizes shown ++ (walk shown ++ (counts shown ++ [])))
-nothing old shown = begins old _ _ refl
-
-pub returns-in_err-write_sizes-clause-part : goal.returns-in_err-write_sizes-clause-part
-returns-in_err-write_sizes-clause-part g c = stops _ _ _ _ _ _ (nothing _ c.args.summary.now) c.write_sizes.ensures.part
-
-pub returns-in_err-write_walk-clause-part : goal.returns-in_err-write_walk-clause-part
-returns-in_err-write_walk-clause-part g c =
-    let w1 = goes_on _ _ _ _ _ _ (nothing _ c.args.summary.now) c.in_ok-write_sizes.ensures.all in
-    stops _ _ _ _ _ _ w1 c.write_walk.ensures.part
-
-pub returns-clause-part : goal.returns-clause-part
-returns-clause-part g c =
-    let w1 = goes_on _ _ _ _ _ _ (nothing _ c.args.summary.now) c.in_ok-write_sizes.ensures.all in
-    let w2 = goes_on _ _ _ _ _ _ w1 c.in_ok-write_walk.ensures.all in
-    stops _ _ _ _ _ _ w2 c.write_counts.ensures.part
-
-pub returns-clause-all : goal.returns-clause-all
-returns-clause-all g c =
-    let w1 = goes_on _ _ _ _ _ _ (nothing _ c.args.summary.now) c.in_ok-write_sizes.ensures.all in
-    let w2 = goes_on _ _ _ _ _ _ w1 c.in_ok-write_walk.ensures.all in
-    on_ok_weaker c.write_counts.result (λ p. ends _ _ _ (goes_on _ _ _ _ _ _ w2 p)) c.write_counts.ensures.all
+pub returns : goal.returns
+returns g c =
+    writes_as (pieces c.args.summary.now)
+    (writes_then c.in_ok-write_sizes.ensures (writes_then c.in_ok-write_walk.ensures c.write_counts.ensures))
