@@ -56,7 +56,7 @@ class Written(CaseTest):
         """Alpha times beta times the span of a line as it is in the case, over its span by the coordinates."""
         made = self.made(*words)
         scale = written({"zone": list(made["zone"].values())})
-        return scale(zone) * made["line"][line]["north"] / self.SPANS[line]
+        return float(scale(zone) * made["line"][line]["north"] / self.SPANS[line])
 
     def test_by_the_table(self) -> None:
         zones = self.made()["zone"]

@@ -4,6 +4,7 @@ import decimal
 import shutil
 import tomllib
 import unittest
+from typing import Any
 from unittest import mock
 
 from shared import EXAMPLES, TOP, DeskTest, desk
@@ -12,6 +13,7 @@ from small import TABLES
 from gicdesk import cases
 from gicdesk.usual import GROUNDS, LINES, REACTORS, WINDINGS, usual_at
 
+Made = dict[str, dict[str, dict[str, Any]]]  # the rows of a case by their lists and their names
 LISTS = ("zone", "substation", "bus", "line", "transformer")
 POLYGONS = "zone,latitude,longitude\n" + "".join(
     f"{zone},{corner}\n"
@@ -43,7 +45,7 @@ class CaseTest(DeskTest):
             (tables / f"{name}.csv").write_bytes(text.encode())
         return ["case", tables, f"--out={self.out}", *words]
 
-    def made(self, *words: object) -> dict[str, dict[str, dict]]:
+    def made(self, *words: object) -> Made:
         """The lists of the case that is made, each row by its name; what is told is kept without the folder."""
         told = self.done(*self.words("--force", *words)).replace(f"{self.folder}/", "").splitlines()
         self.assertEqual(told.pop(), "case.toml is made")
@@ -87,7 +89,7 @@ class Region(DeskTest):
 class Numbers(CaseTest):
     def micro_ohm(self, text: str) -> int:
         self.change("lines", "upland,3.25,", f"upland,{text},")
-        return self.made()["line"]["N-S"]["resistance"]
+        return int(self.made()["line"]["N-S"]["resistance"])
 
     def test_as_spreadsheets_write_them(self) -> None:
         for text, micro_ohm in (

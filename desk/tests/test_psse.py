@@ -7,15 +7,18 @@ import pathlib
 import subprocess
 import tomllib
 import unittest
+from collections.abc import Callable
+from fractions import Fraction
 from unittest import mock
 
 import make_pair
 from shared import BUILT, EXAMPLES, REPORTS, TESTS, DeskTest
 
 from gicdesk import cases
+from gicdesk.places import Point
 from gicdesk.polygons import Polygon
 from gicdesk.psse_text import fields_of
-from gicdesk.psse_units import letters_of
+from gicdesk.vectors import letters_of
 
 PAIR = TESTS / "pair"
 LISTS = ("zone", "substation", "bus", "line", "transformer")
@@ -131,8 +134,13 @@ class Region(DeskTest):
             for row in csv.DictReader(file):
                 key = (row["numbers"], row["circuit"])
                 stations = {str(number): name for name, number in pair.substations.items()}
-                by_list = {"substation": stations.get(key[0]), "bus": buses.get(key[0]), "line": lines.get(key)}
-                names[row["name"]] = units[key] if row["list"] == "transformer" else by_list[row["list"]]
+                by_list: dict[str, Callable[[], str]] = {
+                    "substation": lambda: stations[key[0]],
+                    "bus": lambda: buses[key[0]],
+                    "line": lambda: lines[key],
+                    "transformer": lambda: units[key],
+                }
+                names[row["name"]] = by_list[row["list"]]()
         return names
 
     def test_the_pair_that_stands_here_is_the_one_that_is_made(self) -> None:
@@ -254,7 +262,7 @@ class Small(PsseTest):
     @unittest.skipUnless(BUILT.is_file(), "no program is built")
     def test_the_program_takes_the_case(self) -> None:
         self.case([*self.words(), "--beyond=model"])
-        words = [BUILT, "list", f"--case={self.out}"]
+        words = [str(BUILT), "list", f"--case={self.out}"]
         printed = subprocess.run(words, capture_output=True, text=True, check=True).stdout.splitlines()
         # Two grounds, two lines without the capacitor, two windings of the auto, three others, and a neutral resistor.
         self.assertEqual(printed[1], "nodes 9 elements 10")
@@ -536,8 +544,8 @@ class Refusals(PsseTest):
         heads = "bus_i,bus_j,circuit,zone,north_km,east_km\n"
         lines = self.file("lines.csv", f"{heads}4,1,1,north,,\n5,7,1,south,110.5,72\n")
         case = self.case([*words, f"--substations={stations}", f"--lines={lines}"])
-        words = "stations.csv line 5: there is no substation 22 in net.gic: this row is of none"
-        self.assertIn(words, [line.replace(f"{self.folder}/", "") for line in self.shown])
+        told = "stations.csv line 5: there is no substation 22 in net.gic: this row is of none"
+        self.assertIn(told, [line.replace(f"{self.folder}/", "") for line in self.shown])
         found = {name: (row["zone"], row["north"], row["east"]) for name, row in case["line"].items()}
         self.assertEqual(
             found,
@@ -555,7 +563,8 @@ class Refusals(PsseTest):
         case = self.case([*words, f"--polygons={polygons}", f"--lines={lines}"])
         found = {name: row["zone"] for name, row in case["line"].items()}
         self.assertEqual(found, {"L1-4-1": "south", "L1-7-1": "north", "L5-7-1": "north"})
-        self.out.unlink(), self.out.with_suffix(".names.csv").unlink()
+        for made in (self.out, self.out.with_suffix(".names.csv")):
+            made.unlink()
         self.told(
             [*words, f"--polygons={self.file('p.csv', heads + north)}"],
             "net.gic line 3: it lies at 49.0, -100.0, in no polygon; widen one, or look at its coordinates",
@@ -597,8 +606,8 @@ class Refusals(PsseTest):
 
 class Polygons(unittest.TestCase):
     def test_inside_outside_and_on_the_border(self) -> None:
-        def places(*pairs: tuple[str, str]) -> list[tuple[decimal.Decimal, decimal.Decimal]]:
-            return [(decimal.Decimal(north), decimal.Decimal(east)) for north, east in pairs]
+        def places(*pairs: tuple[str, str]) -> list[Point]:
+            return [(Fraction(north), Fraction(east)) for north, east in pairs]
 
         # An L: the square from 0 to 2 without its quarter to the north and the east.
         shape = Polygon("z", places(("0", "0"), ("0", "2"), ("1", "2"), ("1", "1"), ("2", "1"), ("2", "0")))

@@ -7,7 +7,7 @@ from collections.abc import Iterable
 from fractions import Fraction
 
 from .borders import Borders
-from .findings import Finding, Hints, Refused, refuse, shown
+from .findings import Finding, Hints, Refused, collected, refuse, shown
 from .forms import NAME
 from .polygons import read_polygons
 from .records import Record, read_table
@@ -173,10 +173,8 @@ def read_tables(folder: str) -> Tables:
     for table in COLUMNS:
         file = str(pathlib.Path(folder, f"{table}.csv"))
         before = len(findings)
-        try:
+        with collected(findings):
             tables.rows[table] = read_named(file, table, findings, taken)
-        except Refused as refused:
-            findings += refused.findings
         faults = findings[before:]
         broken = broken or any(fault.column is None for fault in faults)
         if not tables.rows[table] and not faults and table in (ZONES, SUBSTATIONS, BUSES):
@@ -184,10 +182,8 @@ def read_tables(folder: str) -> Tables:
     polygons = pathlib.Path(folder, POLYGONS)
     if polygons.exists():
         before = len(findings)
-        try:
+        with collected(findings):
             tables.borders = Borders(read_polygons(str(polygons), set(tables.rows[ZONES]), findings))
-        except Refused as refused:
-            findings += refused.findings
         broken = broken or len(findings) > before
     if broken:
         raise Refused(findings)

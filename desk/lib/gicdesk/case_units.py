@@ -12,7 +12,7 @@ from .usual import NEUTRALS, REACTORS, WINDINGS, short, unusual, usual_at
 from .vectors import GROUPS, OF_REACTORS, is_earthed_below, kinds_of, letters_of
 
 # What of its windings carries direct current, and so how many buses a unit of a kind has.
-KINDS = {
+KINDS: dict[str, list[str]] = {
     "delta-wye": ["high"],
     "wye-wye": ["high", "low"],
     "auto": ["series", "common"],

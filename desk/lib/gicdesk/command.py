@@ -14,8 +14,8 @@ from .findings import Refused, refuse, visible
 from .inputs import Copies, copied
 from .outputs import Set, files_set, folder_set, study_set
 from .program import BUILT, Program, find_program
-from .stops import Stopped, taken
-from .study import FILES, OPTIONS, Request, make_study, sum_text
+from .stops import Stopped, signals_taken
+from .study import FILES, OPTIONS, Request, make_study, study_text
 from .study_files import files_of, page_of
 from .tell import tell
 
@@ -119,7 +119,7 @@ def run_study(options: argparse.Namespace) -> None:
     ):
         made = make_study(Request(program, copies, options.case, **given))
         out.publish(files_of(made, options.comma))
-    show(sum_text(made, page_of(options.out)))
+    show(study_text(made, page_of(options.out)))
 
 
 def add_study(commands: Any) -> None:
@@ -227,7 +227,7 @@ def command_words() -> argparse.ArgumentParser:
 def main(arguments: Sequence[str]) -> int:
     """Runs the command of the words; what it refuses is told on the error stream, a line for each finding."""
     try:
-        with taken():
+        with signals_taken():
             return run(arguments)
     except (Stopped, KeyboardInterrupt) as stopped:
         tell("stopped")

@@ -8,11 +8,11 @@ from collections.abc import Sequence
 from .beyond import reactor_row
 from .cases import Case, Field, Names, Row, short_enough, span_fields
 from .decimals import MILLI, shifted
-from .findings import Finding, Refused
+from .findings import Finding, Refused, collected
 from .places import MOST_KM, SHORT_M, SPAN_FROM_MAP_M, span_metres
 from .polygons import zone_of
-from .psse_gic import Gic, Key, LineData, Reactor, Substation, read_gic
-from .psse_raw import Branch, Raw, Switch, Transformer, read_raw
+from .psse_gic import Gic, LineData, Reactor, Substation, read_gic
+from .psse_raw import Branch, Key, Raw, Switch, Transformer, read_raw
 from .psse_units import Beyond, Unit, micro_ohm, neutral_field, volts, windings_of
 from .records import Record
 from .tables import Table
@@ -334,15 +334,20 @@ class Making:
         for number, row in self.zones.of_substations.items():
             if number not in self.gic.substations:
                 self.tell(row, f"there is no substation {number} in {self.gic.file}: this row is of none")
-        for what, data, keys in (("branch", self.gic.lines, branches), ("transformer", self.gic.windings, units)):
-            for key, datum in data.items():
-                if key not in keys:
-                    self.tell(datum.record, f"there is no {what} of these buses and this circuit in {self.raw.file}")
+        for key, data in self.gic.lines.items():
+            if key not in branches:
+                self.tell_of_none(data.record, "branch")
+        for key, windings in self.gic.windings.items():
+            if key not in units:
+                self.tell_of_none(windings.record, "transformer")
         grounded = {(reactor.bus, reactor.circuit) for reactor in self.gic.reactors}
         for name, shunt in self.raw.shunts.items():
             if shunt.reactor and shunt.in_service and name not in grounded:
                 what = f"the reactor {title((shunt.bus,), shunt.circuit)}"
                 self.tell(shunt.record, f"{what} has no record in {self.gic.file}: it is taken as not grounded")
+
+    def tell_of_none(self, at: Record, what: str) -> None:
+        self.tell(at, f"there is no {what} of these buses and this circuit in {self.raw.file}")
 
     def bus(self, number: int) -> str:
         """The name of the bus that this one is, which is in the case from here on."""
@@ -389,18 +394,14 @@ def make_case(raw_file: str, gic_file: str, zone_files: ZoneFiles, choices: Choi
     """The case of the two files and the tables of zones; all that is wrong with any of them is told at once."""
     findings: list[Finding] = []
     notes: list[Finding] = []
-    read: list[Raw | Gic | Zones] = []
-    for reader in (
-        lambda: read_raw(raw_file, findings, notes),
-        lambda: read_gic(gic_file, findings, notes),
-        lambda: read_all(zone_files, findings),
-    ):
-        try:
-            read.append(reader())
-        except Refused as refused:
-            findings += refused.findings
-    raw, gic, zones = read if len(read) == 3 else (None, None, None)
-    if findings or not (isinstance(raw, Raw) and isinstance(gic, Gic) and isinstance(zones, Zones)):
+    raw = gic = zones = None
+    with collected(findings):
+        raw = read_raw(raw_file, findings, notes)
+    with collected(findings):
+        gic = read_gic(gic_file, findings, notes)
+    with collected(findings):
+        zones = read_all(zone_files, findings)
+    if findings or raw is None or gic is None or zones is None:
         raise Refused(findings)
     making = Making(raw, gic, zones, choices, notes)
     making.make()

@@ -111,7 +111,7 @@ def read_windings(at: Record) -> tuple[Key, Windings]:
     return (frozenset(sides), circuit_of(at)), Windings(sides, at.text("VECGRP"), at)
 
 
-def read_line(at: Record) -> tuple[Key, LineData]:
+def read_line_data(at: Record) -> tuple[Key, LineData]:
     ends = (at.bus("I"), at.bus("J"))
     for column in ("INDVP", "INDVQ"):
         if at.number(column, "0") != 0:
@@ -145,8 +145,8 @@ def read_gic(file: str, findings: list[Finding], notes: list[Finding]) -> Gic:
         for at in records("FIXED SHUNT")
     ]
     windings = [read_windings(at) for at in records("TRANSFORMER")]
-    lines_data = [read_line(at) for at in records("BRANCH")]
-    for found in (windings, lines_data):
-        look_for_twins([(key, datum.record) for key, datum in found])
+    lines_data = [read_line_data(at) for at in records("BRANCH")]
+    look_for_twins([(key, datum.record) for key, datum in windings])
+    look_for_twins([(key, datum.record) for key, datum in lines_data])
     look_for_twins([((frozenset([reactor.bus]), reactor.circuit), reactor.record) for reactor in reactors])
     return Gic(file, substations, substation_of, dict(windings), reactors, dict(lines_data))

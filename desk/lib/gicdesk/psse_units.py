@@ -197,7 +197,8 @@ class Unit:
             return [self.listed()]
         if len(grounded) == 1:
             return [self.delta_wye(grounded[0])]
-        return [self.wye_wye(*grounded[:2], grounded[2:])]
+        high, low, *others = grounded
+        return [self.wye_wye(high, low, others)]
 
     def unblocked(self, windings: Sequence[Winding]) -> list[Winding]:
         """The windings whose neutral is grounded; the others are told."""

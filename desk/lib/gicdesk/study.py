@@ -1,6 +1,5 @@
 """The whole study of a case: each report of the program, kept as it came, and what the page is made of."""
 
-import contextlib
 import dataclasses
 import datetime
 import math
@@ -11,7 +10,7 @@ from . import outages
 from .counts import plural
 from .events import BaseSwitchings, Event, Items, read_events
 from .factors import Factor, read_factors, size, total
-from .findings import Finding, Refused, refuse, visible
+from .findings import Finding, Refused, collected, refuse, visible
 from .forms import Interval
 from .inputs import Copies, Input
 from .network import Network, Place, laid_out, network_of, read_places
@@ -322,15 +321,6 @@ def read_tables(request: Request, network: Network | None, items: Items) -> Tabl
     return Tables(events, factors, places)
 
 
-@contextlib.contextmanager
-def collected(findings: list[Finding]) -> Iterator[None]:
-    """Adds what is refused within to the findings."""
-    try:
-        yield
-    except Refused as refused:
-        findings += refused.findings
-
-
 def worst_outages(runner: outages.Runner, outage: Outage, progress: Progress) -> dict[str, Worst]:
     """The worst outage of a single item for each transformer that has a current in one."""
     found: dict[str, list[tuple[str, ScreenUnit]]] = {}
@@ -467,7 +457,7 @@ def expect_runs(runs: Runs, basis: Basis, tables: Tables) -> int:
     return expected
 
 
-def run_outages(
+def outages_and_worst(
     runs: Runs, basis: Basis, base: BaseSwitchings, events: list[Event], outage: Outage
 ) -> tuple[Outages | None, dict[str, Worst]]:
     """The events of the list, and the worst single outage of each transformer."""
@@ -504,7 +494,7 @@ def make_study(request: Request) -> Study:
         outage = runs.report(Outage, "outage", "outage", *request.screen_words)
         look_for_one_case((screen, supplemental, outage, None if storm is None else storm.report))
         losses = run_losses(runs, tables.factors, screen, request.screen_words)
-        events, worst = run_outages(runs, basis, base, tables.events, outage)
+        events, worst = outages_and_worst(runs, basis, base, tables.events, outage)
         units = facts_of(screen, supplemental, outage, worst, events, storm)
         progress.total -= expected
         run_series(runs, storm, [unit.name for unit in units if wants_series(unit) or unit.name in tables.factors])
@@ -545,7 +535,7 @@ def shown_current(value: Interval) -> int:
     return value.high if size(value) == value.high else value.low
 
 
-def sum_text(study: Study, page: str) -> str:
+def study_text(study: Study, page: str) -> str:
     """What is shown of a study: the questions, which units must be assessed, and where the page is."""
     questions = study.review.questions
     lines = [f"question: {question_text(question)}" for question in questions[:SHOWN]]

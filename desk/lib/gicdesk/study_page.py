@@ -284,7 +284,7 @@ def left_section(study: Study) -> Markup:
     return section("left", tag("ul", *[tag("li", words) for words in items]))
 
 
-def events_table(study: Study) -> Sequence[Markup]:
+def events_of_list(study: Study) -> Sequence[Markup]:
     if study.events is None:
         return []
     rows = [
@@ -313,7 +313,7 @@ def made_section(study: Study) -> Markup:
         tag("p", KEPT_NOTE),
         table(heads, rows, ("name", "wrap", "n", "sum")),
         tag("p", more),
-        *events_table(study),
+        *events_of_list(study),
         tag("p", proved_text(study)),
     )
 
