@@ -43,7 +43,7 @@ class CaseTest(DeskTest):
         tables.mkdir(exist_ok=True)
         for name, text in self.texts.items():
             (tables / f"{name}.csv").write_bytes(text.encode())
-        return ["case", tables, f"--out={self.out}", *words]
+        return ["case", tables, f"--out={self.out}", "--alpha=table", *words]
 
     def made(self, *words: object) -> Made:
         """The lists of the case that is made, each row by its name; what is told is kept without the folder."""
@@ -63,7 +63,7 @@ class CaseTest(DeskTest):
 class Region(DeskTest):
     def test_the_region_byte_for_byte_without_a_finding(self) -> None:
         out = self.folder / "region.toml"
-        self.assertEqual(self.done("case", EXAMPLES / "tables", f"--out={out}"), f"{out} is made\n")
+        self.assertEqual(self.done("case", EXAMPLES / "tables", "--alpha=table", f"--out={out}"), f"{out} is made\n")
         self.assertEqual(out.read_bytes(), (EXAMPLES / "region.toml").read_bytes())
 
     def test_tables_as_a_spreadsheet_of_decimal_commas_writes_them(self) -> None:
@@ -81,7 +81,7 @@ class Region(DeskTest):
             text = "\r\n".join([*rows, ";" * width, ";" * width, ""])
             path.write_bytes(b"\xef\xbb\xbf" + text.encode())
         (tables / "buses.csv").write_bytes((EXAMPLES / "tables" / "buses.csv").read_bytes().replace(b",", b";"))
-        self.done("case", tables, f"--out={out}")
+        self.done("case", tables, "--alpha=table", f"--out={out}")
         here, there = tomllib.loads(out.read_text()), tomllib.loads((EXAMPLES / "region.toml").read_text())
         self.assertEqual(here, there)
 
@@ -278,7 +278,10 @@ class Zones(CaseTest):
 
     def test_a_line_across_a_border_is_in_parts_and_told(self) -> None:
         made = self.made()
-        self.assertEqual(self.told, [self.TOLD])
+        # The line `low` has the zone coast in its cell, and goes the same way.
+        crosses = "by the polygons the line crosses borders: upland to 44.5 km, coast to 111.2 km; all of it is in coast here"
+        told = f"lines.csv line 5, zone: it is coast, and {crosses}: leave the cell empty for parts"
+        self.assertEqual(self.told, [self.TOLD, told])
         line = made["line"]["N-S"]
         self.assertEqual((line["from"], line["to"], line["resistance"]), ("N345", "S345", 3250000))
         self.assertEqual(

@@ -514,7 +514,7 @@ PSSE = (
     ),
     Mistake(
         "a beta in hundredths", "zones", "60,0.81", "60,81",
-        "zones.csv line 2, beta: it is 81, and not 0.01 to 1.5 as a factor",
+        "zones.csv line 2, beta: it is 81, and not 0.01 to 1.5 as a factor; is it in hundredths?",
     ),
 )
 # The first two lines of the sample screen are those of its head, and the third is that of HF-G1.
@@ -591,7 +591,7 @@ class Case(DeskTest):
     def run_case(self, texts: dict[str, str]) -> tuple[int, list[str]]:
         for name, text in texts.items():
             self.file(f"{name}.csv", text)
-        status, out, err = desk("case", self.folder, f"--out={self.folder / 'case.toml'}", "--force")
+        status, out, err = desk("case", self.folder, f"--out={self.folder / 'case.toml'}", "--force", "--alpha=table")
         return status, plain(out + err, f"{self.folder}/")
 
     def test_mistakes_in_tables(self) -> None:

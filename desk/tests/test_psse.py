@@ -99,13 +99,14 @@ class PsseTest(DeskTest):
     def words(self, raw: str = RAW, gic: str = GIC, zones: str = ZONES) -> list[object]:
         self.raw, self.gic = self.file("net.raw", raw), self.file("net.gic", gic)
         self.out = self.folder / "case.toml"
-        return ["psse", self.raw, self.gic, f"--zones={self.file('zones.csv', zones)}", f"--out={self.out}"]
+        words = ["psse", self.raw, self.gic, f"--zones={self.file('zones.csv', zones)}", f"--out={self.out}"]
+        return [*words, "--alpha=table"]
 
-    def case(self, words: list[object]) -> dict[str, dict[str, dict[str, object]]]:
-        """The lists of the case that is made, each row by its name."""
+    def case(self, words: list[object], number: int = 2) -> dict[str, dict[str, dict[str, object]]]:
+        """The lists of the case that is made, which has this format at least, each row by its name."""
         self.shown = self.done(*words).splitlines()
         read = tomllib.loads(self.out.read_text())
-        self.assertEqual(read["format"], 3 if "--beyond=model" in words else 2)
+        self.assertEqual(read["format"], 3 if "--beyond=model" in words else number)
         return {name: {row["name"]: row for row in read[name]} for name in LISTS}
 
     def told(self, words: list[object], *expected: str) -> None:
@@ -118,7 +119,7 @@ class PsseTest(DeskTest):
 class Region(DeskTest):
     def pair_case(self, folder: pathlib.Path) -> pathlib.Path:
         out = self.folder / "region.toml"
-        files = [folder / "region.raw", folder / "region.gic", f"--zones={folder / 'zones.csv'}"]
+        files = [folder / "region.raw", folder / "region.gic", f"--zones={folder / 'zones.csv'}", "--alpha=table"]
         self.done("psse", *files, f"--lines={folder / 'lines.csv'}", f"--out={out}", "--force")
         return out
 
@@ -508,7 +509,7 @@ class Refusals(PsseTest):
             ".raw",
             "net.gic line 1: the first line isn't GICFILEVRSN=..; is it another file?",
             'zones.csv line 1: it has no column name, geomagnetic_latitude, and "zone" is none of its columns; allowed '
-            "are name,geomagnetic_latitude,beta, and note",
+            "are name,geomagnetic_latitude,beta, and alpha,note",
         )
         words = "the version is 23; 30 to 36 are read. Save it as one of these"
         self.told(self.words(raw=RAW.replace(" 33,", " 23,")), f"net.raw line 1, REV: {words}")
@@ -520,11 +521,15 @@ class Refusals(PsseTest):
         self.told(
             self.words(zones=f"{heads}a b,60,0.81\nnorth,6000,0.81\nnorth,57.123,1.6\n"),
             'zones.csv line 2, name: "a b" is no name of a case; allowed are 1 to 32 letters, digits and _ - .',
-            "zones.csv line 3, geomagnetic_latitude: it is 6000, and not 0 to 90 degrees",
+            "zones.csv line 3, geomagnetic_latitude: it is 6000, and not 0 to 90 degrees; is it in hundredths, or a southern "
+            "one with its sign?",
             "zones.csv line 4, name: north stands in the table already; leave one of the two",
-            "zones.csv line 4, geomagnetic_latitude: it is 57.123, which has more digits than a case tells: times 100 "
-            "it is whole",
-            "zones.csv line 4, beta: it is 1.6, and not 0.01 to 1.5 as a factor",
+            "zones.csv line 4, beta: it is 1.6, and not 0.01 to 1.5 as a factor; is it in hundredths?",
+        )
+        self.told(
+            self.words(zones=f"{heads}north,57.123,0.81\n"),
+            "zones.csv line 2, geomagnetic_latitude: it is 57.123, and a case has two decimals of it; round it the way that "
+            "you mean, or choose --alpha=formula or a number",
         )
         two = f"{heads}north,60,0.81\nsouth,50,0.81\n"
         words = [*self.words(zones=two), "--beyond=leave"]
@@ -538,8 +543,10 @@ class Refusals(PsseTest):
         stations = self.file("stations.csv", "substation,zone\n1,north\n2,south\n3,north\n22,south\n")
         self.told(
             [*words, f"--substations={stations}"],
-            "net.raw line 18: its ends are in north and in south; write its zone into the table of --lines",
-            "net.raw line 21: its ends are in south and in north; write its zone into the table of --lines",
+            "net.raw line 18: its ends are in north and in south; give --polygons, which cut it at the border, or write its zone into the table "
+            "of --lines",
+            "net.raw line 21: its ends are in south and in north; give --polygons, which cut it at the border, or write its zone into the table "
+            "of --lines",
         )
         heads = "bus_i,bus_j,circuit,zone,north_km,east_km\n"
         lines = self.file("lines.csv", f"{heads}4,1,1,north,,\n5,7,1,south,110.5,72\n")
@@ -581,6 +588,46 @@ class Refusals(PsseTest):
             "net.gic line 2: it lies at 50.0, -100.0, in north and in south; let these polygons not overlap",
             "net.gic line 3: it lies at 49.0, -100.0, in no polygon; widen one, or look at its coordinates",
             "net.gic line 4: it lies at 50.0, -99.0, in north and in south; let these polygons not overlap",
+        )
+
+    NORTH = "north,49.5,-101\nnorth,51,-101\nnorth,51,-98\nnorth,49.5,-98\n"
+    SOUTH = "south,48,-101\nsouth,49.5,-101\nsouth,49.5,-98\nsouth,48,-98\n"
+    TWO = "name,geomagnetic_latitude,beta\nnorth,60,0.81\nsouth,50,0.81\n"
+
+    def border_words(self, lines: str = "") -> list[object]:
+        """The words with the parallel of 49.5 degrees as a border: half of the line from 1 to 4 lies on either side."""
+        polygons = self.file("polygons.csv", "zone,latitude,longitude\n" + self.NORTH + self.SOUTH)
+        table = self.file("lines.csv", "bus_i,bus_j,circuit,zone,north_km,east_km\n" + lines)
+        return [*self.words(zones=self.TWO), "--beyond=leave", f"--polygons={polygons}", f"--lines={table}"]
+
+    def test_a_line_over_a_border_is_in_parts_and_told(self) -> None:
+        case = self.case(self.border_words(), 3)
+        # 111221 m to the south, of which half lies on either side.
+        self.assertEqual(
+            case["line"]["L1-4-1"],
+            {"name": "L1-4-1", "from": "1_NORTH_345", "to": "4_SOUTH_A", "resistance": 3250000}
+            | {"part": [{"zone": "north", "north": -55610, "east": 0}, {"zone": "south", "north": -55611, "east": 0}]},
+        )
+        # A series capacitor has the zone where it begins, as in `case`.
+        self.assertEqual([case["line"][name]["zone"] for name in ("L1-7-1", "L5-7-1")], ["north", "south"])
+        words = "the branch 1-4 '1' crosses borders: north to 55.6 km, south to 111.2 km; it has 2 parts"
+        self.assertIn(f"net.raw line 18: {words}", [line.replace(f"{self.folder}/", "") for line in self.shown])
+
+    def test_a_line_over_a_border_that_is_written_in_one_zone_is_told(self) -> None:
+        case = self.case(self.border_words("4,1,1,south,,\n1,7,1,south,,\n"))
+        self.assertEqual([case["line"][name]["zone"] for name in ("L1-4-1", "L1-7-1")], ["south", "south"])
+        told = [line.replace(f"{self.folder}/", "") for line in self.shown]
+        words = "it is south, and by the polygons the line lies in"
+        several = "several: north to 55.6 km, south to 111.2 km"
+        self.assertIn(f"lines.csv line 2, zone: {words} {several}; leave the cell empty for parts", told)
+        self.assertIn(f"lines.csv line 3, zone: {words} north; leave the cell empty", told)
+
+    def test_a_line_over_a_gap_between_polygons(self) -> None:
+        words = self.border_words()
+        self.file("polygons.csv", "zone,latitude,longitude\n" + self.NORTH + self.SOUTH.replace("49.5", "49.4"))
+        fault = "a part of the line lies in no polygon"
+        self.told(
+            words, f"net.raw line 18: {fault}; mend the polygons, or write its zone into the table of --lines"
         )
 
     def test_a_span_whose_sign_is_turned_and_a_line_that_is_none(self) -> None:

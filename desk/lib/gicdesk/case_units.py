@@ -4,9 +4,10 @@ import dataclasses
 from collections.abc import Sequence
 
 from .beyond import REACTOR, THREE_SIDED, reactor_row, with_third
-from .case_tables import BUSES, KILOVOLT, OHM, Number, Questions, Tables, bare, number_in, whole
+from .case_tables import BUSES, Questions, Tables
 from .cases import Field, Row
 from .findings import shown
+from .quantities import KILOVOLT, OHM, Number, bare, number_in, whole
 from .records import Record
 from .usual import NEUTRALS, REACTORS, WINDINGS, short, unusual, usual_at
 from .vectors import GROUPS, OF_REACTORS, is_earthed_below, kinds_of, letters_of

@@ -18,6 +18,7 @@ from .stops import Stopped, signals_taken
 from .study import FILES, OPTIONS, Request, make_study, study_text
 from .study_files import files_of, page_of
 from .tell import tell
+from .zone_scales import FORMULA, WAYS
 
 DONE, REFUSED, USAGE, INTERRUPTED = 0, 1, 2, 130
 
@@ -143,7 +144,7 @@ def run_psse(options: argparse.Namespace) -> None:
     tables = zones.ZoneFiles(options.zones, options.substations, options.polygons, options.lines)
     read = [options.raw, options.gic, *(name for name in dataclasses.astuple(tables) if name is not None)]
     with files_set([options.out, names], options.force, read) as out:
-        made = psse.make_case(options.raw, options.gic, tables, psse.Choices(options.beyond, options.vector))
+        made = psse.make_case(options.raw, options.gic, tables, psse.Choices(options.beyond, options.vector, options.alpha))
         out.publish({file_name(options.out): made.case, file_name(names): made.names})
     told = "".join(f"{note}\n" for note in made.notes)
     show(told + visible(f"{options.out} is made, and {names} says what its names stand for") + "\n")
@@ -160,7 +161,7 @@ def add_case(commands: Any) -> None:
     words = commands.add_parser("case", help="a case from tables of ohm, kilovolts, kilometres and degrees")
     words.add_argument("tables", metavar="TABLES", help="a folder with zones, substations, buses, lines, transformers")
     words.add_argument(
-        "--alpha", metavar="WAY", default=case.TABLE, help="table, formula or a number: alpha of the zones; it is table"
+        "--alpha", metavar="WAY", default=FORMULA, help=WAYS
     )
     words.add_argument(
         "--accept",
@@ -214,6 +215,7 @@ def command_words() -> argparse.ArgumentParser:
     four.add_argument("--polygons", metavar="FILE", help="a table zone,latitude,longitude of corners, in its place")
     four.add_argument("--lines", metavar="FILE", help="a table bus_i,bus_j,circuit,zone,north_km,east_km")
     told = "whether third windings and reactors are left out or written"
+    four.add_argument("--alpha", metavar="WAY", default=FORMULA, help=WAYS)
     four.add_argument("--beyond", choices=psse_units.CHOICES, help=told)
     four.add_argument("--vector", choices=("volts", "buses"), help="in which order the letters of vector groups stand")
     four.add_argument("--out", metavar="CASE", required=True, help="a new file for the case, with its names beside")

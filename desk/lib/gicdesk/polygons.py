@@ -5,6 +5,7 @@ the last corner joins the first. None may lie across the meridian of 180 degrees
 """
 
 import dataclasses
+from collections.abc import Sequence
 
 from .counts import plural
 from .findings import Finding
@@ -77,7 +78,7 @@ def corner(at: Record) -> Point:
     return point(place)
 
 
-def zone_of(at: Record, place: Place, polygons: list[Polygon]) -> str:
+def zone_of(at: Record, place: Place, polygons: Sequence[Polygon]) -> str:
     """The zone that a place lies in; on a border the first one. One in none or in two is a finding."""
     here = point(place)
     inside = [polygon.zone for polygon in polygons if polygon.inside(here)]

@@ -6,9 +6,11 @@ import math
 from collections.abc import Sequence
 
 from .beyond import reactor_row
-from .cases import Case, Field, Names, Row, short_enough, span_fields
+from .borders import Stretch
+from .cases import Case, Field, Names, Row, short_enough
 from .decimals import MILLI, shifted
 from .findings import Finding, Refused, collected
+from .parts import Piece, Span, crossed_zones, fields_of, pieces_of, pieces_text, too_long, way_fault
 from .places import MOST_KM, SHORT_M, SPAN_FROM_MAP_M, span_metres
 from .polygons import zone_of
 from .psse_gic import Gic, LineData, Reactor, Substation, read_gic
@@ -17,6 +19,7 @@ from .psse_units import Beyond, Unit, micro_ohm, neutral_field, volts, windings_
 from .records import Record
 from .tables import Table
 from .usual import GROUNDS, REACTORS, unusual, unusual_line, usual_at
+from .zone_scales import FORMULA, read_alpha
 from .zones import Override, ZoneFiles, Zones, read_all
 
 BLOCKED_MICRO_OHM = 1000000  # of a series capacitor without a resistance: it carries nothing
@@ -29,6 +32,7 @@ class Choices:
 
     beyond: str | None
     vector: str | None
+    alpha: str = FORMULA
 
 
 @dataclasses.dataclass
@@ -63,14 +67,17 @@ class Making:
     def tell(self, at: Record, words: str) -> None:
         self.notes.append(Finding(at.file, words, at.line))
 
+    def tell_at(self, at: Record, column: str, words: str) -> None:
+        self.notes.append(Finding(at.file, words, at.line, column))
+
     def add(self, list_name: str, row: Row, theirs: str, numbers: Sequence[int], circuit: str = "") -> None:
         self.case.lists[list_name].append(row)
         self.theirs.append((list_name, row.name, theirs, " ".join(map(str, numbers)), circuit))
 
     def make(self) -> None:
-        for row in self.zones.rows:
-            self.names.taken.add(row.name)
-            self.case.lists["zone"].append(row)
+        for zone in self.zones.zones:
+            self.names.taken.add(zone.row.name)
+            self.case.lists["zone"].append(zone.row)
         for substation in self.gic.substations.values():
             self.substation(substation)
         for switch in self.raw.switches:
@@ -108,7 +115,7 @@ class Making:
 
     def tell_unusual(self, at: Record, column: str, found: tuple[str, str] | None) -> None:
         if found is not None:
-            self.notes.append(Finding(at.file, "".join(found), at.line, column))
+            self.tell_at(at, column, "".join(found))
 
     def known(self, at: Record, buses: Sequence[int]) -> bool:
         """Whether each bus stands in both files; what is missing is told once."""
@@ -185,14 +192,19 @@ class Making:
         if branch.reactance >= 0 and abs(north) + abs(east) < SHORT_M:
             self.tell(branch.record, f"{name} has a span of less than {SHORT_M} m: look at the coordinates of its ends")
         fields = [Field("from", self.bus(branch.ends[0])), Field("to", self.bus(branch.ends[1]))]
-        fields.append(Field("zone", self.zone(branch, override)))
-        fields.append(self.line_resistance(branch))
+        pieces = self.pieces(branch, override, (north, east))
+        if not pieces:
+            return name
+        resistance = self.line_resistance(branch)
         if branch.reactance >= 0 and abs(north) + abs(east) >= SHORT_M:
             data = self.line_data(branch)
             at, column = (branch.record, "R") if data is None or data.ohm == 0 else (data.record, "RBRN")
             found = unusual_line(self.ohm(branch), math.hypot(north, east), start.kilovolts)
             self.tell_unusual(at, column, found)
-        fields += span_fields(north, east)
+        fault = too_long(pieces, (north, east), self.zones.factor, MOST_KM)
+        if fault is not None:
+            branch.record.wrong(None, fault)
+        fields += fields_of(pieces, resistance, (north, east), self.zones.factor)
         if branch.reactance < 0:
             fields.append(Field("blocked", True, "a series capacitor passes no direct current"))
             words = f"{name} has a negative X: it is a series capacitor, and blocked"
@@ -239,17 +251,59 @@ class Making:
                 override.record.wrong(column, words)
         return given
 
-    def zone(self, branch: Branch, override: Override | None) -> str:
-        """The zone of a line: that of the table of lines, or that of both its substations, or the only one."""
+    def way(self, branch: Branch) -> list[Stretch]:
+        """The straight way between the ends of a branch, by the polygons; nothing where there are none."""
+        if self.zones.borders is None:
+            return []
+        start, end = (self.gic.substations[self.gic.substation_of[bus]] for bus in branch.ends)
+        return self.zones.borders.stretches((start.latitude, start.longitude), (end.latitude, end.longitude))
+
+    def pieces(self, branch: Branch, override: Override | None, span: Span) -> list[Piece]:
+        """A line as it is in the case: whole in the zone of the table of lines, or in the only one, or in that of both its
+        substations; and in parts, where by the polygons it crosses borders. None where that isn't known, a finding."""
+        way = [] if branch.reactance < 0 else self.way(branch)
         if override is not None and override.zone:
-            return override.zone
-        if len(self.zones.rows) == 1:
-            return self.zones.rows[0].name
+            self.tell_of_borders(override, way, span)
+            return [Piece(override.zone)]
+        if len(self.zones.zones) == 1:
+            return [Piece(self.zones.zones[0].row.name)]
         zones = [self.zone_of_substation(self.gic.substation_of[bus]) for bus in branch.ends]
-        if all(zones) and zones[0] != zones[1]:
-            words = f"its ends are in {zones[0]} and in {zones[1]}; write its zone into the table of --lines"
-            branch.record.wrong(None, words)
-        return zones[0]
+        if not all(zones):
+            return []
+        crosses = len(crossed_zones(way)) > 1 or way_fault(way) is not None
+        if crosses and len(way[0].zones) + len(way[-1].zones) > 2:
+            return []  # (it is a finding at the station that lies in several)
+        if crosses and zones[0] in way[0].zones and zones[1] in way[-1].zones:
+            return self.in_parts(branch, way, span)
+        if zones[0] != zones[1] and (branch.reactance >= 0 or self.zones.borders is None):
+            words = f"its ends are in {zones[0]} and in {zones[1]}; give --polygons, which cut it at the border"
+            branch.record.wrong(None, f"{words}, or write its zone into the table of --lines")
+            return []
+        if crosses:
+            crossed = " and ".join(sorted(crossed_zones(way)))
+            words = f"it is in {zones[0]} by the table of --substations, and by the polygons in {crossed}"
+            self.tell(branch.record, f"{words}; look at both")
+        return [Piece(zones[0])]
+
+    def tell_of_borders(self, override: Override, way: Sequence[Stretch], span: Span) -> None:
+        """Tells of a line that the table of lines has in one zone, and that by the polygons lies in others too."""
+        zone, crossed = override.zone, crossed_zones(way)
+        words = f"it is {zone}, and by the polygons the line lies in"
+        if crossed and zone not in crossed:
+            self.tell_at(override.record, "zone", f"{words} {' and '.join(sorted(crossed))}; leave the cell empty")
+        elif len(crossed) > 1:
+            parts = pieces_text(pieces_of([stretch for stretch in way if stretch.zones]), span)
+            self.tell_at(override.record, "zone", f"{words} several: {parts}; leave the cell empty for parts")
+
+    def in_parts(self, branch: Branch, way: Sequence[Stretch], span: Span) -> list[Piece]:
+        fault = way_fault(way)
+        if fault is not None:
+            branch.record.wrong(None, f"{fault}; mend the polygons, or write its zone into the table of --lines")
+            return []
+        pieces = pieces_of(way)
+        words = f"the branch {title(branch.ends, branch.circuit)} crosses borders: {pieces_text(pieces, span)}"
+        self.tell(branch.record, f"{words}; it has {len(pieces)} parts")
+        return pieces
 
     def zone_of_substation(self, number: int) -> str:
         """The zone of a substation: that of the table, or that of the polygons; empty where it has none, told once."""
@@ -257,8 +311,9 @@ class Making:
             substation = self.gic.substations[number]
             row = self.zones.of_substations.get(number)
             zone = "" if row is None else row.text("zone")
-            if row is None and self.zones.polygons:
-                zone = zone_of(substation.record, (substation.latitude, substation.longitude), self.zones.polygons)
+            if row is None and self.zones.borders is not None:
+                place = (substation.latitude, substation.longitude)
+                zone = zone_of(substation.record, place, self.zones.borders.polygons)
             elif row is None:
                 words = f"the substation {number} has no zone; write it into the table of --substations"
                 substation.record.wrong(None, f"{words}, or give --polygons")
@@ -392,6 +447,7 @@ class Made:
 
 def make_case(raw_file: str, gic_file: str, zone_files: ZoneFiles, choices: Choices) -> Made:
     """The case of the two files and the tables of zones; all that is wrong with any of them is told at once."""
+    read_alpha(choices.alpha)
     findings: list[Finding] = []
     notes: list[Finding] = []
     raw = gic = zones = None
@@ -400,7 +456,7 @@ def make_case(raw_file: str, gic_file: str, zone_files: ZoneFiles, choices: Choi
     with collected(findings):
         gic = read_gic(gic_file, findings, notes)
     with collected(findings):
-        zones = read_all(zone_files, findings)
+        zones = read_all(zone_files, choices.alpha, findings, notes)
     if findings or raw is None or gic is None or zones is None:
         raise Refused(findings)
     making = Making(raw, gic, zones, choices, notes)
