@@ -43,7 +43,7 @@ second title
 0 / END OF GENERATOR DATA, BEGIN BRANCH DATA
 1,4,'1 ',0.0025,0.03,0.1,0,0,0,0,0,0,0,1,1,0
 1,-7,'1 ',0.0025,0.03,0.1,0,0,0,0,0,0,0,1,1,0
-4,5,'1 ',0.0001,0.001,0.0,0,0,0,0,0,0,0,1,1,0
+4,5,'1 ',0.00008,0.001,0.0,0,0,0,0,0,0,0,1,1,0
 5,7,'1 ',0.0,-0.02,0.0,0,0,0,0,0,0,0,1,1,0
 5,7,'2 ',0.0025,0.03,0.0,0,0,0,0,0,0,0,0,1,0
 1,8,'1 ',0.0025,0.03,0.0,0,0,0,0,0,0,0,1,1,0
@@ -231,8 +231,8 @@ class Small(PsseTest):
             [
                 "net.gic line 4: EAST_STATION: RG is empty, which is taken as no ground; see whether the file means that, or "
                 "else write its ohm",
-                # 0.0001 per unit on 100 MVA at 345 kV are 0.119025 ohm.
-                "net.raw line 20: the branch 4-5 '1' of 0.119025 ohm ties two buses of one substation: they are one "
+                # 0.00008 per unit on 100 MVA at 345 kV are 0.09522 ohm.
+                "net.raw line 20: the branch 4-5 '1' of 0.095220 ohm ties two buses of one substation: they are one "
                 "bus, 4",
                 "net.raw line 22: the branch 5-7 '2' is out of service: it is left out",
                 "net.raw line 23: the branch 1-8 '1' is out of service: it is left out",
@@ -649,6 +649,70 @@ class Refusals(PsseTest):
         for out in (".", "/"):
             (line,) = self.refused(*words[:-2], f"--out={out}", "--beyond=leave")
             self.assertEqual(line, f"{out}: it is there already, and no plain file; choose another name")
+
+
+class Sections(PsseTest):
+    """The line from 1 to 4 in three sections, with the buses 11 and 12 between them, and branches within a station."""
+
+    RAW = (
+        RAW.replace("8,'APART    ',345.0,4\n", "8,'APART    ',345.0,4\n11,'DUM A',345.0,1\n12,'DUM B',345.0,1\n")
+        .replace(
+            "1,4,'1 ',0.0025,0.03,0.1,0,0,0,0,0,0,0,1,1,0\n",
+            "1,11,'1 ',0.0010,0.01,0.1,0,0,0,0,0,0,0,1,1,0\n11,12,'1 ',0.0020,0.01,0.1,0,0,0,0,0,0,0,1,1,0\n"
+            "4,-12,'1 ',0.0004,0.01,0.1,0,0,0,0,0,0,0,1,1,0\n",
+        )
+        .replace("AREA DATA\n", "AREA DATA\n0 / END OF AREA DATA, BEGIN MULTI-SECTION LINE DATA\n1,-4,'&1',2,11,12\n")
+    )
+    GIC = GIC.replace("1,4,'1 ',3.25,", "11,12,'1 ',1.5,")
+
+    def test_a_line_of_three_sections_is_one_line(self) -> None:
+        case = self.case([*self.words(self.RAW, self.GIC), "--beyond=leave"])
+        # 1.5 ohm by the .gic, and 0.0014 per unit on 100 MVA at 345 kV, which are 1.66635 ohm.
+        expected = {"name": "M1-4-1", "from": "1_NORTH_345", "to": "4_SOUTH_A", "zone": "all", "resistance": 3166350}
+        self.assertEqual(case["line"]["M1-4-1"], expected | {"north": -111221, "east": 0})
+        self.assertEqual(sorted(case["line"]), ["L1-7-1", "L5-7-1", "M1-4-1"])
+        told = "the line 1-4 '&1' has 3 sections: it is one line, and the buses 11, 12 between them are left out"
+        self.assertIn(f"net.raw line 44: {told}", [line.replace(f"{self.folder}/", "") for line in self.shown])
+        lines = self.file("lines.csv", "bus_i,bus_j,circuit,zone,north_km,east_km\n4,1,&1,,110.5,0.3\n")
+        case = self.case([*self.words(self.RAW, self.GIC), "--beyond=leave", f"--lines={lines}", "--force"])
+        self.assertEqual([case["line"]["M1-4-1"][way] for way in ("north", "east")], [-110500, -300])
+
+    def test_sections_at_stations_stay_lines(self) -> None:
+        gic = self.GIC.replace("8,3\n", "8,3\n11,3\n12,3\n")
+        case = self.case([*self.words(self.RAW, gic), "--beyond=leave"])
+        self.assertEqual(sorted(case["line"]), ["L1-11-1", "L1-7-1", "L11-12-1", "L4-12-1", "L5-7-1"])
+
+    def test_a_section_with_a_capacitor_blocks_the_line(self) -> None:
+        raw = self.RAW.replace("11,12,'1 ',0.0020,0.01", "11,12,'1 ',0.0,-0.01")
+        case = self.case([*self.words(raw, GIC.replace("1,4,'1 ',3.25,", "8,7,'1 ',1,")), "--beyond=leave"])
+        self.assertEqual(case["line"]["M1-4-1"]["blocked"], True)
+        words = "M1-4-1 has a section of a negative X, which is a series capacitor: it is blocked"
+        self.assertIn(f"net.raw line 44: {words}", [line.replace(f"{self.folder}/", "") for line in self.shown])
+
+    def test_a_section_that_is_out_or_missing(self) -> None:
+        raw = self.RAW.replace("11,12,'1 ',0.0020,0.01,0.1,0,0,0,0,0,0,0,1", "11,12,'1 ',0.0020,0.01,0.1,0,0,0,0,0,0,0,0")
+        case = self.case([*self.words(raw, self.GIC), "--beyond=leave"])
+        self.assertEqual(sorted(case["line"]), ["L1-7-1", "L5-7-1"])
+        for made in (self.out, self.out.with_suffix(".names.csv")):
+            made.unlink()
+        raw = self.RAW.replace("'&1',2,11,12", "'&1',2,12,11")
+        words = "which follow each other in this line; a section is one branch"
+        self.told(
+            [*self.words(raw, self.GIC), "--beyond=leave"],
+            f"net.raw line 44: there is no branch between the buses 1 and 12, {words}",
+            f"net.raw line 44: there is no branch between the buses 11 and 4, {words}",
+        )
+
+    def test_a_branch_of_a_resistance_within_a_station_is_a_line(self) -> None:
+        # 3.84 ohm on 100 MVA at 345 kV are 0.00322621 per unit.
+        raw = RAW.replace("4,5,'1 ',0.00008", "4,5,'1 ',0.00322621")
+        case = self.case([*self.words(raw), "--beyond=leave"])
+        line = case["line"]["L4-5-1"]
+        self.assertEqual((line["resistance"], line["north"], line["east"]), (3839996, 0, 0))
+        self.assertEqual({"4_SOUTH_A", "5_SOUTH_B"} - set(case["bus"]), set())
+        told = "the branch 4-5 '1' of 3.8399964525 ohm lies within one substation: it is kept as a line, which has no span; "
+        told += "if it leads to another one, mend the substation of a bus in net.gic"
+        self.assertIn(f"net.raw line 20: {told}", [line.replace(f"{self.folder}/", "") for line in self.shown])
 
 
 class Polygons(unittest.TestCase):

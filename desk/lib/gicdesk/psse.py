@@ -15,6 +15,7 @@ from .places import MOST_KM, SHORT_M, SPAN_FROM_MAP_M, span_metres
 from .polygons import zone_of
 from .psse_gic import Gic, LineData, Reactor, Substation, read_gic
 from .psse_raw import Branch, Key, Raw, Switch, Transformer, read_raw
+from .psse_sections import whole_lines
 from .psse_units import Beyond, Unit, micro_ohm, neutral_field, volts, windings_of
 from .records import Record
 from .tables import Table
@@ -22,6 +23,7 @@ from .usual import GROUNDS, REACTORS, unusual, unusual_line, usual_at
 from .zone_scales import FORMULA, read_alpha
 from .zones import Override, ZoneFiles, Zones, read_all
 
+MOST_OF_TIE = decimal.Decimal("0.1")  # ohm of a phase; bus ties and breakers have less
 BLOCKED_MICRO_OHM = 1000000  # of a series capacitor without a resistance: it carries nothing
 NAME_HEADS = ("list", "name", "theirs", "numbers", "circuit")
 
@@ -82,9 +84,14 @@ class Making:
             self.substation(substation)
         for switch in self.raw.switches:
             self.switch(switch)
-        branches = [(branch, self.tie(branch)) for branch in self.raw.branches if self.in_service(branch)]
+        lines = whole_lines(
+            self.raw.groupings, self.raw.branches, self.raw.buses, self.gic.substation_of, self.notes
+        )
+        branches = [(branch, self.tie(branch)) for branch in lines if self.in_service(branch)]
         for branch, is_tie in branches:
-            self.line_reactors(branch, branch_name(branch) if is_tie else self.line(branch))
+            name = branch_name(branch) if is_tie else self.line(branch)
+            for section in branch.sections or (branch,):
+                self.line_reactors(section, name)
         for unit in self.raw.transformers:
             self.transformer(unit)
         for reactor in self.gic.reactors:
@@ -154,11 +161,18 @@ class Making:
         self.groups.join(*ends)
         self.tell(at, f"{what} ties two buses of one substation: they are one bus, {self.groups.of(ends[0])}")
 
+    def is_within(self, branch: Branch) -> bool:
+        """Whether both ends are in one substation."""
+        return len(self.substations(branch.ends)) == 1
+
     def line_data(self, branch: Branch) -> LineData | None:
         return self.gic.lines.get((frozenset(branch.ends), branch.circuit))
 
     def ohm(self, branch: Branch) -> decimal.Decimal:
-        """The resistance of a phase: that of the resistances' file, or else that of the power flow."""
+        """The resistance of a phase: that of the resistances' file, or else that of the power flow; of sections their
+        sum."""
+        if branch.sections:
+            return sum((self.ohm(section) for section in branch.sections), decimal.Decimal(0))
         data = self.line_data(branch)
         if data is not None and data.ohm != 0:
             return data.ohm
@@ -166,18 +180,24 @@ class Making:
         return branch.resistance * kilovolts**2 / self.raw.base_mva
 
     def tie(self, branch: Branch) -> bool:
-        """Whether a branch lies within one substation. It makes one bus of two; a capacitor there is left out."""
-        if len(self.substations(branch.ends)) > 1:
+        """Whether a branch within one substation is a tie, which makes one bus of two, or a capacitor, which is left out;
+        one with more of a resistance than a tie has is a line."""
+        if not self.is_within(branch):
             return False
         what = f"the branch {title(branch.ends, branch.circuit)}"
         if branch.reactance < 0:
             self.tell(branch.record, f"{what} is a series capacitor within a substation: it is left out")
             return True
         kilovolts = [self.raw.buses[bus].kilovolts for bus in branch.ends]
+        ohm = self.ohm(branch)
+        if ohm > MOST_OF_TIE:
+            words = f"{what} of {ohm:f} ohm lies within one substation: it is kept as a line, which has no span"
+            self.tell(branch.record, f"{words}; if it leads to another one, mend the substation of a bus in {self.gic.file}")
+            return False
         if kilovolts[0] != kilovolts[1]:
             words = f"{what} ties a bus of {kilovolts[0]:f} kV to one of {kilovolts[1]:f} kV; look at BASKV of both"
             branch.record.wrong(None, words)
-        self.join(branch.record, f"{what} of {self.ohm(branch):f} ohm", branch.ends)
+        self.join(branch.record, f"{what} of {ohm:f} ohm", branch.ends)
         return True
 
     def line(self, branch: Branch) -> str:
@@ -189,7 +209,7 @@ class Making:
             branch.record.wrong(None, words)
         override = self.zones.of_lines.get((frozenset(branch.ends), branch.circuit))
         north, east = self.span(branch, override)
-        if branch.reactance >= 0 and abs(north) + abs(east) < SHORT_M:
+        if branch.reactance >= 0 and abs(north) + abs(east) < SHORT_M and not self.is_within(branch):
             self.tell(branch.record, f"{name} has a span of less than {SHORT_M} m: look at the coordinates of its ends")
         fields = [Field("from", self.bus(branch.ends[0])), Field("to", self.bus(branch.ends[1]))]
         pieces = self.pieces(branch, override, (north, east))
@@ -207,8 +227,10 @@ class Making:
         fields += fields_of(pieces, resistance, (north, east), self.zones.factor)
         if branch.reactance < 0:
             fields.append(Field("blocked", True, "a series capacitor passes no direct current"))
-            words = f"{name} has a negative X: it is a series capacitor, and blocked"
-            self.tell(branch.record, words)
+            what = "a negative X: it is a series capacitor, and"
+            if branch.sections:
+                what = "a section of a negative X, which is a series capacitor: it is"
+            self.tell(branch.record, f"{name} has {what} blocked")
         self.add("line", Row(name, fields), branch.name, branch.ends, branch.circuit)
         return name
 
@@ -218,6 +240,9 @@ class Making:
         for bus, ohm in ({} if data is None else data.shunts).items():
             if ohm != 0 and data is not None:
                 column = f"RLNSH{'I' if bus == data.record.bus('I') else 'J'}"
+                if bus not in self.gic.substation_of:
+                    data.record.wrong(column, f"the bus {bus} is between two sections, in no substation; give it one")
+                    continue
                 what = f"the reactor of {name} at the bus {bus}"
                 self.say_reactor(data.record, what, bus, f"{name}_{bus}", ohm, column)
 
@@ -226,6 +251,8 @@ class Making:
         data = self.line_data(branch)
         from_data = data is not None and data.ohm != 0
         comment = f"{ohm.normalize():f} ohm per phase" + ("" if from_data else ", from per unit")
+        if branch.sections:
+            comment = f"{ohm.normalize():f} ohm per phase, the sum of {len(branch.sections)} sections"
         if branch.reactance < 0 and ohm * 1000 < 1:
             comment = "no resistance of 0.001 ohm or more was given: it carries nothing while it is blocked"
             return Field("resistance", BLOCKED_MICRO_OHM, comment)
@@ -382,6 +409,7 @@ class Making:
         of substations that is of none is told, since the table may be of a larger network; so is a record of
         resistances that is of nothing, and a reactor without one."""
         branches: set[Key] = {(frozenset(branch.ends), branch.circuit) for branch in self.raw.branches}
+        branches |= {(frozenset(grouping.ends), grouping.circuit) for grouping in self.raw.groupings}
         units: set[Key] = {(frozenset(unit.buses), unit.circuit) for unit in self.raw.transformers}
         for key, override in self.zones.of_lines.items():
             if key not in branches:
@@ -431,7 +459,7 @@ class Making:
 
 def branch_name(branch: Branch) -> str:
     """The name of a branch by its numbers."""
-    return f"L{'-'.join(map(str, branch.ends))}-{branch.circuit}"
+    return f"{'M' if branch.sections else 'L'}{'-'.join(map(str, branch.ends))}-{branch.circuit.lstrip('&')}"
 
 
 def title(buses: Sequence[int], circuit: str) -> str:
