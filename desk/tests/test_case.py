@@ -257,6 +257,23 @@ class Rows(CaseTest):
         words += "; it can't be written: leave one of them out"
         self.assertEqual(self.findings(), [f"transformers.csv line 2, vector_group: {words}"])
 
+    def test_two_wyes_that_join_transmission_voltages(self) -> None:
+        """Of 500 and 230 kV; at 345 and 138 kV, as T2 is, nothing is asked."""
+        self.change("buses", "S345,South,345", "S345,South,500")
+        self.change("buses", "S138,South,138", "S138,South,230")
+        self.change("buses", "N345,North,345", "N345,North,500")
+        self.change("buses", "N138,North,138", "N138,North,230")
+        self.change("buses", "E345,East,345", "E345,East,500")
+        self.change("transformers", "345,138,0.42", "500,230,0.42")
+        self.change("transformers", "345,138,,,0.24", "500,230,,,0.24")
+        self.change("transformers", "S345,,362", "S345,,512")
+        self.change("transformers", "S138,,138", "S138,,230")
+        (line,) = self.findings()
+        words = "transformers.csv line 3, kind: two earthed wyes of 500 and 230 kV: a unit that joins two voltages above 200 kV is"
+        self.assertTrue(line.startswith(words), line)
+        self.assertTrue(line.endswith("or give --accept=vector:T2"), line)
+        self.assertEqual(self.made("--accept=vector:T2")["transformer"]["T2"]["low_volts"], 230000)
+
     def test_a_wye_that_is_earthed_on_the_low_side(self) -> None:
         self.change("transformers", "T3,delta-wye,S345,,362", "T3,delta-wye,S138,,138")
         self.change("transformers", "YNd1", "Dyn1")

@@ -14,7 +14,8 @@ from unittest import mock
 import make_pair
 from shared import BUILT, EXAMPLES, REPORTS, TESTS, DeskTest
 
-from gicdesk import cases
+from gicdesk import cases, factors
+from gicdesk.findings import Finding
 from gicdesk.places import Point
 from gicdesk.polygons import Polygon
 from gicdesk.psse_text import fields_of
@@ -230,7 +231,7 @@ class Small(PsseTest):
             names,
             [
                 "net.gic line 4: EAST_STATION: RG is empty, which is taken as no ground; see whether the file means that, or "
-                "else write its ohm",
+                "else write its ohm, or give --blank-ground",
                 # 0.00008 per unit on 100 MVA at 345 kV are 0.09522 ohm.
                 "net.raw line 20: the branch 4-5 '1' of 0.095220 ohm ties two buses of one substation: they are one "
                 "bus, 4",
@@ -242,6 +243,8 @@ class Small(PsseTest):
                 "net.gic line 18: the reactor 7 '1' is left out",
                 "net.gic line 19: the reactor 7 '2' is out of service: it is left out",
                 "net.raw: 3 of 8 buses have no line and no grounded winding: they are left out",
+                "net.gic: 2 of 2 units have a KFACTOR, or a CORE with a published factor: --factors writes a table of them for "
+                "the losses of study",
                 "case.toml is made, and case.names.csv says what its names stand for",
             ],
         )
@@ -468,10 +471,12 @@ class Refusals(PsseTest):
             f"net.raw line 18: {words} NORTH and SOUTH",
             f"net.raw line 21: {words} SOUTH and EAST STATION",
         )
-        ground = "it is 0 ohm, and not 0.001 to 1000; write ohm, or nothing where it has no ground"
+        half = "it is 0, which means: take it from the power flow; --windings=half takes half of R1-2 for each winding, or "
+        half += "write ohm a phase"
+        ground = "it is 0, which programs take in different ways; write its ohm, or give --ungrounded=0 where it has no ground"
         self.one("-100.0,0.2,''", "-100.0,0,''", f"net.gic line 2, RG: {ground}")
         self.one("3.25,0.0", "3250000,0.0", f"net.gic line 21, RBRN: it is 3250000 ohm, and not 0.001 to 1000; {write}")
-        self.one("'1 ',0.3,0.1", "'1 ',0.0,0.1", f"net.gic line 16, WRI: it is 0.0 ohm, and not 0.001 to 1000; {write}")
+        self.one("'1 ',0.3,0.1", "'1 ',0.0,0.1", f"net.gic line 16, WRI: {half}")
         allowed = "allowed are groups of YN, Y, D, Z and A, as YNd1, YNyn0 and YNa0d1"
         self.one("'YNd1'", "'wye'", f'net.gic line 16, VECGRP: "wye" is no vector group; {allowed}')
         words = "it is 2; allowed are 0, and 1 for a blocking device"
@@ -713,6 +718,169 @@ class Sections(PsseTest):
         told = "the branch 4-5 '1' of 3.8399964525 ohm lies within one substation: it is kept as a line, which has no span; "
         told += "if it leads to another one, mend the substation of a bus in net.gic"
         self.assertIn(f"net.raw line 20: {told}", [line.replace(f"{self.folder}/", "") for line in self.shown])
+
+
+class Meant(PsseTest):
+    """What several programs take in different ways, and what only one of the two files says."""
+
+    def told_of(self, words: list[object]) -> list[str]:
+        self.made = self.case([*words, "--force"])
+        return [line.replace(f"{self.folder}/", "") for line in self.shown]
+
+    def test_grounds_that_are_empty_0_and_99(self) -> None:
+        words = [*self.words(), "--beyond=leave"]
+        told = self.told_of([*words, "--blank-ground=0.5"])
+        self.assertIn("net.gic line 4: EAST_STATION: RG is empty: 0.5 ohm are taken, by --blank-ground", told)
+        self.assertEqual(self.made["substation"]["EAST_STATION"]["ground"], 500000)
+        zero = [*self.words(gic=GIC.replace("-100.0,0.2,''", "-100.0,0,''")), "--beyond=leave"]
+        self.assertEqual(
+            [line.replace(f"{self.folder}/", "") for line in self.refused(*zero, "--force")],
+            [
+                "net.gic line 2, RG: it is 0, which programs take in different ways; write its ohm, or give --ungrounded=0 "
+                "where it has no ground"
+            ],
+        )
+        told = self.told_of([*zero, "--ungrounded=0"])
+        self.assertIn("net.gic line 2: NORTH: RG is 0: it has no ground, by --ungrounded", told)
+        self.assertEqual(self.made["substation"]["NORTH"], {"name": "NORTH"})
+        many = [*self.words(gic=GIC.replace("-100.0,0.2,''", "-100.0,99.0,''")), "--beyond=leave"]
+        way = "RG is 99.0 ohm; to some programs that is no ground: then give --ungrounded=99.0"
+        self.assertIn(f"net.gic line 2: NORTH: {way}", self.told_of(many))
+        self.assertEqual(self.made["substation"]["NORTH"]["ground"], 99000000)
+        self.assertIn("net.gic line 2: NORTH: RG is 99.0: it has no ground, by --ungrounded", self.told_of([*many, "--ungrounded=99"]))
+        self.assertEqual(self.made["substation"]["NORTH"], {"name": "NORTH"})
+
+    def test_words_that_are_no_grounds(self) -> None:
+        words = [*self.words(), "--beyond=leave"]
+        self.told(
+            [*words, "--blank-ground=none", "--ungrounded=x"],
+            "--blank-ground=none: allowed are numbers from 0.001 to 1000, in ohm",
+            "--ungrounded=x: allowed is a number, as 99: an RG that means no ground",
+        )
+
+    def test_windings_of_0_are_refused_or_have_half(self) -> None:
+        # The bank's R1-2 is 0.001 per unit on 100 MVA at 345 kV: 1.19025 ohm, half of it 0.595125. The common winding of an
+        # auto of 345/138 kV, which is n = 2.5, carries n - 1 times the current of the series one: 0.595125 / 2.25 = 0.2645.
+        gic = GIC.replace("'1 ',0.2,0.1,0.05", "'1 ',0,0,0.05").replace("'1 ',0.3,0.1,0.0", "'1 ',0,0,0.0")
+        words = [*self.words(gic=gic), "--beyond=leave"]
+        way = "it is 0, which means: take it from the power flow; --windings=half takes half of R1-2 for each winding, or "
+        way += "write ohm a phase"
+        self.told(
+            words, f"net.gic line 15, WRI: {way}; so also in line 16", f"net.gic line 15, WRJ: {way}"
+        )
+        told = self.told_of([*words, "--windings=half"])
+        self.assertIn(
+            "net.gic line 15, WRI: it is 0: 0.595125 ohm are taken, half of R1-2 of the power flow at 345 kV", told
+        )
+        self.assertIn(
+            "net.gic line 15, WRJ: it is 0: 0.2645 ohm are taken, half of R1-2 of the power flow at 345 kV, over (2.5 - 1)²", told
+        )
+        units = self.made["transformer"]
+        self.assertEqual([units["BANK"][key] for key in ("series_resistance", "common_resistance")], [595125, 264500])
+        self.assertEqual(units["T4-6-1"]["high_resistance"], 595125)
+
+    def test_half_by_the_ways_of_cz(self) -> None:
+        """On the system's base, on the unit's own of 400 MVA, and as 476.1 kW of losses at 400 MVA, which are
+        0.00119025 per unit."""
+        for way, second, micro_ohm in (
+            ("1", "0.001,0.02,400", 595125),
+            ("2", "0.004,0.02,400", 595125),
+            ("3", "476100,0.02,400", 177087),
+        ):
+            raw = RAW.replace("4,6,0,'1 ',1,1,1,0,0,2,'',1,1,1.0\n0.001,0.02,100", f"4,6,0,'1 ',1,{way},1,0,0,2,'',1,1,1.0\n{second}")
+            gic = GIC.replace("'1 ',0.3,0.1,0.0", "'1 ',0,0,0.0")
+            self.told_of([*self.words(raw, gic), "--beyond=leave", "--windings=half"])
+            self.assertEqual(self.made["transformer"]["T4-6-1"]["high_resistance"], micro_ohm, way)
+
+    def test_half_of_nothing_and_of_a_third_winding(self) -> None:
+        raw = RAW.replace("1.0\n0.001,0.02,100\n1.0,0.0,0.0", "1.0\n0.0,0.02,100\n1.0,0.0,0.0", 1)
+        gic = GIC.replace("0.2,0.1,0.05", "0.2,0.1,0.0").replace("'1 ',0.3,0.1,0.0", "'1 ',0,0,0.0")
+        self.told(
+            [*self.words(raw, gic), "--beyond=model", "--windings=half"],
+            "net.gic line 15, WRK: it is 0, which means: take it from the power flow; --windings=half takes half of R1-2 for each "
+            "winding, or write ohm a phase",
+            "net.raw line 31, R1-2: there is no resistance in it of which a winding could have half; write WRI and WRJ in ohm",
+        )
+
+    def test_a_jumper_between_stations(self) -> None:
+        raw = RAW.replace("1,-7,'1 ',0.0025,0.03", "1,-7,'1 ',0.0,0.0001")
+        told = self.told_of([*self.words(raw), "--beyond=leave"])
+        words = "has no resistance, and next to no reactance: it is taken as a jumper, of 0.001 ohm"
+        self.assertIn(f"net.raw line 19: the branch 1-7 '1' {words}", told)
+        self.assertEqual(self.made["line"]["L1-7-1"]["resistance"], 1000)
+        self.assertEqual(self.made["line"]["L1-7-1"]["east"], 71696)
+        for made in (self.out, self.out.with_suffix(".names.csv")):
+            made.unlink()
+        raw = RAW.replace("1,-7,'1 ',0.0025,0.03", "1,-7,'1 ',0.0,0.03")
+        self.told(
+            [*self.words(raw), "--beyond=leave"],
+            "net.raw line 19, R: it is 0.00 ohm, and not 0.001 to 1000; write ohm a phase",
+        )
+
+    def test_two_wyes_that_join_transmission_voltages(self) -> None:
+        raw = RAW.replace("2,'NORTH 138',138.0", "2,'NORTH 230',230.0").replace("1.0,138.0,0.0", "1.0,230.0,0.0")
+        told = self.told_of([*self.words(raw, GIC.replace("YNa0yn0", "YNyn0d1")), "--beyond=leave"])
+        words = "two earthed wyes of 345 and 230 kV: a unit that joins two voltages above 200 kV is mostly an autotransformer, as"
+        self.assertIn(f"net.raw line 25: BANK: {words} YNa; look at its vector group", told)
+        told = self.told_of([*self.words(gic=GIC.replace("YNa0yn0", "YNyn0d1")), "--beyond=leave"])
+        self.assertNotIn("two earthed wyes", "".join(told))
+
+    def test_factors_for_losses(self) -> None:
+        gic = GIC.replace("'YNd1',1,0.6", "'YNd1',3,0.0")
+        told = self.told_of([*self.words(gic=gic), "--beyond=leave", "--factors"])
+        words = "2 of 2 units have a KFACTOR, or a CORE with a published factor: they stand in the table of factors"
+        self.assertIn(f"net.gic: {words}", told)
+        table = self.out.with_suffix(".factors.csv").read_text()
+        origin = "KFACTOR of the .gic, taken for the unit's own voltage"
+        self.assertEqual(
+            table,
+            "transformer,mvar_per_ampere,at_kv,note\n"
+            f"BANK,0.6,345,\"{origin}\"\n"
+            "T4-6-1,0.29,500,CORE 3: published for three limbs of 500 kV\n",
+        )
+        findings: list[Finding] = []
+        read = factors.read_factors(str(self.out.with_suffix(".factors.csv")), {"BANK": 345000, "T4-6-1": 345000}, findings)
+        self.assertEqual(([], [factor.own for factor in read.values()]), (findings, [decimal.Decimal("0.6"), decimal.Decimal("0.2001")]))
+        none = GIC.replace(",1,0.6,", ",0,0.0,")
+        for made in self.folder.glob("case*"):
+            made.unlink()
+        self.told(
+            [*self.words(gic=none), "--beyond=leave", "--factors"],
+            "net.gic: no unit has a KFACTOR above 0 or a CORE of 1, 3, 5; leave out --factors",
+        )
+
+    STATIONS = (
+        "0 / END OF AREA DATA, BEGIN SUBSTATION DATA\n1,'NORTH',50.0,-100.0,0.2\n"
+        "1,'N1',1,1,1.0,0.0\n2,'N2',2,1,1.0,0.0\n3,'N3',3,1,1.0,0.0\n"
+        "0 / END OF SUBSTATION NODE DATA, BEGIN SUBSTATION DATA\n2,'SOUTH',49.0,-100.0,0.3\n"
+        "1,'S1',4,1,1.0,0.0\n2,'S2',5,1,1.0,0.0\n3,'S3',6,1\n"
+        "0 / END OF SUBSTATION NODE DATA, BEGIN SUBSTATION DATA\n3,'EAST STATION',50.0,-99.0,\n1,'E1',7,1\n2,'E2',8,1\n"
+        "0 / END OF SUBSTATION DATA\nQ\n"
+    )
+
+    def test_substations_of_version_35(self) -> None:
+        """The same network with places, grounds and buses of stations in the .raw alone, and with the numbers of stations in
+        both files."""
+        expected = self.case([*self.words(), "--beyond=model"])
+        raw = RAW.replace(" 33,", " 35,").replace("0 / END OF BUS DATA, BEGIN LOAD DATA", "0 / END OF BUS DATA, BEGIN LOAD DATA")
+        raw = raw.replace("Q\n", self.STATIONS).replace("0,0,0,0,0,0,0,1,1,0", "'',0,0,0,0,0,0,0,0,0,0,0,0,0,0,0,0,1,1,0")
+        raw = raw.replace("'',0,0,0,0,0,0,0,0,0,0,0,0,0,0,0,0,1,1,0\n1,8", "'',0,0,0,0,0,0,0,0,0,0,0,0,0,0,0,0,0,1,0\n1,8")
+        raw = raw.replace("0.03,0.0,0,0,0,0,0,0,0,0,1,0", "0.03,0.0,'',0,0,0,0,0,0,0,0,0,0,0,0,0,0,0,0,0,1,0")
+        head, rest = raw.split("second title\n")
+        raw = f"{head}second title\n0 / END OF SYSTEM-WIDE DATA, BEGIN BUS DATA\n{rest}"
+        alone = GIC[: GIC.index("1,'NORTH'")] + GIC[GIC.index("0 / END OF SUBSTATION DATA") :]
+        alone = alone[: alone.index("1,1\n")] + alone[alone.index("0 / END OF BUS SUBSTATION") :]
+        words = "substations, their places and SRG as their grounds are taken from here"
+        told = self.told_of([*self.words(raw, alone), "--beyond=model"])
+        self.assertEqual((self.made, f"net.raw: {words}" in told), (expected, True))
+        numbers = GIC.replace("1,'NORTH',0,50.0,-100.0,0.2,''", "1,'',0,,,,''")
+        told = self.told_of([*self.words(raw, numbers), "--beyond=model"])
+        place = "it has no place here: that of the power flow is taken, and its SRG"
+        self.assertEqual((self.made, f"net.gic line 2: {place}" in told), (expected, True))
+        apart = GIC.replace("1,'NORTH',0,50.0,", "1,'NORTH',0,50.2,")
+        told = self.told_of([*self.words(raw, apart), "--beyond=model"])
+        where = "it lies at 50.2, -100.0, and in the power flow at 50.0, -100.0; look at both"
+        self.assertIn(f"net.gic line 2: {where}", told)
 
 
 class Polygons(unittest.TestCase):

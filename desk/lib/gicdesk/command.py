@@ -13,6 +13,8 @@ from . import case, case_tables, compare, layouts, outages, psse, psse_units, re
 from .findings import Refused, refuse, visible
 from .inputs import Copies, copied
 from .outputs import Set, files_set, folder_set, study_set
+from .psse_grounds import read_grounds
+from .psse_half import HALF
 from .program import BUILT, Program, find_program
 from .stops import Stopped, signals_taken
 from .study import FILES, OPTIONS, Request, make_study, study_text
@@ -140,12 +142,17 @@ def add_study(commands: Any) -> None:
 
 
 def run_psse(options: argparse.Namespace) -> None:
-    names = f"{os.path.splitext(options.out)[0]}.names.csv"
+    stem = os.path.splitext(options.out)[0]
+    names, factors = f"{stem}.names.csv", f"{stem}.factors.csv"
+    written = [options.out, names, *([factors] if options.factors else [])]
     tables = zones.ZoneFiles(options.zones, options.substations, options.polygons, options.lines)
     read = [options.raw, options.gic, *(name for name in dataclasses.astuple(tables) if name is not None)]
-    with files_set([options.out, names], options.force, read) as out:
-        made = psse.make_case(options.raw, options.gic, tables, psse.Choices(options.beyond, options.vector, options.alpha))
-        out.publish({file_name(options.out): made.case, file_name(names): made.names})
+    grounds = read_grounds(options.blank_ground, options.ungrounded)
+    choices = psse.Choices(options.beyond, options.vector, options.alpha, options.windings, grounds, options.factors)
+    with files_set(written, options.force, read) as out:
+        made = psse.make_case(options.raw, options.gic, tables, choices)
+        texts = {options.out: made.case, names: made.names, factors: made.factors}
+        out.publish({file_name(name): texts[name] for name in written})
     told = "".join(f"{note}\n" for note in made.notes)
     show(told + visible(f"{options.out} is made, and {names} says what its names stand for") + "\n")
 
@@ -217,6 +224,12 @@ def command_words() -> argparse.ArgumentParser:
     told = "whether third windings and reactors are left out or written"
     four.add_argument("--alpha", metavar="WAY", default=FORMULA, help=WAYS)
     four.add_argument("--beyond", choices=psse_units.CHOICES, help=told)
+    four.add_argument("--factors", action="store_true", help="a table of factors for losses beside the case")
+    taken = "half: a winding of 0 ohm has half of R1-2 of the power flow"
+    four.add_argument("--windings", choices=(HALF,), help=taken)
+    four.add_argument("--blank-ground", metavar="OHM", help="the ground of a substation whose RG is empty")
+    none = "an RG that means no ground, as 0 or 99; may be given several times"
+    four.add_argument("--ungrounded", metavar="RG", action="append", default=[], help=none)
     four.add_argument("--vector", choices=("volts", "buses"), help="in which order the letters of vector groups stand")
     four.add_argument("--out", metavar="CASE", required=True, help="a new file for the case, with its names beside")
     four.add_argument("--force", action="store_true", help="replace what is there already under these names")

@@ -5,6 +5,7 @@ import decimal
 import math
 from collections.abc import Sequence
 
+from . import psse_factors
 from .beyond import reactor_row
 from .borders import Stretch
 from .cases import Case, Field, Names, Row, short_enough
@@ -13,9 +14,12 @@ from .findings import Finding, Refused, collected
 from .parts import Piece, Span, crossed_zones, fields_of, pieces_of, pieces_text, too_long, way_fault
 from .places import MOST_KM, SHORT_M, SPAN_FROM_MAP_M, span_metres
 from .polygons import zone_of
-from .psse_gic import Gic, LineData, Reactor, Substation, read_gic
+from .psse_gic import Gic, LineData, Reactor, Substation, Windings, read_gic
+from .psse_grounds import Grounds
+from .psse_half import Shares
 from .psse_raw import Branch, Key, Raw, Switch, Transformer, read_raw
 from .psse_sections import whole_lines
+from .psse_stations import Stations
 from .psse_units import Beyond, Unit, micro_ohm, neutral_field, volts, windings_of
 from .records import Record
 from .tables import Table
@@ -24,6 +28,7 @@ from .zone_scales import FORMULA, read_alpha
 from .zones import Override, ZoneFiles, Zones, read_all
 
 MOST_OF_TIE = decimal.Decimal("0.1")  # ohm of a phase; bus ties and breakers have less
+MOST_OF_JUMPER = decimal.Decimal("0.0001")  # reactance per unit; to power flows such a branch has no impedance
 BLOCKED_MICRO_OHM = 1000000  # of a series capacitor without a resistance: it carries nothing
 NAME_HEADS = ("list", "name", "theirs", "numbers", "circuit")
 
@@ -35,6 +40,9 @@ class Choices:
     beyond: str | None
     vector: str | None
     alpha: str = FORMULA
+    windings: str | None = None  # what a resistance of 0 is met by
+    grounds: Grounds = Grounds()
+    factors: bool = False  # whether a table of factors is made
 
 
 @dataclasses.dataclass
@@ -64,6 +72,8 @@ class Making:
         self.substation_names: dict[int, str] = {}
         self.bus_names: dict[int, str] = {}
         self.substation_zones: dict[int, str] = {}
+        self.factors: list[psse_factors.Row] = []
+        self.units = 0  # with a winding in the network
         self.without: set[int] = set()  # buses that were told to be in no substation
 
     def tell(self, at: Record, words: str) -> None:
@@ -103,16 +113,13 @@ class Making:
         name = self.names.give(substation.name, f"S{substation.number}")
         self.substation_names[substation.number] = name
         fields = []
-        if substation.ground is None:
-            words = "RG is empty, which is taken as no ground; see whether the file means that, or else write its ohm"
-            self.tell(substation.record, f"{name}: {words}")
-        else:
-            ways = "write ohm, or nothing where it has no ground"
-            micro = micro_ohm(substation.record, "RG", substation.ground, ways)
+        ohm = self.choices.grounds.of(substation, name, self.notes)
+        if ohm is not None:
+            micro = micro_ohm(substation.record, "RG", ohm, "write ohm, or nothing where it has no ground")
             kilovolts = self.highest(substation.number)
             usual, what = usual_at(GROUNDS, kilovolts), f"grounds at {kilovolts:f} kV"
-            self.tell_unusual(substation.record, "RG", unusual(substation.ground, usual, what, kilovolts))
-            fields.append(Field("ground", micro, f"{substation.ground:f} ohm to remote earth"))
+            self.tell_unusual(substation.record, "RG", unusual(ohm, usual, what, kilovolts))
+            fields.append(Field("ground", micro, f"{ohm:f} ohm to remote earth"))
         self.add("substation", Row(name, fields), substation.name, [substation.number])
 
     def highest(self, substation: int) -> decimal.Decimal:
@@ -216,7 +223,7 @@ class Making:
         if not pieces:
             return name
         resistance = self.line_resistance(branch)
-        if branch.reactance >= 0 and abs(north) + abs(east) >= SHORT_M:
+        if branch.reactance >= 0 and abs(north) + abs(east) >= SHORT_M and self.ohm(branch) != 0:
             data = self.line_data(branch)
             at, column = (branch.record, "R") if data is None or data.ohm == 0 else (data.record, "RBRN")
             found = unusual_line(self.ohm(branch), math.hypot(north, east), start.kilovolts)
@@ -257,6 +264,10 @@ class Making:
             comment = "no resistance of 0.001 ohm or more was given: it carries nothing while it is blocked"
             return Field("resistance", BLOCKED_MICRO_OHM, comment)
         at, column = (data.record, "RBRN") if data is not None and from_data else (branch.record, "R")
+        if ohm == 0 and branch.reactance <= MOST_OF_JUMPER:
+            words = "has no resistance, and next to no reactance: it is taken as a jumper, of 0.001 ohm"
+            self.tell(branch.record, f"the branch {title(branch.ends, branch.circuit)} {words}")
+            return Field("resistance", 1000, "0.001 ohm per phase, the least of a case: a jumper without a resistance")
         return Field("resistance", micro_ohm(at, column, ohm), comment)
 
     def span(self, branch: Branch, override: Override | None) -> tuple[int, int]:
@@ -367,12 +378,22 @@ class Making:
         if not windings:
             return
         name = self.names.give(unit.name, f"T{numbers}-{unit.circuit}")
-        making = Unit(unit.record, data.record, name, windings, self.bus, self.beyond)
+        shares = Shares(self.choices.windings, self.raw.base_mva, self.notes)
+        making = Unit(unit.record, data.record, name, windings, self.bus, self.beyond, unit, shares)
         for row in making.rows():
             used = [row.value(end) for end in ("high", "low", "third") if row.value(end) is not None]
             if len(set(used)) < len(used):
                 unit.record.wrong(None, f"{what} has two buses that ties make one; open the tie between them")
             self.add("transformer", row, unit.name, unit.buses, unit.circuit)
+            self.note_factor(row, data)
+
+    def note_factor(self, row: Row, data: Windings) -> None:
+        """Keeps the factor for losses of a unit with a winding in the network."""
+        high_volts = row.value("high_volts")
+        if row.value("high") is not None and isinstance(high_volts, int):
+            self.units += 1
+            factor = psse_factors.factor_of(row.name, high_volts, data)
+            self.factors += [] if factor is None else [factor]
 
     def reactor(self, reactor: Reactor) -> None:
         what = f"the reactor {title((reactor.bus,), reactor.circuit)}"
@@ -470,6 +491,7 @@ def title(buses: Sequence[int], circuit: str) -> str:
 class Made:
     case: str
     names: str
+    factors: str  # empty where none were asked for
     notes: list[Finding]
 
 
@@ -482,7 +504,7 @@ def make_case(raw_file: str, gic_file: str, zone_files: ZoneFiles, choices: Choi
     with collected(findings):
         raw = read_raw(raw_file, findings, notes)
     with collected(findings):
-        gic = read_gic(gic_file, findings, notes)
+        gic = read_gic(gic_file, Stations() if raw is None else raw.stations, findings, notes)
     with collected(findings):
         zones = read_all(zone_files, choices.alpha, findings, notes)
     if findings or raw is None or gic is None or zones is None:
@@ -495,4 +517,5 @@ def make_case(raw_file: str, gic_file: str, zone_files: ZoneFiles, choices: Choi
         raise Refused(findings)
     origin = f"Made by gicdesk psse of {raw_file} and {gic_file}: change these, and make it again."
     text = short_enough(making.case.text(origin), raw_file, notes)
-    return Made(text, Table(NAME_HEADS, making.theirs).csv(), making.notes)
+    factors = psse_factors.factors_text(making.factors, making.units, gic_file, choices.factors, notes)
+    return Made(text, Table(NAME_HEADS, making.theirs).csv(), factors, making.notes)

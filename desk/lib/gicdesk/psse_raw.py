@@ -6,6 +6,8 @@ import functools
 
 from .files import read_text
 from .findings import Finding, refuse, shown
+from .psse_stations import SECTION as STATIONS
+from .psse_stations import Stations, read_stations
 from .psse_text import Layout, SectionLine, by_number, fields_of, read_sections, record, records_of, told_skipped
 from .records import WHOLE, Record
 
@@ -27,6 +29,7 @@ NEEDED = {
     "MULTI-SECTION LINE": "I J ID DUM1",
 }
 OTHER_SECTIONS = {"FIXED BUS SHUNT": "FIXED SHUNT", "NONTRANSFORMER BRANCH": "BRANCH", "LINE": "BRANCH"}
+OTHER_SECTIONS |= {"SUBSTATION NODE": STATIONS, "SUBSTATION BLOCK": STATIONS}
 OTHER_SECTIONS |= {"MULTI-SECTION LINE GROUPING": "MULTI-SECTION LINE", "MULTI SECTION LINE": "MULTI-SECTION LINE"}
 # Sections that say nothing of direct currents.
 PASSED = ["SYSTEM-WIDE", "LOAD", "GENERATOR", "AREA", "ZONE", "OWNER"]
@@ -107,6 +110,7 @@ class Transformer:
     name: str
     vector: str
     record: Record
+    impedance: Record  # its second line
 
     @property
     def out(self) -> int | None:
@@ -140,6 +144,7 @@ class Raw:
     transformers: list[Transformer]
     shunts: dict[tuple[int, str], Shunt]
     groupings: list[Grouping]
+    stations: Stations
 
 
 def look_for_twins(found: list[tuple[Key, Record]]) -> None:
@@ -225,7 +230,8 @@ def read_transformers(
         status = at.whole("ST", 1)
         if status not in (0, 1, *(OUT if len(buses) == 3 else ())):
             at.wrong("ST", f"it is {status}, and not 0 or 1, nor for a unit of three buses 2, 3 or 4")
-        units.append(Transformer(buses, rated, circuit_of(at), status, at.text("NAME"), at.text("VECGRP"), at))
+        second = Record(file, lines[place + 1].number, lines[place + 1].fields, ["R1-2", "X1-2", "SBASE1-2"], findings)
+        units.append(Transformer(buses, rated, circuit_of(at), status, at.text("NAME"), at.text("VECGRP"), at, second))
         place += 2 + len(buses)
     return units
 
@@ -235,7 +241,7 @@ def read_raw(file: str, findings: list[Finding], notes: list[Finding]) -> Raw:
     lines = read_text(file, "latin-1").split("\n")
     first, base, layout = read_head(file, lines)
     sections = read_sections(file, lines, first, layout, findings)
-    told_skipped(file, sections, layout, PASSED, notes)
+    told_skipped(file, sections, layout, (*PASSED, STATIONS), notes)
     records = functools.partial(records_of, file, sections, layout, findings)
     buses = by_number("bus", map(read_bus, records("BUS")))
     branches = [read_branch(at) for at in records("BRANCH")]
@@ -247,4 +253,5 @@ def read_raw(file: str, findings: list[Finding], notes: list[Finding]) -> Raw:
     look_for_twins([((frozenset([shunt.bus]), shunt.circuit), shunt.record) for shunt in shunts])
     by_bus = {(shunt.bus, shunt.circuit): shunt for shunt in shunts}
     groupings = [read_grouping(at) for at in records("MULTI-SECTION LINE")]
-    return Raw(file, base, buses, branches, switches, units, by_bus, groupings)
+    stations = read_stations(file, sections.get(STATIONS, []), buses, findings)
+    return Raw(file, base, buses, branches, switches, units, by_bus, groupings, stations)
