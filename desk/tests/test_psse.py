@@ -16,6 +16,7 @@ from shared import BUILT, EXAMPLES, REPORTS, TESTS, DeskTest
 
 from gicdesk import cases, factors
 from gicdesk.findings import Finding
+from gicdesk.network import read_degrees
 from gicdesk.places import Point
 from gicdesk.polygons import Polygon
 from gicdesk.psse_text import fields_of
@@ -290,20 +291,23 @@ class Small(PsseTest):
         words = [*self.words(gic=GIC), "--beyond=leave"]
         self.gic.write_bytes(GIC.replace("NORTH", "ZÜRICH").encode("latin-1"))
         self.assertIn("Z_RICH", self.case(words)["substation"])
-        self.assertIn("substation,Z_RICH,ZÜRICH,1,\n", self.out.with_suffix(".names.csv").read_text())
+        self.assertIn("substation,Z_RICH,ZÜRICH,1,,50.0,-100.0\n", self.out.with_suffix(".names.csv").read_text())
 
     def test_the_table_of_names(self) -> None:
         self.case([*self.words(), "--beyond=model"])
         with open(self.folder / "case.names.csv", newline="") as file:
             rows = [tuple(row.values()) for row in csv.DictReader(file)]
         for row in (
-            ("substation", "EAST_STATION", "EAST STATION", "3", ""),
-            ("line", "L1-7-1", "", "1 7", "1"),
-            ("transformer", "BANK", "BANK", "1 2 3", "1"),
-            ("transformer", "R7-1", "", "7", ""),
-            ("bus", "4_SOUTH_A", "SOUTH A", "4 5", ""),
+            ("substation", "EAST_STATION", "EAST STATION", "3", "", "50.0", "-99.0"),
+            ("line", "L1-7-1", "", "1 7", "1", "", ""),
+            ("transformer", "BANK", "BANK", "1 2 3", "1", "", ""),
+            ("transformer", "R7-1", "", "7", "", "", ""),
+            ("bus", "4_SOUTH_A", "SOUTH A", "4 5", "", "", ""),
         ):
             self.assertIn(row, rows)
+        # It serves as a table of places.
+        places = read_degrees(str(self.folder / "case.names.csv"), ["NORTH", "EAST_STATION"], [])
+        self.assertEqual(places, {"NORTH": (50.0, -100.0), "EAST_STATION": (50.0, -99.0)})
 
     def test_windings_that_are_out(self) -> None:
         bank = {"name": "BANK", "kind": "auto", "high_volts": 345000, "high": "1_NORTH_345", "low_volts": 138000}

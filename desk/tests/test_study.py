@@ -580,12 +580,12 @@ class Places(DeskTest):
     def test_places_from_a_table(self) -> None:
         findings: list[Finding] = []
         file = EXAMPLES / "tables" / "substations.csv"
-        found = network.read_places(str(file), ["Highfall", "Larkspur"], findings)
+        found = network.in_metres(network.read_degrees(str(file), ["Highfall", "Larkspur"], findings))
         # The line HF-LK of the region has these spans.
         self.assertEqual([round(number) for number in found["Larkspur"]], [-100120, 21172])
         self.assertEqual(findings, [])
         other = self.places("name;latitude;longitude\nA;51,5;-38\n")
-        self.assertEqual(network.read_places(other, ["A"], []), {"A": (0, 0)})
+        self.assertEqual(network.read_degrees(other, ["A"], []), {"A": (51.5, -38)})
 
     def places(self, text: str) -> str:
         return str(self.file("places.csv", text))
@@ -599,7 +599,7 @@ class Places(DeskTest):
         ):
             findings: list[Finding] = []
             try:
-                network.read_places(self.places(text), ["A", "B"], findings)
+                network.read_degrees(self.places(text), ["A", "B"], findings)
             except Refused as refused:
                 findings += refused.findings
             self.assertIn(words, "".join(map(str, findings)), text)

@@ -30,7 +30,7 @@ from .zones import Override, ZoneFiles, Zones, read_all
 MOST_OF_TIE = decimal.Decimal("0.1")  # ohm of a phase; bus ties and breakers have less
 MOST_OF_JUMPER = decimal.Decimal("0.0001")  # reactance per unit; to power flows such a branch has no impedance
 BLOCKED_MICRO_OHM = 1000000  # of a series capacitor without a resistance: it carries nothing
-NAME_HEADS = ("list", "name", "theirs", "numbers", "circuit")
+NAME_HEADS = ("list", "name", "theirs", "numbers", "circuit", "latitude", "longitude")
 
 
 @dataclasses.dataclass(frozen=True)
@@ -68,7 +68,7 @@ class Making:
         self.raw, self.gic, self.zones, self.choices, self.notes = raw, gic, zones, choices, notes
         self.beyond = Beyond(choices.beyond, self.notes)
         self.case, self.names, self.groups = Case(), Names(), Groups()
-        self.theirs: list[tuple[str, str, str, str, str]] = []
+        self.theirs: list[tuple[str, ...]] = []
         self.substation_names: dict[int, str] = {}
         self.bus_names: dict[int, str] = {}
         self.substation_zones: dict[int, str] = {}
@@ -82,9 +82,17 @@ class Making:
     def tell_at(self, at: Record, column: str, words: str) -> None:
         self.notes.append(Finding(at.file, words, at.line, column))
 
-    def add(self, list_name: str, row: Row, theirs: str, numbers: Sequence[int], circuit: str = "") -> None:
+    def add(
+        self,
+        list_name: str,
+        row: Row,
+        theirs: str,
+        numbers: Sequence[int],
+        circuit: str = "",
+        place: tuple[str, str] = ("", ""),
+    ) -> None:
         self.case.lists[list_name].append(row)
-        self.theirs.append((list_name, row.name, theirs, " ".join(map(str, numbers)), circuit))
+        self.theirs.append((list_name, row.name, theirs, " ".join(map(str, numbers)), circuit, *place))
 
     def make(self) -> None:
         for zone in self.zones.zones:
@@ -120,7 +128,8 @@ class Making:
             usual, what = usual_at(GROUNDS, kilovolts), f"grounds at {kilovolts:f} kV"
             self.tell_unusual(substation.record, "RG", unusual(ohm, usual, what, kilovolts))
             fields.append(Field("ground", micro, f"{ohm:f} ohm to remote earth"))
-        self.add("substation", Row(name, fields), substation.name, [substation.number])
+        place = f"{substation.latitude:f}", f"{substation.longitude:f}"
+        self.add("substation", Row(name, fields), substation.name, [substation.number], "", place)
 
     def highest(self, substation: int) -> decimal.Decimal:
         """The highest voltage in a substation, in kV."""

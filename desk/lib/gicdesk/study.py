@@ -13,7 +13,7 @@ from .factors import Factor, read_factors, size, total
 from .findings import Finding, Refused, collected, refuse, visible
 from .forms import Interval
 from .inputs import Copies, Input
-from .network import Network, Place, laid_out, network_of, read_places
+from .network import Degrees, Network, Place, in_metres, laid_out, network_of, read_degrees
 from .outages import Asked, Outages, Result, Worst, worst_of
 from .program import Program, Run, commit_of, ending, is_recorded
 from .progress import Progress
@@ -33,6 +33,7 @@ from .reports import (
     parse_report,
 )
 from .reports import Study as StormReport
+from .spans import Compared, compared
 from .storms import Seconds, StormStep, SwitchingRow, seconds_above, storm_steps, switching_rows
 from .together import together
 
@@ -178,6 +179,19 @@ class Study:
     storm: Storm | None
     losses: Losses | None
     is_recorded: bool = False  # the program, in the record of a build
+    compared: Compared | None = None  # the spans with the places, where there is a table of these
+
+    @property
+    def questions(self) -> list[str]:
+        """What the writer of the case is asked: by the spans that don't fit the places, and by the review."""
+        if self.compared is None:
+            return [question_text(question) for question in self.review.questions]
+        asked = [question for question in self.review.questions if question not in self.compared.explained]
+        reviewed = [
+            question_text(question) + (self.compared.loop_text(question.name) if question.kind == "closure" else "")
+            for question in asked
+        ]
+        return [misfit.text for misfit in self.compared.misfits] + reviewed
 
     @property
     def has_storm_report(self) -> bool:
@@ -293,7 +307,7 @@ class Tables:
 
     events: list[Event]
     factors: dict[str, Factor]
-    places: dict[str, Place]
+    places: dict[str, Degrees]
 
 
 def read_tables(request: Request, network: Network | None, items: Items) -> Tables:
@@ -301,7 +315,7 @@ def read_tables(request: Request, network: Network | None, items: Items) -> Tabl
     findings: list[Finding] = []
     events: list[Event] = []
     factors: dict[str, Factor] = {}
-    places: dict[str, Place] = {}
+    places: dict[str, Degrees] = {}
     unread = "it needs the case, which is in TOML 1.1; write the case without what only TOML 1.1 has"
     with collected(findings):
         if request.events is not None:
@@ -315,7 +329,7 @@ def read_tables(request: Request, network: Network | None, items: Items) -> Tabl
         if request.places is not None and network is None:
             raise refuse(request.places, unread)
         if request.places is not None and network is not None:
-            places = read_places(request.places, network.stations, findings, request.data("places"))
+            places = read_degrees(request.places, network.stations, findings, request.data("places"))
     if findings:
         raise Refused(findings)
     return Tables(events, factors, places)
@@ -500,7 +514,10 @@ def make_study(request: Request) -> Study:
         run_series(runs, storm, [unit.name for unit in units if wants_series(unit) or unit.name in tables.factors])
         units = facts_of(screen, supplemental, outage, worst, events, storm)
     request.program.look_for_change()
-    places, parts = ({}, 0) if network is None else laid_out(network, tables.places)
+    places, parts = ({}, 0) if network is None else laid_out(network, in_metres(tables.places))
+    spans = None
+    if network is not None and tables.places:
+        spans = compared(network.links, tables.places, basis.review.questions)
     return Study(
         request=request,
         began=began,
@@ -522,6 +539,7 @@ def make_study(request: Request) -> Study:
         parts=parts,
         storm=storm,
         losses=losses,
+        compared=spans,
     )
 
 
@@ -537,8 +555,8 @@ def shown_current(value: Interval) -> int:
 
 def study_text(study: Study, page: str) -> str:
     """What is shown of a study: the questions, which units must be assessed, and where the page is."""
-    questions = study.review.questions
-    lines = [f"question: {question_text(question)}" for question in questions[:SHOWN]]
+    questions = study.questions
+    lines = [f"question: {question}" for question in questions[:SHOWN]]
     if len(questions) > SHOWN:
         lines.append(f"and {plural(len(questions) - SHOWN, 'question')} more")
     lines.append(f"{len(study.assessed)} of {plural(len(study.units), 'unit')} must be assessed by the benchmark event")
