@@ -70,7 +70,7 @@ class Written(CaseTest):
 
     def test_with_more_decimals_than_a_case_has(self) -> None:
         self.change("zones", "57.30,0.85", "49.8123,0.80733")
-        product = self.product("upland", "N-S", "--alpha=formula")
+        product = self.product("upland", "N-S", "--alpha=formula", "--accept=latitude")
         self.assertAlmostEqual(product / (formula(49.8123) * 0.80733), 1, delta=PART)
 
     def test_a_number_for_all_zones_and_one_of_a_zone(self) -> None:

@@ -413,7 +413,8 @@ class Accepting(CaseTest):
         (line,) = self.findings("--accept=windings:T1")
         self.assertEqual(
             line,
-            "--accept=windings:T1: no finding has this name; allowed are alpha, ground, line, winding, neutral, volts, "
+            "--accept=windings:T1: no finding has this name; allowed are alpha, latitude, beta, ground, line, winding, "
+            "turned, neutral, volts, "
             "vector, span, zone, unused, or one of them with a colon and the name of a row",
         )
 

@@ -2,6 +2,7 @@
 
 import dataclasses
 
+from .autos import Auto, turned_words
 from .case_tables import (
     BUSES,
     COLUMNS,
@@ -20,10 +21,14 @@ from .case_units import Unit
 from .cases import LISTS, Case, Field, Names, Row, short_enough
 from .findings import Finding, Refused, shown
 from .forms import NAME
+from .latitudes import latitude_words
 from .quantities import GROUND_OHM, KILOVOLT, LATITUDE, LONGITUDE, OHM, Number, bare, number_in, whole
 from .records import Record
 from .usual import GROUNDS, short, unusual, usual_at
 from .zone_scales import read_alpha, zone_of_row
+
+AUTO_COLUMNS = ("high_kv", "low_kv", "series_ohm", "common_ohm")
+
 
 @dataclasses.dataclass(frozen=True)
 class Choices:
@@ -50,11 +55,13 @@ class Making:
             (BUSES, self.bus),
             (LINES, self.line),
             (TRANSFORMERS, self.transformer),
+            (ZONES, self.latitude),
             (SUBSTATIONS, self.substation),
             (BUSES, self.unused),
         ):
             for at in self.tables.rows[table].values():
                 make(at)
+        self.autos()
         files = {list_name: table for table, list_name in zip(COLUMNS, LISTS)}
         for list_name, words in self.case.too_many().items():
             file = next(iter(self.tables.rows[files[list_name]].values())).file
@@ -66,10 +73,35 @@ class Making:
     # Zones
 
     def zone(self, at: Record) -> None:
-        made = zone_of_row(at, self.alpha, self.questions.ask)
+        made = zone_of_row(at, self.alpha, self.questions.ask, self.tables.models)
         if made is not None:
             self.network.scales[made.row.name] = made.scale
             self.case.lists["zone"].append(made.row)
+
+    def latitude(self, at: Record) -> None:
+        """Asks where the latitude of a zone isn't the geomagnetic one of the stations that its lines join."""
+        latitude = at.number_or_none("geomagnetic_latitude") if at.text("name") in self.network.scales else None
+        stations = self.network.stations_of.get(at.text("name"), set())
+        places = [self.network.places[name] for name in sorted(stations) if name in self.network.places]
+        if latitude is None:
+            return
+        words = latitude_words(float(latitude), places)
+        if words is not None:
+            ways = "look up the geomagnetic one of the year"
+            self.questions.ask(f"latitude:{at.text('name')}", at, "geomagnetic_latitude", words, ways)
+
+    def autos(self) -> None:
+        """Asks where the resistances of all autotransformers are as if changed over."""
+        rows = [at for at in self.tables.rows[TRANSFORMERS].values() if at.text("kind") == "auto"]
+        autos = []
+        for at in rows:
+            if all(at.text(column) for column in AUTO_COLUMNS):
+                high, low, series, common = (at.number_or_none(column) for column in AUTO_COLUMNS)
+                if high is not None and low is not None and series is not None and common is not None:
+                    autos.append(Auto(at.text("name"), high, low, series, common))
+        words = turned_words(autos)
+        if words is not None:
+            self.questions.ask("turned:autos", rows[0], "series_ohm", words, "change series_ohm and common_ohm over")
 
     # Substations and buses
 
@@ -136,6 +168,8 @@ class Making:
         line = Line(at, self.copies(at), self.tables, self.network, self.questions)
         self.case.lists["line"] += line.rows()
         self.network.used.update(line.buses)
+        for zone in line.zones:
+            self.network.stations_of.setdefault(zone, set()).update(line.stations)
 
     def transformer(self, at: Record) -> None:
         for name in self.copies(at):

@@ -28,6 +28,7 @@ class Network:
     places: dict[str, Place] = dataclasses.field(default_factory=dict)  # of substations
     kilovolts: dict[str, Number] = dataclasses.field(default_factory=dict)  # of buses
     highest: dict[str, Number] = dataclasses.field(default_factory=dict)  # of substations, the kilovolts of their buses
+    stations_of: dict[str, set[str]] = dataclasses.field(default_factory=dict)  # of zones, those that its lines join
     used: set[str] = dataclasses.field(default_factory=set)  # buses with a line or a unit, and substations with a bus
     earthing: set[str] = dataclasses.field(default_factory=set)  # substations where a winding is earthed
 
@@ -42,6 +43,8 @@ class Line:
     network: Network
     questions: Questions
     buses: set[str] = dataclasses.field(default_factory=set)
+    zones: set[str] = dataclasses.field(default_factory=set)
+    stations: set[str] = dataclasses.field(default_factory=set)
 
     def ask(self, kind: str, column: str | None, words: str, ways: str) -> None:
         self.questions.ask(f"{kind}:{self.at.text('name')}", self.at, column, words, ways)
@@ -62,6 +65,9 @@ class Line:
             return []
         span = self.span(places)
         pieces = self.pieces(places, span)
+        if len(pieces) == 1:  # (one over a border says nothing of the latitude of a zone)
+            self.zones.add(pieces[0].zone)
+            self.stations.update(stations)
         if span is None or ohm is None or not pieces:
             return []
         if kilovolts is not None and stations[0] != stations[1]:

@@ -5,14 +5,15 @@ import pathlib
 from collections.abc import Iterable
 
 from .borders import Borders
+from .earths import read_models
 from .findings import Finding, Hints, Refused, collected, refuse, shown
 from .forms import NAME
 from .polygons import read_polygons
-from .quantities import bare
+from .quantities import Number, bare
 from .records import Record, read_table
 
 ZONES, SUBSTATIONS, BUSES, LINES, TRANSFORMERS = "zones", "substations", "buses", "lines", "transformers"
-POLYGONS = "polygons.csv"
+POLYGONS, MODELS = "polygons.csv", "earth_models.csv"
 COLUMNS = {
     ZONES: "name geomagnetic_latitude beta".split(),
     SUBSTATIONS: "name latitude longitude ground_ohm".split(),
@@ -21,7 +22,7 @@ COLUMNS = {
     TRANSFORMERS: "name kind high low high_kv low_kv high_ohm low_ohm series_ohm common_ohm neutral".split(),
 }
 OPTIONAL = {
-    ZONES: ["alpha", "note"],
+    ZONES: ["alpha", "earth_model", "note"],
     SUBSTATIONS: ["note"],
     BUSES: ["note"],
     LINES: ["per_unit", "parallel", "note"],
@@ -29,7 +30,7 @@ OPTIONAL = {
 }
 PARALLEL = [str(number) for number in range(1, 21)]  # so many equal ones a row may stand for
 # The kinds of findings that --accept takes away.
-KINDS = "alpha ground line winding neutral volts vector span zone unused".split()
+KINDS = "alpha latitude beta ground line winding turned neutral volts vector span zone unused".split()
 
 
 @dataclasses.dataclass
@@ -79,6 +80,7 @@ class Tables:
     rows: dict[str, dict[str, Record]]
     findings: list[Finding]
     borders: Borders | None = None
+    models: dict[str, Number] = dataclasses.field(default_factory=dict)  # betas by the names of earth models
     hints: Hints = dataclasses.field(default_factory=Hints)
 
     def refer(self, at: Record, column: str, table: str) -> Record | None:
@@ -112,7 +114,7 @@ def read_named(file: str, table: str, findings: list[Finding], taken: dict[str, 
 
 def files_of(folder: str) -> list[str]:
     """The names of the tables in a folder."""
-    return [str(pathlib.Path(folder, name)) for name in (*(f"{table}.csv" for table in COLUMNS), POLYGONS)]
+    return [str(pathlib.Path(folder, name)) for name in (*(f"{table}.csv" for table in COLUMNS), POLYGONS, MODELS)]
 
 
 def read_tables(folder: str) -> Tables:
@@ -139,6 +141,12 @@ def read_tables(folder: str) -> Tables:
         before = len(findings)
         with collected(findings):
             tables.borders = Borders(read_polygons(str(polygons), set(tables.rows[ZONES]), findings))
+        broken = broken or len(findings) > before
+    models = pathlib.Path(folder, MODELS)
+    if models.exists():
+        before = len(findings)
+        with collected(findings):
+            tables.models = read_models(str(models), findings)
         broken = broken or len(findings) > before
     if broken:
         raise Refused(findings)

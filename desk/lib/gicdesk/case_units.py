@@ -68,7 +68,7 @@ class Unit:
         high, low = volts["high"], volts.get("low")
         if high is not None and low is not None and low > high:
             self.at.wrong("low_kv", f"it is {short(low)}, above high_kv, {short(high)}; is the row turned?")
-        if kind == "wye-wye" and high is not None and low is not None:
+        if kind == "wye-wye" and high is not None and low is not None and len(set(map(self.at.text, ends))) > 1:
             words = two_transmission_voltages(high, low)
             if words is not None:
                 self.ask("vector", "kind", words, "write kind auto with series_ohm and common_ohm")

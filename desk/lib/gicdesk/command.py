@@ -145,7 +145,7 @@ def run_psse(options: argparse.Namespace) -> None:
     stem = os.path.splitext(options.out)[0]
     names, factors = f"{stem}.names.csv", f"{stem}.factors.csv"
     written = [options.out, names, *([factors] if options.factors else [])]
-    tables = zones.ZoneFiles(options.zones, options.substations, options.polygons, options.lines)
+    tables = zones.ZoneFiles(options.zones, options.substations, options.polygons, options.lines, options.earth_models)
     read = [options.raw, options.gic, *(name for name in dataclasses.astuple(tables) if name is not None)]
     grounds = read_grounds(options.blank_ground, options.ungrounded)
     choices = psse.Choices(options.beyond, options.vector, options.alpha, options.windings, grounds, options.factors)
@@ -221,6 +221,7 @@ def command_words() -> argparse.ArgumentParser:
     four.add_argument("--substations", metavar="FILE", help="a table substation,zone, with more zones than one")
     four.add_argument("--polygons", metavar="FILE", help="a table zone,latitude,longitude of corners, in its place")
     four.add_argument("--lines", metavar="FILE", help="a table bus_i,bus_j,circuit,zone,north_km,east_km")
+    four.add_argument("--earth-models", metavar="FILE", help="a table name,beta, for zones with a column earth_model")
     told = "whether third windings and reactors are left out or written"
     four.add_argument("--alpha", metavar="WAY", default=FORMULA, help=WAYS)
     four.add_argument("--beyond", choices=psse_units.CHOICES, help=told)

@@ -6,13 +6,15 @@ import math
 from collections.abc import Sequence
 
 from . import psse_factors
+from .autos import Auto, turned_words
 from .beyond import reactor_row
 from .borders import Stretch
 from .cases import Case, Field, Names, Row, short_enough
 from .decimals import MILLI, shifted
 from .findings import Finding, Refused, collected
+from .latitudes import latitude_words
 from .parts import Piece, Span, crossed_zones, fields_of, pieces_of, pieces_text, too_long, way_fault
-from .places import MOST_KM, SHORT_M, SPAN_FROM_MAP_M, span_metres
+from .places import MOST_KM, SHORT_M, SPAN_FROM_MAP_M, Place, span_metres
 from .polygons import zone_of
 from .psse_gic import Gic, LineData, Reactor, Substation, Windings, read_gic
 from .psse_grounds import Grounds
@@ -21,6 +23,7 @@ from .psse_raw import Branch, Key, Raw, Switch, Transformer, read_raw
 from .psse_sections import whole_lines
 from .psse_stations import Stations
 from .psse_units import Beyond, Unit, micro_ohm, neutral_field, volts, windings_of
+from .quantities import Number
 from .records import Record
 from .tables import Table
 from .usual import GROUNDS, REACTORS, unusual, unusual_line, usual_at
@@ -73,6 +76,7 @@ class Making:
         self.bus_names: dict[int, str] = {}
         self.substation_zones: dict[int, str] = {}
         self.factors: list[psse_factors.Row] = []
+        self.stations_of: dict[str, set[int]] = {}  # of zones, those that its lines join
         self.units = 0  # with a winding in the network
         self.without: set[int] = set()  # buses that were told to be in no substation
 
@@ -115,6 +119,8 @@ class Making:
         for reactor in self.gic.reactors:
             self.reactor(reactor)
         self.records_used()
+        self.latitudes()
+        self.tell_of_autos()
         self.buses()
 
     def substation(self, substation: Substation) -> None:
@@ -231,6 +237,8 @@ class Making:
         pieces = self.pieces(branch, override, (north, east))
         if not pieces:
             return name
+        if len(pieces) == 1:  # (one over a border says nothing of the latitude of a zone)
+            self.stations_of.setdefault(pieces[0].zone, set()).update(self.substations(branch.ends))
         resistance = self.line_resistance(branch)
         if branch.reactance >= 0 and abs(north) + abs(east) >= SHORT_M and self.ohm(branch) != 0:
             data = self.line_data(branch)
@@ -433,6 +441,29 @@ class Making:
             neutral = [neutral_field(at, "RG", neutral_ohm)] if neutral_ohm != 0 else []
             row = reactor_row(given, volts(at, kilovolts), self.bus(bus), resistance, neutral)
             self.add("transformer", row, "", [bus])
+
+    def latitudes(self) -> None:
+        """Tells of a zone whose latitude isn't the geomagnetic one of the stations that its lines join."""
+        for zone in self.zones.zones:
+            at = zone.at
+            places = [self.place_of(number) for number in sorted(self.stations_of.get(zone.row.name, set()))]
+            words = latitude_words(float(at.number("geomagnetic_latitude")), places)
+            if words is not None:
+                self.tell_at(at, "geomagnetic_latitude", f"{words}; look up the geomagnetic one of the year")
+
+    def place_of(self, substation: int) -> Place:
+        station = self.gic.substations[substation]
+        return station.latitude, station.longitude
+
+    def tell_of_autos(self) -> None:
+        autos = []
+        for row in self.case.lists["transformer"]:
+            numbers = [row.value(key) for key in ("high_volts", "low_volts", "series_resistance", "common_resistance")]
+            high, low, series, common = (Number(value) if isinstance(value, int) else Number(0) for value in numbers)
+            autos += [Auto(row.name, high, low, series, common)] if series and common else []
+        words = turned_words(autos)
+        if words is not None:
+            self.notes.append(Finding(self.gic.file, f"{words}; look at WRI and WRJ, and at the order of the buses"))
 
     def records_used(self) -> None:
         """A row of the table of lines that is of no branch is a finding, since it was meant for one. A row of the table

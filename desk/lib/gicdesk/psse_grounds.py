@@ -2,12 +2,13 @@
 
 import dataclasses
 import decimal
+import re
 
 from .findings import Finding, Refused
 from .psse_gic import Substation
 from .quantities import GROUND_OHM, Number, bare
 
-SENTINEL = 99  # ohm: to some programs, no ground
+SENTINEL = re.compile("99+")  # ohm: to some programs no ground
 
 
 @dataclasses.dataclass(frozen=True)
@@ -37,7 +38,7 @@ class Grounds:
             ways = "write its ohm, or give --ungrounded=0 where it has no ground"
             substation.record.wrong("RG", f"it is 0, which programs take in different ways; {ways}")
             return None
-        elif given >= SENTINEL:
+        elif SENTINEL.fullmatch(f"{given.normalize():f}"):
             tell(f"RG is {given:f} ohm; to some programs that is no ground: then give --ungrounded={given:f}")
         return given
 

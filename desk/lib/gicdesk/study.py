@@ -35,6 +35,7 @@ from .reports import (
 from .reports import Study as StormReport
 from .spans import Compared, compared
 from .storms import Seconds, StormStep, SwitchingRow, seconds_above, storm_steps, switching_rows
+from .storm_notes import factor_notes, field_notes, switching_notes, zone_notes
 from .together import together
 
 Kind = TypeVar("Kind")
@@ -192,6 +193,17 @@ class Study:
             for question in asked
         ]
         return [misfit.text for misfit in self.compared.misfits] + reviewed
+
+    @property
+    def notes(self) -> list[str]:
+        """What of the storm and of the factors is lawful, and mostly not meant."""
+        notes = [] if self.losses is None else factor_notes(self.losses.factors)
+        if self.storm is not None:
+            data = next((given.data for given in self.inputs if given.role == "storm"), b"time,north,east\n")
+            zones = [] if self.network is None else self.network.zones
+            notes += zone_notes(data, zones, len(self.storm.steps)) + field_notes(self.storm.steps)
+            notes += switching_notes(self.switchings, self.storm.steps)
+        return notes
 
     @property
     def has_storm_report(self) -> bool:
@@ -559,6 +571,7 @@ def study_text(study: Study, page: str) -> str:
     lines = [f"question: {question}" for question in questions[:SHOWN]]
     if len(questions) > SHOWN:
         lines.append(f"and {plural(len(questions) - SHOWN, 'question')} more")
+    lines += [f"note: {note}" for note in study.notes]
     lines.append(f"{len(study.assessed)} of {plural(len(study.units), 'unit')} must be assessed by the benchmark event")
     whole = [unit.name for unit in study.assessed if unit.benchmark.verdict in MUST]
     without = [unit.name for unit in study.assessed if unit.benchmark.verdict not in MUST]

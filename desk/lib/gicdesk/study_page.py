@@ -215,6 +215,7 @@ def answer_section(study: Study) -> Markup:
     questions = plural(len(study.questions), "question")
     if study.questions:
         notes.append(tag("p", f"All of it is said of the case as it is written; {questions} of the review stand above."))
+    notes += [tag("p", note) for note in study.notes]
     note = (
         "Beside each name stands the high end of its worst current, in amperes a phase, as the program printed it. What "
         "below doesn't say stands in README.md of the program."

@@ -5,11 +5,13 @@ Alpha is chosen once for all zones: by the formula, by the program's table, or a
 
 import dataclasses
 import decimal
+from collections.abc import Mapping
 from fractions import Fraction
 from typing import Protocol
 
 from .alpha import Scale, by_formula, by_table, scale_for
 from .cases import Field, Row
+from .earths import beta_words
 from .findings import Finding, Refused
 from .quantities import ALPHA, BETA, GEOMAGNETIC, Number, bare, number_in, whole
 from .records import Record
@@ -29,6 +31,7 @@ class Ask(Protocol):
 class Zone:
     row: Row
     scale: Scale
+    at: Record
 
 
 def read_alpha(word: str) -> Fraction | None:
@@ -45,12 +48,16 @@ def read_alpha(word: str) -> Fraction | None:
     return Fraction(number)
 
 
-def zone_of_row(at: Record, alpha: str, ask: Ask) -> Zone | None:
-    """The zone of a row, by the word of --alpha; None where its numbers are none, which is a finding."""
+def zone_of_row(at: Record, alpha: str, ask: Ask, models: Mapping[str, Number]) -> Zone | None:
+    """The zone of a row, by the word of --alpha and the betas of earth models; None where its numbers are none, which is a
+    finding."""
     latitude, beta = number_in(at, "geomagnetic_latitude", GEOMAGNETIC), number_in(at, "beta", BETA)
     own = number_in(at, "alpha", ALPHA) if at.text("alpha") else None
     if latitude is None or beta is None:
         return None
+    words = beta_words(at, beta, models)
+    if words is not None:
+        ask(f"beta:{at.text('name')}", at, "beta", words, "write the beta of its model")
     if own is not None:
         return zone_by(at, latitude, Fraction(own), "as given", beta)
     if alpha == TABLE:
@@ -92,4 +99,4 @@ def zone_by_table(at: Record, latitude: Number, beta: Number, ask: Ask) -> Zone:
 def zone(at: Record, scale: Scale, latitude: str, beta: str) -> Zone:
     """The row of the case, with what is said of its latitude and its beta."""
     fields = [Field("latitude", scale.latitude, latitude), Field("beta", scale.beta, beta)]
-    return Zone(Row(at.text("name"), fields, at.text("note")), scale)
+    return Zone(Row(at.text("name"), fields, at.text("note")), scale, at)

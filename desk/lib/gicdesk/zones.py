@@ -2,12 +2,15 @@
 
 import dataclasses
 import decimal
+from collections.abc import Mapping
 from fractions import Fraction
 
 from .borders import Borders
+from .earths import read_models
 from .findings import Finding, shown
 from .forms import NAME
 from .polygons import read_polygons
+from .quantities import Number
 from .records import Record, read_table
 from .zone_scales import Zone, zone_of_row
 
@@ -35,6 +38,7 @@ class ZoneFiles:
     substations: str | None = None
     polygons: str | None = None
     lines: str | None = None
+    models: str | None = None
 
 
 @dataclasses.dataclass(frozen=True)
@@ -61,7 +65,9 @@ def whole_in(at: Record, column: str, scale: int, least: str, most: str, unit: s
     return int(number * scale)
 
 
-def read_zones(file: str, alpha: str, findings: list[Finding], notes: list[Finding]) -> list[Zone]:
+def read_zones(
+    file: str, alpha: str, models: Mapping[str, Number], findings: list[Finding], notes: list[Finding]
+) -> list[Zone]:
     """The zones of a table, each once. What the table of alpha makes too small is told."""
 
     def tell(name: str, at: Record, column: str, words: str, ways: str) -> None:
@@ -69,14 +75,14 @@ def read_zones(file: str, alpha: str, findings: list[Finding], notes: list[Findi
 
     names: set[str] = set()
     zones: list[Zone] = []
-    for at in read_table(file, ZONES, findings, ("alpha", "note")):
+    for at in read_table(file, ZONES, findings, ("alpha", "earth_model", "note")):
         name = at.text("name")
         if not NAME.fullmatch(name):
             at.wrong("name", f"{shown(name)} is no name of a case; allowed are 1 to 32 letters, digits and _ - .")
         elif name in names:
             at.wrong("name", f"{name} stands in the table already; leave one of the two")
         names.add(name)
-        made = zone_of_row(at, alpha, tell)
+        made = zone_of_row(at, alpha, tell, models)
         zones += [] if made is None else [made]
     if not names:
         findings.append(Finding(file, "it has no zone; write a row for each", 1))
@@ -124,7 +130,8 @@ def read_of_lines(file: str, names: set[str], findings: list[Finding]) -> dict[t
 
 
 def read_all(files: ZoneFiles, alpha: str, findings: list[Finding], notes: list[Finding]) -> Zones:
-    zones = read_zones(files.zones, alpha, findings, notes)
+    models = {} if files.models is None else read_models(files.models, findings)
+    zones = read_zones(files.zones, alpha, models, findings, notes)
     names = {zone.row.name for zone in zones}
     return Zones(
         zones,
