@@ -622,6 +622,19 @@ class Refusals(PsseTest):
         words = "the branch 1-4 '1' crosses borders: north to 55.6 km, south to 111.2 km; it has 2 parts"
         self.assertIn(f"net.raw line 18: {words}", [line.replace(f"{self.folder}/", "") for line in self.shown])
 
+    @unittest.skipUnless(BUILT.is_file(), "no program is built")
+    def test_the_voltage_of_a_line_over_a_border(self) -> None:
+        """In 8 V/km to the north: its metres in each zone times alpha times beta there, by the table 1.0 at 60 degrees and 0.3
+        at 50. In one zone alone it was another."""
+        self.case(self.border_words(), 3)
+        words = [str(BUILT), "volts", f"--case={self.out}", "--north=8000"]
+        printed = subprocess.run(words, capture_output=True, text=True, check=True).stdout.splitlines()
+        nanovolts = -8000 * (55610 * 10 * 81 + 55611 * 3 * 81)
+        self.assertIn(f"line L1-4-1 {nanovolts}", printed)
+        self.case([*self.border_words("4,1,1,south,,\n"), "--force"])
+        printed = subprocess.run(words, capture_output=True, text=True, check=True).stdout.splitlines()
+        self.assertIn(f"line L1-4-1 {-8000 * 111221 * 3 * 81}", printed)
+
     def test_a_line_over_a_border_that_is_written_in_one_zone_is_told(self) -> None:
         case = self.case(self.border_words("4,1,1,south,,\n1,7,1,south,,\n"))
         self.assertEqual([case["line"][name]["zone"] for name in ("L1-4-1", "L1-7-1")], ["south", "south"])

@@ -9,7 +9,7 @@ import sys
 from collections.abc import Iterator, Sequence
 from typing import Any
 
-from . import case, case_tables, compare, layouts, outages, psse, psse_units, reports, zones
+from . import case, case_tables, compare, layouts, losses, outages, psse, psse_units, reports, zones
 from .findings import Refused, refuse, visible
 from .inputs import Copies, copied
 from .outputs import Set, files_set, folder_set, study_set
@@ -125,6 +125,35 @@ def run_study(options: argparse.Namespace) -> None:
     show(study_text(made, page_of(options.out)))
 
 
+def run_losses(options: argparse.Namespace) -> None:
+    roles = ("case", "storm", "switch", "factors", "names")
+    names = losses.file_names(options.storm is not None, options.names is not None)
+    given = {name: getattr(options, name) for name in ("storm", "switch", "factors", "width")}
+    with (
+        folder_set(options.out, names, options.force, read_names(options, roles)) as out,
+        program_and_copies(options, roles) as (program, copies),
+    ):
+        found = losses.make_losses(Request(program, copies, options.case, **given), options.names, options.event)
+        out.publish(losses.files_of(found, options.comma))
+    show(losses.report_text(found, visible(options.out)))
+
+
+def add_losses(commands: Any) -> None:
+    words = commands.add_parser("losses", help="losses by unit, bus and direction, and as loads for a power flow")
+    words.add_argument("case", metavar="CASE", help="the file of the case")
+    words.add_argument("--factors", metavar="FILE", required=True, help="a table transformer,mvar_per_ampere,at_kv")
+    words.add_argument("--names", metavar="FILE", help="the table of names that psse has written, for loads of a .raw")
+    words.add_argument("--storm", metavar="FILE", help="a storm, for losses by step")
+    words.add_argument("--switch", metavar="FILE", help="switchings: by their times in a storm; else in force")
+    words.add_argument("--event", metavar="WORD", help="benchmark or supplemental, as screen takes it")
+    words.add_argument("--width", metavar="NUMBER", help="how wide an interval may be, in mA")
+    words.add_argument("--program", metavar="FILE", help="the built program, in place of the one of this repository")
+    words.add_argument("--out", metavar="FOLDER", required=True, help="a new folder for the tables")
+    add_comma(words)
+    words.add_argument("--force", action="store_true", help="replace these tables in a folder that is there already")
+    words.set_defaults(run=run_losses)
+
+
 def add_study(commands: Any) -> None:
     words = commands.add_parser("study", help="the whole study of a case: every report, each as a table, and one page")
     words.add_argument("case", metavar="CASE", help="the file of the case")
@@ -213,6 +242,7 @@ def command_words() -> argparse.ArgumentParser:
     three.set_defaults(run=run_outages)
 
     add_study(commands)
+    add_losses(commands)
 
     four = commands.add_parser("psse", help="a case from the files .raw and .gic of a power-flow program")
     four.add_argument("raw", metavar="NET.raw", help="the power flow: buses, branches, transformers, fixed shunts")
