@@ -84,10 +84,11 @@ def effective_currents(case: Case, scale: Callable[[str], float], field: float =
     for row in case["transformer"]:
         windings[row["name"]] = unit_windings(network, row)
     currents = network.currents()
-    return {
-        name: tuple(sum(currents[link][side] * share / 3 for link, share in links) for side in (0, 1))
-        for name, links in windings.items()
-    }
+
+    def effective(links: list[tuple[int, float]], side: int) -> float:
+        return sum((currents[link][side] * share / 3 for link, share in links), 0.0)
+
+    return {name: (effective(links, 0), effective(links, 1)) for name, links in windings.items()}
 
 
 def unit_windings(network: Network, row: dict[str, Any]) -> list[tuple[int, float]]:

@@ -25,11 +25,12 @@ class Stream(io.TextIOWrapper):
     """A stream in memory, as the system's are."""
 
     def __init__(self, errors: str = "strict") -> None:
-        super().__init__(io.BytesIO(), encoding="utf-8", errors=errors, write_through=True)
+        self.written = io.BytesIO()
+        super().__init__(self.written, encoding="utf-8", errors=errors, write_through=True)
 
     def text(self) -> str:
         self.flush()
-        return self.buffer.getvalue().decode()
+        return self.written.getvalue().decode()
 
 
 def desk(*words: object, stdin: bytes = b"") -> tuple[int, str, str]:

@@ -11,6 +11,7 @@ from fractions import Fraction
 import plain
 from shared import BUILT, EXAMPLES, DeskTest
 from test_case import POLYGONS, CaseTest
+from test_psse import GIC, RAW
 
 from gicdesk.alpha import by_formula, by_table, scale_for
 
@@ -56,7 +57,7 @@ class Written(CaseTest):
         """Alpha times beta times the span of a line as it is in the case, over its span by the coordinates."""
         made = self.made(*words)
         scale = written({"zone": list(made["zone"].values())})
-        return scale(zone) * made["line"][line]["north"] / self.SPANS[line]
+        return float(scale(zone) * made["line"][line]["north"] / self.SPANS[line])
 
     def test_by_the_table(self) -> None:
         zones = self.made()["zone"]
@@ -69,7 +70,7 @@ class Written(CaseTest):
 
     def test_with_more_decimals_than_a_case_has(self) -> None:
         self.change("zones", "57.30,0.85", "49.8123,0.80733")
-        product = self.product("upland", "N-S", "--alpha=formula")
+        product = self.product("upland", "N-S", "--alpha=formula", "--accept=latitude")
         self.assertAlmostEqual(product / (formula(49.8123) * 0.80733), 1, delta=PART)
 
     def test_a_number_for_all_zones_and_one_of_a_zone(self) -> None:
@@ -95,6 +96,38 @@ class Written(CaseTest):
             "lines.csv line 2: its span times 1.700000 is above 1000 km; cut it in two, with a substation without a "
             "ground between them",
         )
+
+
+class Default(CaseTest):
+    """What both commands take where nothing is said: the formula of the standard, min(1, max(0.1, 0.001 e^(0.115 L)))."""
+
+    def test_of_tables(self) -> None:
+        given = [word for word in self.words() if word != "--alpha=table"]
+        self.done(*given)
+        case = tomllib.loads(self.out.read_text())
+        line = next(line for line in case["line"] if line["name"] == "N-S")
+        product = written(case)("upland") * line["north"] / -111221
+        self.assertAlmostEqual(product / (formula(57.3) * 0.85), 1, delta=PART)
+
+    def test_of_a_power_flow(self) -> None:
+        """57.3 degrees are 0.7274 by the formula and 0.8 by the program's table; three decimals of beta do too."""
+        ways: list[tuple[list[str], float]] = [([], formula(57.3)), (["--alpha=formula"], formula(57.3)), (["--alpha=0.5"], 0.5)]
+        for way, alpha in ways:
+            files = [self.file("net.raw", RAW), self.file("net.gic", GIC)]
+            zones = self.file("zones.csv", "name,geomagnetic_latitude,beta\nall,57.30,0.855\n")
+            self.done("psse", *files, f"--zones={zones}", "--beyond=leave", f"--out={self.out}", "--force", *way)
+            case = tomllib.loads(self.out.read_text())
+            line = next(line for line in case["line"] if line["name"] == "L1-4-1")
+            product = written(case)("all") * line["north"] / -111221
+            self.assertAlmostEqual(product / (alpha * 0.855), 1, delta=PART, msg=way)
+
+    def test_a_table_that_makes_currents_too_small_is_told_of_a_power_flow(self) -> None:
+        zones = self.file("zones.csv", "name,geomagnetic_latitude,beta\nall,49.80,0.85\n")
+        files = [self.file("net.raw", RAW), self.file("net.gic", GIC), f"--zones={zones}"]
+        out = self.done("psse", *files, "--beyond=leave", f"--out={self.out}", "--alpha=table").splitlines()
+        words = "alpha is 0.3 by the program's table, and 0.3070 by the formula; currents come out too small"
+        ways = "choose --alpha=formula, or write a column alpha"
+        self.assertEqual(out[0], f"{zones} line 2, geomagnetic_latitude: {words}; {ways}")
 
 
 class Parts(CaseTest):

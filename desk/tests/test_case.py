@@ -4,6 +4,7 @@ import decimal
 import shutil
 import tomllib
 import unittest
+from typing import Any
 from unittest import mock
 
 from shared import EXAMPLES, TOP, DeskTest, desk
@@ -12,6 +13,7 @@ from small import TABLES
 from gicdesk import cases
 from gicdesk.usual import GROUNDS, LINES, REACTORS, WINDINGS, usual_at
 
+Made = dict[str, dict[str, dict[str, Any]]]  # the rows of a case by their lists and their names
 LISTS = ("zone", "substation", "bus", "line", "transformer")
 POLYGONS = "zone,latitude,longitude\n" + "".join(
     f"{zone},{corner}\n"
@@ -41,9 +43,9 @@ class CaseTest(DeskTest):
         tables.mkdir(exist_ok=True)
         for name, text in self.texts.items():
             (tables / f"{name}.csv").write_bytes(text.encode())
-        return ["case", tables, f"--out={self.out}", *words]
+        return ["case", tables, f"--out={self.out}", "--alpha=table", *words]
 
-    def made(self, *words: object) -> dict[str, dict[str, dict]]:
+    def made(self, *words: object) -> Made:
         """The lists of the case that is made, each row by its name; what is told is kept without the folder."""
         told = self.done(*self.words("--force", *words)).replace(f"{self.folder}/", "").splitlines()
         self.assertEqual(told.pop(), "case.toml is made")
@@ -61,7 +63,7 @@ class CaseTest(DeskTest):
 class Region(DeskTest):
     def test_the_region_byte_for_byte_without_a_finding(self) -> None:
         out = self.folder / "region.toml"
-        self.assertEqual(self.done("case", EXAMPLES / "tables", f"--out={out}"), f"{out} is made\n")
+        self.assertEqual(self.done("case", EXAMPLES / "tables", "--alpha=table", f"--out={out}"), f"{out} is made\n")
         self.assertEqual(out.read_bytes(), (EXAMPLES / "region.toml").read_bytes())
 
     def test_tables_as_a_spreadsheet_of_decimal_commas_writes_them(self) -> None:
@@ -79,7 +81,7 @@ class Region(DeskTest):
             text = "\r\n".join([*rows, ";" * width, ";" * width, ""])
             path.write_bytes(b"\xef\xbb\xbf" + text.encode())
         (tables / "buses.csv").write_bytes((EXAMPLES / "tables" / "buses.csv").read_bytes().replace(b",", b";"))
-        self.done("case", tables, f"--out={out}")
+        self.done("case", tables, "--alpha=table", f"--out={out}")
         here, there = tomllib.loads(out.read_text()), tomllib.loads((EXAMPLES / "region.toml").read_text())
         self.assertEqual(here, there)
 
@@ -87,7 +89,7 @@ class Region(DeskTest):
 class Numbers(CaseTest):
     def micro_ohm(self, text: str) -> int:
         self.change("lines", "upland,3.25,", f"upland,{text},")
-        return self.made()["line"]["N-S"]["resistance"]
+        return int(self.made()["line"]["N-S"]["resistance"])
 
     def test_as_spreadsheets_write_them(self) -> None:
         for text, micro_ohm in (
@@ -255,6 +257,23 @@ class Rows(CaseTest):
         words += "; it can't be written: leave one of them out"
         self.assertEqual(self.findings(), [f"transformers.csv line 2, vector_group: {words}"])
 
+    def test_two_wyes_that_join_transmission_voltages(self) -> None:
+        """Of 500 and 230 kV; at 345 and 138 kV, as T2 is, nothing is asked."""
+        self.change("buses", "S345,South,345", "S345,South,500")
+        self.change("buses", "S138,South,138", "S138,South,230")
+        self.change("buses", "N345,North,345", "N345,North,500")
+        self.change("buses", "N138,North,138", "N138,North,230")
+        self.change("buses", "E345,East,345", "E345,East,500")
+        self.change("transformers", "345,138,0.42", "500,230,0.42")
+        self.change("transformers", "345,138,,,0.24", "500,230,,,0.24")
+        self.change("transformers", "S345,,362", "S345,,512")
+        self.change("transformers", "S138,,138", "S138,,230")
+        (line,) = self.findings()
+        words = "transformers.csv line 3, kind: two earthed wyes of 500 and 230 kV: a unit that joins two voltages above 200 kV is"
+        self.assertTrue(line.startswith(words), line)
+        self.assertTrue(line.endswith("or give --accept=vector:T2"), line)
+        self.assertEqual(self.made("--accept=vector:T2")["transformer"]["T2"]["low_volts"], 230000)
+
     def test_a_wye_that_is_earthed_on_the_low_side(self) -> None:
         self.change("transformers", "T3,delta-wye,S345,,362", "T3,delta-wye,S138,,138")
         self.change("transformers", "YNd1", "Dyn1")
@@ -276,7 +295,10 @@ class Zones(CaseTest):
 
     def test_a_line_across_a_border_is_in_parts_and_told(self) -> None:
         made = self.made()
-        self.assertEqual(self.told, [self.TOLD])
+        # The line `low` has the zone coast in its cell, and goes the same way.
+        crosses = "by the polygons the line crosses borders: upland to 44.5 km, coast to 111.2 km; all of it is in coast here"
+        told = f"lines.csv line 5, zone: it is coast, and {crosses}: leave the cell empty for parts"
+        self.assertEqual(self.told, [self.TOLD, told])
         line = made["line"]["N-S"]
         self.assertEqual((line["from"], line["to"], line["resistance"]), ("N345", "S345", 3250000))
         self.assertEqual(
@@ -391,7 +413,8 @@ class Accepting(CaseTest):
         (line,) = self.findings("--accept=windings:T1")
         self.assertEqual(
             line,
-            "--accept=windings:T1: no finding has this name; allowed are alpha, ground, line, winding, neutral, volts, "
+            "--accept=windings:T1: no finding has this name; allowed are alpha, latitude, beta, ground, line, winding, "
+            "turned, neutral, volts, "
             "vector, span, zone, unused, or one of them with a colon and the name of a row",
         )
 

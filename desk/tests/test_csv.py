@@ -340,7 +340,7 @@ class Output(DeskTest):
 
     def test_an_output_that_is_full_is_told_once(self) -> None:
         with open("/dev/full", "wb") as full:
-            words = [sys.executable, "-B", TOP / "desk" / "gicdesk", "csv", self.file("report.txt", SCREEN)]
+            words = [sys.executable, "-B", str(TOP / "desk" / "gicdesk"), "csv", str(self.file("report.txt", SCREEN))]
             ran = subprocess.run(words, stdout=full, stderr=subprocess.PIPE, stdin=subprocess.DEVNULL)
         line = b"gicdesk: the output: it can't be written (No space left on device); see where the output goes\n"
         self.assertEqual((ran.returncode, ran.stderr), (1, line))

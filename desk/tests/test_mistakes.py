@@ -282,6 +282,9 @@ CASE = (
         "zones.csv line 2, geomagnetic_latitude: alpha is 0.3 by the program's table, and 0.3070 by the "
         "formula; currents come out too small; choose --alpha=formula, or write a column alpha, or give "
         "--accept=alpha:upland",
+        "zones.csv line 2, geomagnetic_latitude: it is 49.8, and the stations of the zone lie at 57.0 to 58.0 degrees as seen "
+        "from the pole of the earth's dipole; their geographic latitude is 49.0 to 50.0: is it that one; look up the "
+        "geomagnetic one of the year, or give --accept=latitude:upland",
     ),
     Mistake(
         "a kind in capitals", "transformers", "T1,auto", "T1,Auto",
@@ -425,8 +428,8 @@ PSSE = (
         "most lines of 345 kV have",
     ),
     Mistake(
-        "a quote without an end", "raw", "4,5,'1 ',0.0001", "4,5,'1 ','0.0001",
-        "net.raw line 20: \"4,5,'1 ','0.0001,0.001,0.0,0,0,0,0,0,0,0,1,1,0\" has no fields that can be read; "
+        "a quote without an end", "raw", "4,5,'1 ',0.00008", "4,5,'1 ','0.00008",
+        "net.raw line 20: \"4,5,'1 ','0.00008,0.001,0.0,0,0,0,0,0,0,0,1,1,0\" has no fields that can be read; "
         "look at its quotes, two for each string",
     ),
     Mistake(
@@ -451,7 +454,8 @@ PSSE = (
     ),
     Mistake(
         "a ground of 0", "gic", "50.0,-100.0,0.2", "50.0,-100.0,0",
-        "net.gic line 2, RG: it is 0 ohm, and not 0.001 to 1000; write ohm, or nothing where it has no ground",
+        "net.gic line 2, RG: it is 0, which programs take in different ways; write its ohm, or give --ungrounded=0 where "
+        "it has no ground",
     ),
     Mistake(
         "a substation that isn't there", "gic", "4,2\n", "4,9\n",
@@ -468,7 +472,8 @@ PSSE = (
     ),
     Mistake(
         "a winding of 0", "gic", "0.2,0.1,0.05", "0,0.1,0.05",
-        "net.gic line 15, WRI: it is 0 ohm, and not 0.001 to 1000; write ohm a phase",
+        "net.gic line 15, WRI: it is 0, which means: take it from the power flow; --windings=half takes half of R1-2 for "
+        "each winding, or write ohm a phase",
     ),
     Mistake(
         "a winding in per unit", "gic", "0.2,0.1,0.05", "2e-4,0.1,0.05",
@@ -514,7 +519,7 @@ PSSE = (
     ),
     Mistake(
         "a beta in hundredths", "zones", "60,0.81", "60,81",
-        "zones.csv line 2, beta: it is 81, and not 0.01 to 1.5 as a factor",
+        "zones.csv line 2, beta: it is 81, and not 0.01 to 1.5 as a factor; is it in hundredths?",
     ),
 )
 # The first two lines of the sample screen are those of its head, and the third is that of HF-G1.
@@ -591,7 +596,7 @@ class Case(DeskTest):
     def run_case(self, texts: dict[str, str]) -> tuple[int, list[str]]:
         for name, text in texts.items():
             self.file(f"{name}.csv", text)
-        status, out, err = desk("case", self.folder, f"--out={self.folder / 'case.toml'}", "--force")
+        status, out, err = desk("case", self.folder, f"--out={self.folder / 'case.toml'}", "--force", "--alpha=table")
         return status, plain(out + err, f"{self.folder}/")
 
     def test_mistakes_in_tables(self) -> None:

@@ -422,8 +422,8 @@ class OverTheProgram(DeskTest):
         ends = [(row["event"], row["outcome"]) for row in tables["events"][1:]]
         outages = [words for words in lines if len(words) > 1 and words[0] == "outage"]
         self.assertEqual(ends, [(words[1], "idle" if words[2] == "idle" else "solved") for words in outages])
-        ends = ("worst_low_A_per_phase", "worst_high_A_per_phase")
-        worst = [(row["transformer"], *(row[end].replace(".", "") for end in ends)) for row in tables["units"]]
+        heads = ("worst_low_A_per_phase", "worst_high_A_per_phase")
+        worst = [(row["transformer"], *(row[head].replace(".", "") for head in heads)) for row in tables["units"]]
         self.assertEqual(worst, [(words[1], *words[3:5]) for words in lines if words[0] == "transformer"])
 
     def test_outages_of_the_region(self) -> None:

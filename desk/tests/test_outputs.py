@@ -112,7 +112,7 @@ class Single(DeskTest):
         self.assertEqual(left(other), ["mine"])
 
     def test_of_two_runs_at_once_one_is_done(self) -> None:
-        words = [sys.executable, "-B", DESK, *self.words()]
+        words = [sys.executable, "-B", str(DESK), *map(str, self.words())]
         runs = [subprocess.Popen(words, stdout=subprocess.DEVNULL, stderr=subprocess.PIPE, text=True) for _ in range(4)]
         told = [run.communicate(timeout=LONG)[1] for run in runs]
         self.assertEqual(sorted(run.returncode for run in runs), [0, 1, 1, 1], told)
@@ -144,7 +144,7 @@ class Single(DeskTest):
 
     def test_a_signal_ends_the_wait_for_another_command(self) -> None:
         with self.another_at_work():
-            words = [sys.executable, "-B", DESK, *map(str, self.words())]
+            words = [sys.executable, "-B", str(DESK), *map(str, self.words())]
             waiting = subprocess.Popen(words, stderr=subprocess.PIPE, text=True)
             time.sleep(1)
             self.assertIsNone(waiting.poll())
@@ -553,7 +553,7 @@ class Tables(OutagesTest):
         limit += "resource.setrlimit(resource.RLIMIT_FSIZE, (8192, 8192)); sys.argv = sys.argv[1:]; "
         limit += "import os; os.execv(sys.argv[0], sys.argv)"
         self.assertGreater(max(map(len, before.values())), 8192)
-        words = [sys.executable, "-c", limit, sys.executable, "-B", DESK, *map(str, self.run_words("--force"))]
+        words = [sys.executable, "-c", limit, sys.executable, "-B", str(DESK), *map(str, self.run_words("--force"))]
         ran = subprocess.run(words, capture_output=True, text=True, timeout=LONG)
         self.assertEqual((ran.returncode, ran.stdout), (1, ""))
         self.assertIn("it can't be written (File too large); nothing of it was", ran.stderr)
@@ -615,7 +615,7 @@ class Whole(StudyTest):
     def test_a_folder_of_somebody_else_with_its_own_sums_is_kept(self) -> None:
         self.out.mkdir()
         (self.out / "thesis.tex").write_text("years of work")
-        (self.out / "checksums.txt").write_text(f"{earlier.sum_of(b'years of work')}  thesis.tex\n")
+        (self.out / "checksums.txt").write_text(f"{earlier.digest_of(b'years of work')}  thesis.tex\n")
         (line,) = self.force()
         other = "choose another name"
         told = "so it is no earlier study, or one of an earlier desk, and --force doesn't replace it"

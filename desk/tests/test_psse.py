@@ -7,15 +7,20 @@ import pathlib
 import subprocess
 import tomllib
 import unittest
+from collections.abc import Callable
+from fractions import Fraction
 from unittest import mock
 
 import make_pair
 from shared import BUILT, EXAMPLES, REPORTS, TESTS, DeskTest
 
-from gicdesk import cases
+from gicdesk import cases, factors
+from gicdesk.findings import Finding
+from gicdesk.network import read_degrees
+from gicdesk.places import Point
 from gicdesk.polygons import Polygon
 from gicdesk.psse_text import fields_of
-from gicdesk.psse_units import letters_of
+from gicdesk.vectors import letters_of
 
 PAIR = TESTS / "pair"
 LISTS = ("zone", "substation", "bus", "line", "transformer")
@@ -40,7 +45,7 @@ second title
 0 / END OF GENERATOR DATA, BEGIN BRANCH DATA
 1,4,'1 ',0.0025,0.03,0.1,0,0,0,0,0,0,0,1,1,0
 1,-7,'1 ',0.0025,0.03,0.1,0,0,0,0,0,0,0,1,1,0
-4,5,'1 ',0.0001,0.001,0.0,0,0,0,0,0,0,0,1,1,0
+4,5,'1 ',0.00008,0.001,0.0,0,0,0,0,0,0,0,1,1,0
 5,7,'1 ',0.0,-0.02,0.0,0,0,0,0,0,0,0,1,1,0
 5,7,'2 ',0.0025,0.03,0.0,0,0,0,0,0,0,0,0,1,0
 1,8,'1 ',0.0025,0.03,0.0,0,0,0,0,0,0,0,1,1,0
@@ -96,13 +101,14 @@ class PsseTest(DeskTest):
     def words(self, raw: str = RAW, gic: str = GIC, zones: str = ZONES) -> list[object]:
         self.raw, self.gic = self.file("net.raw", raw), self.file("net.gic", gic)
         self.out = self.folder / "case.toml"
-        return ["psse", self.raw, self.gic, f"--zones={self.file('zones.csv', zones)}", f"--out={self.out}"]
+        words = ["psse", self.raw, self.gic, f"--zones={self.file('zones.csv', zones)}", f"--out={self.out}"]
+        return [*words, "--alpha=table"]
 
-    def case(self, words: list[object]) -> dict[str, dict[str, dict[str, object]]]:
-        """The lists of the case that is made, each row by its name."""
+    def case(self, words: list[object], number: int = 2) -> dict[str, dict[str, dict[str, object]]]:
+        """The lists of the case that is made, which has this format at least, each row by its name."""
         self.shown = self.done(*words).splitlines()
         read = tomllib.loads(self.out.read_text())
-        self.assertEqual(read["format"], 3 if "--beyond=model" in words else 2)
+        self.assertEqual(read["format"], 3 if "--beyond=model" in words else number)
         return {name: {row["name"]: row for row in read[name]} for name in LISTS}
 
     def told(self, words: list[object], *expected: str) -> None:
@@ -115,7 +121,7 @@ class PsseTest(DeskTest):
 class Region(DeskTest):
     def pair_case(self, folder: pathlib.Path) -> pathlib.Path:
         out = self.folder / "region.toml"
-        files = [folder / "region.raw", folder / "region.gic", f"--zones={folder / 'zones.csv'}"]
+        files = [folder / "region.raw", folder / "region.gic", f"--zones={folder / 'zones.csv'}", "--alpha=table"]
         self.done("psse", *files, f"--lines={folder / 'lines.csv'}", f"--out={out}", "--force")
         return out
 
@@ -131,8 +137,13 @@ class Region(DeskTest):
             for row in csv.DictReader(file):
                 key = (row["numbers"], row["circuit"])
                 stations = {str(number): name for name, number in pair.substations.items()}
-                by_list = {"substation": stations.get(key[0]), "bus": buses.get(key[0]), "line": lines.get(key)}
-                names[row["name"]] = units[key] if row["list"] == "transformer" else by_list[row["list"]]
+                by_list: dict[str, Callable[[], str]] = {
+                    "substation": lambda: stations[key[0]],
+                    "bus": lambda: buses[key[0]],
+                    "line": lambda: lines[key],
+                    "transformer": lambda: units[key],
+                }
+                names[row["name"]] = by_list[row["list"]]()
         return names
 
     def test_the_pair_that_stands_here_is_the_one_that_is_made(self) -> None:
@@ -221,9 +232,9 @@ class Small(PsseTest):
             names,
             [
                 "net.gic line 4: EAST_STATION: RG is empty, which is taken as no ground; see whether the file means that, or "
-                "else write its ohm",
-                # 0.0001 per unit on 100 MVA at 345 kV are 0.119025 ohm.
-                "net.raw line 20: the branch 4-5 '1' of 0.119025 ohm ties two buses of one substation: they are one "
+                "else write its ohm, or give --blank-ground",
+                # 0.00008 per unit on 100 MVA at 345 kV are 0.09522 ohm.
+                "net.raw line 20: the branch 4-5 '1' of 0.095220 ohm ties two buses of one substation: they are one "
                 "bus, 4",
                 "net.raw line 22: the branch 5-7 '2' is out of service: it is left out",
                 "net.raw line 23: the branch 1-8 '1' is out of service: it is left out",
@@ -233,6 +244,8 @@ class Small(PsseTest):
                 "net.gic line 18: the reactor 7 '1' is left out",
                 "net.gic line 19: the reactor 7 '2' is out of service: it is left out",
                 "net.raw: 3 of 8 buses have no line and no grounded winding: they are left out",
+                "net.gic: 2 of 2 units have a KFACTOR, or a CORE with a published factor: --factors writes a table of them for "
+                "the losses of study",
                 "case.toml is made, and case.names.csv says what its names stand for",
             ],
         )
@@ -254,7 +267,7 @@ class Small(PsseTest):
     @unittest.skipUnless(BUILT.is_file(), "no program is built")
     def test_the_program_takes_the_case(self) -> None:
         self.case([*self.words(), "--beyond=model"])
-        words = [BUILT, "list", f"--case={self.out}"]
+        words = [str(BUILT), "list", f"--case={self.out}"]
         printed = subprocess.run(words, capture_output=True, text=True, check=True).stdout.splitlines()
         # Two grounds, two lines without the capacitor, two windings of the auto, three others, and a neutral resistor.
         self.assertEqual(printed[1], "nodes 9 elements 10")
@@ -278,20 +291,23 @@ class Small(PsseTest):
         words = [*self.words(gic=GIC), "--beyond=leave"]
         self.gic.write_bytes(GIC.replace("NORTH", "ZÜRICH").encode("latin-1"))
         self.assertIn("Z_RICH", self.case(words)["substation"])
-        self.assertIn("substation,Z_RICH,ZÜRICH,1,\n", self.out.with_suffix(".names.csv").read_text())
+        self.assertIn("substation,Z_RICH,ZÜRICH,1,,50.0,-100.0\n", self.out.with_suffix(".names.csv").read_text())
 
     def test_the_table_of_names(self) -> None:
         self.case([*self.words(), "--beyond=model"])
         with open(self.folder / "case.names.csv", newline="") as file:
             rows = [tuple(row.values()) for row in csv.DictReader(file)]
         for row in (
-            ("substation", "EAST_STATION", "EAST STATION", "3", ""),
-            ("line", "L1-7-1", "", "1 7", "1"),
-            ("transformer", "BANK", "BANK", "1 2 3", "1"),
-            ("transformer", "R7-1", "", "7", ""),
-            ("bus", "4_SOUTH_A", "SOUTH A", "4 5", ""),
+            ("substation", "EAST_STATION", "EAST STATION", "3", "", "50.0", "-99.0"),
+            ("line", "L1-7-1", "", "1 7", "1", "", ""),
+            ("transformer", "BANK", "BANK", "1 2 3", "1", "", ""),
+            ("transformer", "R7-1", "", "7", "", "", ""),
+            ("bus", "4_SOUTH_A", "SOUTH A", "4 5", "", "", ""),
         ):
             self.assertIn(row, rows)
+        # It serves as a table of places.
+        places = read_degrees(str(self.folder / "case.names.csv"), ["NORTH", "EAST_STATION"], [])
+        self.assertEqual(places, {"NORTH": (50.0, -100.0), "EAST_STATION": (50.0, -99.0)})
 
     def test_windings_that_are_out(self) -> None:
         bank = {"name": "BANK", "kind": "auto", "high_volts": 345000, "high": "1_NORTH_345", "low_volts": 138000}
@@ -459,10 +475,12 @@ class Refusals(PsseTest):
             f"net.raw line 18: {words} NORTH and SOUTH",
             f"net.raw line 21: {words} SOUTH and EAST STATION",
         )
-        ground = "it is 0 ohm, and not 0.001 to 1000; write ohm, or nothing where it has no ground"
+        half = "it is 0, which means: take it from the power flow; --windings=half takes half of R1-2 for each winding, or "
+        half += "write ohm a phase"
+        ground = "it is 0, which programs take in different ways; write its ohm, or give --ungrounded=0 where it has no ground"
         self.one("-100.0,0.2,''", "-100.0,0,''", f"net.gic line 2, RG: {ground}")
         self.one("3.25,0.0", "3250000,0.0", f"net.gic line 21, RBRN: it is 3250000 ohm, and not 0.001 to 1000; {write}")
-        self.one("'1 ',0.3,0.1", "'1 ',0.0,0.1", f"net.gic line 16, WRI: it is 0.0 ohm, and not 0.001 to 1000; {write}")
+        self.one("'1 ',0.3,0.1", "'1 ',0.0,0.1", f"net.gic line 16, WRI: {half}")
         allowed = "allowed are groups of YN, Y, D, Z and A, as YNd1, YNyn0 and YNa0d1"
         self.one("'YNd1'", "'wye'", f'net.gic line 16, VECGRP: "wye" is no vector group; {allowed}')
         words = "it is 2; allowed are 0, and 1 for a blocking device"
@@ -500,7 +518,7 @@ class Refusals(PsseTest):
             ".raw",
             "net.gic line 1: the first line isn't GICFILEVRSN=..; is it another file?",
             'zones.csv line 1: it has no column name, geomagnetic_latitude, and "zone" is none of its columns; allowed '
-            "are name,geomagnetic_latitude,beta, and note",
+            "are name,geomagnetic_latitude,beta, and alpha,note",
         )
         words = "the version is 23; 30 to 36 are read. Save it as one of these"
         self.told(self.words(raw=RAW.replace(" 33,", " 23,")), f"net.raw line 1, REV: {words}")
@@ -512,11 +530,15 @@ class Refusals(PsseTest):
         self.told(
             self.words(zones=f"{heads}a b,60,0.81\nnorth,6000,0.81\nnorth,57.123,1.6\n"),
             'zones.csv line 2, name: "a b" is no name of a case; allowed are 1 to 32 letters, digits and _ - .',
-            "zones.csv line 3, geomagnetic_latitude: it is 6000, and not 0 to 90 degrees",
+            "zones.csv line 3, geomagnetic_latitude: it is 6000, and not 0 to 90 degrees; is it in hundredths, or a southern "
+            "one with its sign?",
             "zones.csv line 4, name: north stands in the table already; leave one of the two",
-            "zones.csv line 4, geomagnetic_latitude: it is 57.123, which has more digits than a case tells: times 100 "
-            "it is whole",
-            "zones.csv line 4, beta: it is 1.6, and not 0.01 to 1.5 as a factor",
+            "zones.csv line 4, beta: it is 1.6, and not 0.01 to 1.5 as a factor; is it in hundredths?",
+        )
+        self.told(
+            self.words(zones=f"{heads}north,57.123,0.81\n"),
+            "zones.csv line 2, geomagnetic_latitude: it is 57.123, and a case has two decimals of it; round it the way that "
+            "you mean, or choose --alpha=formula or a number",
         )
         two = f"{heads}north,60,0.81\nsouth,50,0.81\n"
         words = [*self.words(zones=two), "--beyond=leave"]
@@ -530,14 +552,16 @@ class Refusals(PsseTest):
         stations = self.file("stations.csv", "substation,zone\n1,north\n2,south\n3,north\n22,south\n")
         self.told(
             [*words, f"--substations={stations}"],
-            "net.raw line 18: its ends are in north and in south; write its zone into the table of --lines",
-            "net.raw line 21: its ends are in south and in north; write its zone into the table of --lines",
+            "net.raw line 18: its ends are in north and in south; give --polygons, which cut it at the border, or write its zone into the table "
+            "of --lines",
+            "net.raw line 21: its ends are in south and in north; give --polygons, which cut it at the border, or write its zone into the table "
+            "of --lines",
         )
         heads = "bus_i,bus_j,circuit,zone,north_km,east_km\n"
         lines = self.file("lines.csv", f"{heads}4,1,1,north,,\n5,7,1,south,110.5,72\n")
         case = self.case([*words, f"--substations={stations}", f"--lines={lines}"])
-        words = "stations.csv line 5: there is no substation 22 in net.gic: this row is of none"
-        self.assertIn(words, [line.replace(f"{self.folder}/", "") for line in self.shown])
+        told = "stations.csv line 5: there is no substation 22 in net.gic: this row is of none"
+        self.assertIn(told, [line.replace(f"{self.folder}/", "") for line in self.shown])
         found = {name: (row["zone"], row["north"], row["east"]) for name, row in case["line"].items()}
         self.assertEqual(
             found,
@@ -555,7 +579,8 @@ class Refusals(PsseTest):
         case = self.case([*words, f"--polygons={polygons}", f"--lines={lines}"])
         found = {name: row["zone"] for name, row in case["line"].items()}
         self.assertEqual(found, {"L1-4-1": "south", "L1-7-1": "north", "L5-7-1": "north"})
-        self.out.unlink(), self.out.with_suffix(".names.csv").unlink()
+        for made in (self.out, self.out.with_suffix(".names.csv")):
+            made.unlink()
         self.told(
             [*words, f"--polygons={self.file('p.csv', heads + north)}"],
             "net.gic line 3: it lies at 49.0, -100.0, in no polygon; widen one, or look at its coordinates",
@@ -572,6 +597,59 @@ class Refusals(PsseTest):
             "net.gic line 2: it lies at 50.0, -100.0, in north and in south; let these polygons not overlap",
             "net.gic line 3: it lies at 49.0, -100.0, in no polygon; widen one, or look at its coordinates",
             "net.gic line 4: it lies at 50.0, -99.0, in north and in south; let these polygons not overlap",
+        )
+
+    NORTH = "north,49.5,-101\nnorth,51,-101\nnorth,51,-98\nnorth,49.5,-98\n"
+    SOUTH = "south,48,-101\nsouth,49.5,-101\nsouth,49.5,-98\nsouth,48,-98\n"
+    TWO = "name,geomagnetic_latitude,beta\nnorth,60,0.81\nsouth,50,0.81\n"
+
+    def border_words(self, lines: str = "") -> list[object]:
+        """The words with the parallel of 49.5 degrees as a border: half of the line from 1 to 4 lies on either side."""
+        polygons = self.file("polygons.csv", "zone,latitude,longitude\n" + self.NORTH + self.SOUTH)
+        table = self.file("lines.csv", "bus_i,bus_j,circuit,zone,north_km,east_km\n" + lines)
+        return [*self.words(zones=self.TWO), "--beyond=leave", f"--polygons={polygons}", f"--lines={table}"]
+
+    def test_a_line_over_a_border_is_in_parts_and_told(self) -> None:
+        case = self.case(self.border_words(), 3)
+        # 111221 m to the south, of which half lies on either side.
+        self.assertEqual(
+            case["line"]["L1-4-1"],
+            {"name": "L1-4-1", "from": "1_NORTH_345", "to": "4_SOUTH_A", "resistance": 3250000}
+            | {"part": [{"zone": "north", "north": -55610, "east": 0}, {"zone": "south", "north": -55611, "east": 0}]},
+        )
+        # A series capacitor has the zone where it begins, as in `case`.
+        self.assertEqual([case["line"][name]["zone"] for name in ("L1-7-1", "L5-7-1")], ["north", "south"])
+        words = "the branch 1-4 '1' crosses borders: north to 55.6 km, south to 111.2 km; it has 2 parts"
+        self.assertIn(f"net.raw line 18: {words}", [line.replace(f"{self.folder}/", "") for line in self.shown])
+
+    @unittest.skipUnless(BUILT.is_file(), "no program is built")
+    def test_the_voltage_of_a_line_over_a_border(self) -> None:
+        """In 8 V/km to the north: its metres in each zone times alpha times beta there, by the table 1.0 at 60 degrees and 0.3
+        at 50. In one zone alone it was another."""
+        self.case(self.border_words(), 3)
+        words = [str(BUILT), "volts", f"--case={self.out}", "--north=8000"]
+        printed = subprocess.run(words, capture_output=True, text=True, check=True).stdout.splitlines()
+        nanovolts = -8000 * (55610 * 10 * 81 + 55611 * 3 * 81)
+        self.assertIn(f"line L1-4-1 {nanovolts}", printed)
+        self.case([*self.border_words("4,1,1,south,,\n"), "--force"])
+        printed = subprocess.run(words, capture_output=True, text=True, check=True).stdout.splitlines()
+        self.assertIn(f"line L1-4-1 {-8000 * 111221 * 3 * 81}", printed)
+
+    def test_a_line_over_a_border_that_is_written_in_one_zone_is_told(self) -> None:
+        case = self.case(self.border_words("4,1,1,south,,\n1,7,1,south,,\n"))
+        self.assertEqual([case["line"][name]["zone"] for name in ("L1-4-1", "L1-7-1")], ["south", "south"])
+        told = [line.replace(f"{self.folder}/", "") for line in self.shown]
+        words = "it is south, and by the polygons the line lies in"
+        several = "several: north to 55.6 km, south to 111.2 km"
+        self.assertIn(f"lines.csv line 2, zone: {words} {several}; leave the cell empty for parts", told)
+        self.assertIn(f"lines.csv line 3, zone: {words} north; leave the cell empty", told)
+
+    def test_a_line_over_a_gap_between_polygons(self) -> None:
+        words = self.border_words()
+        self.file("polygons.csv", "zone,latitude,longitude\n" + self.NORTH + self.SOUTH.replace("49.5", "49.4"))
+        fault = "a part of the line lies in no polygon"
+        self.told(
+            words, f"net.raw line 18: {fault}; mend the polygons, or write its zone into the table of --lines"
         )
 
     def test_a_span_whose_sign_is_turned_and_a_line_that_is_none(self) -> None:
@@ -595,10 +673,237 @@ class Refusals(PsseTest):
             self.assertEqual(line, f"{out}: it is there already, and no plain file; choose another name")
 
 
+class Sections(PsseTest):
+    """The line from 1 to 4 in three sections, with the buses 11 and 12 between them, and branches within a station."""
+
+    RAW = (
+        RAW.replace("8,'APART    ',345.0,4\n", "8,'APART    ',345.0,4\n11,'DUM A',345.0,1\n12,'DUM B',345.0,1\n")
+        .replace(
+            "1,4,'1 ',0.0025,0.03,0.1,0,0,0,0,0,0,0,1,1,0\n",
+            "1,11,'1 ',0.0010,0.01,0.1,0,0,0,0,0,0,0,1,1,0\n11,12,'1 ',0.0020,0.01,0.1,0,0,0,0,0,0,0,1,1,0\n"
+            "4,-12,'1 ',0.0004,0.01,0.1,0,0,0,0,0,0,0,1,1,0\n",
+        )
+        .replace("AREA DATA\n", "AREA DATA\n0 / END OF AREA DATA, BEGIN MULTI-SECTION LINE DATA\n1,-4,'&1',2,11,12\n")
+    )
+    GIC = GIC.replace("1,4,'1 ',3.25,", "11,12,'1 ',1.5,")
+
+    def test_a_line_of_three_sections_is_one_line(self) -> None:
+        case = self.case([*self.words(self.RAW, self.GIC), "--beyond=leave"])
+        # 1.5 ohm by the .gic, and 0.0014 per unit on 100 MVA at 345 kV, which are 1.66635 ohm.
+        expected = {"name": "M1-4-1", "from": "1_NORTH_345", "to": "4_SOUTH_A", "zone": "all", "resistance": 3166350}
+        self.assertEqual(case["line"]["M1-4-1"], expected | {"north": -111221, "east": 0})
+        self.assertEqual(sorted(case["line"]), ["L1-7-1", "L5-7-1", "M1-4-1"])
+        told = "the line 1-4 '&1' has 3 sections: it is one line, and the buses 11, 12 between them are left out"
+        self.assertIn(f"net.raw line 44: {told}", [line.replace(f"{self.folder}/", "") for line in self.shown])
+        lines = self.file("lines.csv", "bus_i,bus_j,circuit,zone,north_km,east_km\n4,1,&1,,110.5,0.3\n")
+        case = self.case([*self.words(self.RAW, self.GIC), "--beyond=leave", f"--lines={lines}", "--force"])
+        self.assertEqual([case["line"]["M1-4-1"][way] for way in ("north", "east")], [-110500, -300])
+
+    def test_sections_at_stations_stay_lines(self) -> None:
+        gic = self.GIC.replace("8,3\n", "8,3\n11,3\n12,3\n")
+        case = self.case([*self.words(self.RAW, gic), "--beyond=leave"])
+        self.assertEqual(sorted(case["line"]), ["L1-11-1", "L1-7-1", "L11-12-1", "L4-12-1", "L5-7-1"])
+
+    def test_a_section_with_a_capacitor_blocks_the_line(self) -> None:
+        raw = self.RAW.replace("11,12,'1 ',0.0020,0.01", "11,12,'1 ',0.0,-0.01")
+        case = self.case([*self.words(raw, GIC.replace("1,4,'1 ',3.25,", "8,7,'1 ',1,")), "--beyond=leave"])
+        self.assertEqual(case["line"]["M1-4-1"]["blocked"], True)
+        words = "M1-4-1 has a section of a negative X, which is a series capacitor: it is blocked"
+        self.assertIn(f"net.raw line 44: {words}", [line.replace(f"{self.folder}/", "") for line in self.shown])
+
+    def test_a_section_that_is_out_or_missing(self) -> None:
+        raw = self.RAW.replace("11,12,'1 ',0.0020,0.01,0.1,0,0,0,0,0,0,0,1", "11,12,'1 ',0.0020,0.01,0.1,0,0,0,0,0,0,0,0")
+        case = self.case([*self.words(raw, self.GIC), "--beyond=leave"])
+        self.assertEqual(sorted(case["line"]), ["L1-7-1", "L5-7-1"])
+        for made in (self.out, self.out.with_suffix(".names.csv")):
+            made.unlink()
+        raw = self.RAW.replace("'&1',2,11,12", "'&1',2,12,11")
+        words = "which follow each other in this line; a section is one branch"
+        self.told(
+            [*self.words(raw, self.GIC), "--beyond=leave"],
+            f"net.raw line 44: there is no branch between the buses 1 and 12, {words}",
+            f"net.raw line 44: there is no branch between the buses 11 and 4, {words}",
+        )
+
+    def test_a_branch_of_a_resistance_within_a_station_is_a_line(self) -> None:
+        # 3.84 ohm on 100 MVA at 345 kV are 0.00322621 per unit.
+        raw = RAW.replace("4,5,'1 ',0.00008", "4,5,'1 ',0.00322621")
+        case = self.case([*self.words(raw), "--beyond=leave"])
+        line = case["line"]["L4-5-1"]
+        self.assertEqual((line["resistance"], line["north"], line["east"]), (3839996, 0, 0))
+        self.assertEqual({"4_SOUTH_A", "5_SOUTH_B"} - set(case["bus"]), set())
+        told = "the branch 4-5 '1' of 3.8399964525 ohm lies within one substation: it is kept as a line, which has no span; "
+        told += "if it leads to another one, mend the substation of a bus in net.gic"
+        self.assertIn(f"net.raw line 20: {told}", [line.replace(f"{self.folder}/", "") for line in self.shown])
+
+
+class Meant(PsseTest):
+    """What several programs take in different ways, and what only one of the two files says."""
+
+    def told_of(self, words: list[object]) -> list[str]:
+        self.made = self.case([*words, "--force"])
+        return [line.replace(f"{self.folder}/", "") for line in self.shown]
+
+    def test_grounds_that_are_empty_0_and_99(self) -> None:
+        words = [*self.words(), "--beyond=leave"]
+        told = self.told_of([*words, "--blank-ground=0.5"])
+        self.assertIn("net.gic line 4: EAST_STATION: RG is empty: 0.5 ohm are taken, by --blank-ground", told)
+        self.assertEqual(self.made["substation"]["EAST_STATION"]["ground"], 500000)
+        zero = [*self.words(gic=GIC.replace("-100.0,0.2,''", "-100.0,0,''")), "--beyond=leave"]
+        self.assertEqual(
+            [line.replace(f"{self.folder}/", "") for line in self.refused(*zero, "--force")],
+            [
+                "net.gic line 2, RG: it is 0, which programs take in different ways; write its ohm, or give --ungrounded=0 "
+                "where it has no ground"
+            ],
+        )
+        told = self.told_of([*zero, "--ungrounded=0"])
+        self.assertIn("net.gic line 2: NORTH: RG is 0: it has no ground, by --ungrounded", told)
+        self.assertEqual(self.made["substation"]["NORTH"], {"name": "NORTH"})
+        many = [*self.words(gic=GIC.replace("-100.0,0.2,''", "-100.0,99.0,''")), "--beyond=leave"]
+        way = "RG is 99.0 ohm; to some programs that is no ground: then give --ungrounded=99.0"
+        self.assertIn(f"net.gic line 2: NORTH: {way}", self.told_of(many))
+        self.assertEqual(self.made["substation"]["NORTH"]["ground"], 99000000)
+        self.assertIn("net.gic line 2: NORTH: RG is 99.0: it has no ground, by --ungrounded", self.told_of([*many, "--ungrounded=99"]))
+        self.assertEqual(self.made["substation"]["NORTH"], {"name": "NORTH"})
+
+    def test_words_that_are_no_grounds(self) -> None:
+        words = [*self.words(), "--beyond=leave"]
+        self.told(
+            [*words, "--blank-ground=none", "--ungrounded=x"],
+            "--blank-ground=none: allowed are numbers from 0.001 to 1000, in ohm",
+            "--ungrounded=x: allowed is a number, as 99: an RG that means no ground",
+        )
+
+    def test_windings_of_0_are_refused_or_have_half(self) -> None:
+        # The bank's R1-2 is 0.001 per unit on 100 MVA at 345 kV: 1.19025 ohm, half of it 0.595125. The common winding of an
+        # auto of 345/138 kV, which is n = 2.5, carries n - 1 times the current of the series one: 0.595125 / 2.25 = 0.2645.
+        gic = GIC.replace("'1 ',0.2,0.1,0.05", "'1 ',0,0,0.05").replace("'1 ',0.3,0.1,0.0", "'1 ',0,0,0.0")
+        words = [*self.words(gic=gic), "--beyond=leave"]
+        way = "it is 0, which means: take it from the power flow; --windings=half takes half of R1-2 for each winding, or "
+        way += "write ohm a phase"
+        self.told(
+            words, f"net.gic line 15, WRI: {way}; so also in line 16", f"net.gic line 15, WRJ: {way}"
+        )
+        told = self.told_of([*words, "--windings=half"])
+        self.assertIn(
+            "net.gic line 15, WRI: it is 0: 0.595125 ohm are taken, half of R1-2 of the power flow at 345 kV", told
+        )
+        self.assertIn(
+            "net.gic line 15, WRJ: it is 0: 0.2645 ohm are taken, half of R1-2 of the power flow at 345 kV, over (2.5 - 1)²", told
+        )
+        units = self.made["transformer"]
+        self.assertEqual([units["BANK"][key] for key in ("series_resistance", "common_resistance")], [595125, 264500])
+        self.assertEqual(units["T4-6-1"]["high_resistance"], 595125)
+
+    def test_half_by_the_ways_of_cz(self) -> None:
+        """On the system's base, on the unit's own of 400 MVA, and as 476.1 kW of losses at 400 MVA, which are
+        0.00119025 per unit."""
+        for way, second, micro_ohm in (
+            ("1", "0.001,0.02,400", 595125),
+            ("2", "0.004,0.02,400", 595125),
+            ("3", "476100,0.02,400", 177087),
+        ):
+            raw = RAW.replace("4,6,0,'1 ',1,1,1,0,0,2,'',1,1,1.0\n0.001,0.02,100", f"4,6,0,'1 ',1,{way},1,0,0,2,'',1,1,1.0\n{second}")
+            gic = GIC.replace("'1 ',0.3,0.1,0.0", "'1 ',0,0,0.0")
+            self.told_of([*self.words(raw, gic), "--beyond=leave", "--windings=half"])
+            self.assertEqual(self.made["transformer"]["T4-6-1"]["high_resistance"], micro_ohm, way)
+
+    def test_half_of_nothing_and_of_a_third_winding(self) -> None:
+        raw = RAW.replace("1.0\n0.001,0.02,100\n1.0,0.0,0.0", "1.0\n0.0,0.02,100\n1.0,0.0,0.0", 1)
+        gic = GIC.replace("0.2,0.1,0.05", "0.2,0.1,0.0").replace("'1 ',0.3,0.1,0.0", "'1 ',0,0,0.0")
+        self.told(
+            [*self.words(raw, gic), "--beyond=model", "--windings=half"],
+            "net.gic line 15, WRK: it is 0, which means: take it from the power flow; --windings=half takes half of R1-2 for each "
+            "winding, or write ohm a phase",
+            "net.raw line 31, R1-2: there is no resistance in it of which a winding could have half; write WRI and WRJ in ohm",
+        )
+
+    def test_a_jumper_between_stations(self) -> None:
+        raw = RAW.replace("1,-7,'1 ',0.0025,0.03", "1,-7,'1 ',0.0,0.0001")
+        told = self.told_of([*self.words(raw), "--beyond=leave"])
+        words = "has no resistance, and next to no reactance: it is taken as a jumper, of 0.001 ohm"
+        self.assertIn(f"net.raw line 19: the branch 1-7 '1' {words}", told)
+        self.assertEqual(self.made["line"]["L1-7-1"]["resistance"], 1000)
+        self.assertEqual(self.made["line"]["L1-7-1"]["east"], 71696)
+        for made in (self.out, self.out.with_suffix(".names.csv")):
+            made.unlink()
+        raw = RAW.replace("1,-7,'1 ',0.0025,0.03", "1,-7,'1 ',0.0,0.03")
+        self.told(
+            [*self.words(raw), "--beyond=leave"],
+            "net.raw line 19, R: it is 0.00 ohm, and not 0.001 to 1000; write ohm a phase",
+        )
+
+    def test_two_wyes_that_join_transmission_voltages(self) -> None:
+        raw = RAW.replace("2,'NORTH 138',138.0", "2,'NORTH 230',230.0").replace("1.0,138.0,0.0", "1.0,230.0,0.0")
+        told = self.told_of([*self.words(raw, GIC.replace("YNa0yn0", "YNyn0d1")), "--beyond=leave"])
+        words = "two earthed wyes of 345 and 230 kV: a unit that joins two voltages above 200 kV is mostly an autotransformer, as"
+        self.assertIn(f"net.raw line 25: BANK: {words} YNa; look at its vector group", told)
+        told = self.told_of([*self.words(gic=GIC.replace("YNa0yn0", "YNyn0d1")), "--beyond=leave"])
+        self.assertNotIn("two earthed wyes", "".join(told))
+
+    def test_factors_for_losses(self) -> None:
+        gic = GIC.replace("'YNd1',1,0.6", "'YNd1',3,0.0")
+        told = self.told_of([*self.words(gic=gic), "--beyond=leave", "--factors"])
+        words = "2 of 2 units have a KFACTOR, or a CORE with a published factor: they stand in the table of factors"
+        self.assertIn(f"net.gic: {words}", told)
+        table = self.out.with_suffix(".factors.csv").read_text()
+        origin = "KFACTOR of the .gic, taken for the unit's own voltage"
+        self.assertEqual(
+            table,
+            "transformer,mvar_per_ampere,at_kv,note\n"
+            f"BANK,0.6,345,\"{origin}\"\n"
+            "T4-6-1,0.29,500,CORE 3: published for three limbs of 500 kV\n",
+        )
+        findings: list[Finding] = []
+        read = factors.read_factors(str(self.out.with_suffix(".factors.csv")), {"BANK": 345000, "T4-6-1": 345000}, findings)
+        self.assertEqual(([], [factor.own for factor in read.values()]), (findings, [decimal.Decimal("0.6"), decimal.Decimal("0.2001")]))
+        none = GIC.replace(",1,0.6,", ",0,0.0,")
+        for made in self.folder.glob("case*"):
+            made.unlink()
+        self.told(
+            [*self.words(gic=none), "--beyond=leave", "--factors"],
+            "net.gic: no unit has a KFACTOR above 0 or a CORE of 1, 3, 5; leave out --factors",
+        )
+
+    STATIONS = (
+        "0 / END OF AREA DATA, BEGIN SUBSTATION DATA\n1,'NORTH',50.0,-100.0,0.2\n"
+        "1,'N1',1,1,1.0,0.0\n2,'N2',2,1,1.0,0.0\n3,'N3',3,1,1.0,0.0\n"
+        "0 / END OF SUBSTATION NODE DATA, BEGIN SUBSTATION DATA\n2,'SOUTH',49.0,-100.0,0.3\n"
+        "1,'S1',4,1,1.0,0.0\n2,'S2',5,1,1.0,0.0\n3,'S3',6,1\n"
+        "0 / END OF SUBSTATION NODE DATA, BEGIN SUBSTATION DATA\n3,'EAST STATION',50.0,-99.0,\n1,'E1',7,1\n2,'E2',8,1\n"
+        "0 / END OF SUBSTATION DATA\nQ\n"
+    )
+
+    def test_substations_of_version_35(self) -> None:
+        """The same network with places, grounds and buses of stations in the .raw alone, and with the numbers of stations in
+        both files."""
+        expected = self.case([*self.words(), "--beyond=model"])
+        raw = RAW.replace(" 33,", " 35,").replace("0 / END OF BUS DATA, BEGIN LOAD DATA", "0 / END OF BUS DATA, BEGIN LOAD DATA")
+        raw = raw.replace("Q\n", self.STATIONS).replace("0,0,0,0,0,0,0,1,1,0", "'',0,0,0,0,0,0,0,0,0,0,0,0,0,0,0,0,1,1,0")
+        raw = raw.replace("'',0,0,0,0,0,0,0,0,0,0,0,0,0,0,0,0,1,1,0\n1,8", "'',0,0,0,0,0,0,0,0,0,0,0,0,0,0,0,0,0,1,0\n1,8")
+        raw = raw.replace("0.03,0.0,0,0,0,0,0,0,0,0,1,0", "0.03,0.0,'',0,0,0,0,0,0,0,0,0,0,0,0,0,0,0,0,0,1,0")
+        head, rest = raw.split("second title\n")
+        raw = f"{head}second title\n0 / END OF SYSTEM-WIDE DATA, BEGIN BUS DATA\n{rest}"
+        alone = GIC[: GIC.index("1,'NORTH'")] + GIC[GIC.index("0 / END OF SUBSTATION DATA") :]
+        alone = alone[: alone.index("1,1\n")] + alone[alone.index("0 / END OF BUS SUBSTATION") :]
+        words = "substations, their places and SRG as their grounds are taken from here"
+        told = self.told_of([*self.words(raw, alone), "--beyond=model"])
+        self.assertEqual((self.made, f"net.raw: {words}" in told), (expected, True))
+        numbers = GIC.replace("1,'NORTH',0,50.0,-100.0,0.2,''", "1,'',0,,,,''")
+        told = self.told_of([*self.words(raw, numbers), "--beyond=model"])
+        place = "it has no place here: that of the power flow is taken, and its SRG"
+        self.assertEqual((self.made, f"net.gic line 2: {place}" in told), (expected, True))
+        apart = GIC.replace("1,'NORTH',0,50.0,", "1,'NORTH',0,50.2,")
+        told = self.told_of([*self.words(raw, apart), "--beyond=model"])
+        where = "it lies at 50.2, -100.0, and in the power flow at 50.0, -100.0; look at both"
+        self.assertIn(f"net.gic line 2: {where}", told)
+
+
 class Polygons(unittest.TestCase):
     def test_inside_outside_and_on_the_border(self) -> None:
-        def places(*pairs: tuple[str, str]) -> list[tuple[decimal.Decimal, decimal.Decimal]]:
-            return [(decimal.Decimal(north), decimal.Decimal(east)) for north, east in pairs]
+        def places(*pairs: tuple[str, str]) -> list[Point]:
+            return [(Fraction(north), Fraction(east)) for north, east in pairs]
 
         # An L: the square from 0 to 2 without its quarter to the north and the east.
         shape = Polygon("z", places(("0", "0"), ("0", "2"), ("1", "2"), ("1", "1"), ("2", "1"), ("2", "0")))

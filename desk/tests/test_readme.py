@@ -52,7 +52,7 @@ class Readme(DeskTest):
         furnish(self.folder, BUILT.resolve())
         blocks = BLOCKS.findall(README.read_text())
         shown = set(re.findall(r"desk/gicdesk (\w+)", "".join(commands for commands, _ in blocks)))
-        self.assertEqual(shown, {"csv", "compare", "outages", "case", "psse", "study"})
+        self.assertEqual(shown, {"csv", "compare", "outages", "case", "psse", "study", "losses"})
         for commands, text in blocks:
             self.assertEqual(printed(commands, self.folder), text, commands)
 

@@ -102,7 +102,7 @@ class Moments(DeskTest):
         drawn = random.Random(60)
         place = self.folder / "place"
         place.mkdir()
-        words = [DESK, "csv", "-", f"--out={place / 'table.csv'}"]
+        words = [str(DESK), "csv", "-", f"--out={place / 'table.csv'}"]
         begun = []
         for _ in range(MOMENTS):
             process = subprocess.Popen(
@@ -132,7 +132,7 @@ class Moments(DeskTest):
         self.assertEqual((process.returncode, out.decode()), (0, self.done("csv", REPORTS / "region_screen.txt")))
 
     def test_the_desk_is_started_by_a_shell_and_by_python(self) -> None:
-        for words in ((DESK,), ("sh", DESK), (sys.executable, "-B", DESK)):
+        for words in ([str(DESK)], ["sh", str(DESK)], [sys.executable, "-B", str(DESK)]):
             done = subprocess.run([*words, "csv", "/none"], capture_output=True, text=True, check=False)
             self.assertEqual((done.returncode, done.stdout), (1, ""))
             self.assertTrue(done.stderr.startswith("gicdesk: /none: it can't be read"), done.stderr)
@@ -148,7 +148,7 @@ class Lost(unittest.TestCase):
                 for _ in range(100):
                     time.sleep(0)
 
-        with self.assertRaises(stops.Stopped) as stopped, stops.taken():
+        with self.assertRaises(stops.Stopped) as stopped, stops.signals_taken():
             ending: list[Ending] = [Ending()]
             ending.clear()
         self.assertEqual(stopped.exception.status, 143)
@@ -158,14 +158,14 @@ class Lost(unittest.TestCase):
     def test_signals_wait_while_they_are_held(self) -> None:
         before = signal.getsignal(signal.SIGTERM)
         reached = False
-        with self.assertRaises(stops.Stopped), stops.taken():
+        with self.assertRaises(stops.Stopped), stops.signals_taken():
             with stops.held():
                 os.kill(os.getpid(), signal.SIGTERM)
                 time.sleep(0.01)
                 reached = True
         self.assertTrue(reached)
         self.assertIs(signal.getsignal(signal.SIGTERM), before)
-        with stops.taken():
+        with stops.signals_taken():
             self.assertFalse(STOPPING.is_set())
 
 

@@ -10,6 +10,7 @@ import datetime
 import decimal
 import hashlib
 import html.parser
+import importlib
 import io
 import math
 import random
@@ -29,7 +30,8 @@ from gicdesk.inputs import Copies, Input
 from gicdesk.markup import EMPTY
 from gicdesk.program import Program, Run, ending
 from gicdesk.progress import Progress
-from gicdesk.reports import Check, Outage, Outcome, Question, Review, Screen, ScreenUnit, Unit
+from gicdesk.reports import Check, Outage, Outcome, Question, Review, Screen, ScreenUnit, Series, Unit
+from gicdesk.reports import Study as StormReport
 
 CASE = """\
 format = 2
@@ -578,12 +580,12 @@ class Places(DeskTest):
     def test_places_from_a_table(self) -> None:
         findings: list[Finding] = []
         file = EXAMPLES / "tables" / "substations.csv"
-        found = network.read_places(str(file), ["Highfall", "Larkspur"], findings)
+        found = network.in_metres(network.read_degrees(str(file), ["Highfall", "Larkspur"], findings))
         # The line HF-LK of the region has these spans.
         self.assertEqual([round(number) for number in found["Larkspur"]], [-100120, 21172])
         self.assertEqual(findings, [])
         other = self.places("name;latitude;longitude\nA;51,5;-38\n")
-        self.assertEqual(network.read_places(other, ["A"], []), {"A": (0, 0)})
+        self.assertEqual(network.read_degrees(other, ["A"], []), {"A": (51.5, -38)})
 
     def places(self, text: str) -> str:
         return str(self.file("places.csv", text))
@@ -597,7 +599,7 @@ class Places(DeskTest):
         ):
             findings: list[Finding] = []
             try:
-                network.read_places(self.places(text), ["A", "B"], findings)
+                network.read_degrees(self.places(text), ["A", "B"], findings)
             except Refused as refused:
                 findings += refused.findings
             self.assertIn(words, "".join(map(str, findings)), text)
@@ -606,8 +608,7 @@ class Places(DeskTest):
 def made_study(size: int) -> study.Study:
     """A study of a made network of so many stations, with currents that are drawn at random."""
     sys.path.insert(0, str(TOP / "bench"))
-    import made_case
-
+    made_case = importlib.import_module("made_case")
     head = 'format = 1\n[[zone]]\nname = "Z"\nlatitude = 6000\nbeta = 100\n'
     case = head + "\n".join(made_case.rows(size, made_case.Draws(7)))
     drawn = random.Random(5)
@@ -617,10 +618,12 @@ def made_study(size: int) -> study.Study:
         rows = []
         for name in names:
             north, east = drawn.gauss(0, 60000), drawn.gauss(0, 60000)
-            ends = [Interval(math.floor(value), math.ceil(value)) for value in (north, east)]
             worst = math.hypot(north, east)
+            to_north, to_east, at_worst = (
+                Interval(math.floor(value), math.ceil(value)) for value in (north, east, worst)
+            )
             verdict = "reaches" if worst >= threshold else "below"
-            rows.append(ScreenUnit(name, *ends, Interval(math.floor(worst), math.ceil(worst)), verdict))
+            rows.append(ScreenUnit(name, to_north, to_east, at_worst, verdict))
         return Screen(100, threshold, field, rows)
 
     benchmark, supplemental = screen_of(75000, 8000), screen_of(85000, 12000)
@@ -636,9 +639,9 @@ def made_study(size: int) -> study.Study:
     long = [(number + 1, 10 * number, Interval(drawn.randrange(-90000, 90000), 90000)) for number in range(3000)]
     peaks = [Unit(row.name, row.worst, row.verdict) for row in benchmark.rows]
     greatest = sorted(benchmark.rows, key=lambda row: -row.worst.high)[: study_storm.MOST_STRIPS]
-    series = {name: study.Series(100, name, long[-2:]) for name in names}
-    series |= {row.name: study.Series(100, row.name, long) for row in greatest}
-    storm = study.Storm(study.StormReport(100, 75000, 3000, None, [], peaks, []), "", steps, series)
+    series = {name: Series(100, name, long[-2:]) for name in names}
+    series |= {row.name: Series(100, row.name, long) for row in greatest}
+    storm = study.Storm(StormReport(100, 75000, 3000, None, [], peaks, []), "", steps, series)
     found = network.network_of(case.encode())
     assert found is not None
     places, parts = network.laid_out(found, {})

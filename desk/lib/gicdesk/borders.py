@@ -4,12 +4,10 @@ import dataclasses
 from collections.abc import Iterable, Sequence
 from fractions import Fraction
 
-from .places import Place
+from .places import Place, Point, point
 from .polygons import Polygon
 
 MARGIN = 1e-9  # degrees, far above the rounding of a double
-
-Point = tuple[Fraction, Fraction]
 
 
 @dataclasses.dataclass(frozen=True)
@@ -19,10 +17,6 @@ class Stretch:
 
     zones: tuple[str, ...]
     until: Fraction
-
-
-def point(place: Place) -> Point:
-    return Fraction(place[0]), Fraction(place[1])
 
 
 def cross(one: Point, other: Point) -> Fraction:
@@ -55,7 +49,7 @@ class Box:
     most: tuple[float, float]
 
     @classmethod
-    def around(cls, points: Iterable[Place] | Iterable[Point]) -> "Box":
+    def around(cls, points: Iterable[Point]) -> "Box":
         pairs = [(float(at[0]), float(at[1])) for at in points]
         least = min(pair[0] for pair in pairs) - MARGIN, min(pair[1] for pair in pairs) - MARGIN
         return cls(least, (max(pair[0] for pair in pairs) + MARGIN, max(pair[1] for pair in pairs) + MARGIN))
@@ -68,7 +62,7 @@ class Borders:
     """The polygons of the zones, with their exact corners."""
 
     def __init__(self, polygons: Sequence[Polygon]) -> None:
-        self.polygons = [Polygon(polygon.zone, [point(corner) for corner in polygon.corners]) for polygon in polygons]
+        self.polygons = polygons
         self.boxes = [Box.around(polygon.corners) for polygon in self.polygons]
         self.sides = [(Box.around(side), side) for polygon in self.polygons for side in polygon.sides()]
         self.known: dict[Point, tuple[str, ...]] = {}
@@ -88,7 +82,7 @@ class Borders:
         first, last = point(start), point(end)
         way, here = less(last, first), Box.around([first, last])
         sides = [side for box, side in self.sides if box.meets(here)]
-        if not sides or way == (0, 0):
+        if not sides or first == last:
             return [Stretch(self.zones_at(first), Fraction(1))]
         shares = {share for side in sides for share in shares_at(first, way, side) if 0 < share < 1}
         ordered = [Fraction(0), *sorted(shares), Fraction(1)]

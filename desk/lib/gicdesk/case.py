@@ -1,44 +1,33 @@
 """A case from tables of ohm, kilovolts, kilometres and degrees."""
 
 import dataclasses
-import decimal
-from fractions import Fraction
 
-from .alpha import Scale, by_formula, by_table, scale_for
+from .autos import Auto, turned_words
 from .case_tables import (
-    ALPHA,
-    BETA,
     BUSES,
     COLUMNS,
-    GEOMAGNETIC,
-    GROUND_OHM,
-    KILOVOLT,
-    LATITUDE,
     LINES,
-    LONGITUDE,
-    OHM,
     PARALLEL,
     SUBSTATIONS,
     TRANSFORMERS,
     ZONES,
-    Number,
     Questions,
     Tables,
-    bare,
     check_accepted,
-    number_in,
     read_tables,
-    whole,
 )
 from .case_lines import Line, Network
 from .case_units import Unit
 from .cases import LISTS, Case, Field, Names, Row, short_enough
 from .findings import Finding, Refused, shown
 from .forms import NAME
+from .latitudes import latitude_words
+from .quantities import GROUND_OHM, KILOVOLT, LATITUDE, LONGITUDE, OHM, Number, bare, number_in, whole
 from .records import Record
 from .usual import GROUNDS, short, unusual, usual_at
+from .zone_scales import read_alpha, zone_of_row
 
-TABLE, FORMULA = "table", "formula"
+AUTO_COLUMNS = ("high_kv", "low_kv", "series_ohm", "common_ohm")
 
 
 @dataclasses.dataclass(frozen=True)
@@ -49,27 +38,13 @@ class Choices:
     accepted: tuple[str, ...]
 
 
-def read_alpha(word: str) -> Fraction | None:
-    """The alpha of --alpha, where it is a number; None for the words table and formula."""
-    if word in (TABLE, FORMULA):
-        return None
-    allowed = f"allowed are {TABLE}, {FORMULA} and numbers from {ALPHA.least} to {ALPHA.most}"
-    try:
-        number = Number(word)
-    except decimal.InvalidOperation:
-        number = Number("NaN")
-    if not number.is_finite() or not Number(ALPHA.least) <= number <= Number(ALPHA.most):
-        raise Refused([Finding(f"--alpha={bare(word)}", allowed)])
-    return Fraction(number)
-
-
 class Making:
     """A case in the making, list by list, with what is wrong and what is told."""
 
     def __init__(self, tables: Tables, choices: Choices) -> None:
         self.tables, self.findings, self.notes = tables, tables.findings, list[Finding]()
         self.questions = Questions(choices.accepted, self.findings, self.notes)
-        self.way, self.number = choices.alpha, read_alpha(choices.alpha)
+        self.alpha = choices.alpha
         self.case, self.names = Case(), Names({name for rows in tables.rows.values() for name in rows})
         self.network = Network()
 
@@ -80,11 +55,13 @@ class Making:
             (BUSES, self.bus),
             (LINES, self.line),
             (TRANSFORMERS, self.transformer),
+            (ZONES, self.latitude),
             (SUBSTATIONS, self.substation),
             (BUSES, self.unused),
         ):
             for at in self.tables.rows[table].values():
                 make(at)
+        self.autos()
         files = {list_name: table for table, list_name in zip(COLUMNS, LISTS)}
         for list_name, words in self.case.too_many().items():
             file = next(iter(self.tables.rows[files[list_name]].values())).file
@@ -96,48 +73,35 @@ class Making:
     # Zones
 
     def zone(self, at: Record) -> None:
-        name = at.text("name")
-        latitude, beta = number_in(at, "geomagnetic_latitude", GEOMAGNETIC), number_in(at, "beta", BETA)
-        own = number_in(at, "alpha", ALPHA) if at.text("alpha") else None
-        if latitude is None or beta is None:
-            return
-        if own is None and self.way == TABLE:
-            self.zone_by_table(at, latitude, beta)
-            return
-        alpha, origin = self.number, "as given"
-        if own is not None:
-            alpha = Fraction(own)
-        elif alpha is None:
-            alpha, origin = by_formula(latitude), "by the formula"
-        hundredths = whole(latitude, GEOMAGNETIC)
-        scale = scale_for(hundredths, alpha * Fraction(beta))
-        self.network.scales[name] = scale
-        where = "hundredths of a degree, geomagnetic"
-        if scale.latitude != hundredths:
-            where += f", in place of {latitude:f} degrees"
-        met = f"alpha {float(by_table(scale.latitude)):g} of the table, and spans times {float(scale.factor):.6f}"
-        meant = f"with {met}: alpha {float(alpha):.6f} {origin}, times beta {bare(at.text('beta'))}"
-        self.add("zone", name, [Field("latitude", scale.latitude, where), Field("beta", scale.beta, meant)], at)
+        made = zone_of_row(at, self.alpha, self.questions.ask, self.tables.models)
+        if made is not None:
+            self.network.scales[made.row.name] = made.scale
+            self.case.lists["zone"].append(made.row)
 
-    def zone_by_table(self, at: Record, latitude: Number, beta: Number) -> None:
-        """A zone with the program's own alpha, which has its latitude and its beta in whole hundredths."""
-        for column, number in (("geomagnetic_latitude", latitude), ("beta", beta)):
-            if number * 100 != int(number * 100):
-                words = f"it is {bare(at.text(column))}, and a case has two decimals of it"
-                at.wrong(column, f"{words}; round it the way that you mean, or choose --alpha={FORMULA} or a number")
-        hundredths = whole(latitude, GEOMAGNETIC)
-        table, formula = by_table(hundredths), by_formula(latitude)
-        if table < formula:
-            words = f"alpha is {float(table):g} by the program's table, and {float(formula):.4f} by the formula"
-            ways = f"currents come out too small; choose --alpha={FORMULA}, or write a column alpha"
-            self.questions.ask(f"alpha:{at.text('name')}", at, "geomagnetic_latitude", words, ways)
-        scale = Scale(hundredths, whole(beta, BETA))
-        self.network.scales[at.text("name")] = scale
-        fields = [
-            Field("latitude", scale.latitude, "hundredths of a degree, geomagnetic"),
-            Field("beta", scale.beta, "hundredths: the scaling for the conductivity of the earth"),
-        ]
-        self.add("zone", at.text("name"), fields, at)
+    def latitude(self, at: Record) -> None:
+        """Asks where the latitude of a zone isn't the geomagnetic one of the stations that its lines join."""
+        latitude = at.number_or_none("geomagnetic_latitude") if at.text("name") in self.network.scales else None
+        stations = self.network.stations_of.get(at.text("name"), set())
+        places = [self.network.places[name] for name in sorted(stations) if name in self.network.places]
+        if latitude is None:
+            return
+        words = latitude_words(float(latitude), places)
+        if words is not None:
+            ways = "look up the geomagnetic one of the year"
+            self.questions.ask(f"latitude:{at.text('name')}", at, "geomagnetic_latitude", words, ways)
+
+    def autos(self) -> None:
+        """Asks where the resistances of all autotransformers are as if changed over."""
+        rows = [at for at in self.tables.rows[TRANSFORMERS].values() if at.text("kind") == "auto"]
+        autos = []
+        for at in rows:
+            if all(at.text(column) for column in AUTO_COLUMNS):
+                high, low, series, common = (at.number_or_none(column) for column in AUTO_COLUMNS)
+                if high is not None and low is not None and series is not None and common is not None:
+                    autos.append(Auto(at.text("name"), high, low, series, common))
+        words = turned_words(autos)
+        if words is not None:
+            self.questions.ask("turned:autos", rows[0], "series_ohm", words, "change series_ohm and common_ohm over")
 
     # Substations and buses
 
@@ -204,6 +168,8 @@ class Making:
         line = Line(at, self.copies(at), self.tables, self.network, self.questions)
         self.case.lists["line"] += line.rows()
         self.network.used.update(line.buses)
+        for zone in line.zones:
+            self.network.stations_of.setdefault(zone, set()).update(line.stations)
 
     def transformer(self, at: Record) -> None:
         for name in self.copies(at):

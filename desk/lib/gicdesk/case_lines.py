@@ -7,18 +7,17 @@ from fractions import Fraction
 
 from .alpha import Scale
 from .borders import Stretch
-from .case_tables import BUSES, KILOMETRE, OHM, PER_UNIT, ZONES, Number, Questions, Tables, bare, number_in, whole
-from .cases import Field, Part, Row, part_of, span_fields
+from .case_tables import BUSES, ZONES, Questions, Tables
+from .cases import Field, Row
 from .decimals import MICRO, MILLI, shifted
 from .findings import shown
+from .parts import Piece, Span, crossed_zones, fields_of, pieces_of, pieces_text, too_long, way_fault
 from .places import MOST_KM, SHORT_M, SPAN_FROM_MAP_M, Place, span_metres
+from .quantities import KILOMETRE, OHM, PER_UNIT, Number, bare, number_in, whole
 from .records import Record
 from .usual import BASE_MVA, short, unusual_line
 
 CAPACITOR = "yes"
-MOST_PARTS = 16  # of a line in a case
-
-Span = tuple[int, int]  # metres to the north and to the east
 
 
 @dataclasses.dataclass
@@ -29,16 +28,9 @@ class Network:
     places: dict[str, Place] = dataclasses.field(default_factory=dict)  # of substations
     kilovolts: dict[str, Number] = dataclasses.field(default_factory=dict)  # of buses
     highest: dict[str, Number] = dataclasses.field(default_factory=dict)  # of substations, the kilovolts of their buses
+    stations_of: dict[str, set[str]] = dataclasses.field(default_factory=dict)  # of zones, those that its lines join
     used: set[str] = dataclasses.field(default_factory=set)  # buses with a line or a unit, and substations with a bus
     earthing: set[str] = dataclasses.field(default_factory=set)  # substations where a winding is earthed
-
-
-@dataclasses.dataclass(frozen=True)
-class Piece:
-    """A line in a case, or one of its parts: up to a share of its way."""
-
-    zone: str
-    until: Fraction = Fraction(1)
 
 
 @dataclasses.dataclass
@@ -51,6 +43,8 @@ class Line:
     network: Network
     questions: Questions
     buses: set[str] = dataclasses.field(default_factory=set)
+    zones: set[str] = dataclasses.field(default_factory=set)
+    stations: set[str] = dataclasses.field(default_factory=set)
 
     def ask(self, kind: str, column: str | None, words: str, ways: str) -> None:
         self.questions.ask(f"{kind}:{self.at.text('name')}", self.at, column, words, ways)
@@ -71,6 +65,9 @@ class Line:
             return []
         span = self.span(places)
         pieces = self.pieces(places, span)
+        if len(pieces) == 1:  # (one over a border says nothing of the latitude of a zone)
+            self.zones.add(pieces[0].zone)
+            self.stations.update(stations)
         if span is None or ohm is None or not pieces:
             return []
         if kilovolts is not None and stations[0] != stations[1]:
@@ -166,40 +163,38 @@ class Line:
         borders = self.tables.borders
         way = [] if borders is None else borders.stretches(places[0], places[1])
         if self.at.text("zone"):
-            return self.written(way)
+            return self.written(way, span)
         if len(zones) == 1:
             return [Piece(zones[0])]
         if not way:
             allowed = f"write one of {', '.join(zones[:9])}, or add a table polygons.csv"
             self.at.wrong("zone", f"it is empty; {allowed}")
             return []
-        odd = next((stretch for stretch in way if len(stretch.zones) != 1), None)
-        if odd is not None:
-            where = f"in {' and in '.join(odd.zones)}" if odd.zones else "in no polygon"
-            ways = "mend the polygons, or write its zone"
-            self.at.wrong("zone", f"it is empty, and a part of the line lies {where}; {ways}")
+        way = way[:1] if self.at.text("capacitor") else way
+        fault = way_fault(way)
+        if fault is not None:
+            self.at.wrong("zone", f"it is empty, and {fault}; mend the polygons, or write its zone")
             return []
-        if len(way) == 1 or self.at.text("capacitor"):
+        if len(way) == 1:
             return [Piece(way[0].zones[0])]
         return self.in_parts(way, span)
 
-    def written(self, way: Sequence[Stretch]) -> list[Piece]:
+    def written(self, way: Sequence[Stretch], span: Span | None) -> list[Piece]:
         """The line in the zone of its cell, through which its way goes where there are polygons."""
         zone = self.zone_cell()
-        crossed = {crossed for stretch in way for crossed in stretch.zones}
+        crossed = crossed_zones(way)
         if zone and crossed and zone not in crossed:
             words = f"it is {zone}, and by the polygons the line lies in {' and '.join(sorted(crossed))}"
             self.ask("zone", "zone", words, "write its zone, or leave the cell empty")
+        elif zone and len(crossed) > 1 and not self.at.text("capacitor"):
+            parts = pieces_text(pieces_of([stretch for stretch in way if stretch.zones]), span)
+            words = f"it is {zone}, and by the polygons the line crosses borders: {parts}; all of it is in {zone} here"
+            self.questions.tell(self.at, "zone", f"{words}: leave the cell empty for parts")
         return [Piece(zone)] if zone else []
 
     def in_parts(self, way: Sequence[Stretch], span: Span | None) -> list[Piece]:
-        pieces = [Piece(part.zones[0], part.until) for part in way]
-        if len(pieces) > MOST_PARTS:
-            words = f"it is empty, and the line has {len(pieces)} parts by the polygons, and not up to {MOST_PARTS}"
-            self.at.wrong("zone", f"{words}; mend the polygons, or write its zone")
-            return []
-        length = 0.0 if span is None else math.hypot(*span) / 1000
-        parts = ", ".join(f"{piece.zone} to {float(piece.until) * length:.1f} km" for piece in pieces)
+        pieces = pieces_of(way)
+        parts = pieces_text(pieces, span)
         words = f"it is empty, and the line crosses borders: {parts}; it has {len(pieces)} parts"
         self.questions.tell(self.at, "zone", words)
         return pieces
@@ -211,33 +206,14 @@ class Line:
         if self.at.text("per_unit"):
             resistance = f"{shifted(micro_ohm, MICRO)} ohm per phase, from {bare(self.at.text('per_unit'))} per unit"
         fields = [Field("from", self.at.text("from")), Field("to", self.at.text("to"))]
-        if len(pieces) == 1:
-            fields.append(Field("zone", pieces[0].zone))
-        fields.append(Field("resistance", micro_ohm, resistance))
-        self.check_spans(pieces, span)
-        if len(pieces) == 1:
-            fields += span_fields(*span, self.factor(pieces[0].zone))
-        else:
-            fields.append(Field("part", tuple(self.parts(pieces, span))))
+        fault = too_long(pieces, span, self.factor, MOST_KM)
+        if fault is not None:
+            self.at.wrong(None, fault)
+        fields += fields_of(pieces, Field("resistance", micro_ohm, resistance), span, self.factor)
         if self.at.text("capacitor"):
             fields.append(Field("blocked", True, "a series capacitor passes no direct current"))
         return fields
 
-    def parts(self, pieces: Sequence[Piece], span: Span) -> list[Part]:
-        parts, share = list[Part](), Fraction(0)
-        for piece in pieces:
-            north, east = (round(total * piece.until) - round(total * share) for total in span)
-            parts.append(part_of(piece.zone, north, east, self.factor(piece.zone)))
-            share = piece.until
-        return parts
-
     def factor(self, zone: str) -> Fraction:
         scale = self.network.scales.get(zone)
         return Fraction(1) if scale is None else scale.factor
-
-    def check_spans(self, pieces: Sequence[Piece], span: Span) -> None:
-        """Whether a span stays within that of a case with the factors of its zones."""
-        factor = max(self.factor(piece.zone) for piece in pieces)
-        if any(abs(metres * factor) > MOST_KM * 1000 for metres in span):
-            words = f"its span times {float(factor):.6f} is above {MOST_KM} km"
-            self.at.wrong(None, f"{words}; cut it in two, with a substation without a ground between them")

@@ -1,19 +1,19 @@
 """The tables of `gicdesk case`: their columns, their rows by name, and their numbers."""
 
 import dataclasses
-import decimal
 import pathlib
 from collections.abc import Iterable
-from fractions import Fraction
 
 from .borders import Borders
-from .findings import Finding, Hints, Refused, refuse, shown
+from .earths import read_models
+from .findings import Finding, Hints, Refused, collected, refuse, shown
 from .forms import NAME
 from .polygons import read_polygons
+from .quantities import Number, bare
 from .records import Record, read_table
 
 ZONES, SUBSTATIONS, BUSES, LINES, TRANSFORMERS = "zones", "substations", "buses", "lines", "transformers"
-POLYGONS = "polygons.csv"
+POLYGONS, MODELS = "polygons.csv", "earth_models.csv"
 COLUMNS = {
     ZONES: "name geomagnetic_latitude beta".split(),
     SUBSTATIONS: "name latitude longitude ground_ohm".split(),
@@ -22,7 +22,7 @@ COLUMNS = {
     TRANSFORMERS: "name kind high low high_kv low_kv high_ohm low_ohm series_ohm common_ohm neutral".split(),
 }
 OPTIONAL = {
-    ZONES: ["alpha", "note"],
+    ZONES: ["alpha", "earth_model", "note"],
     SUBSTATIONS: ["note"],
     BUSES: ["note"],
     LINES: ["per_unit", "parallel", "note"],
@@ -30,51 +30,7 @@ OPTIONAL = {
 }
 PARALLEL = [str(number) for number in range(1, 21)]  # so many equal ones a row may stand for
 # The kinds of findings that --accept takes away.
-KINDS = "alpha ground line winding neutral volts vector span zone unused".split()
-
-Number = decimal.Decimal
-
-
-@dataclasses.dataclass(frozen=True)
-class Quantity:
-    """What a column counts: its unit and range, how many units of the case are in one, and what is wrong beyond."""
-
-    unit: str
-    least: str
-    most: str
-    scale: int
-    guess: str
-
-
-OHM = Quantity("ohm", "0.001", "1000", 10**6, "is it in micro-ohm, or per unit?")
-PER_UNIT = Quantity("per unit", "0.0000001", "10", 1, "is it in ohm?")
-GROUND_OHM = Quantity("ohm", "0.001", "1000", 10**6, "without a ground the cell is empty")
-KILOVOLT = Quantity("kV", "1", "2000", 10**3, "is it in volts?")
-KILOMETRE = Quantity("km", "-1000", "1000", 10**3, "is it in metres?")
-LATITUDE = Quantity("degrees", "-90", "90", 10**6, "is it in hundredths?")
-LONGITUDE = Quantity("degrees", "-180", "180", 10**6, "is it in hundredths?")
-GEOMAGNETIC = Quantity("degrees", "0", "90", 10**2, "is it in hundredths, or a southern one with its sign?")
-BETA = Quantity("as a factor", "0.01", "1.5", 10**2, "is it in hundredths?")
-ALPHA = Quantity("as a factor", "0.01", "2", 10**2, "is it in hundredths?")
-
-
-def number_in(at: Record, column: str, quantity: Quantity) -> Number | None:
-    """The number of a column, of which it is in the range; None where it isn't, which is a finding."""
-    number = at.number_or_none(column)
-    if number is not None and not Number(quantity.least) <= number <= Number(quantity.most):
-        wanted = f"{quantity.least} to {quantity.most} {quantity.unit}"
-        at.wrong(column, f"it is {bare(at.text(column))}, and not {wanted}; {quantity.guess}")
-        return None
-    return number
-
-
-def whole(number: Number, quantity: Quantity) -> int:
-    """The number in whole units of the case, the nearest one, or of two as near the even one."""
-    return round(Fraction(number) * quantity.scale)
-
-
-def bare(text: str) -> str:
-    return shown(text)[1:-1]
+KINDS = "alpha latitude beta ground line winding turned neutral volts vector span zone unused".split()
 
 
 @dataclasses.dataclass
@@ -124,6 +80,7 @@ class Tables:
     rows: dict[str, dict[str, Record]]
     findings: list[Finding]
     borders: Borders | None = None
+    models: dict[str, Number] = dataclasses.field(default_factory=dict)  # betas by the names of earth models
     hints: Hints = dataclasses.field(default_factory=Hints)
 
     def refer(self, at: Record, column: str, table: str) -> Record | None:
@@ -157,7 +114,7 @@ def read_named(file: str, table: str, findings: list[Finding], taken: dict[str, 
 
 def files_of(folder: str) -> list[str]:
     """The names of the tables in a folder."""
-    return [str(pathlib.Path(folder, name)) for name in (*(f"{table}.csv" for table in COLUMNS), POLYGONS)]
+    return [str(pathlib.Path(folder, name)) for name in (*(f"{table}.csv" for table in COLUMNS), POLYGONS, MODELS)]
 
 
 def read_tables(folder: str) -> Tables:
@@ -173,10 +130,8 @@ def read_tables(folder: str) -> Tables:
     for table in COLUMNS:
         file = str(pathlib.Path(folder, f"{table}.csv"))
         before = len(findings)
-        try:
+        with collected(findings):
             tables.rows[table] = read_named(file, table, findings, taken)
-        except Refused as refused:
-            findings += refused.findings
         faults = findings[before:]
         broken = broken or any(fault.column is None for fault in faults)
         if not tables.rows[table] and not faults and table in (ZONES, SUBSTATIONS, BUSES):
@@ -184,10 +139,14 @@ def read_tables(folder: str) -> Tables:
     polygons = pathlib.Path(folder, POLYGONS)
     if polygons.exists():
         before = len(findings)
-        try:
+        with collected(findings):
             tables.borders = Borders(read_polygons(str(polygons), set(tables.rows[ZONES]), findings))
-        except Refused as refused:
-            findings += refused.findings
+        broken = broken or len(findings) > before
+    models = pathlib.Path(folder, MODELS)
+    if models.exists():
+        before = len(findings)
+        with collected(findings):
+            tables.models = read_models(str(models), findings)
         broken = broken or len(findings) > before
     if broken:
         raise Refused(findings)

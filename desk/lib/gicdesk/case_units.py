@@ -4,15 +4,16 @@ import dataclasses
 from collections.abc import Sequence
 
 from .beyond import REACTOR, THREE_SIDED, reactor_row, with_third
-from .case_tables import BUSES, KILOVOLT, OHM, Number, Questions, Tables, bare, number_in, whole
+from .case_tables import BUSES, Questions, Tables
 from .cases import Field, Row
 from .findings import shown
+from .quantities import KILOVOLT, OHM, Number, bare, number_in, whole
 from .records import Record
-from .usual import NEUTRALS, REACTORS, WINDINGS, short, unusual, usual_at
+from .usual import NEUTRALS, REACTORS, WINDINGS, short, two_transmission_voltages, unusual, usual_at
 from .vectors import GROUPS, OF_REACTORS, is_earthed_below, kinds_of, letters_of
 
 # What of its windings carries direct current, and so how many buses a unit of a kind has.
-KINDS = {
+KINDS: dict[str, list[str]] = {
     "delta-wye": ["high"],
     "wye-wye": ["high", "low"],
     "auto": ["series", "common"],
@@ -67,6 +68,10 @@ class Unit:
         high, low = volts["high"], volts.get("low")
         if high is not None and low is not None and low > high:
             self.at.wrong("low_kv", f"it is {short(low)}, above high_kv, {short(high)}; is the row turned?")
+        if kind == "wye-wye" and high is not None and low is not None and len(set(map(self.at.text, ends))) > 1:
+            words = two_transmission_voltages(high, low)
+            if words is not None:
+                self.ask("vector", "kind", words, "write kind auto with series_ohm and common_ohm")
         fields = [Field("kind", kind)]
         for end in ends:
             fields += self.side(end, end, volts[end], bool(KINDS[kind]))

@@ -9,15 +9,18 @@ import sys
 from collections.abc import Iterator, Sequence
 from typing import Any
 
-from . import case, case_tables, compare, layouts, outages, psse, psse_units, reports, zones
+from . import case, case_tables, compare, layouts, losses, outages, psse, psse_units, reports, zones
 from .findings import Refused, refuse, visible
 from .inputs import Copies, copied
 from .outputs import Set, files_set, folder_set, study_set
+from .psse_grounds import read_grounds
+from .psse_half import HALF
 from .program import BUILT, Program, find_program
-from .stops import Stopped, taken
-from .study import FILES, OPTIONS, Request, make_study, sum_text
+from .stops import Stopped, signals_taken
+from .study import FILES, OPTIONS, Request, make_study, study_text
 from .study_files import files_of, page_of
 from .tell import tell
+from .zone_scales import FORMULA, WAYS
 
 DONE, REFUSED, USAGE, INTERRUPTED = 0, 1, 2, 130
 
@@ -119,7 +122,36 @@ def run_study(options: argparse.Namespace) -> None:
     ):
         made = make_study(Request(program, copies, options.case, **given))
         out.publish(files_of(made, options.comma))
-    show(sum_text(made, page_of(options.out)))
+    show(study_text(made, page_of(options.out)))
+
+
+def run_losses(options: argparse.Namespace) -> None:
+    roles = ("case", "storm", "switch", "factors", "names")
+    names = losses.file_names(options.storm is not None, options.names is not None)
+    given = {name: getattr(options, name) for name in ("storm", "switch", "factors", "width")}
+    with (
+        folder_set(options.out, names, options.force, read_names(options, roles)) as out,
+        program_and_copies(options, roles) as (program, copies),
+    ):
+        found = losses.make_losses(Request(program, copies, options.case, **given), options.names, options.event)
+        out.publish(losses.files_of(found, options.comma))
+    show(losses.report_text(found, visible(options.out)))
+
+
+def add_losses(commands: Any) -> None:
+    words = commands.add_parser("losses", help="losses by unit, bus and direction, and as loads for a power flow")
+    words.add_argument("case", metavar="CASE", help="the file of the case")
+    words.add_argument("--factors", metavar="FILE", required=True, help="a table transformer,mvar_per_ampere,at_kv")
+    words.add_argument("--names", metavar="FILE", help="the table of names that psse has written, for loads of a .raw")
+    words.add_argument("--storm", metavar="FILE", help="a storm, for losses by step")
+    words.add_argument("--switch", metavar="FILE", help="switchings: by their times in a storm; else in force")
+    words.add_argument("--event", metavar="WORD", help="benchmark or supplemental, as screen takes it")
+    words.add_argument("--width", metavar="NUMBER", help="how wide an interval may be, in mA")
+    words.add_argument("--program", metavar="FILE", help="the built program, in place of the one of this repository")
+    words.add_argument("--out", metavar="FOLDER", required=True, help="a new folder for the tables")
+    add_comma(words)
+    words.add_argument("--force", action="store_true", help="replace these tables in a folder that is there already")
+    words.set_defaults(run=run_losses)
 
 
 def add_study(commands: Any) -> None:
@@ -139,12 +171,17 @@ def add_study(commands: Any) -> None:
 
 
 def run_psse(options: argparse.Namespace) -> None:
-    names = f"{os.path.splitext(options.out)[0]}.names.csv"
-    tables = zones.ZoneFiles(options.zones, options.substations, options.polygons, options.lines)
+    stem = os.path.splitext(options.out)[0]
+    names, factors = f"{stem}.names.csv", f"{stem}.factors.csv"
+    written = [options.out, names, *([factors] if options.factors else [])]
+    tables = zones.ZoneFiles(options.zones, options.substations, options.polygons, options.lines, options.earth_models)
     read = [options.raw, options.gic, *(name for name in dataclasses.astuple(tables) if name is not None)]
-    with files_set([options.out, names], options.force, read) as out:
-        made = psse.make_case(options.raw, options.gic, tables, psse.Choices(options.beyond, options.vector))
-        out.publish({file_name(options.out): made.case, file_name(names): made.names})
+    grounds = read_grounds(options.blank_ground, options.ungrounded)
+    choices = psse.Choices(options.beyond, options.vector, options.alpha, options.windings, grounds, options.factors)
+    with files_set(written, options.force, read) as out:
+        made = psse.make_case(options.raw, options.gic, tables, choices)
+        texts = {options.out: made.case, names: made.names, factors: made.factors}
+        out.publish({file_name(name): texts[name] for name in written})
     told = "".join(f"{note}\n" for note in made.notes)
     show(told + visible(f"{options.out} is made, and {names} says what its names stand for") + "\n")
 
@@ -160,7 +197,7 @@ def add_case(commands: Any) -> None:
     words = commands.add_parser("case", help="a case from tables of ohm, kilovolts, kilometres and degrees")
     words.add_argument("tables", metavar="TABLES", help="a folder with zones, substations, buses, lines, transformers")
     words.add_argument(
-        "--alpha", metavar="WAY", default=case.TABLE, help="table, formula or a number: alpha of the zones; it is table"
+        "--alpha", metavar="WAY", default=FORMULA, help=WAYS
     )
     words.add_argument(
         "--accept",
@@ -205,6 +242,7 @@ def command_words() -> argparse.ArgumentParser:
     three.set_defaults(run=run_outages)
 
     add_study(commands)
+    add_losses(commands)
 
     four = commands.add_parser("psse", help="a case from the files .raw and .gic of a power-flow program")
     four.add_argument("raw", metavar="NET.raw", help="the power flow: buses, branches, transformers, fixed shunts")
@@ -213,8 +251,16 @@ def command_words() -> argparse.ArgumentParser:
     four.add_argument("--substations", metavar="FILE", help="a table substation,zone, with more zones than one")
     four.add_argument("--polygons", metavar="FILE", help="a table zone,latitude,longitude of corners, in its place")
     four.add_argument("--lines", metavar="FILE", help="a table bus_i,bus_j,circuit,zone,north_km,east_km")
+    four.add_argument("--earth-models", metavar="FILE", help="a table name,beta, for zones with a column earth_model")
     told = "whether third windings and reactors are left out or written"
+    four.add_argument("--alpha", metavar="WAY", default=FORMULA, help=WAYS)
     four.add_argument("--beyond", choices=psse_units.CHOICES, help=told)
+    four.add_argument("--factors", action="store_true", help="a table of factors for losses beside the case")
+    taken = "half: a winding of 0 ohm has half of R1-2 of the power flow"
+    four.add_argument("--windings", choices=(HALF,), help=taken)
+    four.add_argument("--blank-ground", metavar="OHM", help="the ground of a substation whose RG is empty")
+    none = "an RG that means no ground, as 0 or 99; may be given several times"
+    four.add_argument("--ungrounded", metavar="RG", action="append", default=[], help=none)
     four.add_argument("--vector", choices=("volts", "buses"), help="in which order the letters of vector groups stand")
     four.add_argument("--out", metavar="CASE", required=True, help="a new file for the case, with its names beside")
     four.add_argument("--force", action="store_true", help="replace what is there already under these names")
@@ -227,7 +273,7 @@ def command_words() -> argparse.ArgumentParser:
 def main(arguments: Sequence[str]) -> int:
     """Runs the command of the words; what it refuses is told on the error stream, a line for each finding."""
     try:
-        with taken():
+        with signals_taken():
             return run(arguments)
     except (Stopped, KeyboardInterrupt) as stopped:
         tell("stopped")

@@ -20,13 +20,13 @@ MARKER_TEXT = re.compile(rb"a study of gicdesk\n[0-9a-f]{64}  checksums\.txt\n")
 MOVE = "move it elsewhere"
 
 
-def sum_of(data: bytes) -> str:
+def digest_of(data: bytes) -> str:
     return hashlib.sha256(data).hexdigest()
 
 
 def marker_text(sums: bytes) -> str:
     """What the marker of a study holds whose file of sums holds this."""
-    return f"a study of gicdesk\n{sum_of(sums)}  {SUMS}\n"
+    return f"a study of gicdesk\n{digest_of(sums)}  {SUMS}\n"
 
 
 def entries(folder: pathlib.Path) -> Iterator[tuple[str, os.stat_result]]:
@@ -57,7 +57,7 @@ def sums_of(folder: pathlib.Path, shown: str) -> dict[str, str]:
         words = f"its {MARKER} isn't that of its {SUMS}, so --force doesn't replace it; choose another name"
         raise refuse(shown, words)
     lines = [line.partition("  ") for line in read[SUMS].decode("utf-8", "replace").splitlines()]
-    return {name: digest for digest, _, name in lines} | {name: sum_of(data) for name, data in read.items()}
+    return {name: digest for digest, _, name in lines} | {name: digest_of(data) for name, data in read.items()}
 
 
 def is_marker_alone(folder: pathlib.Path) -> bool:
@@ -86,7 +86,7 @@ def refuse_other(folder: pathlib.Path, shown: str) -> list[str]:
             words = "is no plain file, so it isn't of the earlier study"
         elif name not in sums:
             words = "isn't of the earlier study"
-        elif sum_of((folder / name).read_bytes()) != sums[name]:
+        elif digest_of((folder / name).read_bytes()) != sums[name]:
             words = "has changed since the earlier study was made"
         if words is not None:
             findings.append(Finding(os.path.join(shown, name), f"it {words}; {MOVE}"))

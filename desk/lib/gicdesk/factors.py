@@ -23,6 +23,7 @@ class Factor:
     given: decimal.Decimal  # Mvar an ampere
     at_kv: decimal.Decimal
     volts: int  # of the unit's high side
+    is_usual: bool = False  # at_kv, since the table has none
 
     def mvar(self, milliamperes: float | decimal.Decimal) -> decimal.Decimal:
         """What the unit draws at this current."""
@@ -65,7 +66,7 @@ def read_factors(
         if not 1 <= at_kv <= 2000:
             at.wrong("at_kv", f"it is {at.text('at_kv')}, and not 1 to 2000 kV; leave it empty for {USUAL_KV}")
         lines[name] = at.line
-        factors[name] = Factor(given, at_kv, volts.get(name, 0))
+        factors[name] = Factor(given, at_kv, volts.get(name, 0), not at.text("at_kv"))
     if not factors and not findings:
         findings.append(Finding(file, "it has no factor; write a row for each transformer", 1))
     return factors

@@ -1,8 +1,9 @@
 """What is wrong with a file, each finding with its place."""
 
+import contextlib
 import dataclasses
 import difflib
-from collections.abc import Iterable, Sequence
+from collections.abc import Iterable, Iterator, Sequence
 
 SHOWN = 20  # so many findings of a file are told
 ALSO = 12  # so many lines are named of findings that say the same
@@ -56,6 +57,15 @@ class Refused(Exception):
         lines = [str(first) + also(rest) for first, *rest in groups[:SHOWN]]
         left = sum(len(group) for group in groups[SHOWN:])
         return [*lines, f"and {left} more"] if left else lines
+
+
+@contextlib.contextmanager
+def collected(findings: list[Finding]) -> Iterator[None]:
+    """Adds what is refused within to the findings."""
+    try:
+        yield
+    except Refused as refused:
+        findings += refused.findings
 
 
 def also(rest: Sequence[Finding]) -> str:

@@ -29,7 +29,7 @@ PLACES = {
     "FIELD": re.compile("[a-z_]+"),
 }
 LONGEST_LINE = 120  # of a line that is shown whole
-NUMBERS = ("LO", "HI", "NUMBER", "OTHER", "COUNT")
+NUMBERS = ("NUMBER", "OTHER", "COUNT")
 
 
 @dataclasses.dataclass(frozen=True)
@@ -44,7 +44,14 @@ class Interval:
         return Interval(self.low - other.high, self.high - other.low)
 
 
-Values = list[str | int | Interval]
+@dataclasses.dataclass(frozen=True)
+class Values:
+    """What stands in a line for the capital words of its form: its words, its numbers and its intervals, of each as many as
+    the form has, in their order."""
+
+    words: list[str] = dataclasses.field(default_factory=list)
+    numbers: list[int] = dataclasses.field(default_factory=list)
+    intervals: list[Interval] = dataclasses.field(default_factory=list)
 
 
 def read_line(form: str, line: str) -> Values | None:
@@ -52,20 +59,24 @@ def read_line(form: str, line: str) -> Values | None:
     places, words = form.split(" "), line.split(" ")
     if len(places) != len(words):
         return None
-    values: Values = []
+    values = Values()
+    low = 0
     for place, word in zip(places, words):
         if place not in PLACES:
             if place != word:
                 return None
         elif not PLACES[place].fullmatch(word):
             return None
+        elif place == "LO":
+            low = int(word)
         elif place == "HI":
-            low, high = values.pop(), int(word)
-            if not isinstance(low, int) or low > high:
+            if low > int(word):
                 return None
-            values.append(Interval(low, high))
+            values.intervals.append(Interval(low, int(word)))
+        elif place in NUMBERS:
+            values.numbers.append(int(word))
         else:
-            values.append(int(word) if place in NUMBERS else word)
+            values.words.append(word)
     return values
 
 

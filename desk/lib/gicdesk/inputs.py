@@ -11,7 +11,7 @@ from collections.abc import Iterable, Iterator, Mapping
 
 from . import stops
 from .files import read_bytes
-from .findings import Finding, Refused, refuse
+from .findings import Finding, Refused, collected, refuse
 
 
 @dataclasses.dataclass(frozen=True)
@@ -27,7 +27,7 @@ class Input:
         return hashlib.sha256(self.data).hexdigest()
 
 
-def file_name(name: str) -> str:
+def name_as_taken(name: str) -> str:
     """The name of a file as the program takes it: to it `-` is a file as any other."""
     return "./-" if name == "-" else name
 
@@ -38,12 +38,10 @@ def read_inputs(files: Mapping[str, str]) -> dict[str, Input]:
     inputs: dict[str, Input] = {}
     findings: list[Finding] = []
     for role, name in files.items():
-        try:
+        with collected(findings):
             if name not in read:
-                read[name] = read_bytes(file_name(name))
+                read[name] = read_bytes(name_as_taken(name))
             inputs[role] = Input(role, name, read[name])
-        except Refused as refused:
-            findings += refused.findings
     if findings:
         raise Refused(findings)
     return inputs

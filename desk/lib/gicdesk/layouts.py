@@ -10,7 +10,7 @@ from collections.abc import Callable, Sequence
 
 from .decimals import MICRO, MILLI, NANO, shifted
 from .findings import refuse
-from .forms import Interval, read_line
+from .forms import Interval, Values, read_line
 from .reports import (
     VERDICTS,
     Certificate,
@@ -212,15 +212,15 @@ def monitor_cells(number: int, line: str) -> Cells:
     cells = {"block": "monitor", "monitor": str(number), "kind": line.split(" ")[0]}
     for form in MONITOR_FORMS:
         match read_line(form, line):
-            case [str(name), int(certain), int(possible)]:
+            case Values([name], [certain, possible], []):
                 return cells | {"name": name, "certain_steps": str(certain), "possible_steps": str(possible)}
-            case [str(name), Interval() as value]:
+            case Values([name], [], [value]):
                 return cells | {"name": name} | ends("", "A", value)
-            case [str(name)]:
+            case Values([name], [], []):
                 return cells | {"name": name, "state": "open"}
-            case [Interval() as value, int(step)]:
+            case Values([], [step], [value]):
                 return cells | {"step": str(step)} | ends("", "var", value)
-            case []:
+            case Values([], [], []):
                 return cells | {"state": "none"}
     # The letters of a report are its bytes; here they are a text again.
     return cells | {"kind": "text", "text": line.encode("latin-1").decode("utf-8", "replace")}

@@ -20,7 +20,7 @@ def joined(pieces: Iterable[str]) -> Markup:
     return Markup("".join(map(escaped, pieces)))
 
 
-def short(value: Attribute) -> str:
+def attribute_text(value: Attribute) -> str:
     """The value of an attribute; coordinates to a tenth."""
     if isinstance(value, float):
         text = f"{value:.1f}".removesuffix(".0")
@@ -30,7 +30,7 @@ def short(value: Attribute) -> str:
 
 def tag(name: str, /, *inside: str, **attributes: Attribute) -> Markup:
     """An element; `class_` is the attribute class, and `_` in other names a hyphen."""
-    words = "".join(f' {key.rstrip("_").replace("_", "-")}="{short(value)}"' for key, value in attributes.items())
+    words = "".join(f' {key.rstrip("_").replace("_", "-")}="{attribute_text(value)}"' for key, value in attributes.items())
     if name in EMPTY and not inside:
         return Markup(f"<{name}{words}>" if name in ("br", "meta", "link") else f"<{name}{words}/>")
     return Markup(f"<{name}{words}>{joined(inside)}</{name}>")

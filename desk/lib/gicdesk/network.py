@@ -15,6 +15,7 @@ from .records import Record, read_table
 
 PLACE_HEADS = ("name", "latitude", "longitude")
 Place = tuple[float, float]  # metres to the north and to the east
+Degrees = tuple[float, float]  # a latitude and a longitude
 
 
 @dataclasses.dataclass(frozen=True)
@@ -73,23 +74,31 @@ def degrees_in(at: Record, column: str, most: int) -> float:
     return float(number)
 
 
-def read_places(
+def read_degrees(
     file: str, stations: Iterable[str], findings: list[Finding], data: bytes | None = None
-) -> dict[str, Place]:
-    """Where the stations of a table lie, from its first one. Names that the case doesn't have are left out. `data` is what
-    it holds, where it has been read already."""
+) -> dict[str, Degrees]:
+    """The latitudes and longitudes of the stations of a table. Names that the case doesn't have are left out, and so are
+    rows of a table of all names that have no place. `data` is what it holds, where it has been read already."""
     wanted = set(stations)
-    found: dict[str, tuple[float, float]] = {}
+    found: dict[str, Degrees] = {}
     for at in read_table(file, PLACE_HEADS, findings, None, data):
-        name, degrees = at.text("name"), (degrees_in(at, "latitude", 90), degrees_in(at, "longitude", 360))
+        name = at.text("name")
+        if name not in wanted and not (at.text("latitude") or at.text("longitude")):
+            continue
+        degrees = degrees_in(at, "latitude", 90), degrees_in(at, "longitude", 360)
         if name in found:
             at.wrong("name", f"{shown(name)} stands in the table already; leave one of the two")
         elif name in wanted:
             found[name] = degrees
     if not found and not findings:
         findings.append(Finding(file, "it has none of the case's substations; is it the table of another case?", 1))
-    first = next(iter(found.values()), (0.0, 0.0))
-    return {name: degrees_between(first, degrees) for name, degrees in found.items()}
+    return found
+
+
+def in_metres(places: dict[str, Degrees]) -> dict[str, Place]:
+    """The places from the first one on."""
+    first = next(iter(places.values()), (0.0, 0.0))
+    return {name: degrees_between(first, degrees) for name, degrees in places.items()}
 
 
 def laid_out(network: Network, known: dict[str, Place]) -> tuple[dict[str, Place], int]:

@@ -313,8 +313,8 @@ def report_text(asked: Asked, outages: Outages, listed: bool) -> str:
     text = head_text(asked, outages)
     results = [result for result in outages.results if listed or result.outcome.word in ("unearthed", "unresolved")]
     if results:
-        rows = [(result.event.name, str(result.event), outcome_text(result.outcome)) for result in results]
-        text += "\n" + Table(("event", "switchings", "ends"), rows).columns()
+        ends = [(result.event.name, str(result.event), outcome_text(result.outcome)) for result in results]
+        text += "\n" + Table(("event", "switchings", "ends"), ends).columns()
     whole = {} if outages.whole.screen is None else {row.name: row for row in outages.whole.screen.rows}
     rows = []
     for name, worst in sorted(outages.worsts().items(), key=lambda found: -found[1].unit.worst.high):
@@ -347,7 +347,8 @@ def units_table(outages: Outages) -> Table:
     rows = []
     for name in outages.names():
         before, worst = whole.get(name), worsts.get(name)
-        cells = [name, *ends_or_nothing(before and before.worst), before.verdict if before else ""]
+        cells = [name, *ends_or_nothing(None if before is None else before.worst)]
+        cells.append("" if before is None else before.verdict)
         if worst is None:
             cells += ["", "", "", "none", ""]
         else:

@@ -4,7 +4,7 @@ import dataclasses
 import math
 from collections.abc import Iterable, Mapping, Sequence
 
-from .markup import Markup, tag
+from .markup import Markup, joined, tag
 from .network import Link, Place
 
 ROSE = 60.0  # half the side of a rose, and the greatest radius in it
@@ -29,18 +29,19 @@ def on_circle(bearing: float, radius: float) -> tuple[float, float]:
 
 def compass(radius: float) -> Markup:
     """A circle with two axes, and N at its top."""
-    return (
-        Markup("")
-        + tag("circle", r=radius, class_="grid")
-        + tag("path", d=f"M0 {-radius:g}V{radius:g}M{-radius:g} 0H{radius:g}", class_="grid")
-        + tag("text", "N", x=0, y=-radius - 3, class_="mid")
+    return joined(
+        (
+            tag("circle", r=radius, class_="grid"),
+            tag("path", d=f"M0 {-radius:g}V{radius:g}M{-radius:g} 0H{radius:g}", class_="grid"),
+            tag("text", "N", x=0, y=-radius - 3, class_="mid"),
+        )
     )
 
 
 def rose(bearing: float | None, worst: float, threshold: float, scale: float, class_: str, title: str) -> Markup:
     """The current of a unit by the direction of the field: of |worst · cos| the curve is two circles through the
     middle. The dashed circle is the threshold. Currents are in one unit, and the scale is the greatest radius."""
-    pieces = [tag("title", title), Markup(compass(ROSE))]
+    pieces = [tag("title", title), compass(ROSE)]
     if bearing is not None:
         x, y = on_circle(bearing, ROSE * worst / scale / 2)
         radius = ROSE * worst / scale / 2
@@ -56,7 +57,7 @@ def count_rose(counts: Sequence[int], title: str) -> Markup:
     """How many units there are for each of so many directions between 0 and 180 degrees; a direction and the one the
     other way have the same."""
     most, step, size = max(max(counts), 1), 180 / len(counts), 120.0
-    pieces = [tag("title", title), Markup(compass(size))]
+    pieces = [tag("title", title), compass(size)]
     rings = sorted({math.ceil(most / 2), most})
     for ring in rings:
         pieces.append(tag("circle", r=size * ring / most, class_="grid"))
@@ -247,8 +248,8 @@ def network_map(
         for station in sorted(stations, key=lambda one: (one.class_ != "none", one.current))
     ]
     for one in drawn:
-        circle = {"cx": one.x, "cy": one.y, "r": one.radius, "class_": f"station {one.station.class_}"}
-        pieces.append(tag("circle", tag("title", one.station.title), **circle))
+        title, class_ = tag("title", one.station.title), f"station {one.station.class_}"
+        pieces.append(tag("circle", title, cx=one.x, cy=one.y, r=one.radius, class_=class_))
     named = sorted(drawn, key=lambda one: -one.station.current)[:most_named]
     taken = [Box(0, to.height - 45, 330, to.height), Box(MAP_WIDTH - 50, 0, MAP_WIDTH, 64), *(one.box for one in named)]
     ground = Ground(Box(2, 2, MAP_WIDTH - 2, to.height - 2), [one.box for one in drawn], lines)

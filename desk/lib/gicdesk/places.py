@@ -2,11 +2,17 @@
 
 import decimal
 import math
+from fractions import Fraction
 
 MOST_KM = 1000  # of a span, to either direction
 SPAN_FROM_MAP_M = 10000  # a span that is given is this near to that of the coordinates
 SHORT_M = 100  # a line whose span is shorter is told
 Place = tuple[decimal.Decimal, decimal.Decimal]  # a latitude and a longitude
+Point = tuple[Fraction, Fraction]  # the same, to reckon with exactly
+
+
+def point(place: Place) -> Point:
+    return Fraction(place[0]), Fraction(place[1])
 
 
 def span_metres(start: Place, end: Place) -> tuple[int, int]:

@@ -5,10 +5,11 @@ the last corner joins the first. None may lie across the meridian of 180 degrees
 """
 
 import dataclasses
+from collections.abc import Sequence
 
 from .counts import plural
 from .findings import Finding
-from .places import Place
+from .places import Place, Point, point
 from .records import Record, read_table
 
 HEADS = ["zone", "latitude", "longitude"]
@@ -17,12 +18,12 @@ HEADS = ["zone", "latitude", "longitude"]
 @dataclasses.dataclass(frozen=True)
 class Polygon:
     zone: str
-    corners: list[Place]
+    corners: list[Point]
 
-    def sides(self) -> list[tuple[Place, Place]]:
+    def sides(self) -> list[tuple[Point, Point]]:
         return list(zip(self.corners, self.corners[1:] + self.corners[:1]))
 
-    def on_border(self, place: Place) -> bool:
+    def on_border(self, place: Point) -> bool:
         """Whether the place lies on a side or a corner."""
         for start, end in self.sides():
             within = all(min(start[axis], end[axis]) <= place[axis] <= max(start[axis], end[axis]) for axis in (0, 1))
@@ -30,7 +31,7 @@ class Polygon:
                 return True
         return False
 
-    def inside(self, place: Place) -> bool:
+    def inside(self, place: Point) -> bool:
         """Whether the place lies within, and on no border: a ray to the east crosses an odd number of sides."""
         if self.on_border(place):
             return False
@@ -42,7 +43,7 @@ class Polygon:
         return crossed % 2 == 1
 
 
-def turn(start: Place, end: Place, place: Place) -> int:
+def turn(start: Point, end: Point, place: Point) -> int:
     """On which side of the way from start to end the place lies: of a way to the north, 1 to its west, -1 to its east,
     and 0 on its line."""
     product = (end[0] - start[0]) * (place[1] - start[1]) - (place[0] - start[0]) * (end[1] - start[1])
@@ -69,18 +70,19 @@ def read_polygons(file: str, zones: set[str], findings: list[Finding]) -> list[P
     return list(polygons.values())
 
 
-def corner(at: Record) -> Place:
+def corner(at: Record) -> Point:
     place = at.number("latitude"), at.number("longitude")
     for column, number, most in zip(("latitude", "longitude"), place, (90, 180)):
         if abs(number) > most:
             at.wrong(column, f"it is {number:f}, and not {-most} to {most} degrees")
-    return place
+    return point(place)
 
 
-def zone_of(at: Record, place: Place, polygons: list[Polygon]) -> str:
+def zone_of(at: Record, place: Place, polygons: Sequence[Polygon]) -> str:
     """The zone that a place lies in; on a border the first one. One in none or in two is a finding."""
-    inside = [polygon.zone for polygon in polygons if polygon.inside(place)]
-    near = inside or [polygon.zone for polygon in polygons if polygon.on_border(place)]
+    here = point(place)
+    inside = [polygon.zone for polygon in polygons if polygon.inside(here)]
+    near = inside or [polygon.zone for polygon in polygons if polygon.on_border(here)]
     where = f"{place[0]:f}, {place[1]:f}"
     if len(inside) > 1:
         at.wrong(None, f"it lies at {where}, in {' and in '.join(inside)}; let these polygons not overlap")

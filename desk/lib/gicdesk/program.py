@@ -75,12 +75,12 @@ class Program:
 
     def look_for_change(self) -> None:
         """Refuses what was run where it isn't what it was when the command began; a copy stays as it is."""
-        if self.file == self.path and sum_of(self.path) != self.checksum:
+        if self.file == self.path and checksum_of(self.path) != self.checksum:
             words = "it has changed while the command ran, so its reports are of several programs; run it again"
             raise refuse(self.path, words)
 
 
-def sum_of(path: str) -> str:
+def checksum_of(path: str) -> str:
     return hashlib.sha256(read_program(path)).hexdigest()
 
 

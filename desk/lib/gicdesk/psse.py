@@ -5,22 +5,35 @@ import decimal
 import math
 from collections.abc import Sequence
 
+from . import psse_factors
+from .autos import Auto, turned_words
 from .beyond import reactor_row
-from .cases import Case, Field, Names, Row, short_enough, span_fields
+from .borders import Stretch
+from .cases import Case, Field, Names, Row, short_enough
 from .decimals import MILLI, shifted
-from .findings import Finding, Refused
-from .places import MOST_KM, SHORT_M, SPAN_FROM_MAP_M, span_metres
+from .findings import Finding, Refused, collected
+from .latitudes import latitude_words
+from .parts import Piece, Span, crossed_zones, fields_of, pieces_of, pieces_text, too_long, way_fault
+from .places import MOST_KM, SHORT_M, SPAN_FROM_MAP_M, Place, span_metres
 from .polygons import zone_of
-from .psse_gic import Gic, Key, LineData, Reactor, Substation, read_gic
-from .psse_raw import Branch, Raw, Switch, Transformer, read_raw
+from .psse_gic import Gic, LineData, Reactor, Substation, Windings, read_gic
+from .psse_grounds import Grounds
+from .psse_half import Shares
+from .psse_raw import Branch, Key, Raw, Switch, Transformer, read_raw
+from .psse_sections import whole_lines
+from .psse_stations import Stations
 from .psse_units import Beyond, Unit, micro_ohm, neutral_field, volts, windings_of
+from .quantities import Number
 from .records import Record
 from .tables import Table
 from .usual import GROUNDS, REACTORS, unusual, unusual_line, usual_at
+from .zone_scales import FORMULA, read_alpha
 from .zones import Override, ZoneFiles, Zones, read_all
 
+MOST_OF_TIE = decimal.Decimal("0.1")  # ohm of a phase; bus ties and breakers have less
+MOST_OF_JUMPER = decimal.Decimal("0.0001")  # reactance per unit; to power flows such a branch has no impedance
 BLOCKED_MICRO_OHM = 1000000  # of a series capacitor without a resistance: it carries nothing
-NAME_HEADS = ("list", "name", "theirs", "numbers", "circuit")
+NAME_HEADS = ("list", "name", "theirs", "numbers", "circuit", "latitude", "longitude")
 
 
 @dataclasses.dataclass(frozen=True)
@@ -29,6 +42,10 @@ class Choices:
 
     beyond: str | None
     vector: str | None
+    alpha: str = FORMULA
+    windings: str | None = None  # what a resistance of 0 is met by
+    grounds: Grounds = Grounds()
+    factors: bool = False  # whether a table of factors is made
 
 
 @dataclasses.dataclass
@@ -54,52 +71,71 @@ class Making:
         self.raw, self.gic, self.zones, self.choices, self.notes = raw, gic, zones, choices, notes
         self.beyond = Beyond(choices.beyond, self.notes)
         self.case, self.names, self.groups = Case(), Names(), Groups()
-        self.theirs: list[tuple[str, str, str, str, str]] = []
+        self.theirs: list[tuple[str, ...]] = []
         self.substation_names: dict[int, str] = {}
         self.bus_names: dict[int, str] = {}
         self.substation_zones: dict[int, str] = {}
+        self.factors: list[psse_factors.Row] = []
+        self.stations_of: dict[str, set[int]] = {}  # of zones, those that its lines join
+        self.units = 0  # with a winding in the network
         self.without: set[int] = set()  # buses that were told to be in no substation
 
     def tell(self, at: Record, words: str) -> None:
         self.notes.append(Finding(at.file, words, at.line))
 
-    def add(self, list_name: str, row: Row, theirs: str, numbers: Sequence[int], circuit: str = "") -> None:
+    def tell_at(self, at: Record, column: str, words: str) -> None:
+        self.notes.append(Finding(at.file, words, at.line, column))
+
+    def add(
+        self,
+        list_name: str,
+        row: Row,
+        theirs: str,
+        numbers: Sequence[int],
+        circuit: str = "",
+        place: tuple[str, str] = ("", ""),
+    ) -> None:
         self.case.lists[list_name].append(row)
-        self.theirs.append((list_name, row.name, theirs, " ".join(map(str, numbers)), circuit))
+        self.theirs.append((list_name, row.name, theirs, " ".join(map(str, numbers)), circuit, *place))
 
     def make(self) -> None:
-        for row in self.zones.rows:
-            self.names.taken.add(row.name)
-            self.case.lists["zone"].append(row)
+        for zone in self.zones.zones:
+            self.names.taken.add(zone.row.name)
+            self.case.lists["zone"].append(zone.row)
         for substation in self.gic.substations.values():
             self.substation(substation)
         for switch in self.raw.switches:
             self.switch(switch)
-        branches = [(branch, self.tie(branch)) for branch in self.raw.branches if self.in_service(branch)]
+        lines = whole_lines(
+            self.raw.groupings, self.raw.branches, self.raw.buses, self.gic.substation_of, self.notes
+        )
+        branches = [(branch, self.tie(branch)) for branch in lines if self.in_service(branch)]
         for branch, is_tie in branches:
-            self.line_reactors(branch, branch_name(branch) if is_tie else self.line(branch))
+            name = branch_name(branch) if is_tie else self.line(branch)
+            for section in branch.sections or (branch,):
+                self.line_reactors(section, name)
         for unit in self.raw.transformers:
             self.transformer(unit)
         for reactor in self.gic.reactors:
             self.reactor(reactor)
         self.records_used()
+        self.latitudes()
+        self.tell_of_autos()
         self.buses()
 
     def substation(self, substation: Substation) -> None:
         name = self.names.give(substation.name, f"S{substation.number}")
         self.substation_names[substation.number] = name
         fields = []
-        if substation.ground is None:
-            words = "RG is empty, which is taken as no ground; see whether the file means that, or else write its ohm"
-            self.tell(substation.record, f"{name}: {words}")
-        else:
-            ways = "write ohm, or nothing where it has no ground"
-            micro = micro_ohm(substation.record, "RG", substation.ground, ways)
+        ohm = self.choices.grounds.of(substation, name, self.notes)
+        if ohm is not None:
+            micro = micro_ohm(substation.record, "RG", ohm, "write ohm, or nothing where it has no ground")
             kilovolts = self.highest(substation.number)
             usual, what = usual_at(GROUNDS, kilovolts), f"grounds at {kilovolts:f} kV"
-            self.tell_unusual(substation.record, "RG", unusual(substation.ground, usual, what, kilovolts))
-            fields.append(Field("ground", micro, f"{substation.ground:f} ohm to remote earth"))
-        self.add("substation", Row(name, fields), substation.name, [substation.number])
+            self.tell_unusual(substation.record, "RG", unusual(ohm, usual, what, kilovolts))
+            fields.append(Field("ground", micro, f"{ohm:f} ohm to remote earth"))
+        place = f"{substation.latitude:f}", f"{substation.longitude:f}"
+        self.add("substation", Row(name, fields), substation.name, [substation.number], "", place)
 
     def highest(self, substation: int) -> decimal.Decimal:
         """The highest voltage in a substation, in kV."""
@@ -108,7 +144,7 @@ class Making:
 
     def tell_unusual(self, at: Record, column: str, found: tuple[str, str] | None) -> None:
         if found is not None:
-            self.notes.append(Finding(at.file, "".join(found), at.line, column))
+            self.tell_at(at, column, "".join(found))
 
     def known(self, at: Record, buses: Sequence[int]) -> bool:
         """Whether each bus stands in both files; what is missing is told once."""
@@ -147,11 +183,18 @@ class Making:
         self.groups.join(*ends)
         self.tell(at, f"{what} ties two buses of one substation: they are one bus, {self.groups.of(ends[0])}")
 
+    def is_within(self, branch: Branch) -> bool:
+        """Whether both ends are in one substation."""
+        return len(self.substations(branch.ends)) == 1
+
     def line_data(self, branch: Branch) -> LineData | None:
         return self.gic.lines.get((frozenset(branch.ends), branch.circuit))
 
     def ohm(self, branch: Branch) -> decimal.Decimal:
-        """The resistance of a phase: that of the resistances' file, or else that of the power flow."""
+        """The resistance of a phase: that of the resistances' file, or else that of the power flow; of sections their
+        sum."""
+        if branch.sections:
+            return sum((self.ohm(section) for section in branch.sections), decimal.Decimal(0))
         data = self.line_data(branch)
         if data is not None and data.ohm != 0:
             return data.ohm
@@ -159,18 +202,24 @@ class Making:
         return branch.resistance * kilovolts**2 / self.raw.base_mva
 
     def tie(self, branch: Branch) -> bool:
-        """Whether a branch lies within one substation. It makes one bus of two; a capacitor there is left out."""
-        if len(self.substations(branch.ends)) > 1:
+        """Whether a branch within one substation is a tie, which makes one bus of two, or a capacitor, which is left out;
+        one with more of a resistance than a tie has is a line."""
+        if not self.is_within(branch):
             return False
         what = f"the branch {title(branch.ends, branch.circuit)}"
         if branch.reactance < 0:
             self.tell(branch.record, f"{what} is a series capacitor within a substation: it is left out")
             return True
         kilovolts = [self.raw.buses[bus].kilovolts for bus in branch.ends]
+        ohm = self.ohm(branch)
+        if ohm > MOST_OF_TIE:
+            words = f"{what} of {ohm:f} ohm lies within one substation: it is kept as a line, which has no span"
+            self.tell(branch.record, f"{words}; if it leads to another one, mend the substation of a bus in {self.gic.file}")
+            return False
         if kilovolts[0] != kilovolts[1]:
             words = f"{what} ties a bus of {kilovolts[0]:f} kV to one of {kilovolts[1]:f} kV; look at BASKV of both"
             branch.record.wrong(None, words)
-        self.join(branch.record, f"{what} of {self.ohm(branch):f} ohm", branch.ends)
+        self.join(branch.record, f"{what} of {ohm:f} ohm", branch.ends)
         return True
 
     def line(self, branch: Branch) -> str:
@@ -182,21 +231,30 @@ class Making:
             branch.record.wrong(None, words)
         override = self.zones.of_lines.get((frozenset(branch.ends), branch.circuit))
         north, east = self.span(branch, override)
-        if branch.reactance >= 0 and abs(north) + abs(east) < SHORT_M:
+        if branch.reactance >= 0 and abs(north) + abs(east) < SHORT_M and not self.is_within(branch):
             self.tell(branch.record, f"{name} has a span of less than {SHORT_M} m: look at the coordinates of its ends")
         fields = [Field("from", self.bus(branch.ends[0])), Field("to", self.bus(branch.ends[1]))]
-        fields.append(Field("zone", self.zone(branch, override)))
-        fields.append(self.line_resistance(branch))
-        if branch.reactance >= 0 and abs(north) + abs(east) >= SHORT_M:
+        pieces = self.pieces(branch, override, (north, east))
+        if not pieces:
+            return name
+        if len(pieces) == 1:  # (one over a border says nothing of the latitude of a zone)
+            self.stations_of.setdefault(pieces[0].zone, set()).update(self.substations(branch.ends))
+        resistance = self.line_resistance(branch)
+        if branch.reactance >= 0 and abs(north) + abs(east) >= SHORT_M and self.ohm(branch) != 0:
             data = self.line_data(branch)
             at, column = (branch.record, "R") if data is None or data.ohm == 0 else (data.record, "RBRN")
             found = unusual_line(self.ohm(branch), math.hypot(north, east), start.kilovolts)
             self.tell_unusual(at, column, found)
-        fields += span_fields(north, east)
+        fault = too_long(pieces, (north, east), self.zones.factor, MOST_KM)
+        if fault is not None:
+            branch.record.wrong(None, fault)
+        fields += fields_of(pieces, resistance, (north, east), self.zones.factor)
         if branch.reactance < 0:
             fields.append(Field("blocked", True, "a series capacitor passes no direct current"))
-            words = f"{name} has a negative X: it is a series capacitor, and blocked"
-            self.tell(branch.record, words)
+            what = "a negative X: it is a series capacitor, and"
+            if branch.sections:
+                what = "a section of a negative X, which is a series capacitor: it is"
+            self.tell(branch.record, f"{name} has {what} blocked")
         self.add("line", Row(name, fields), branch.name, branch.ends, branch.circuit)
         return name
 
@@ -206,6 +264,9 @@ class Making:
         for bus, ohm in ({} if data is None else data.shunts).items():
             if ohm != 0 and data is not None:
                 column = f"RLNSH{'I' if bus == data.record.bus('I') else 'J'}"
+                if bus not in self.gic.substation_of:
+                    data.record.wrong(column, f"the bus {bus} is between two sections, in no substation; give it one")
+                    continue
                 what = f"the reactor of {name} at the bus {bus}"
                 self.say_reactor(data.record, what, bus, f"{name}_{bus}", ohm, column)
 
@@ -214,10 +275,16 @@ class Making:
         data = self.line_data(branch)
         from_data = data is not None and data.ohm != 0
         comment = f"{ohm.normalize():f} ohm per phase" + ("" if from_data else ", from per unit")
+        if branch.sections:
+            comment = f"{ohm.normalize():f} ohm per phase, the sum of {len(branch.sections)} sections"
         if branch.reactance < 0 and ohm * 1000 < 1:
             comment = "no resistance of 0.001 ohm or more was given: it carries nothing while it is blocked"
             return Field("resistance", BLOCKED_MICRO_OHM, comment)
         at, column = (data.record, "RBRN") if data is not None and from_data else (branch.record, "R")
+        if ohm == 0 and branch.reactance <= MOST_OF_JUMPER:
+            words = "has no resistance, and next to no reactance: it is taken as a jumper, of 0.001 ohm"
+            self.tell(branch.record, f"the branch {title(branch.ends, branch.circuit)} {words}")
+            return Field("resistance", 1000, "0.001 ohm per phase, the least of a case: a jumper without a resistance")
         return Field("resistance", micro_ohm(at, column, ohm), comment)
 
     def span(self, branch: Branch, override: Override | None) -> tuple[int, int]:
@@ -239,17 +306,59 @@ class Making:
                 override.record.wrong(column, words)
         return given
 
-    def zone(self, branch: Branch, override: Override | None) -> str:
-        """The zone of a line: that of the table of lines, or that of both its substations, or the only one."""
+    def way(self, branch: Branch) -> list[Stretch]:
+        """The straight way between the ends of a branch, by the polygons; nothing where there are none."""
+        if self.zones.borders is None:
+            return []
+        start, end = (self.gic.substations[self.gic.substation_of[bus]] for bus in branch.ends)
+        return self.zones.borders.stretches((start.latitude, start.longitude), (end.latitude, end.longitude))
+
+    def pieces(self, branch: Branch, override: Override | None, span: Span) -> list[Piece]:
+        """A line as it is in the case: whole in the zone of the table of lines, or in the only one, or in that of both its
+        substations; and in parts, where by the polygons it crosses borders. None where that isn't known, a finding."""
+        way = [] if branch.reactance < 0 else self.way(branch)
         if override is not None and override.zone:
-            return override.zone
-        if len(self.zones.rows) == 1:
-            return self.zones.rows[0].name
+            self.tell_of_borders(override, way, span)
+            return [Piece(override.zone)]
+        if len(self.zones.zones) == 1:
+            return [Piece(self.zones.zones[0].row.name)]
         zones = [self.zone_of_substation(self.gic.substation_of[bus]) for bus in branch.ends]
-        if all(zones) and zones[0] != zones[1]:
-            words = f"its ends are in {zones[0]} and in {zones[1]}; write its zone into the table of --lines"
-            branch.record.wrong(None, words)
-        return zones[0]
+        if not all(zones):
+            return []
+        crosses = len(crossed_zones(way)) > 1 or way_fault(way) is not None
+        if crosses and len(way[0].zones) + len(way[-1].zones) > 2:
+            return []  # (it is a finding at the station that lies in several)
+        if crosses and zones[0] in way[0].zones and zones[1] in way[-1].zones:
+            return self.in_parts(branch, way, span)
+        if zones[0] != zones[1] and (branch.reactance >= 0 or self.zones.borders is None):
+            words = f"its ends are in {zones[0]} and in {zones[1]}; give --polygons, which cut it at the border"
+            branch.record.wrong(None, f"{words}, or write its zone into the table of --lines")
+            return []
+        if crosses:
+            crossed = " and ".join(sorted(crossed_zones(way)))
+            words = f"it is in {zones[0]} by the table of --substations, and by the polygons in {crossed}"
+            self.tell(branch.record, f"{words}; look at both")
+        return [Piece(zones[0])]
+
+    def tell_of_borders(self, override: Override, way: Sequence[Stretch], span: Span) -> None:
+        """Tells of a line that the table of lines has in one zone, and that by the polygons lies in others too."""
+        zone, crossed = override.zone, crossed_zones(way)
+        words = f"it is {zone}, and by the polygons the line lies in"
+        if crossed and zone not in crossed:
+            self.tell_at(override.record, "zone", f"{words} {' and '.join(sorted(crossed))}; leave the cell empty")
+        elif len(crossed) > 1:
+            parts = pieces_text(pieces_of([stretch for stretch in way if stretch.zones]), span)
+            self.tell_at(override.record, "zone", f"{words} several: {parts}; leave the cell empty for parts")
+
+    def in_parts(self, branch: Branch, way: Sequence[Stretch], span: Span) -> list[Piece]:
+        fault = way_fault(way)
+        if fault is not None:
+            branch.record.wrong(None, f"{fault}; mend the polygons, or write its zone into the table of --lines")
+            return []
+        pieces = pieces_of(way)
+        words = f"the branch {title(branch.ends, branch.circuit)} crosses borders: {pieces_text(pieces, span)}"
+        self.tell(branch.record, f"{words}; it has {len(pieces)} parts")
+        return pieces
 
     def zone_of_substation(self, number: int) -> str:
         """The zone of a substation: that of the table, or that of the polygons; empty where it has none, told once."""
@@ -257,8 +366,9 @@ class Making:
             substation = self.gic.substations[number]
             row = self.zones.of_substations.get(number)
             zone = "" if row is None else row.text("zone")
-            if row is None and self.zones.polygons:
-                zone = zone_of(substation.record, (substation.latitude, substation.longitude), self.zones.polygons)
+            if row is None and self.zones.borders is not None:
+                place = (substation.latitude, substation.longitude)
+                zone = zone_of(substation.record, place, self.zones.borders.polygons)
             elif row is None:
                 words = f"the substation {number} has no zone; write it into the table of --substations"
                 substation.record.wrong(None, f"{words}, or give --polygons")
@@ -285,12 +395,22 @@ class Making:
         if not windings:
             return
         name = self.names.give(unit.name, f"T{numbers}-{unit.circuit}")
-        making = Unit(unit.record, data.record, name, windings, self.bus, self.beyond)
+        shares = Shares(self.choices.windings, self.raw.base_mva, self.notes)
+        making = Unit(unit.record, data.record, name, windings, self.bus, self.beyond, unit, shares)
         for row in making.rows():
             used = [row.value(end) for end in ("high", "low", "third") if row.value(end) is not None]
             if len(set(used)) < len(used):
                 unit.record.wrong(None, f"{what} has two buses that ties make one; open the tie between them")
             self.add("transformer", row, unit.name, unit.buses, unit.circuit)
+            self.note_factor(row, data)
+
+    def note_factor(self, row: Row, data: Windings) -> None:
+        """Keeps the factor for losses of a unit with a winding in the network."""
+        high_volts = row.value("high_volts")
+        if row.value("high") is not None and isinstance(high_volts, int):
+            self.units += 1
+            factor = psse_factors.factor_of(row.name, high_volts, data)
+            self.factors += [] if factor is None else [factor]
 
     def reactor(self, reactor: Reactor) -> None:
         what = f"the reactor {title((reactor.bus,), reactor.circuit)}"
@@ -322,11 +442,35 @@ class Making:
             row = reactor_row(given, volts(at, kilovolts), self.bus(bus), resistance, neutral)
             self.add("transformer", row, "", [bus])
 
+    def latitudes(self) -> None:
+        """Tells of a zone whose latitude isn't the geomagnetic one of the stations that its lines join."""
+        for zone in self.zones.zones:
+            at = zone.at
+            places = [self.place_of(number) for number in sorted(self.stations_of.get(zone.row.name, set()))]
+            words = latitude_words(float(at.number("geomagnetic_latitude")), places)
+            if words is not None:
+                self.tell_at(at, "geomagnetic_latitude", f"{words}; look up the geomagnetic one of the year")
+
+    def place_of(self, substation: int) -> Place:
+        station = self.gic.substations[substation]
+        return station.latitude, station.longitude
+
+    def tell_of_autos(self) -> None:
+        autos = []
+        for row in self.case.lists["transformer"]:
+            numbers = [row.value(key) for key in ("high_volts", "low_volts", "series_resistance", "common_resistance")]
+            high, low, series, common = (Number(value) if isinstance(value, int) else Number(0) for value in numbers)
+            autos += [Auto(row.name, high, low, series, common)] if series and common else []
+        words = turned_words(autos)
+        if words is not None:
+            self.notes.append(Finding(self.gic.file, f"{words}; look at WRI and WRJ, and at the order of the buses"))
+
     def records_used(self) -> None:
         """A row of the table of lines that is of no branch is a finding, since it was meant for one. A row of the table
         of substations that is of none is told, since the table may be of a larger network; so is a record of
         resistances that is of nothing, and a reactor without one."""
         branches: set[Key] = {(frozenset(branch.ends), branch.circuit) for branch in self.raw.branches}
+        branches |= {(frozenset(grouping.ends), grouping.circuit) for grouping in self.raw.groupings}
         units: set[Key] = {(frozenset(unit.buses), unit.circuit) for unit in self.raw.transformers}
         for key, override in self.zones.of_lines.items():
             if key not in branches:
@@ -334,15 +478,20 @@ class Making:
         for number, row in self.zones.of_substations.items():
             if number not in self.gic.substations:
                 self.tell(row, f"there is no substation {number} in {self.gic.file}: this row is of none")
-        for what, data, keys in (("branch", self.gic.lines, branches), ("transformer", self.gic.windings, units)):
-            for key, datum in data.items():
-                if key not in keys:
-                    self.tell(datum.record, f"there is no {what} of these buses and this circuit in {self.raw.file}")
+        for key, data in self.gic.lines.items():
+            if key not in branches:
+                self.tell_of_none(data.record, "branch")
+        for key, windings in self.gic.windings.items():
+            if key not in units:
+                self.tell_of_none(windings.record, "transformer")
         grounded = {(reactor.bus, reactor.circuit) for reactor in self.gic.reactors}
         for name, shunt in self.raw.shunts.items():
             if shunt.reactor and shunt.in_service and name not in grounded:
                 what = f"the reactor {title((shunt.bus,), shunt.circuit)}"
                 self.tell(shunt.record, f"{what} has no record in {self.gic.file}: it is taken as not grounded")
+
+    def tell_of_none(self, at: Record, what: str) -> None:
+        self.tell(at, f"there is no {what} of these buses and this circuit in {self.raw.file}")
 
     def bus(self, number: int) -> str:
         """The name of the bus that this one is, which is in the case from here on."""
@@ -371,7 +520,7 @@ class Making:
 
 def branch_name(branch: Branch) -> str:
     """The name of a branch by its numbers."""
-    return f"L{'-'.join(map(str, branch.ends))}-{branch.circuit}"
+    return f"{'M' if branch.sections else 'L'}{'-'.join(map(str, branch.ends))}-{branch.circuit.lstrip('&')}"
 
 
 def title(buses: Sequence[int], circuit: str) -> str:
@@ -382,25 +531,23 @@ def title(buses: Sequence[int], circuit: str) -> str:
 class Made:
     case: str
     names: str
+    factors: str  # empty where none were asked for
     notes: list[Finding]
 
 
 def make_case(raw_file: str, gic_file: str, zone_files: ZoneFiles, choices: Choices) -> Made:
     """The case of the two files and the tables of zones; all that is wrong with any of them is told at once."""
+    read_alpha(choices.alpha)
     findings: list[Finding] = []
     notes: list[Finding] = []
-    read: list[Raw | Gic | Zones] = []
-    for reader in (
-        lambda: read_raw(raw_file, findings, notes),
-        lambda: read_gic(gic_file, findings, notes),
-        lambda: read_all(zone_files, findings),
-    ):
-        try:
-            read.append(reader())
-        except Refused as refused:
-            findings += refused.findings
-    raw, gic, zones = read if len(read) == 3 else (None, None, None)
-    if findings or not (isinstance(raw, Raw) and isinstance(gic, Gic) and isinstance(zones, Zones)):
+    raw = gic = zones = None
+    with collected(findings):
+        raw = read_raw(raw_file, findings, notes)
+    with collected(findings):
+        gic = read_gic(gic_file, Stations() if raw is None else raw.stations, findings, notes)
+    with collected(findings):
+        zones = read_all(zone_files, choices.alpha, findings, notes)
+    if findings or raw is None or gic is None or zones is None:
         raise Refused(findings)
     making = Making(raw, gic, zones, choices, notes)
     making.make()
@@ -410,4 +557,5 @@ def make_case(raw_file: str, gic_file: str, zone_files: ZoneFiles, choices: Choi
         raise Refused(findings)
     origin = f"Made by gicdesk psse of {raw_file} and {gic_file}: change these, and make it again."
     text = short_enough(making.case.text(origin), raw_file, notes)
-    return Made(text, Table(NAME_HEADS, making.theirs).csv(), making.notes)
+    factors = psse_factors.factors_text(making.factors, making.units, gic_file, choices.factors, notes)
+    return Made(text, Table(NAME_HEADS, making.theirs).csv(), factors, making.notes)

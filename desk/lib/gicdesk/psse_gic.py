@@ -3,10 +3,12 @@
 import dataclasses
 import decimal
 import functools
+from collections.abc import Mapping
 
 from .files import read_text
 from .findings import Finding, refuse
 from .psse_raw import Key, circuit_of, look_for_twins
+from .psse_stations import Station, Stations
 from .psse_text import Layout, by_number, read_sections, records_of, told_skipped
 from .records import Record
 
@@ -32,6 +34,7 @@ LAYOUT = Layout(
     },
 )
 SIDES = ("I", "J", "K")
+APART = decimal.Decimal("0.01")  # degrees between two places of one substation that are told
 PASSED = ("EARTH MODEL",)  # what is skipped without a word
 
 
@@ -59,6 +62,8 @@ class Windings:
     sides: dict[int, Side]  # by the numbers of their buses
     vector: str
     record: Record
+    core: int = 0
+    factor: decimal.Decimal = decimal.Decimal(0)  # KFACTOR, in Mvar an ampere; 0 where none is given
 
 
 @dataclasses.dataclass(frozen=True)
@@ -87,7 +92,15 @@ class Gic:
     lines: dict[Key, LineData]
 
 
-def read_substation(at: Record) -> Substation:
+def read_substation(at: Record, stations: Mapping[int, Station], notes: list[Finding]) -> Substation:
+    """A substation; what is empty of its place and its ground is that of the power flow, where it has any."""
+    station = stations.get(at.whole("I"))
+    if station is not None and not (at.text("LATITUDE") or at.text("LONGITUDE")):
+        name = at.text("NAME") or station.name
+        ground = at.number("RG") if at.text("RG") else station.ground
+        words = f"it has no place here: that of the power flow is taken{'' if at.text('RG') else ', and its SRG'}"
+        notes.append(Finding(at.file, words, at.line))
+        return Substation(station.number, name, station.latitude, station.longitude, ground, at)
     unit = at.whole("UNIT", 0)
     if unit != 0:
         at.wrong("UNIT", f"it is {unit}; degrees are read, which is 0")
@@ -96,7 +109,26 @@ def read_substation(at: Record) -> Substation:
     for column, number, most in (("LATITUDE", latitude, 90), ("LONGITUDE", longitude, 180)):
         if abs(number) > most:
             at.wrong(column, f"it is {at.text(column)}, and not {-most} to {most} degrees")
+    if station is not None and any(abs(one - other) > APART for one, other in zip((latitude, longitude), station.place)):
+        words = f"it lies at {latitude:f}, {longitude:f}, and in the power flow at"
+        notes.append(Finding(at.file, f"{words} {station.latitude:f}, {station.longitude:f}; look at both", at.line))
     return Substation(at.whole("I"), at.text("NAME"), latitude, longitude, ground, at)
+
+
+def with_stations(
+    substations: dict[int, Substation], substation_of: dict[int, int], stations: Stations, notes: list[Finding]
+) -> None:
+    """Adds what only the power flow has: all substations where the file has none, and the substations of buses."""
+    if not substations and stations.stations:
+        for station in stations.stations.values():
+            substations[station.number] = Substation(
+                station.number, station.name, station.latitude, station.longitude, station.ground, station.record
+            )
+        file = next(iter(stations.stations.values())).record.file
+        notes.append(Finding(file, "substations, their places and SRG as their grounds are taken from here"))
+    for bus, number in stations.station_of.items():
+        if number in substations:
+            substation_of.setdefault(bus, number)
 
 
 def read_windings(at: Record) -> tuple[Key, Windings]:
@@ -108,10 +140,11 @@ def read_windings(at: Record) -> tuple[Key, Windings]:
             if blocked not in (0, 1):
                 at.wrong(f"GICBD{side}", f"it is {blocked}; allowed are 0, and 1 for a blocking device")
             sides[bus] = Side(at.number(f"WR{side}", "0"), blocked == 1, at.number(f"GRDR{side}", "0"))
-    return (frozenset(sides), circuit_of(at)), Windings(sides, at.text("VECGRP"), at)
+    windings = Windings(sides, at.text("VECGRP"), at, at.whole("CORE", 0), at.number("KFACTOR", "0"))
+    return (frozenset(sides), circuit_of(at)), windings
 
 
-def read_line(at: Record) -> tuple[Key, LineData]:
+def read_line_data(at: Record) -> tuple[Key, LineData]:
     ends = (at.bus("I"), at.bus("J"))
     for column in ("INDVP", "INDVQ"):
         if at.number(column, "0") != 0:
@@ -120,8 +153,9 @@ def read_line(at: Record) -> tuple[Key, LineData]:
     return (frozenset(ends), circuit_of(at)), LineData(at.number("RBRN", "0"), shunts, at)
 
 
-def read_gic(file: str, findings: list[Finding], notes: list[Finding]) -> Gic:
-    """The data of a file. What is wrong with its fields becomes findings, and what is skipped is told."""
+def read_gic(file: str, stations: Stations, findings: list[Finding], notes: list[Finding]) -> Gic:
+    """The data of a file, with the substations of a power flow beside it. What is wrong with its fields becomes findings,
+    and what is skipped is told."""
     lines = read_text(file, "latin-1").split("\n")
     first = 0
     while first + 1 < len(lines) and (not lines[first].strip() or lines[first].lstrip().startswith(("@!", "/"))):
@@ -131,7 +165,8 @@ def read_gic(file: str, findings: list[Finding], notes: list[Finding]) -> Gic:
     sections = read_sections(file, lines, first + 2, LAYOUT, findings)
     told_skipped(file, sections, LAYOUT, PASSED, notes)
     records = functools.partial(records_of, file, sections, LAYOUT, findings)
-    substations = by_number("substation", map(read_substation, records("SUBSTATION")))
+    read = (read_substation(at, stations.stations, notes) for at in records("SUBSTATION"))
+    substations = by_number("substation", read)
     substation_of: dict[int, int] = {}
     for at in records("BUS"):
         bus, number = at.bus("BUS"), at.whole("SUBSTATION")
@@ -140,13 +175,14 @@ def read_gic(file: str, findings: list[Finding], notes: list[Finding]) -> Gic:
         elif number not in substations:
             at.wrong("SUBSTATION", f"there is no substation {number} in this file; write its record")
         substation_of[bus] = number
+    with_stations(substations, substation_of, stations, notes)
     reactors = [
         Reactor(at.bus("BUS"), circuit_of(at, "ID"), at.number("R", "0"), at.number("RG", "0"), at)
         for at in records("FIXED SHUNT")
     ]
     windings = [read_windings(at) for at in records("TRANSFORMER")]
-    lines_data = [read_line(at) for at in records("BRANCH")]
-    for found in (windings, lines_data):
-        look_for_twins([(key, datum.record) for key, datum in found])
+    lines_data = [read_line_data(at) for at in records("BRANCH")]
+    look_for_twins([(key, datum.record) for key, datum in windings])
+    look_for_twins([(key, datum.record) for key, datum in lines_data])
     look_for_twins([((frozenset([reactor.bus]), reactor.circuit), reactor.record) for reactor in reactors])
     return Gic(file, substations, substation_of, dict(windings), reactors, dict(lines_data))

@@ -6,15 +6,19 @@ import functools
 
 from .files import read_text
 from .findings import Finding, refuse, shown
+from .psse_stations import SECTION as STATIONS
+from .psse_stations import Stations, read_stations
 from .psse_text import Layout, SectionLine, by_number, fields_of, read_sections, record, records_of, told_skipped
 from .records import WHOLE, Record
 
+DUMMIES = " ".join(f"DUM{number}" for number in range(1, 10))
 RATES = " ".join(f"RATE{number}" for number in range(1, 13))
 COLUMNS = {
     "BUS": "I NAME BASKV IDE AREA ZONE OWNER VM VA",
     "FIXED SHUNT": "I ID ST GL BL",
     "BRANCH": "I J CKT R X B RATEA RATEB RATEC GI BI GJ BJ ST MET LEN",
     "TRANSFORMER": "I J K CKT CW CZ CM MAG1 MAG2 NMETR NAME ST O1 F1 O2 F2 O3 F3 O4 F4 VECGRP",
+    "MULTI-SECTION LINE": f"I J ID MET {DUMMIES}",
 }
 NEEDED = {
     "BUS": "I BASKV",
@@ -22,11 +26,14 @@ NEEDED = {
     "BRANCH": "I J CKT R X ST",
     "SYSTEM SWITCHING DEVICE": "I J CKT ST",
     "TRANSFORMER": "I J K CKT ST",
+    "MULTI-SECTION LINE": "I J ID DUM1",
 }
 OTHER_SECTIONS = {"FIXED BUS SHUNT": "FIXED SHUNT", "NONTRANSFORMER BRANCH": "BRANCH", "LINE": "BRANCH"}
+OTHER_SECTIONS |= {"SUBSTATION NODE": STATIONS, "SUBSTATION BLOCK": STATIONS}
+OTHER_SECTIONS |= {"MULTI-SECTION LINE GROUPING": "MULTI-SECTION LINE", "MULTI SECTION LINE": "MULTI-SECTION LINE"}
 # Sections that say nothing of direct currents.
 PASSED = ["SYSTEM-WIDE", "LOAD", "GENERATOR", "AREA", "ZONE", "OWNER"]
-PASSED += ["INTER-AREA TRANSFER", "IMPEDANCE CORRECTION", "MULTI-SECTION LINE"]
+PASSED += ["INTER-AREA TRANSFER", "IMPEDANCE CORRECTION"]
 TO_TRANSFORMERS = ["BUS", "LOAD", "FIXED SHUNT", "GENERATOR", "BRANCH", "TRANSFORMER", "AREA"]
 TO_33 = Layout(TO_TRANSFORMERS, COLUMNS, NEEDED, OTHER_SECTIONS)
 FROM_34 = Layout(
@@ -55,7 +62,8 @@ class Bus:
 
 @dataclasses.dataclass(frozen=True)
 class Branch:
-    """A line, a series capacitor or a tie. The resistance and the reactance are per unit."""
+    """A line, a series capacitor or a tie. The resistance and the reactance are per unit. Of a line of several sections
+    these are its branches, and the reactance is negative where that of one of them is."""
 
     ends: tuple[int, int]
     circuit: str
@@ -63,6 +71,17 @@ class Branch:
     reactance: decimal.Decimal
     in_service: bool
     name: str
+    record: Record
+    sections: tuple["Branch", ...] = ()
+
+
+@dataclasses.dataclass(frozen=True)
+class Grouping:
+    """A line of several sections: its ends, and the buses between its sections in their order."""
+
+    ends: tuple[int, int]
+    circuit: str
+    between: tuple[int, ...]
     record: Record
 
 
@@ -91,6 +110,7 @@ class Transformer:
     name: str
     vector: str
     record: Record
+    impedance: Record  # its second line
 
     @property
     def out(self) -> int | None:
@@ -123,6 +143,8 @@ class Raw:
     switches: list[Switch]
     transformers: list[Transformer]
     shunts: dict[tuple[int, str], Shunt]
+    groupings: list[Grouping]
+    stations: Stations
 
 
 def look_for_twins(found: list[tuple[Key, Record]]) -> None:
@@ -183,6 +205,13 @@ def read_switch(at: Record) -> Switch:
     return Switch((at.bus("I"), at.bus("J")), circuit_of(at), at.whole("ST", 1) != 0, at)
 
 
+def read_grouping(at: Record) -> Grouping:
+    between = tuple(bus for column in DUMMIES.split(" ") if (bus := at.bus(column, 0)))
+    if not between:
+        at.wrong("DUM1", "it is empty; a line of several sections has a bus between each two of them")
+    return Grouping((at.bus("I"), at.bus("J")), at.text("ID") or "&1", between, at)
+
+
 def read_transformers(
     file: str, lines: list[SectionLine], layout: Layout, findings: list[Finding]
 ) -> list[Transformer]:
@@ -201,7 +230,8 @@ def read_transformers(
         status = at.whole("ST", 1)
         if status not in (0, 1, *(OUT if len(buses) == 3 else ())):
             at.wrong("ST", f"it is {status}, and not 0 or 1, nor for a unit of three buses 2, 3 or 4")
-        units.append(Transformer(buses, rated, circuit_of(at), status, at.text("NAME"), at.text("VECGRP"), at))
+        second = Record(file, lines[place + 1].number, lines[place + 1].fields, ["R1-2", "X1-2", "SBASE1-2"], findings)
+        units.append(Transformer(buses, rated, circuit_of(at), status, at.text("NAME"), at.text("VECGRP"), at, second))
         place += 2 + len(buses)
     return units
 
@@ -211,7 +241,7 @@ def read_raw(file: str, findings: list[Finding], notes: list[Finding]) -> Raw:
     lines = read_text(file, "latin-1").split("\n")
     first, base, layout = read_head(file, lines)
     sections = read_sections(file, lines, first, layout, findings)
-    told_skipped(file, sections, layout, PASSED, notes)
+    told_skipped(file, sections, layout, (*PASSED, STATIONS), notes)
     records = functools.partial(records_of, file, sections, layout, findings)
     buses = by_number("bus", map(read_bus, records("BUS")))
     branches = [read_branch(at) for at in records("BRANCH")]
@@ -222,4 +252,6 @@ def read_raw(file: str, findings: list[Finding], notes: list[Finding]) -> Raw:
     look_for_twins([((frozenset(unit.buses), unit.circuit), unit.record) for unit in units])
     look_for_twins([((frozenset([shunt.bus]), shunt.circuit), shunt.record) for shunt in shunts])
     by_bus = {(shunt.bus, shunt.circuit): shunt for shunt in shunts}
-    return Raw(file, base, buses, branches, switches, units, by_bus)
+    groupings = [read_grouping(at) for at in records("MULTI-SECTION LINE")]
+    stations = read_stations(file, sections.get(STATIONS, []), buses, findings)
+    return Raw(file, base, buses, branches, switches, units, by_bus, groupings, stations)

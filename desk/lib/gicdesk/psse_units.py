@@ -11,9 +11,10 @@ from .beyond import THREE_SIDED, with_third
 from .cases import Field, Row
 from .findings import Finding, shown
 from .psse_gic import SIDES, Side, Windings
+from .psse_half import Shares
 from .psse_raw import Transformer
 from .records import Record
-from .usual import NEUTRALS, WINDINGS, Number, short, unusual, usual_at
+from .usual import NEUTRALS, WINDINGS, Number, short, two_transmission_voltages, unusual, usual_at
 from .vectors import GROUNDED, GROUPS, letters_of
 
 RATED_FROM_BUS = decimal.Decimal("0.1")  # a rated voltage is mostly within a tenth of that of its bus
@@ -150,6 +151,8 @@ class Unit:
     windings: list[Winding]
     bus_name: Callable[[int], str]
     beyond: Beyond
+    unit: Transformer
+    shares: Shares
     note: str = ""
 
     def tell(self, words: str) -> None:
@@ -162,6 +165,8 @@ class Unit:
     def resistance(self, key: str, winding: Winding) -> Field:
         """The resistance of a winding, of which it is told where few have it."""
         column = f"WR{winding.name}"
+        if winding.side.ohm == 0:
+            return self.half(key, column, winding)
         micro = micro_ohm(self.data_at, column, winding.side.ohm)
         kilovolts = winding.kilovolts
         least, most = usual_at(WINDINGS, kilovolts)
@@ -171,6 +176,23 @@ class Unit:
         if 1000 <= micro <= 10**9:
             self.tell_unusual(column, found)
         return Field(key, micro, f"{winding.side.ohm:f} ohm per phase")
+
+    def half(self, key: str, column: str, winding: Winding) -> Field:
+        """The resistance of a winding that stands as 0: half of R1-2, where the user says so."""
+        nothing = Field(key, 1000)
+        if self.shares.word is None or winding.bus not in self.unit.buses[:2]:
+            self.shares.refuse(self.data_at, column)
+            return nothing
+        ohm, what = self.shares.half(self.unit, winding.kilovolts), f"at {short(winding.kilovolts)} kV"
+        if key == "common_resistance":
+            high = self.windings[0].kilovolts
+            ohm, ratio = self.shares.half(self.unit, high), high / winding.kilovolts
+            what = f"at {short(high)} kV, over ({short(ratio)} - 1)²"
+            ohm = None if ohm is None or ratio == 1 else ohm / (ratio - 1) ** 2
+        if ohm is None:
+            return nothing
+        self.shares.tell(self.data_at, column, ohm, what)
+        return Field(key, micro_ohm(self.data_at, column, ohm), f"{float(ohm):.6g} ohm per phase, half of R1-2 {what}")
 
     def neutral(self, windings: Sequence[Winding]) -> list[Field]:
         """What lies between the one neutral of these windings and the ground grid."""
@@ -197,7 +219,8 @@ class Unit:
             return [self.listed()]
         if len(grounded) == 1:
             return [self.delta_wye(grounded[0])]
-        return [self.wye_wye(*grounded[:2], grounded[2:])]
+        high, low, *others = grounded
+        return [self.wye_wye(high, low, others)]
 
     def unblocked(self, windings: Sequence[Winding]) -> list[Winding]:
         """The windings whose neutral is grounded; the others are told."""
@@ -245,6 +268,9 @@ class Unit:
 
     def wye_wye(self, high: Winding, low: Winding, others: Sequence[Winding]) -> Row:
         self.tell_of_high(high)
+        words = two_transmission_voltages(high.kilovolts, low.kilovolts)
+        if words is not None:
+            self.tell(f"{self.name}: {words}; look at its vector group")
         self.refuse_resistors((high, low))
         fields = [Field("kind", "wye-wye"), *self.side("high", high), *self.side("low", low)]
         fields += [self.resistance("high_resistance", high), self.resistance("low_resistance", low)]

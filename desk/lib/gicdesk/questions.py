@@ -25,6 +25,8 @@ MERIDIANS = (
     "two at a latitude of 60."
 )
 
+PLACES = "With --places the desk compares each span with the coordinates, and asks only where one doesn't fit."
+
 
 def moved(number: int, scale: int) -> str:
     """The number over a power of ten, with the point moved, and no 0 at its end."""
@@ -59,7 +61,7 @@ def question_text(question: Question) -> str:
                 f"The loop that {question.name} closes stays open by {north} km to the north and {east} km to the "
                 "east: has one of its lines a wrong span, or is a bus at another substation?"
             )
-            return text if abs(question.gap[0]) > LEAST_GAP else f"{text} {MERIDIANS}"
+            return text if abs(question.gap[0]) > LEAST_GAP else f"{text} {MERIDIANS} {PLACES}"
         case "value" if question.number is not None:
             what = f"{question.list} {question.name}: {named(question.field)} is"
             return f"{what} {quantity(question.field, question.number)}, as few have it: is it meant?"

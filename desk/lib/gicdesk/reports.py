@@ -234,17 +234,23 @@ def state_of(form: str) -> str:
 
 
 def item_of(form: str, values: Values) -> Item:
-    state = state_of(form)
-    value = None if state else values[-1]
-    return Item(kind_of(form), values[0], values[1] if "ROLE" in form else "", value, state)
+    """An item of a form that has a name, perhaps a role, and an interval or a state."""
+    name, role = values.words[0], "".join(values.words[1:])
+    return Item(kind_of(form), name, role, next(iter(values.intervals), None), state_of(form))
+
+
+def unit_of(form: str, values: Values) -> Unit:
+    """A transformer with its interval and its verdict, or the state `none`."""
+    name, *verdict = values.words
+    return Unit(name, next(iter(values.intervals), None), state_of(form) or verdict[0])
 
 
 def items_and_units(rows: list[tuple[str, Values]]) -> tuple[list[Item], list[Unit]]:
     items = [item_of(form, values) for form, values in rows if form != UNIT_FORM]
-    return items, [Unit(*values) for form, values in rows if form == UNIT_FORM]
+    return items, [unit_of(form, values) for form, values in rows if form == UNIT_FORM]
 
 
-def look_for_twins(lines: Lines, names: list[str]) -> None:
+def look_for_repeated(lines: Lines, names: list[str]) -> None:
     """A finding where a name stands for two rows, since the names of a case are unique."""
     for name, many in Counter(names).items():
         if many > 1:
@@ -257,16 +263,21 @@ def look_for_count(lines: Lines, what: str, told: int, there: int) -> None:
 
 
 def read_volts(lines: Lines) -> Volts:
-    north, east = lines.line("north NUMBER east NUMBER")
-    rows = [values for _, values in lines.rows(("line NAME NUMBER",))]
-    look_for_twins(lines, [name for name, _ in rows])
+    north, east = lines.line("north NUMBER east NUMBER").numbers
+    rows = [(values.words[0], values.numbers[0]) for _, values in lines.rows(("line NAME NUMBER",))]
+    look_for_repeated(lines, [name for name, _ in rows])
     lines.end()
     return Volts(north, east, dict(rows))
 
 
+def element_of(values: Values) -> Element:
+    (name, role, start, end), (times, micro_ohm) = values.words, values.numbers
+    return Element(name, role, start, end, times, micro_ohm)
+
+
 def read_list(lines: Lines) -> Elements:
-    nodes, many = lines.line("nodes COUNT elements COUNT")
-    elements = [Element(*values) for _, values in lines.rows(("element NAME ROLE NODE TO COUNT COUNT",))]
+    nodes, many = lines.line("nodes COUNT elements COUNT").numbers
+    elements = [element_of(values) for _, values in lines.rows(("element NAME ROLE NODE TO COUNT COUNT",))]
     look_for_count(lines, "elements", many, len(elements))
     lines.end()
     return Elements(nodes, elements)
@@ -274,36 +285,36 @@ def read_list(lines: Lines) -> Elements:
 
 def read_check(lines: Lines) -> Check:
     rows = lines.rows(("node NAME live", "node NAME dead"), ("live",))
-    look_for_twins(lines, [name for _, (name,) in rows])
-    (live,) = lines.line("live COUNT")
+    look_for_repeated(lines, [values.words[0] for _, values in rows])
+    (live,) = lines.line("live COUNT").numbers
     look_for_count(lines, "live nodes", live, [state_of(form) for form, _ in rows].count("live"))
     lines.end()
-    return Check({name: state_of(form) for form, (name,) in rows})
+    return Check({values.words[0]: state_of(form) for form, values in rows})
 
 
 def read_field(lines: Lines) -> Field:
-    head = lines.line("north NUMBER east NUMBER width COUNT threshold COUNT")
+    north, east, width, threshold = lines.line("north NUMBER east NUMBER width COUNT threshold COUNT").numbers
     items, units = items_and_units(lines.rows((*ITEM_FORMS, EFFECTIVE_FORM, UNIT_FORM)))
-    look_for_twins(lines, [unit.name for unit in units])
+    look_for_repeated(lines, [unit.name for unit in units])
     lines.end()
-    return Field(*head, items, units)
+    return Field(north, east, width, threshold, items, units)
 
 
 def read_detail(lines: Lines) -> Detail:
-    step, time = lines.line("step COUNT time COUNT")
+    step, time = lines.line("step COUNT time COUNT").numbers
     zone_form = "zone NAME north NUMBER east NUMBER"
     rows = lines.rows((zone_form, *ITEM_FORMS, EFFECTIVE_FORM), ("peaks", "end"))
-    look_for_twins(lines, [values[0] for form, values in rows if form == zone_form])
-    zones = {values[0]: (values[1], values[2]) for form, values in rows if form == zone_form}
+    zones = [(values.words[0], values.numbers) for form, values in rows if form == zone_form]
+    look_for_repeated(lines, [name for name, _ in zones])
     items = [item_of(form, values) for form, values in rows if form != zone_form]
-    return Detail(step, time, zones, items)
+    return Detail(step, time, {name: (north, east) for name, (north, east) in zones}, items)
 
 
 def read_monitors(lines: Lines) -> list[str]:
     """The texts of the monitors, each as long as its line says."""
     texts: list[str] = []
     while (lines.peek() or "").startswith("monitor "):
-        number, length = lines.line("monitor COUNT COUNT")
+        number, length = lines.line("monitor COUNT COUNT").numbers
         look_for_count(lines, "monitors", number, len(texts) + 1)
         text = lines.take_letters(length)
         if text is None:
@@ -313,92 +324,106 @@ def read_monitors(lines: Lines) -> list[str]:
 
 
 def read_study(lines: Lines) -> Study:
-    head = lines.line("width COUNT threshold COUNT steps COUNT")
+    width, threshold, steps = lines.line("width COUNT threshold COUNT steps COUNT").numbers
     detail = read_detail(lines) if (lines.peek() or "").startswith("step ") else None
     lines.line("peaks")
     items, units = items_and_units(lines.rows((*ITEM_FORMS, UNIT_FORM), ("monitor", "end")))
-    look_for_twins(lines, [unit.name for unit in units])
+    look_for_repeated(lines, [unit.name for unit in units])
     monitors = read_monitors(lines)
     lines.end()
-    return Study(*head, detail, items, units, monitors)
+    return Study(width, threshold, steps, detail, items, units, monitors)
+
+
+def screen_unit_of(values: Values) -> ScreenUnit:
+    (name, verdict), (north, east, worst) = values.words, values.intervals
+    return ScreenUnit(name, north, east, worst, verdict)
 
 
 def read_screen(lines: Lines) -> Screen:
-    head = lines.line("width COUNT threshold COUNT field COUNT")
-    rows = [ScreenUnit(*values) for _, values in lines.rows((SCREEN_FORM,))]
-    look_for_twins(lines, [row.name for row in rows])
+    width, threshold, field = lines.line("width COUNT threshold COUNT field COUNT").numbers
+    rows = [screen_unit_of(values) for _, values in lines.rows((SCREEN_FORM,))]
+    look_for_repeated(lines, [row.name for row in rows])
     lines.end()
-    return Screen(*head, rows)
+    return Screen(width, threshold, field, rows)
 
 
 def outcome_of(form: str, values: Values) -> Outcome:
-    if form == OUTAGE_FORMS[-1]:
-        return Outcome(values[0], "solved", "", tuple(values[1:]))
-    return Outcome(values[0], form.split(" ")[2], *values[1:])
+    item, *node = values.words
+    word = "solved" if form == OUTAGE_FORMS[-1] else form.split(" ")[2]
+    return Outcome(item, word, "".join(node), tuple(values.numbers))
 
 
 def read_outage(lines: Lines) -> Outage:
-    head = lines.line("width COUNT threshold COUNT field COUNT")
+    width, threshold, field = lines.line("width COUNT threshold COUNT field COUNT").numbers
     outcomes = [outcome_of(form, values) for form, values in lines.rows(OUTAGE_FORMS, ("transformer", "end"))]
-    look_for_twins(lines, [outcome.item for outcome in outcomes])
-    rows = lines.rows(WORST_FORMS)
-    units = [Unit(values[0], None, "none") if state_of(form) else Unit(*values) for form, values in rows]
-    look_for_twins(lines, [unit.name for unit in units])
+    look_for_repeated(lines, [outcome.item for outcome in outcomes])
+    units = [unit_of(form, values) for form, values in lines.rows(WORST_FORMS)]
+    look_for_repeated(lines, [unit.name for unit in units])
     lines.end()
-    return Outage(*head, outcomes, units)
+    return Outage(width, threshold, field, outcomes, units)
 
 
 def read_series(lines: Lines) -> Series:
-    width, transformer, many = lines.line("width COUNT transformer NAME steps COUNT")
-    steps = [(values[0], values[1], values[2]) for _, values in lines.rows(("step COUNT time COUNT LO HI",))]
+    head = lines.line("width COUNT transformer NAME steps COUNT")
+    (width, many), (transformer,) = head.numbers, head.words
+    rows = lines.rows(("step COUNT time COUNT LO HI",))
+    steps = [(values.numbers[0], values.numbers[1], values.intervals[0]) for _, values in rows]
     look_for_count(lines, "steps", many, len(steps))
     lines.end()
     return Series(width, transformer, steps)
 
 
 def read_make(lines: Lines) -> Make:
-    seed, size = lines.line("seed COUNT size COUNT")
-    nodes, elements = lines.line("nodes COUNT elements COUNT")
-    (walk,) = lines.line("walk COUNT")
-    counts = lines.line(COUNTS_FORM)
+    seed, size = lines.line("seed COUNT size COUNT").numbers
+    nodes, elements = lines.line("nodes COUNT elements COUNT").numbers
+    (walk,) = lines.line("walk COUNT").numbers
+    counts = lines.line(COUNTS_FORM).numbers
     lines.end()
     return Make(seed, size, nodes, elements, walk, tuple(counts))
 
 
+def certified(form: str, values: Values) -> tuple[int, int, int] | None:
+    """Entry, guess and radius of a live node; None of a dead one."""
+    if state_of(form):
+        return None
+    entry, guess, radius = values.numbers
+    return entry, guess, radius
+
+
 def read_certificate(lines: Lines) -> Certificate:
-    many, north, east = lines.line("nodes COUNT north NUMBER east NUMBER")
-    rows = [values for _, values in lines.rows(("cert NAME COUNT NUMBER COUNT", "cert NAME dead"))]
-    look_for_twins(lines, [values[0] for values in rows])
+    many, north, east = lines.line("nodes COUNT north NUMBER east NUMBER").numbers
+    rows = lines.rows(("cert NAME COUNT NUMBER COUNT", "cert NAME dead"))
+    look_for_repeated(lines, [values.words[0] for _, values in rows])
     look_for_count(lines, "nodes", many, len(rows))
     lines.end()
-    return Certificate(north, east, {values[0]: tuple(values[1:]) or None for values in rows})
+    return Certificate(north, east, {values.words[0]: certified(form, values) for form, values in rows})
 
 
 def read_recheck(lines: Lines) -> Recheck:
-    north, east = lines.line("north NUMBER east NUMBER")
-    rows = [values for _, values in lines.rows(("node NAME LO HI",))]
-    look_for_twins(lines, [name for name, _ in rows])
+    north, east = lines.line("north NUMBER east NUMBER").numbers
+    rows = [(values.words[0], values.intervals[0]) for _, values in lines.rows(("node NAME LO HI",))]
+    look_for_repeated(lines, [name for name, _ in rows])
     lines.end()
     return Recheck(north, east, dict(rows))
 
 
 def question_of(form: str, values: Values) -> Question:
-    match kind_of(form):
+    kind, words, numbers = kind_of(form), values.words, values.numbers
+    match kind:
         case "part":
-            return Question("part", values[1], number=values[0])
+            return Question(kind, words[0], number=numbers[0])
         case "closure":
-            return Question("closure", values[0], gap=(values[1], values[2]))
+            return Question(kind, words[0], gap=(numbers[0], numbers[1]))
         case "value":
-            return Question("value", values[1], values[0], values[2], values[3])
+            return Question(kind, words[1], words[0], words[2], numbers[0])
         case "volts":
-            return Question("volts", values[0], "transformer", *values[1:])
-        case kind:
-            return Question(kind, values[0])
+            return Question(kind, words[0], "transformer", words[1], numbers[0], numbers[1])
+    return Question(kind, words[0])
 
 
 def read_review(lines: Lines) -> Review:
     questions = [question_of(form, values) for form, values in lines.rows(REVIEW_FORMS, ("findings", "end"))]
-    (many,) = lines.line("findings COUNT")
+    (many,) = lines.line("findings COUNT").numbers
     look_for_count(lines, "findings", many, len(questions))
     lines.end()
     return Review(questions)

@@ -50,7 +50,7 @@ def end(process: "subprocess.Popen[bytes]") -> None:
             os.killpg(process.pid, signal.SIGKILL)
 
 
-def taken(future: "concurrent.futures.Future[Answer]") -> Answer:
+def result_of(future: "concurrent.futures.Future[Answer]") -> Answer:
     """What a run brings, once it has ended. That is looked for every moment: an interrupt just before a wait without an end
     would be seen behind it alone."""
     while not future.done():
@@ -64,7 +64,7 @@ def apart(call: Callable[[], Answer]) -> Answer:
         return call()
     with concurrent.futures.ThreadPoolExecutor(1) as pool:
         try:
-            return taken(pool.submit(call))
+            return result_of(pool.submit(call))
         except Exception:
             raise
         except BaseException:

@@ -43,7 +43,7 @@ def unraisable(lost: "sys.UnraisableHookArgs") -> None:
 
 
 @contextlib.contextmanager
-def taken() -> Iterator[None]:
+def signals_taken() -> Iterator[None]:
     """Within it signals end the command, those that are ignored excepted; behind it they are as before."""
     TAKEN.clear()
     STOPPING.clear()

@@ -1,6 +1,5 @@
 """The whole study of a case: each report of the program, kept as it came, and what the page is made of."""
 
-import contextlib
 import dataclasses
 import datetime
 import math
@@ -11,10 +10,10 @@ from . import outages
 from .counts import plural
 from .events import BaseSwitchings, Event, Items, read_events
 from .factors import Factor, read_factors, size, total
-from .findings import Finding, Refused, refuse, visible
+from .findings import Finding, Refused, collected, refuse, visible
 from .forms import Interval
 from .inputs import Copies, Input
-from .network import Network, Place, laid_out, network_of, read_places
+from .network import Degrees, Network, Place, in_metres, laid_out, network_of, read_degrees
 from .outages import Asked, Outages, Result, Worst, worst_of
 from .program import Program, Run, commit_of, ending, is_recorded
 from .progress import Progress
@@ -34,7 +33,9 @@ from .reports import (
     parse_report,
 )
 from .reports import Study as StormReport
+from .spans import Compared, compared
 from .storms import Seconds, StormStep, SwitchingRow, seconds_above, storm_steps, switching_rows
+from .storm_notes import factor_notes, field_notes, switching_notes, zone_notes
 from .together import together
 
 Kind = TypeVar("Kind")
@@ -179,6 +180,30 @@ class Study:
     storm: Storm | None
     losses: Losses | None
     is_recorded: bool = False  # the program, in the record of a build
+    compared: Compared | None = None  # the spans with the places, where there is a table of these
+
+    @property
+    def questions(self) -> list[str]:
+        """What the writer of the case is asked: by the spans that don't fit the places, and by the review."""
+        if self.compared is None:
+            return [question_text(question) for question in self.review.questions]
+        asked = [question for question in self.review.questions if question not in self.compared.explained]
+        reviewed = [
+            question_text(question) + (self.compared.loop_text(question.name) if question.kind == "closure" else "")
+            for question in asked
+        ]
+        return [misfit.text for misfit in self.compared.misfits] + reviewed
+
+    @property
+    def notes(self) -> list[str]:
+        """What of the storm and of the factors is lawful, and mostly not meant."""
+        notes = [] if self.losses is None else factor_notes(self.losses.factors)
+        if self.storm is not None:
+            data = next((given.data for given in self.inputs if given.role == "storm"), b"time,north,east\n")
+            zones = [] if self.network is None else self.network.zones
+            notes += zone_notes(data, zones, len(self.storm.steps)) + field_notes(self.storm.steps)
+            notes += switching_notes(self.switchings, self.storm.steps)
+        return notes
 
     @property
     def has_storm_report(self) -> bool:
@@ -294,7 +319,7 @@ class Tables:
 
     events: list[Event]
     factors: dict[str, Factor]
-    places: dict[str, Place]
+    places: dict[str, Degrees]
 
 
 def read_tables(request: Request, network: Network | None, items: Items) -> Tables:
@@ -302,7 +327,7 @@ def read_tables(request: Request, network: Network | None, items: Items) -> Tabl
     findings: list[Finding] = []
     events: list[Event] = []
     factors: dict[str, Factor] = {}
-    places: dict[str, Place] = {}
+    places: dict[str, Degrees] = {}
     unread = "it needs the case, which is in TOML 1.1; write the case without what only TOML 1.1 has"
     with collected(findings):
         if request.events is not None:
@@ -316,19 +341,10 @@ def read_tables(request: Request, network: Network | None, items: Items) -> Tabl
         if request.places is not None and network is None:
             raise refuse(request.places, unread)
         if request.places is not None and network is not None:
-            places = read_places(request.places, network.stations, findings, request.data("places"))
+            places = read_degrees(request.places, network.stations, findings, request.data("places"))
     if findings:
         raise Refused(findings)
     return Tables(events, factors, places)
-
-
-@contextlib.contextmanager
-def collected(findings: list[Finding]) -> Iterator[None]:
-    """Adds what is refused within to the findings."""
-    try:
-        yield
-    except Refused as refused:
-        findings += refused.findings
 
 
 def worst_outages(runner: outages.Runner, outage: Outage, progress: Progress) -> dict[str, Worst]:
@@ -467,7 +483,7 @@ def expect_runs(runs: Runs, basis: Basis, tables: Tables) -> int:
     return expected
 
 
-def run_outages(
+def outages_and_worst(
     runs: Runs, basis: Basis, base: BaseSwitchings, events: list[Event], outage: Outage
 ) -> tuple[Outages | None, dict[str, Worst]]:
     """The events of the list, and the worst single outage of each transformer."""
@@ -504,13 +520,16 @@ def make_study(request: Request) -> Study:
         outage = runs.report(Outage, "outage", "outage", *request.screen_words)
         look_for_one_case((screen, supplemental, outage, None if storm is None else storm.report))
         losses = run_losses(runs, tables.factors, screen, request.screen_words)
-        events, worst = run_outages(runs, basis, base, tables.events, outage)
+        events, worst = outages_and_worst(runs, basis, base, tables.events, outage)
         units = facts_of(screen, supplemental, outage, worst, events, storm)
         progress.total -= expected
         run_series(runs, storm, [unit.name for unit in units if wants_series(unit) or unit.name in tables.factors])
         units = facts_of(screen, supplemental, outage, worst, events, storm)
     request.program.look_for_change()
-    places, parts = ({}, 0) if network is None else laid_out(network, tables.places)
+    places, parts = ({}, 0) if network is None else laid_out(network, in_metres(tables.places))
+    spans = None
+    if network is not None and tables.places:
+        spans = compared(network.links, tables.places, basis.review.questions)
     return Study(
         request=request,
         began=began,
@@ -532,6 +551,7 @@ def make_study(request: Request) -> Study:
         parts=parts,
         storm=storm,
         losses=losses,
+        compared=spans,
     )
 
 
@@ -545,12 +565,13 @@ def shown_current(value: Interval) -> int:
     return value.high if size(value) == value.high else value.low
 
 
-def sum_text(study: Study, page: str) -> str:
+def study_text(study: Study, page: str) -> str:
     """What is shown of a study: the questions, which units must be assessed, and where the page is."""
-    questions = study.review.questions
-    lines = [f"question: {question_text(question)}" for question in questions[:SHOWN]]
+    questions = study.questions
+    lines = [f"question: {question}" for question in questions[:SHOWN]]
     if len(questions) > SHOWN:
         lines.append(f"and {plural(len(questions) - SHOWN, 'question')} more")
+    lines += [f"note: {note}" for note in study.notes]
     lines.append(f"{len(study.assessed)} of {plural(len(study.units), 'unit')} must be assessed by the benchmark event")
     whole = [unit.name for unit in study.assessed if unit.benchmark.verdict in MUST]
     without = [unit.name for unit in study.assessed if unit.benchmark.verdict not in MUST]

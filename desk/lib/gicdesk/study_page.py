@@ -10,7 +10,6 @@ from .decimals import MILLI, shifted
 from .findings import visible
 from .markup import Markup, joined, table, tag
 from .outages import Worst
-from .questions import question_text
 from .reports import Screen, ScreenUnit
 from .study import MUST, Study, UnitFacts
 from .study_map import map_section
@@ -107,16 +106,19 @@ def asked_section(study: Study) -> Markup:
 
 
 def questions_section(study: Study) -> Markup:
-    questions = study.review.questions
+    questions = study.questions
+    compared = [] if study.compared is None else [made(study.compared.text)]
     if not questions:
         words = (
             "The review finds nothing that is unusual. What it can't see, as a line that is missing in a loop, it doesn't "
             "ask."
         )
-        return section("questions", tag("p", words))
+        return section("questions", tag("p", words), *compared)
     words = f"The review has {plural(len(questions), 'finding')}. Each is a question, and no fault: write down the answer."
-    items = [tag("li", question_text(question), tag("span", class_="write")) for question in questions]
-    return section("questions", tag("p", words), tag("ol", *items))
+    if study.compared is not None:
+        words = f"{plural(len(questions), 'question')}, and no fault any of them: write down the answer."
+    items = [tag("li", question, tag("span", class_="write")) for question in questions]
+    return section("questions", tag("p", words), tag("ol", *items), *compared)
 
 
 def group(words: str, units: Iterable[tuple[str, str]]) -> Markup:
@@ -210,9 +212,10 @@ def answer_section(study: Study) -> Markup:
     if unsolved:
         words = f"Nothing is said of the currents in {plural(unsolved, 'outage')}, whose network can't be solved: see "
         notes.append(tag("p", words, tag("a", TITLES["left"], href="#left"), "."))
-    questions = plural(len(study.review.questions), "question")
-    if study.review.questions:
+    questions = plural(len(study.questions), "question")
+    if study.questions:
         notes.append(tag("p", f"All of it is said of the case as it is written; {questions} of the review stand above."))
+    notes += [tag("p", note) for note in study.notes]
     note = (
         "Beside each name stands the high end of its worst current, in amperes a phase, as the program printed it. What "
         "below doesn't say stands in README.md of the program."
@@ -284,7 +287,7 @@ def left_section(study: Study) -> Markup:
     return section("left", tag("ul", *[tag("li", words) for words in items]))
 
 
-def events_table(study: Study) -> Sequence[Markup]:
+def events_of_list(study: Study) -> Sequence[Markup]:
     if study.events is None:
         return []
     rows = [
@@ -313,7 +316,7 @@ def made_section(study: Study) -> Markup:
         tag("p", KEPT_NOTE),
         table(heads, rows, ("name", "wrap", "n", "sum")),
         tag("p", more),
-        *events_table(study),
+        *events_of_list(study),
         tag("p", proved_text(study)),
     )
 

@@ -78,8 +78,8 @@ def storm_section(study: Study) -> Markup:
         return section("storm", tag("p", "No storm was given."))
     if storm.report is None:
         fault = tag("code", storm.fault)
-        words = ("The storm has no report: the program ended with ", fault, ". docs/FAULTS.md says what that comes from.")
-        return section("storm", tag("p", *words))
+        why = ". docs/FAULTS.md says what that comes from."
+        return section("storm", tag("p", "The storm has no report: the program ended with ", fault, why))
     first, last = storm.steps[0].time, storm.steps[-1].time
     axis = pictures.Axis(first, last)
     seen = seen_rows(study.switchings, [step.time for step in storm.steps])
@@ -91,11 +91,11 @@ def storm_section(study: Study) -> Markup:
     units = sorted((unit for unit in study.units if unit.name in storm.series), key=lambda unit: -peak_size(unit))
     for unit in units[:MOST_STRIPS]:
         figures.append(unit_figure(axis, marks, storm.series[unit.name], study.screen.threshold))
-    words = (
+    lead = (
         f"{plural(storm.report.steps, 'step')} over {span_text(last - first)}, from {first} s to {last} s. The strongest "
         f"field is {strength}, at {strongest.time} s, before alpha and beta scale it."
     )
-    pieces = [tag("p", words)]
+    pieces = [tag("p", lead)]
     if study.switchings:
         pieces.append(tag("p", switched_text(study.switchings, seen)))
     if not units:
@@ -115,7 +115,7 @@ def field_currents(losses: Losses) -> dict[str, int]:
     return {unit.name: 0 if unit.value is None else unit.value.high for unit in losses.field.units}
 
 
-def losses_table(losses: Losses) -> Markup:
+def losses_by_unit(losses: Losses) -> Markup:
     currents = field_currents(losses)
     rows = []
     for name, factor in losses.factors.items():
@@ -152,8 +152,8 @@ def losses_section(study: Study) -> Markup:
         f"{plural(len(losses.factors), 'unit')} with a factor draw most together: {together:.1f} Mvar. The currents there "
         "are those of "
     )
-    words = words_of(("field", f"--north={losses.field.north}", f"--east={losses.field.east}"))
-    pieces = [tag("p", lead, words, "."), losses_table(losses), tag("h3", "By direction"), bearings_table(study, losses)]
+    run = words_of(("field", f"--north={losses.field.north}", f"--east={losses.field.east}"))
+    pieces = [tag("p", lead, run, "."), losses_by_unit(losses), tag("h3", "By direction"), bearings_table(study, losses)]
     storm = storm_losses_of(study)
     if storm is not None:
         axis = pictures.Axis(storm.times[0], storm.times[-1])

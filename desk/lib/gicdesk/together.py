@@ -5,11 +5,11 @@ import concurrent.futures
 import os
 import pathlib
 import re
-from collections.abc import Callable, Iterable, Iterator
+from collections.abc import Callable, Generator, Iterable
 from typing import TypeVar
 
 from .findings import refuse
-from .running import STOPPING, stop_running, taken
+from .running import STOPPING, result_of, stop_running
 from .stops import TAKEN
 
 Question = TypeVar("Question")
@@ -30,7 +30,7 @@ def runs_at_once() -> int:
     return many if free is None else max(1, min(many, 1024 * int(free[1]) // ONE_RUN))
 
 
-def together(run: Callable[[Question], Answer], questions: Iterable[Question]) -> Iterator[Answer]:
+def together(run: Callable[[Question], Answer], questions: Iterable[Question]) -> Generator[Answer, None, None]:
     """What comes of each run, in the order in which they are asked for. Of what nobody has taken yet there is no more
     than twice as many as runs at once. Where the caller goes no further, the runs that go on are ended, and no other
     begins."""
@@ -42,9 +42,9 @@ def together(run: Callable[[Question], Answer], questions: Iterable[Question]) -
                 for question in questions:
                     waiting.append(begun(pool, run, question))
                     if len(waiting) == 2 * at_once:
-                        yield taken(waiting.popleft())
+                        yield result_of(waiting.popleft())
                 while waiting:
-                    yield taken(waiting.popleft())
+                    yield result_of(waiting.popleft())
             except BaseException:
                 stop_running()
                 pool.shutdown(wait=False, cancel_futures=True)

@@ -34,6 +34,7 @@ GROUNDS = (Usual(300, "0.02", "5"), Usual(100, "0.02", "10"), Usual(0, "0.05", "
 NEUTRALS = (Usual(0, "0.01", "50"),)  # ohm
 REACTORS = (Usual(300, "0.1", "20"), Usual(100, "0.05", "20"), Usual(0, "0.01", "20"))  # ohm per phase
 BASE_MVA = 100
+TRANSMISSION_KV = 200  # above it a voltage is one of transmission, and so is the other of an autotransformer
 
 
 def usual_at(rows: Sequence[Usual], kilovolts: Number) -> tuple[Number, Number]:
@@ -68,6 +69,15 @@ def unusual(ohm: Number, usual: tuple[Number, Number], what: str, kilovolts: Num
         return None
     words = f"{short(ohm)} ohm is not the {short(least)} to {short(most)} ohm that most {what} have"
     return words, hint(ohm, kilovolts, least, most)
+
+
+def two_transmission_voltages(high: Number, low: Number) -> str | None:
+    """What is to be told of two windings, each earthed at its own neutral, that join two transmission voltages: mostly that
+    is an autotransformer, whose current is another one."""
+    if low <= TRANSMISSION_KV:
+        return None
+    joins = f"two earthed wyes of {short(high)} and {short(low)} kV"
+    return f"{joins}: a unit that joins two voltages above {TRANSMISSION_KV} kV is mostly an autotransformer, as YNa"
 
 
 def unusual_line(ohm: Number, metres: float, kilovolts: Number) -> tuple[str, str] | None:

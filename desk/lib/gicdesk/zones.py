@@ -2,12 +2,17 @@
 
 import dataclasses
 import decimal
+from collections.abc import Mapping
+from fractions import Fraction
 
-from .cases import Field, Row
+from .borders import Borders
+from .earths import read_models
 from .findings import Finding, shown
 from .forms import NAME
-from .polygons import Polygon, read_polygons
+from .polygons import read_polygons
+from .quantities import Number
 from .records import Record, read_table
+from .zone_scales import Zone, zone_of_row
 
 ZONES = ["name", "geomagnetic_latitude", "beta"]
 SUBSTATIONS = ["substation", "zone"]
@@ -33,16 +38,21 @@ class ZoneFiles:
     substations: str | None = None
     polygons: str | None = None
     lines: str | None = None
+    models: str | None = None
 
 
 @dataclasses.dataclass(frozen=True)
 class Zones:
     """The zones, and where they are: of a substation the table of substations decides, and then the polygons."""
 
-    rows: list[Row]
+    zones: list[Zone]
     of_substations: dict[int, Record]  # each with its zone
-    polygons: list[Polygon]
+    borders: Borders | None
     of_lines: dict[tuple[frozenset[int], str], Override]
+
+    def factor(self, name: str) -> Fraction:
+        """The factor of the spans in a zone."""
+        return next((zone.scale.factor for zone in self.zones if zone.row.name == name), Fraction(1))
 
 
 def whole_in(at: Record, column: str, scale: int, least: str, most: str, unit: str) -> int:
@@ -55,24 +65,28 @@ def whole_in(at: Record, column: str, scale: int, least: str, most: str, unit: s
     return int(number * scale)
 
 
-def read_zones(file: str, findings: list[Finding]) -> list[Row]:
-    rows: list[Row] = []
-    for at in read_table(file, ZONES, findings):
+def read_zones(
+    file: str, alpha: str, models: Mapping[str, Number], findings: list[Finding], notes: list[Finding]
+) -> list[Zone]:
+    """The zones of a table, each once. What the table of alpha makes too small is told."""
+
+    def tell(name: str, at: Record, column: str, words: str, ways: str) -> None:
+        notes.append(Finding(at.file, f"{words}; {ways}", at.line, column))
+
+    names: set[str] = set()
+    zones: list[Zone] = []
+    for at in read_table(file, ZONES, findings, ("alpha", "earth_model", "note")):
         name = at.text("name")
         if not NAME.fullmatch(name):
             at.wrong("name", f"{shown(name)} is no name of a case; allowed are 1 to 32 letters, digits and _ - .")
-        elif any(row.name == name for row in rows):
+        elif name in names:
             at.wrong("name", f"{name} stands in the table already; leave one of the two")
-        latitude = whole_in(at, "geomagnetic_latitude", 100, "0", "90", "degrees")
-        beta = whole_in(at, "beta", 100, "0.01", "1.5", "as a factor")
-        fields = [
-            Field("latitude", latitude, "hundredths of a degree, geomagnetic"),
-            Field("beta", beta, "hundredths: the scaling for the conductivity of the earth"),
-        ]
-        rows.append(Row(name, fields, at.text("note")))
-    if not rows:
+        names.add(name)
+        made = zone_of_row(at, alpha, tell, models)
+        zones += [] if made is None else [made]
+    if not names:
         findings.append(Finding(file, "it has no zone; write a row for each", 1))
-    return rows
+    return zones
 
 
 def zone_in(at: Record, names: set[str]) -> str:
@@ -115,12 +129,13 @@ def read_of_lines(file: str, names: set[str], findings: list[Finding]) -> dict[t
     return overrides
 
 
-def read_all(files: ZoneFiles, findings: list[Finding]) -> Zones:
-    rows = read_zones(files.zones, findings)
-    names = {row.name for row in rows}
+def read_all(files: ZoneFiles, alpha: str, findings: list[Finding], notes: list[Finding]) -> Zones:
+    models = {} if files.models is None else read_models(files.models, findings)
+    zones = read_zones(files.zones, alpha, models, findings, notes)
+    names = {zone.row.name for zone in zones}
     return Zones(
-        rows,
+        zones,
         {} if files.substations is None else read_of_substations(files.substations, names, findings),
-        [] if files.polygons is None else read_polygons(files.polygons, names, findings),
+        None if files.polygons is None else Borders(read_polygons(files.polygons, names, findings)),
         {} if files.lines is None else read_of_lines(files.lines, names, findings),
     )

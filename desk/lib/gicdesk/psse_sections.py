@@ -1,0 +1,69 @@
+"""Lines of several sections in a power flow: branches one behind another, with buses between them that stand for no station."""
+
+import decimal
+from collections.abc import Iterable, Sequence
+
+from .findings import Finding
+from .psse_raw import Branch, Bus, Grouping
+
+
+def branch_between(grouping: Grouping, pair: tuple[int, int], branches: Iterable[Branch]) -> Branch | None:
+    """The one branch between two buses that follow each other; None where there is none or several, a finding."""
+    found = [branch for branch in branches if set(branch.ends) == set(pair)]
+    if len(found) == 1:
+        return found[0]
+    many = "no branch" if not found else f"{len(found)} branches"
+    words = f"there is {many} between the buses {pair[0]} and {pair[1]}, which follow each other in this line"
+    grouping.record.wrong(None, f"{words}; a section is one branch")
+    return None
+
+
+def whole_line(grouping: Grouping, branches: Sequence[Branch], buses: dict[int, Bus]) -> Branch | None:
+    """The line of a grouping as one branch from its first bus to its last; None where it can't be one, a finding."""
+    chain = (grouping.ends[0], *grouping.between, grouping.ends[1])
+    sections = [branch_between(grouping, pair, branches) for pair in zip(chain, chain[1:])]
+    known = [section for section in sections if section is not None]
+    if len(known) < len(sections):
+        return None
+    kilovolts = {buses[bus].kilovolts for bus in chain if bus in buses}
+    if len(kilovolts) > 1:
+        told = ", ".join(f"{value:f}" for value in sorted(kilovolts))
+        grouping.record.wrong(None, f"its buses are of {told} kV; look at BASKV of each")
+        return None
+    blocked = any(section.reactance < 0 for section in known)
+    isolated = any(buses[bus].isolated for bus in grouping.between if bus in buses)
+    return Branch(
+        grouping.ends,
+        grouping.circuit,
+        sum((section.resistance for section in known), decimal.Decimal(0)),
+        decimal.Decimal(-1 if blocked else 1),
+        all(section.in_service for section in known) and not isolated,
+        "",
+        grouping.record,
+        tuple(known),
+    )
+
+
+def whole_lines(
+    groupings: Iterable[Grouping],
+    branches: Sequence[Branch],
+    buses: dict[int, Bus],
+    stations: dict[int, int],
+    notes: list[Finding],
+) -> list[Branch]:
+    """The branches, with one in the place of all sections of a line of which a bus between them is in no substation. Where
+    all of them are in substations, each section stays a branch, and its span follows their places."""
+    wholes: list[Branch] = []
+    between_sections: set[int] = set()
+    for grouping in groupings:
+        if all(bus in stations for bus in grouping.between):
+            continue
+        between_sections.update(grouping.between)
+        whole = whole_line(grouping, branches, buses)
+        if whole is not None:
+            wholes.append(whole)
+            words = f"the line {'-'.join(map(str, grouping.ends))} '{grouping.circuit}' has {len(whole.sections)} sections"
+            between = ", ".join(map(str, grouping.between))
+            told = f"it is one line, and the buses {between} between them are left out"
+            notes.append(Finding(grouping.record.file, f"{words}: {told}", grouping.record.line))
+    return [*(branch for branch in branches if not between_sections.intersection(branch.ends)), *wholes]

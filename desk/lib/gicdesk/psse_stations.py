@@ -1,0 +1,62 @@
+"""Substations as files `.raw` have them from version 35 on: places, grounds, and the buses at their nodes.
+
+Behind the record of a substation stand its nodes, each with its bus. A node is told from a substation by the bus and the
+status in its third and fourth field, which are whole numbers.
+"""
+
+import dataclasses
+import decimal
+from collections.abc import Container, Sequence
+
+from .findings import Finding
+from .psse_text import SectionLine
+from .records import WHOLE, Record
+
+SECTION = "SUBSTATION"
+STATION = "IS NAME LATITUDE LONGITUDE SRG".split()
+NODE = "NI NAME I STATUS".split()
+
+
+@dataclasses.dataclass(frozen=True)
+class Station:
+    number: int
+    name: str
+    latitude: decimal.Decimal
+    longitude: decimal.Decimal
+    ground: decimal.Decimal | None  # SRG, None where it is empty
+    record: Record
+
+    @property
+    def place(self) -> tuple[decimal.Decimal, decimal.Decimal]:
+        return self.latitude, self.longitude
+
+
+@dataclasses.dataclass
+class Stations:
+    """The substations by their numbers, and in which of them each bus is."""
+
+    stations: dict[int, Station] = dataclasses.field(default_factory=dict)
+    station_of: dict[int, int] = dataclasses.field(default_factory=dict)
+
+
+def is_node(fields: Sequence[str], buses: Container[int]) -> bool:
+    """Whether a line is a node: behind its name stand a bus of the file and a status."""
+    return len(fields) > 3 and all(WHOLE.fullmatch(field) for field in fields[2:4]) and int(fields[2]) in buses
+
+
+def read_stations(
+    file: str, lines: Sequence[SectionLine], buses: Container[int], findings: list[Finding]
+) -> Stations:
+    found, last = Stations(), 0
+    for line in lines:
+        if is_node(line.fields, buses) and last:
+            found.station_of[Record(file, line.number, line.fields, NODE, findings).bus("I")] = last
+            continue
+        at = Record(file, line.number, line.fields, STATION, findings)
+        last = at.whole("IS")
+        if last in found.stations:
+            at.wrong("IS", f"the substation {last} stands in line {found.stations[last].record.line} already")
+        ground = at.number("SRG") if at.text("SRG") else None
+        latitude, longitude = at.number("LATITUDE"), at.number("LONGITUDE")
+        found.stations[last] = Station(last, at.text("NAME"), latitude, longitude, ground, at)
+    return found
