@@ -2,8 +2,8 @@
 """Writes a case at every limit: 256 zones, 1024 substations, 3072 buses, 8192 lines and 3584 transformers, each of
 which has a neutral resistor, so 7680 nodes and 19968 elements. The numbers belong to no real network.
 
-    python3 limit_case.py [SUBSTATIONS] [GROUND] > limit.toml
-    python3 limit_case.py --format-3 [SUBSTATIONS] [GROUND] [PARTS] > limit.toml
+    python3 generators/limit_case.py [SUBSTATIONS] [GROUND] > limit.toml
+    python3 generators/limit_case.py --format-3 [SUBSTATIONS] [GROUND] [PARTS] > limit.toml
 
 A smaller number of substations, 128, 256 or 512, makes all else smaller in proportion, but for the zones. GROUND is
 the resistance of all grounds in micro-ohm; where it is not given, they differ, from 0.1 to 0.8 ohm. The greater it is,
@@ -15,16 +15,28 @@ parts (or in so many as PARTS says), and 8192 transformers, each with three wind
 nodes and 61440 elements; at the first bus 256 elements end.
 """
 
+from __future__ import annotations
+
 import sys
-from collections.abc import Callable
+from collections.abc import Callable, Iterator
 
-from case_text import Row, case_text
+import paths  # noqa: F401 - it finds the modules below
 
-ZONES, LEVELS, MOST_ENDS = 256, 3, 256
+from generators.case_text import Row, case_text
+from referee.case import LIMITS, LIMITS_3, MOST_ENDS
+
+ZONES, LEVELS = LIMITS["zone"], 3
 
 
-def rows(substations=1024, ground=None):
-    def bus(substation, level):
+def text(substations: int = LIMITS["substation"], ground: int | None = None) -> str:
+    """The text of the case of format 2."""
+    return "\n".join([*rows(substations, ground), ""])
+
+
+def rows(substations: int, ground: int | None) -> Iterator[str]:
+    """Its tables."""
+
+    def bus(substation: int, level: int) -> str:
         return f"bus-{substation % substations}-{level % LEVELS}"
 
     yield "format = 2"
@@ -58,7 +70,7 @@ def rows(substations=1024, ground=None):
         )
 
 
-def lists_3(substations: int = 4096, ground: int | None = None, parts: int = 16) -> dict[str, list[Row]]:
+def lists_3(substations: int = LIMITS_3["substation"], ground: int | None = None, parts: int = 16) -> dict[str, list[Row]]:
     """The lists of the case of format 3."""
 
     def bus(substation: int, level: int) -> str:
@@ -135,7 +147,7 @@ def main(words: list[str]) -> None:
     if len(numbers) > 2 + ("--format-3" in words) or not all(word.isdecimal() and int(word) for word in numbers):
         sys.exit("usage: limit_case.py [SUBSTATIONS] [GROUND], or --format-3 [SUBSTATIONS] [GROUND] [PARTS]")
     if "--format-3" not in words:
-        print(*rows(*map(int, numbers)), sep="\n")
+        print(text(*map(int, numbers)), end="")
         return
     lists = lists_3(*map(int, numbers))
     if any(row["from"] == row["to"] for row in lists["line"]):

@@ -1,7 +1,7 @@
 #!/usr/bin/env python3
 """Tests of the table of wrong edits, and of what tries them, with a stand-in for the toolchain.
 
-    python3 trials/test_edits.py
+    python3 .ci/tests.py trials/tests/test_edits.py
 """
 
 from __future__ import annotations
@@ -22,14 +22,15 @@ from typing import NamedTuple
 from unittest import mock
 
 import edits
+from paths import HERE, TOP
+from referee.words import MODES
+from sources import read_sources
 
-TOP = Path(__file__).resolve().parent.parent
 # The gate tries no more.
 MOST_IN_GATE = 130
 FOLDERS = {"gate": edits.GATE, "demand": edits.ON_DEMAND}
 KINDS = ("headline", "mode", "law", "call", "width of", "text of", "order of")
 SENTENCES = range(1, 16)
-MODES = ("volts", "list", "review", "check", "field", "screen", "outage", "study", "series", "make", "certify", "recheck")
 WITH_A_WIDTH = ("field", "screen", "outage", "study", "series", "make")
 ORDERS = ("the words", "the files", "the case", "the storm", "switchings", "the certificate")
 # The laws of the promises that no edit breaks.
@@ -251,7 +252,6 @@ SIGNALLED_TWICE = '''
 import os, shutil, signal, sys
 from pathlib import Path
 
-sys.path[:0] = [sys.argv[1]]
 import edits
 
 removed = shutil.rmtree
@@ -263,7 +263,7 @@ def remove(*words, **how):
 
 
 shutil.rmtree = remove
-sys.exit(edits.main([], Path(sys.argv[2])))
+sys.exit(edits.main([], Path(sys.argv[1])))
 '''
 
 
@@ -364,7 +364,7 @@ class Trials(unittest.TestCase):
 
     def test_libraries_of_the_same_sources_are_taken(self) -> None:
         built = self.built()
-        its_sum = edits.read_sources(self.top).sums("kit 1")["low"]
+        its_sum = read_sources(self.top).sums("kit 1")["low"]
         for name, text in (("low", its_sum), ("high", "another")):
             (built / f"crates/{name}/out/rlib").mkdir(parents=True)
             (built / f"crates/{name}/{edits.MARK}").write_text(text)
@@ -400,8 +400,13 @@ class Trials(unittest.TestCase):
         room = self.folder / "room"
         room.mkdir()
         ran = subprocess.Popen(
-            [sys.executable, "-B", "-c", SIGNALLED_TWICE, str(Path(edits.__file__).parent), str(self.top)],
-            env={**os.environ, "PATH": f"{self.folder / 'bin'}:{os.environ['PATH']}", "TMPDIR": str(room)},
+            [sys.executable, "-B", "-c", SIGNALLED_TWICE, str(self.top)],
+            env={
+                **os.environ,
+                "PATH": f"{self.folder / 'bin'}:{os.environ['PATH']}",
+                "PYTHONPATH": str(HERE),
+                "TMPDIR": str(room),
+            },
             stdin=subprocess.DEVNULL,
             stdout=subprocess.DEVNULL,
             stderr=subprocess.PIPE,

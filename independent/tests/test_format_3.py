@@ -1,7 +1,7 @@
 #!/usr/bin/env python3
 """Tests that both checkers read format 3 of a case: three windings, a reactor, a line in parts.
 
-    python3 -m unittest discover -s independent
+    python3 .ci/tests.py independent/tests/test_format_3.py
 """
 
 from __future__ import annotations

@@ -1,7 +1,7 @@
 #!/usr/bin/env python3
 """Tests that the referee reads format 3 of a case: the worked cases of that format, without a program.
 
-    python3 trials/referee/test_format_3.py
+    python3 .ci/tests.py trials/tests/test_referee.py
 """
 
 from __future__ import annotations
@@ -10,12 +10,11 @@ import tempfile
 import unittest
 from pathlib import Path
 
-from judge import report_faults
-from outcome import Outcome, predict
-from reference import Report
-from run_cases import fill, read_text, read_words_file
+from referee.faults import report_faults
+from referee.outcome import Outcome, predict
+from referee.reference import Report
+from run_cases import CASES, fill, read_text, read_words_file
 
-CASES = Path(__file__).resolve().parent / "cases"
 # Those that need long, since they have thousands of rows.
 LARGE = "format_3_rows"
 

@@ -1,6 +1,10 @@
 """Foreign bytes: texts of the four readers' files, changed in ways that look for what a reader gets wrong."""
 
+from __future__ import annotations
+
 import re
+from collections.abc import Callable
+from random import Random
 
 NUMBERS = [
     "0", "-0", "+0", "00", "1", "-1", "2", "9", "10", "80", "81", "99", "150", "151", "256", "257", "999", "1000",
@@ -45,9 +49,11 @@ WORD = re.compile(rb"[A-Za-z0-9_.+-]+")
 NUMBER = re.compile(rb"[+-]?[0-9]+")
 MOST_CHANGES = 4
 MOST_COPIES = 3000
+Span = tuple[int, int]
+Change = Callable[[Random, bytes, str], bytes]
 
 
-def pick_span(draw, content, pattern):
+def pick_span(draw: Random, content: bytes, pattern: re.Pattern[bytes]) -> Span:
     """The ends of one place of a pattern, or of nothing at some place."""
     found = list(pattern.finditer(content))
     if not found:
@@ -56,71 +62,72 @@ def pick_span(draw, content, pattern):
     return draw.choice(found).span()
 
 
-def put(content, span, new):
+def put(content: bytes, span: Span, new: bytes) -> bytes:
     return content[: span[0]] + new + content[span[1] :]
 
 
-def other_byte(draw, content, _):
+def other_byte(draw: Random, content: bytes, _: str) -> bytes:
     place = draw.randrange(len(content) + 1)
     return put(content, (place, place + draw.randint(0, 1)), bytes([draw.randrange(256)]))
 
 
-def cut(draw, content, _):
+def cut(draw: Random, content: bytes, _: str) -> bytes:
     """Drops some bytes, or the end."""
     start = draw.randint(0, len(content))
     return put(content, (start, draw.choice([len(content), start + draw.randint(1, 30)])), b"")
 
 
-def other_number(draw, content, _):
+def other_number(draw: Random, content: bytes, _: str) -> bytes:
     return put(content, pick_span(draw, content, NUMBER), draw.choice(NUMBERS).encode())
 
 
-def other_word(draw, content, _):
+def other_word(draw: Random, content: bytes, _: str) -> bytes:
     """One word in the place of another."""
     start, end = pick_span(draw, content, WORD)
     return put(content, pick_span(draw, content, WORD), content[start:end])
 
 
-def piece(draw, content, kind):
+def piece(draw: Random, content: bytes, kind: str) -> bytes:
     place = draw.randint(0, len(content))
     return put(content, (place, place), draw.choice(PIECES[kind]).encode())
 
 
-def piece_for_word(draw, content, kind):
+def piece_for_word(draw: Random, content: bytes, kind: str) -> bytes:
     return put(content, pick_span(draw, content, WORD), draw.choice(PIECES[kind]).encode())
 
 
-def pick_lines(draw, content):
+def pick_lines(draw: Random, content: bytes) -> tuple[list[bytes], int, int]:
+    """The lines, and the places of two of them."""
     lines = content.split(b"\n")
     return lines, draw.randrange(len(lines)), draw.randrange(len(lines))
 
 
-def swap_lines(draw, content, _):
+def swap_lines(draw: Random, content: bytes, _: str) -> bytes:
     lines, first, second = pick_lines(draw, content)
     lines[first], lines[second] = lines[second], lines[first]
     return b"\n".join(lines)
 
 
-def repeat_lines(draw, content, _):
+def repeat_lines(draw: Random, content: bytes, _: str) -> bytes:
     lines, first, second = pick_lines(draw, content)
     lines[second:second] = lines[first : first + draw.randint(1, 6)]
     return b"\n".join(lines)
 
 
-def drop_lines(draw, content, _):
-    lines, first, _ = pick_lines(draw, content)
+def drop_lines(draw: Random, content: bytes, _: str) -> bytes:
+    lines, first = pick_lines(draw, content)[:2]
     del lines[first : first + draw.randint(1, 4)]
     return b"\n".join(lines)
 
 
-def long_word(draw, content, _):
+def long_word(draw: Random, content: bytes, _: str) -> bytes:
     start, end = pick_span(draw, content, WORD)
     word = content[start:end] or b"x"
     length = draw.choice([31, 32, 33, 511, 512, 513, 65536])
     return put(content, (start, end), (word * length)[:length])
 
 
-def deep(draw, content, kind):
+def deep(draw: Random, content: bytes, kind: str) -> bytes:
     """Many of one piece in a row, and its mate behind what follows."""
     depth = draw.choice([2, 3, 39, 40, 41, 78, 79, 80, 81, 82, 200, MOST_COPIES])
     pairs = [("[", "]"), ("{a=", "}"), ("a.", ""), ('"', '"'), ("[[", "]]"), (" ", ""), ("\n", "")]
@@ -129,22 +136,22 @@ def deep(draw, content, kind):
     return put(content, (start, end), opening.encode() * depth + content[start:end] + closing.encode() * depth)
 
 
-def other_line_ends(draw, content, _):
+def other_line_ends(draw: Random, content: bytes, _: str) -> bytes:
     return content.replace(b"\n", draw.choice([b"\r", b"\r\n", b"\n\n", b"\n\r", b"\x0b", b"\xe2\x80\xa8"]))
 
 
-def other_encoding(draw, content, _):
+def other_encoding(draw: Random, content: bytes, _: str) -> bytes:
     text = content.decode("utf-8", "replace")
     return text.encode(draw.choice(["utf-16", "utf-8-sig", "utf-16-le", "utf-32", "utf-7", "cp037"]), "replace")
 
 
-CHANGES = [
+CHANGES: list[tuple[Change, float]] = [
     (other_byte, 4), (cut, 3), (other_number, 8), (other_word, 4), (piece, 6), (piece_for_word, 4), (swap_lines, 3),
     (repeat_lines, 3), (drop_lines, 3), (long_word, 1), (deep, 1), (other_line_ends, 0.3), (other_encoding, 0.2),
 ]
 
 
-def mutated(draw, content, kind):
+def mutated(draw: Random, content: bytes, kind: str) -> bytes:
     """The text with up to four changes, or with none at times."""
     changes, weights = zip(*CHANGES)
     for change in draw.choices(changes, weights, k=draw.choice([0, *range(1, MOST_CHANGES + 1), 1, 1, 2])):

@@ -1,7 +1,7 @@
 #!/usr/bin/env python3
 """Tests of the rows of limits.py.
 
-    python3 trials/test_limits.py
+    python3 .ci/tests.py trials/tests/test_limits.py
 """
 
 from __future__ import annotations
@@ -13,9 +13,9 @@ from unittest import mock
 
 import limits
 import shared
-from case import read_case
-from case_text import case_text
-from words import Refusal
+from generators.case_text import case_text
+from referee.case import read_case
+from referee.words import Refusal
 
 COMMAND = ["./program"]
 # Longer lists take the referee seconds to read; the program is asked about them by limits.py.
@@ -39,14 +39,15 @@ class Rows(unittest.TestCase):
 
     def measured(self, *answers: limits.Measure) -> tuple[int, list[float]]:
         """The faults of the attack where its runs end so, and how long each might have taken."""
-        faults, seconds = shared.Faults(), []
+        faults = shared.Faults()
+        seconds: list[float] = []
 
         def measure(measurer: str, command: list[str], folder: str, limit: float) -> limits.Measure:
             seconds.append(limit)
             return answers[len(seconds) - 1]
 
         with mock.patch.object(limits, "measure", measure), contextlib.redirect_stdout(io.StringIO()):
-            limits.print_row(SWITCHED, *limits.measure_both("measure", COMMAND, SWITCHED, 300), faults)
+            limits.print_row(SWITCHED, limits.measure_both("measure", COMMAND, SWITCHED, 300), faults)
         return faults.count, seconds
 
     def test_an_attack_may_take_some_times_as_long(self) -> None:

@@ -1,10 +1,13 @@
 """Writes the text of a case from its lists."""
 
+from __future__ import annotations
+
 from collections.abc import Mapping, Sequence
 from typing import Any
 
+from referee.case import LIMITS
+
 Row = dict[str, Any]  # the keys of a row of a list, in the order in which they are written
-LISTS = ("zone", "substation", "bus", "line", "transformer")
 
 
 def value_text(value: Any) -> str:
@@ -21,6 +24,6 @@ def value_text(value: Any) -> str:
 def case_text(number: int, lists: Mapping[str, Sequence[Row]]) -> str:
     """The text of a case of a format, a line for each row."""
     lines = [f"format = {number}"]
-    for name in LISTS:
+    for name in LIMITS:
         lines += [f"{name} = [", *(f"{value_text(row)}," for row in lists.get(name, [])), "]"]
     return "\n".join(lines) + "\n"

@@ -1,7 +1,7 @@
 #!/usr/bin/env python3
 """Tests of what desk_attacks.py finds, over places that are furnished by hand.
 
-    python3 trials/test_desk_attacks.py
+    python3 .ci/tests.py trials/tests/test_desk_attacks.py
 """
 
 from __future__ import annotations

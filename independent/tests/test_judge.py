@@ -1,6 +1,6 @@
 """Tests of judge.py by hand: the loop of docs/FORMATS.md, whose potentials are whole numbers of millivolts.
 
-    python3 -m unittest discover -s independent
+    python3 .ci/tests.py independent/tests/test_judge.py
 """
 
 import contextlib
@@ -277,7 +277,7 @@ class Judging(unittest.TestCase):
             self.refused(7, [*OF_FIELD, "--switch=s"], s=rows)
 
     def test_an_error_stream_that_takes_nothing_changes_no_status(self) -> None:
-        here = os.path.dirname(os.path.abspath(__file__))
+        here = os.path.dirname(os.path.abspath(judge.__file__))
         for script, words, status in (
             ("recheck.py", ["--case=none", "--cert=none"], 3),
             ("recheck.py", ["--case"], 2),

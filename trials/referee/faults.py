@@ -2,12 +2,14 @@
 
 from __future__ import annotations
 
-from checker import Checker
-from outage_checker import OutageChecker
-from outcome import Outcome
-from report_text import ReportText
-from study_checker import StudyChecker
-from values import Tie
+from typing import Optional
+
+from referee.checker import Checker
+from referee.outage_checker import OutageChecker
+from referee.outcome import Outcome
+from referee.report_text import ReportText
+from referee.study_checker import StudyChecker
+from referee.values import Tie
 
 CHECKERS: dict[str, type[Checker]] = {"study": StudyChecker, "outage": OutageChecker}
 
@@ -21,7 +23,7 @@ def report_faults(outcome: Outcome, output: bytes) -> list[str]:
         return checker(outcome, ReportText(output), exactly=True).run()
 
 
-def run_faults(outcome: Outcome, status: int, output: bytes, told: bytes) -> list[str]:
+def run_faults(outcome: Outcome, status: Optional[int], output: bytes, told: bytes) -> list[str]:
     """What is wrong of a run that ended so: its status, its output, and what it told on the error stream."""
     if status != outcome.status:
         wanted = f"{outcome.status} ({outcome.line})" if outcome.line else str(outcome.status)

@@ -1,10 +1,10 @@
 #!/usr/bin/env python3
 """Runs a program over folders of worked cases, and has each run judged.
 
-    python3 trials/referee/run_cases.py PROGRAM [--cases DIR] [--only GLOB] [--modes MODE,..] [--seconds S] [--jobs N]
+    python3 trials/run_cases.py PROGRAM [--cases DIR] [--only GLOB] [--modes MODE,..] [--seconds S] [--jobs N]
 
 PROGRAM is a program or a Python script. Each run has a scratch folder of its own with copies of the files of one folder
-of DIR, `cases` beside this script where it is not given, and is looked at by the referee: its status, its line and each
+of DIR, `referee/cases` beside this script where it is not given, and is looked at by the referee: its status, its line and each
 line of its report. With --modes the program has these modes alone: another mode's word is then an unknown mode, and an
 option that no mode of them has an unknown word; cases of other modes are left out. A run has S seconds (60).
 
@@ -27,16 +27,16 @@ import subprocess
 import sys
 import tempfile
 from collections.abc import Collection, Sequence
-from pathlib import Path
 from typing import NamedTuple, Optional
 
-HERE = os.path.dirname(os.path.abspath(__file__))
-sys.dont_write_bytecode = True
-sys.path.insert(0, HERE)
-from judge import run_faults  # noqa: E402
-from outcome import Folder, Outcome, predict  # noqa: E402
-from words import MODES, mode_of, usage_fault  # noqa: E402
+import paths
 
+from referee.faults import run_faults
+from referee.outcome import Folder, Outcome, predict
+from referee.words import MODES, mode_of, usage_fault
+from shared import command_of
+
+CASES = paths.HERE / "referee" / "cases"
 USAGE = (__doc__ or "").split("\n")[2].strip()
 SPECIAL = {"words", "then", "expect", "stdout", "gen", "note", "timeout", "sink"}
 
@@ -166,15 +166,10 @@ def run_case(folder: Folder, command: Sequence[str], built: Collection[str], sec
     return faults
 
 
-def command_of(program: str) -> list[str]:
-    path = os.path.abspath(program)
-    return [sys.executable, path] if path.endswith(".py") else [path]
-
-
 def main() -> bool:
     parser = argparse.ArgumentParser(usage=USAGE, allow_abbrev=False)
     parser.add_argument("program")
-    parser.add_argument("--cases", default=os.path.join(HERE, "cases"))
+    parser.add_argument("--cases", default=str(CASES))
     parser.add_argument("--only", default="*")
     parser.add_argument("--modes", default=",".join(MODES))
     parser.add_argument("--seconds", type=float, default=60)

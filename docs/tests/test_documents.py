@@ -1,7 +1,7 @@
 #!/usr/bin/env python3
 """Tests of definitions.py, claim.py and links.py.
 
-    python3 docs/test_documents.py
+    python3 .ci/tests.py docs/tests/test_documents.py
 """
 
 from __future__ import annotations

@@ -1,8 +1,8 @@
 #!/usr/bin/env python3
 """Writes a case of format 3 that looks like a network, at its limits or at a share of them, or a storm for its zones.
 
-    python3 bench/interconnection.py [--share=SHARE] [--seed=SEED] > case.toml
-    python3 bench/interconnection.py --storm=STEPS [--seed=SEED] > storm.csv
+    python3 generators/interconnection.py [--share=SHARE] [--seed=SEED] > case.toml
+    python3 generators/interconnection.py --storm=STEPS [--seed=SEED] > storm.csv
 
 SHARE is a number above 0 and up to 1, as 1 or 1/4; it is 1 where it is not given, and SEED is 7. At a share of 1 there
 are 4096 substations, 12288 buses, 24576 lines and 8192 transformers, and at another one so many in proportion, at least
@@ -15,6 +15,8 @@ STEPS is a number from 1 to 20000. The storm has at each of so many times a row 
 first zones, as many as 20000 rows allow.
 """
 
+from __future__ import annotations
+
 import argparse
 import math
 import random
@@ -22,13 +24,18 @@ import sys
 from fractions import Fraction
 from typing import NamedTuple
 
-from case_text import Row, case_text
+import paths  # noqa: F401 - it finds the modules below
 
-STATIONS, BUSES_EACH, LINES_EACH, UNITS_EACH = 4096, 3, 6, 2
-LEAST_STATIONS, MOST_PARTS = 8, 16
+from generators.case_text import Row, case_text
+from referee.case import LIMITS_3, PARTS
+from referee.storm import MOST_STORM_ROWS
+
+STATIONS = LIMITS_3["substation"]
+BUSES_EACH, LINES_EACH, UNITS_EACH = (LIMITS_3[name] // STATIONS for name in ("bus", "line", "transformer"))
+LEAST_STATIONS, MOST_PARTS = 8, PARTS.most
 WIDTH, HEIGHT = 1600000, 1300000  # of the plane at a share of 1, in metres
 COLUMNS, ROWS = 16, 13  # of the grid of zones
-MOST_STEPS, MOST_FIELD = 20000, 3000  # the rows of a storm, which are the most steps; mV/km
+MOST_STEPS, MOST_FIELD = MOST_STORM_ROWS, 3000  # each step has a row; mV/km
 
 
 class Level(NamedTuple):
@@ -100,7 +107,7 @@ class Network:
             Place(station, self.draw.randrange(self.height), self.draw.randrange(self.width))
             for station in range(self.size)
         ]
-        self.lists: dict[str, list[Row]] = {name: [] for name in ("zone", "substation", "bus", "line", "transformer")}
+        self.lists: dict[str, list[Row]] = {name: [] for name in LIMITS_3}
         self.levels = [self.levels_of_station() for _ in self.places]
 
     def levels_of_station(self) -> list[int]:

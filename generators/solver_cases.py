@@ -1,39 +1,43 @@
 #!/usr/bin/env python3
-"""Writes the cases that solver.sh times into a folder, each as NAME.toml.
+"""Writes the cases that bench/solver.sh times into a folder, each as NAME.toml.
 
-    python3 solver_cases.py ../crates/gic_examples/data/realistic.txt FOLDER
+    python3 generators/solver_cases.py crates/gic_examples/data/realistic.txt FOLDER
 
 The realistic case is taken from the examples of the repository. The numbers of all cases belong to no real network.
 """
 
-import pathlib
-import sys
+from __future__ import annotations
 
-import limit_case
-import made_case
+import sys
+from collections.abc import Iterator
+from pathlib import Path
+
+import paths  # noqa: F401 - it finds the modules below
+
+from generators import limit_case, made_case
 
 ZONE = 'format = 1\nzone = [{ name = "Z", latitude = 6000, beta = 100 }]\n'
 
 
-def substation(name, ground):
+def substation(name: str, ground: int) -> str:
     return f'[[substation]]\nname = "{name}"\nground = {ground}\n'
 
 
-def bus(name, station):
+def bus(name: str, station: str) -> str:
     return f'[[bus]]\nname = "{name}"\nsubstation = "{station}"\n'
 
 
-def line(name, start, end, resistance):
+def line(name: str, start: str, end: str, resistance: int) -> str:
     ends = f'[[line]]\nname = "{name}"\nfrom = "{start}"\nto = "{end}"\nzone = "Z"\n'
     return ends + f"resistance = {resistance}\nnorth = 100000\neast = 0\n"
 
 
-def transformer(name, at, resistance):
+def transformer(name: str, at: str, resistance: int) -> str:
     kind = f'[[transformer]]\nname = "{name}"\nkind = "delta-wye"\nhigh_volts = 345000\n'
     return kind + f'high = "{at}"\nhigh_resistance = {resistance}\n'
 
 
-def loop(number, ground, resistance, winding):
+def loop(number: str, ground: int, resistance: int, winding: int) -> str:
     """Two grounds, a transformer at each, and a line between them."""
     parts = [substation(end + number, ground) for end in "AB"]
     parts += [bus(end.lower() + number, end + number) for end in "AB"]
@@ -42,7 +46,7 @@ def loop(number, ground, resistance, winding):
     return "".join(parts)
 
 
-def row(buses):
+def row(buses: int) -> str:
     """A ground of 1 ohm at one end, and 240 siemens from each node to the next: the walk of 8 buses is 3905."""
     parts = [substation("S", 1000000), transformer("T", "b0", 12500), bus("b0", "S")]
     for place in range(1, buses):
@@ -50,7 +54,7 @@ def row(buses):
     return "".join(parts)
 
 
-def chain(stations, ground):
+def chain(stations: int, ground: int) -> str:
     """Substations in a row, each with a weak ground and a transformer, and strong lines from each to the next."""
     parts = []
     for place in range(stations):
@@ -60,7 +64,7 @@ def chain(stations, ground):
     return "".join(parts)
 
 
-def draws(count, least, most):
+def draws(count: int, least: int, most: int) -> Iterator[int]:
     """So many numbers from `least` up to `most`, the same on each machine."""
     state = 1
     for _ in range(count):
@@ -68,7 +72,7 @@ def draws(count, least, most):
         yield least + (state >> 33) % (most - least)
 
 
-def grid(side, each, ground, resistance, units):
+def grid(side: int, each: int, ground: int, resistance: int, units: bool) -> str:
     """Buses in a square grid, three a substation, joined by lines of up to twice the resistance. At each so-manieth bus
     stands a transformer over a ground; with `units`, one at each other bus as well, over a substation without one."""
     count = side * side
@@ -88,33 +92,33 @@ def grid(side, each, ground, resistance, units):
     return "".join(parts)
 
 
-def realistic(path):
+def realistic(path: Path) -> str:
     """The lines of the file `realistic` in a script of examples."""
-    script = pathlib.Path(path).read_text().split("file realistic\n")[1].split("\nfile ")[0]
+    script = path.read_text().split("file realistic\n")[1].split("\nfile ")[0]
     return "".join(line[2:] for line in script.splitlines(keepends=True) if line.startswith("| "))
 
 
-def cases(source):
+def cases(source: Path) -> Iterator[tuple[str, str]]:
+    """The name and the text of each case; texts of tables end without a line feed."""
     yield "p", ZONE + loop("", 1000000, 3000000, 300000)
     yield "realistic", realistic(source)
     yield "ps", ZONE + "".join(loop(str(i), 5000000, 269970000, 15000) for i in range(20))
     for stations in 10, 100, 1000:
-        yield f"made-{2 * stations}", "\n".join(made_case.lines(stations, 7))
+        yield f"made-{2 * stations}", made_case.text(stations, 7).removesuffix("\n")
     yield "row", ZONE + row(8)
     yield "chain", ZONE + chain(1000, 38000000)
     yield "grid", ZONE + grid(55, 10, 1000000, 1000000, False)
     yield "grid-far", ZONE + grid(55, 10, 20000000, 1000000, False)
     yield "grid-units", ZONE + grid(55, 10, 1000000, 1000000, True)
-    yield "limit", "\n".join(limit_case.rows())
-    yield "far-small", "\n".join(limit_case.rows(128, 4165000))
-    yield "far", "\n".join(limit_case.rows(1024, 3900000))
+    yield "limit", limit_case.text().removesuffix("\n")
+    yield "far-small", limit_case.text(128, 4165000).removesuffix("\n")
+    yield "far", limit_case.text(1024, 3900000).removesuffix("\n")
 
 
-def main():
-    source, folder = sys.argv[1], pathlib.Path(sys.argv[2])
-    for name, text in cases(source):
-        (folder / f"{name}.toml").write_text(text)
+def main(source: str, folder: str) -> None:
+    for name, text in cases(Path(source)):
+        Path(folder, f"{name}.toml").write_text(text)
 
 
 if __name__ == "__main__":
-    main()
+    main(*sys.argv[1:3])
