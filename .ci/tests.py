@@ -1,6 +1,8 @@
 """Runs the tests in a file. The last line is `N passed, M failed`, and the status is 0 only where one passed and none failed.
 
-usage: tests.py FILE"""
+usage: tests.py FILE
+
+The file lies in a folder `tests`, beside the modules that it tests."""
 
 import signal
 import sys
@@ -16,13 +18,13 @@ def take_signals() -> None:
         signal.signal(signal.SIGHUP, signal.SIG_DFL)
 
 
-
 def main(words: list[str]) -> int:
     if len(words) != 1:
         print(__doc__, file=sys.stderr)
         return 2
     take_signals()
     file = Path(words[0]).resolve()
+    sys.path.insert(0, str(file.parent.parent))
     tests = unittest.TestLoader().discover(str(file.parent), file.name, str(file.parent))
     result = unittest.TextTestRunner(stream=sys.stdout, verbosity=0).run(tests)
     failed = len(result.failures) + len(result.errors) + len(result.unexpectedSuccesses)

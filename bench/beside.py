@@ -1,15 +1,16 @@
 """What benchmarks share that set the program beside another command: times by the clock, and intervals beside doubles."""
 
-import re
+from __future__ import annotations
+
 import subprocess
 import sys
 import time
-from pathlib import Path
-from typing import NamedTuple
+from collections.abc import Sequence
+from typing import NamedTuple, Optional
 
-BASELINES = Path(__file__).resolve().parent / "baselines"
-WHOLE = re.compile(r"-?[0-9]+")
-VERDICTS = ("below", "reaches", "undecided", "outside")
+import paths  # noqa: F401 - it finds the modules below
+
+from referee.checker import VERDICTS
 
 
 class Run(NamedTuple):
@@ -19,9 +20,9 @@ class Run(NamedTuple):
     lines: list[str]
 
 
-def least(commands: list[list[str]], folder: str, turns: int) -> list[Run]:
+def least(commands: Sequence[Sequence[str]], folder: str, turns: int) -> list[Run]:
     """Runs the commands by turns; a line and status 1 where one of them fails."""
-    best: list[Run | None] = [None] * len(commands)
+    best: list[Optional[Run]] = [None] * len(commands)
     for _ in range(turns):
         for place, command in enumerate(commands):
             begin = time.perf_counter()
@@ -32,7 +33,8 @@ def least(commands: list[list[str]], folder: str, turns: int) -> list[Run]:
             taken = time.perf_counter() - begin
             if ran.returncode != 0:
                 sys.exit(ran.stderr.strip() or f"{' '.join(command)}: status {ran.returncode}")
-            if best[place] is None or taken < best[place].seconds:
+            before = best[place]
+            if before is None or taken < before.seconds:
                 best[place] = Run(taken, ran.stdout.splitlines())
     return [run for run in best if run is not None]
 

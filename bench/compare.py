@@ -1,7 +1,7 @@
 #!/usr/bin/env python3
 """Compares the solvers of two trees by their own ratios.
 
-    python3 compare.py BEFORE AFTER FOLDER [RUNS] [CASE ..]
+    python3 bench/compare.py BEFORE AFTER FOLDER [RUNS] [CASE ..]
 
 BEFORE and AFTER are programs that bench/solver.sh has built, of two trees, each in a folder of its own, and FOLDER has the
 cases that it wrote. Each case, or each that is named, is run so often (60 where RUNS is not given), by the one program and
@@ -13,10 +13,14 @@ nothing. The last row of a case is the time of a whole field, which isn't a rati
 sweeps were given up, there is no ratio by them. The machine should have nothing else to do.
 """
 
+from __future__ import annotations
+
 import random
 import statistics
 import subprocess
 import sys
+from collections.abc import Sequence
+from typing import NamedTuple, Optional
 
 CASES = (
     *("p", "realistic", "ps", "made-20", "made-200", "made-2000", "row", "chain"),
@@ -24,7 +28,7 @@ CASES = (
 )
 SWEEPS = "plain"
 # The ratios of a run's own times, and the time of a whole field, which other solvers' times are set beside.
-RATIOS = (
+RATIOS: tuple[tuple[str, str, Optional[str]], ...] = (
     ("`solve` ÷ sweeps", "solve", SWEEPS),
     ("reciprocal ÷ division", "pass", "slow_pass"),
     ("`bound` ÷ by division", "bound", "slow_bound"),
@@ -33,47 +37,64 @@ RATIOS = (
 RUNS = 60
 WORSE = 1.1
 DRAWS = 2000
+Run = dict[str, int]  # the figures of a run by their names
 
 
-def times(program, case):
+class Pair(NamedTuple):
+    """What the one program has, and the other."""
+
+    before: float
+    after: float
+
+
+def times(program: str, case: str) -> Run:
     words = subprocess.run([program, case], check=True, capture_output=True, text=True).stdout.split()
     return {name: int(figure) for name, figure in zip(words[::2], words[1::2])}
 
 
-def turn_of(programs, path, turn):
+def turn_of(programs: tuple[str, str], path: str, turn: int) -> tuple[Run, Run]:
     """One run of each program, in this order and in the other by turns."""
     order = (0, 1) if turn % 2 == 0 else (1, 0)
     runs = {side: times(programs[side], path) for side in order}
     return runs[0], runs[1]
 
 
-def ratio(run, part, whole):
+def ratio(run: Run, part: str, whole: Optional[str]) -> float:
     return run[part] / (run[whole] if whole else 1)
 
 
-def quotient(pairs):
-    return statistics.median(after for _, after in pairs) / statistics.median(before for before, _ in pairs)
+def medians(pairs: Sequence[Pair]) -> Pair:
+    return Pair(statistics.median(pair.before for pair in pairs), statistics.median(pair.after for pair in pairs))
 
 
-def interval(pairs):
+def quotient(pairs: Sequence[Pair]) -> float:
+    before, after = medians(pairs)
+    return after / before
+
+
+def interval(pairs: Sequence[Pair]) -> tuple[float, float]:
+    """The 95 per cent interval of the quotient."""
     draw = random.Random(1)
     quotients = sorted(quotient(draw.choices(pairs, k=len(pairs))) for _ in range(DRAWS))
     return quotients[DRAWS // 40], quotients[-DRAWS // 40 - 1]
 
 
-def verdict(low, high):
+def verdict(low: float, high: float) -> str:
     if low > WORSE:
         return "worse"
     return "no" if high <= WORSE else "undecided"
 
 
-def row(case, name, runs, part, whole):
-    pairs = [(ratio(before, part, whole), ratio(after, part, whole)) for before, after in runs]
+def least_ratio(runs: Sequence[Run], part: str, whole: Optional[str]) -> float:
+    """The ratio of the least times of all runs."""
+    return min(run[part] for run in runs) / (min(run[whole] for run in runs) if whole else 1)
+
+
+def row(case: str, name: str, runs: Sequence[tuple[Run, Run]], part: str, whole: Optional[str]) -> None:
+    pairs = [Pair(ratio(before, part, whole), ratio(after, part, whole)) for before, after in runs]
     low, high = interval(pairs)
-    least = [min(run[side][part] for run in runs) for side in (0, 1)]
-    if whole:
-        least = [time / min(run[side][whole] for run in runs) for side, time in enumerate(least)]
-    before, after = (statistics.median(pair[side] for pair in pairs) for side in (0, 1))
+    least = [least_ratio(side, part, whole) for side in zip(*runs)]
+    before, after = medians(pairs)
     cells = (
         case,
         name,
@@ -88,7 +109,7 @@ def row(case, name, runs, part, whole):
     print("| " + " | ".join(cells) + " |", flush=True)
 
 
-def main():
+def main() -> None:
     before, after, folder, *rest = sys.argv[1:]
     count = int(rest[0]) if rest else RUNS
     heads = ("case", "ratio", "runs", "before", "after", "quotient", "interval", "worse by a tenth", "by least times")

@@ -4,7 +4,7 @@
     python3 bench/losses.py PROGRAM [COUNT] [SEED]
 
 PROGRAM is the built program `gic_loss_study`, which attaches both monitors of losses. Random studies are made as in
-`random_cases.py`, the same ones for the same SEED (1), until COUNT of them (200) are solved; in every other one each
+`generators/random_cases.py`, the same ones for the same SEED (1), until COUNT of them (200) are solved; in every other one each
 step of the storm comes twice. For each step K the absolute intervals of the lines `effective` of `study --detail=K` are
 weighed by factors and summed, once with those of `VoltLoss` and once with those of the table of PROGRAM. The greatest
 low end of the steps, their greatest high end and the first step that has it must be those of the lines `loss` and
@@ -14,55 +14,68 @@ The last line tells how many studies and steps there were, how many lines were c
 The exit status is 1 where any does.
 """
 
-import os
+from __future__ import annotations
+
 import random
-import subprocess
 import sys
 import tempfile
-import tomllib
+from collections.abc import Sequence
+from pathlib import Path
+from typing import NamedTuple, Optional
 
-HERE = os.path.dirname(os.path.abspath(__file__))
-sys.dont_write_bytecode = True
-sys.path.insert(0, HERE)
-import random_cases  # noqa: E402
+from running import REFUSALS, numbers_of, program_of, run  # which finds the modules below
+
+from generators import random_cases
+from referee.case import Transformer, read_case
+from referee.values import Interval, magnitude
 
 NODES = 40
-REFUSALS = (8, 9)
 MOST_CURRENT = 2**70
 # The table of `crates/gic_loss_study`, and the scale of its monitor by voltages.
 TABLE = [(f"T{place % 24}", 400 + 7 * place) for place in range(36)]
 SCALE = 1
 
 
-def volt_factor(unit):
-    return unit["high_volts"] // 1000 * SCALE
+Step = list[Interval]  # the effective interval of each transformer
 
 
-def table_factor(unit):
+class Studied(NamedTuple):
+    """How many steps a study has, the lines that each of its reports should have, and those that they have."""
+
+    steps: int
+    wanted: list[str]
+    shown: list[list[str]]
+
+
+def volt_factor(unit: Transformer) -> int:
+    return unit.loss_factor * SCALE
+
+
+def table_factor(unit: Transformer) -> int:
     """The factor of the first entry with the name."""
-    return next((factor for name, factor in TABLE if name == unit["name"]), 0)
+    return next((factor for name, factor in TABLE if name == unit.name), 0)
 
 
-def counted(low, high):
-    """The ends of the absolute values from `low` to `high`, each cut to what counts."""
-    least = 0 if low <= 0 <= high else min(abs(low), abs(high))
-    return min(least, MOST_CURRENT), min(max(abs(low), abs(high)), MOST_CURRENT)
+def counted(current: Interval) -> Interval:
+    """The interval of the absolute value, each end cut to what counts."""
+    return Interval(*(min(end, MOST_CURRENT) for end in magnitude(current)))
 
 
-def total(factors, step):
-    """The least and the greatest total of a step, by the effective intervals of its units."""
-    units = [counted(*ends) for ends in step]
-    return [sum(factor * ends[side] for factor, ends in zip(factors, units)) for side in (0, 1)]
+def total(factors: Sequence[int], step: Step) -> Interval:
+    """The least and the greatest total of a step."""
+    units = [counted(current) for current in step]
+    low = sum(factor * unit.low for factor, unit in zip(factors, units))
+    return Interval(low, sum(factor * unit.high for factor, unit in zip(factors, units)))
 
 
-def line(word, factors, steps):
+def line(word: str, factors: Sequence[int], steps: Sequence[Step]) -> str:
     """What a monitor with these factors has to print of all steps."""
     totals = [total(factors, step) for step in steps]
     highs = [high for _, high in totals]
     return f"{word} {max(low for low, _ in totals)} {max(highs)} step {highs.index(max(highs)) + 1}"
 
 
-def twice(storm):
+def twice(storm: str) -> str:
     """The storm with each of its steps once more, behind all of them."""
     head, *rows = [row.split(",") for row in storm.splitlines()]
     again = int(rows[-1][0]) + 1
@@ -70,84 +83,82 @@ def twice(storm):
     return "".join(",".join(row) + "\n" for row in [head, *rows])
 
 
-def report(program, folder, words):
+def report(program: str, folder: str, words: Sequence[str]) -> Optional[list[str]]:
     """The lines of a report, or none where the network is refused."""
-    ran = subprocess.run([program, "4", *words], cwd=folder, capture_output=True, text=True, check=False)
-    if ran.returncode in REFUSALS:
-        return None
-    if ran.returncode != 0:
-        sys.exit(f"losses.py: status {ran.returncode} of {' '.join(words)} in {folder}: {ran.stderr.strip()}")
-    return ran.stdout.splitlines()
+    ran = run(program, folder, words, "4")
+    if ran.status not in (0, *REFUSALS):
+        sys.exit(f"losses.py: status {ran.status} of {' '.join(words)} in {folder}: {ran.told}")
+    return ran.lines if ran.status == 0 else None
 
 
-def monitor(lines, number):
+def monitor(lines: Sequence[str], number: int) -> str:
     """The text of a monitor with one line."""
     heads = [place for place, text in enumerate(lines) if text.startswith(f"monitor {number} ")]
     text = lines[heads[-1] + 1]
     return text if lines[heads[-1]] == f"monitor {number} {len(text) + 1}" else f"a text of another length: {text}"
 
 
-def effectives(lines, step, units):
+def effectives(lines: list[str], step: int, units: Sequence[Transformer]) -> Step:
     """The effective interval of each unit in the detail block of a step."""
     inside = lines[3 : lines.index("peaks")]
     rows = [text.split() for text in inside if text.startswith("effective ")]
     is_step = lines[2].startswith(f"step {step} time ")
-    if not is_step or [row[1] for row in rows] != [unit["name"] for unit in units]:
+    if not is_step or [row[1] for row in rows] != [unit.name for unit in units]:
         sys.exit(f"losses.py: no detail block of step {step} with each transformer in order")
-    return [(int(low), int(high)) for _, _, low, high in rows]
+    return [Interval(int(low), int(high)) for _, _, low, high in rows]
 
 
-def study(program, folder, words, units):
-    """How many steps a study has, and the lines that its reports should have and that they have, or none where it is refused."""
+def study(program: str, folder: str, words: Sequence[str], units: Sequence[Transformer]) -> Optional[Studied]:
+    """What a study shows without a step in detail and with each, or none where it is refused."""
     plain = report(program, folder, words)
     if plain is None:
         return None
     count = int(plain[1].split()[-1])
-    details = [report(program, folder, [*words, f"--detail={step}"]) for step in range(1, count + 1)]
+    details = [report(program, folder, [*words, f"--detail={step}"]) or [] for step in range(1, count + 1)]
     steps = [effectives(lines, step, units) for step, lines in enumerate(details, 1)]
     wanted = [
         line("loss", [volt_factor(unit) for unit in units], steps),
         line("table", [table_factor(unit) for unit in units], steps),
     ]
-    return count, [(wanted, [monitor(lines, 3), monitor(lines, 4)]) for lines in [plain, *details]]
+    return Studied(count, wanted, [[monitor(lines, 3), monitor(lines, 4)] for lines in [plain, *details]])
 
 
-def files(draw, place):
+def files(draw: random.Random, place: int) -> tuple[random_cases.Files, list[str], list[Transformer]]:
     """The files of a study, its words, and the transformers of its case."""
     made = random_cases.run(draw, "study", NODES)
     if place % 2:
         made["t"] = twice(made["t"])
     words = [word for word in made.pop("words").split() if not word.startswith("--detail=")]
-    return made, words, tomllib.loads(made["p"]).get("transformer", [])
+    return made, words, read_case(made["p"].encode()).transformers
 
 
-def main():
-    program = os.path.abspath(sys.argv[1])
-    given = [int(word) for word in sys.argv[2:4]]
-    count, seed = given + [200, 1][len(given):]
+def main() -> None:
+    program = program_of(sys.argv[1])
+    count, seed = numbers_of(sys.argv[2:], 200, 1)
     solved = refused = steps = compared = differ = late = 0
     while solved < count:
         place = solved + refused
-        made, words, units = files(random.Random(seed * 1000003 + place), place)
+        made, words, units = files(random.Random(seed * random_cases.SEEDS_APART + place), place)
         with tempfile.TemporaryDirectory() as folder:
             for name, text in made.items():
-                with open(os.path.join(folder, name), "w") as file:
-                    file.write(text)
+                Path(folder, name).write_text(text)
             answer = study(program, folder, words, units)
         if answer is None:
             refused += 1
             continue
         solved += 1
-        steps += answer[0]
-        late += sum(not text.endswith(" step 1") for text in answer[1][0][0])
-        for wanted, shown in answer[1]:
-            compared += len(wanted)
-            for right, text in zip(wanted, shown):
+        steps += answer.steps
+        late += sum(not text.endswith(" step 1") for text in answer.wanted)
+        for shown in answer.shown:
+            compared += len(answer.wanted)
+            for right, text in zip(answer.wanted, shown):
                 if right != text:
                     differ += 1
                     print(f"study {place}: wanted {right}, shown {text}", flush=True)
-    print(f"{solved} studies of {steps} steps, {refused} more refused: {compared} lines compared, {differ} differ; "
-          f"{late} of {2 * solved} lines name a step behind the first")
+    print(
+        f"{solved} studies of {steps} steps, {refused} more refused: {compared} lines compared, {differ} differ; "
+        f"{late} of {2 * solved} lines name a step behind the first"
+    )
     sys.exit(differ > 0)
 
 

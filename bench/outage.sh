@@ -9,11 +9,11 @@
 # nothing else to do; the program runs on one processor. Nothing is promised of these times. It needs Python 3.
 set -eu
 program=$(readlink -f "$1")
-here=$(cd "$(dirname "$0")" && pwd)
+top=$(cd "$(dirname "$0")/.." && pwd)
 scratch=$(mktemp -d)
 trap 'rm -rf "$scratch"' EXIT
-python3 "$here/made_case.py" >"$scratch/made"
-python3 "$here/limit_case.py" >"$scratch/limit"
+python3 "$top/generators/made_case.py" >"$scratch/made"
+python3 "$top/generators/limit_case.py" >"$scratch/limit"
 cd "$scratch"
 
 # Microseconds of one run.

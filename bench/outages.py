@@ -3,8 +3,8 @@
 
     python3 bench/outages.py PROGRAM [COUNT] [SEED] [NODES]
 
-PROGRAM is the built program. COUNT networks (20) of up to NODES nodes (40) are taken from `random_cases.py`, which makes
-the same ones for the same SEED (1), with their switchings, widths and events. Of each outage it is looked whether `screen`
+PROGRAM is the built program. COUNT networks (20) of up to NODES nodes (40) are taken from `generators/random_cases.py`,
+which makes the same ones for the same SEED (1), with their switchings, widths and events. Of each outage it is looked whether `screen`
 with the item opened behind these switchings says the same:
 
 - counts: `screen` has as many transformers with each verdict, where neither side has an undecided one; else they differ
@@ -18,39 +18,33 @@ there is no screen. Where `outage` has no report, `screen` with the same words h
 `N outages compared, M differ`, and M has to be 0.
 """
 
-import os
-import subprocess
+from __future__ import annotations
+
 import sys
 import tempfile
+from collections.abc import Sequence
+from pathlib import Path
+from typing import Optional
 
-HERE = os.path.dirname(os.path.abspath(__file__))
-VERDICTS = ["below", "reaches", "undecided", "outside"]
-FAULTS = {8: "unearthed", 9: "unresolved"}
-THRESHOLDS = {"benchmark": 75000, "supplemental": 85000}
+from running import REFUSALS, Ran, numbers_of, program_of, run, value_of, words_in  # which finds the modules below
 
+from generators.random_cases import NO_SWITCHINGS, write_folders
+from referee.checker import VERDICTS
+from referee.values import Interval
+from referee.words import DEFAULT_EVENT, DEFAULT_WIDTH, EVENTS
 
-def run(program, folder, words):
-    """The status of a run, the lines of its report and its fault line."""
-    ran = subprocess.run([program, *words], cwd=folder, capture_output=True, text=True, check=False)
-    return ran.returncode, [line.split() for line in ran.stdout.splitlines()], ran.stderr.strip()
-
-
-def value_of(words, option, default):
-    return next((word.split("=", 1)[1] for word in words if word.startswith(f"--{option}=")), default)
+Row = list[str]  # the words of a line
 
 
-def open_item(folder, item):
+def open_item(folder: Path, item: str) -> None:
     """Writes the switchings `o`: those of the network, and behind them one that opens the item."""
-    lines = ["time,item,action"]
-    if os.path.exists(os.path.join(folder, "s")):
-        with open(os.path.join(folder, "s")) as file:
-            lines = file.read().splitlines()
+    there = folder / "s"
+    lines = (there.read_text() if there.exists() else NO_SWITCHINGS).splitlines()
     last = lines[-1].split(",")[0] if len(lines) > 1 else "0"
-    with open(os.path.join(folder, "o"), "w") as file:
-        file.write("\n".join([*lines, f"{last},{item},open"]) + "\n")
+    (folder / "o").write_text("\n".join([*lines, f"{last},{item},open"]) + "\n")
 
 
-def screens_like(counts, rows):
+def screens_like(counts: Sequence[int], rows: Sequence[Row]) -> bool:
     """Whether these counts can be those of a screen with these rows, each of which has a verdict at its end."""
     screened = [sum(row[-1] == verdict for row in rows) for verdict in VERDICTS]
     apart = [abs(one - other) for one, other in zip(counts, screened)]
@@ -58,7 +52,7 @@ def screens_like(counts, rows):
     return sum(counts) == len(rows) and apart[3] == 0 and max(apart[:2]) <= undecided
 
 
-def is_greatest(line, worsts, is_outside, threshold, width):
+def is_greatest(line: Row, worsts: Sequence[Interval], is_outside: bool, threshold: int, width: int) -> bool:
     """Whether the line of a transformer tells the greatest of its worst currents, of which there are these intervals, and
     its verdict is `outside` where that of the network as it stands is."""
     if not worsts:
@@ -74,78 +68,78 @@ def is_greatest(line, worsts, is_outside, threshold, width):
 class Comparison:
     """What was compared of one network, and what differs."""
 
-    def __init__(self, program, folder, words):
-        self.program, self.folder, self.words = program, folder, words
-        self.outages, self.different = 0, []
+    def __init__(self, program: str, folder: Path) -> None:
+        self.program, self.folder, self.words = program, folder, words_in(folder)
+        self.outages = 0
+        self.different: list[tuple[object, ...]] = []
 
-    def screen(self, switched=None):
+    def screen(self, switched: Optional[str] = None) -> Ran:
         """A run of `screen`, with the switchings of a file in place of those of the words."""
         words = ["screen", *self.words[1:]]
         if switched:
             words = [word for word in words if not word.startswith("--switch=")] + [f"--switch={switched}"]
         return run(self.program, self.folder, words)
 
-    def expect(self, holds, *told):
+    def expect(self, holds: bool, *told: object) -> None:
         if not holds:
             self.different.append((self.folder, *told))
 
-    def outage(self, line, whole):
+    def outage(self, line: Row, whole: Sequence[Row]) -> list[Row]:
         """Compares one outage, and hands out the rows of its screen, or none where it has no counts."""
         self.outages += 1
         item, end = line[1], line[2]
         open_item(self.folder, item)
-        status, report, told = self.screen("o")
+        ran = self.screen("o")
+        report = ran.rows
         rows = [row for row in report if row[0] == "transformer"]
         if end == "below":
             counts = [int(count) for count in line[3::2]]
-            self.expect(status == 0 and line[2::2] == VERDICTS and screens_like(counts, rows), line, status, told)
+            is_like = ran.status == 0 and line[2::2] == [*VERDICTS] and screens_like(counts, rows)
+            self.expect(is_like, line, ran.status, ran.told)
             return rows
         if end == "idle":
-            self.expect(status == 0 and report == whole, line, status, told)
+            self.expect(ran.status == 0 and report == whole, line, ran.status, ran.told)
         else:
             node = line[3] if len(line) == 4 else None
-            self.expect(FAULTS.get(status) == end and told == f"gicstudy: {end}: step 1 node {node}", line, status, told)
+            is_refused = REFUSALS.get(ran.status) == end and ran.told == f"gicstudy: {end}: step 1 node {node}"
+            self.expect(is_refused, line, ran.status, ran.told)
         return []
 
-    def network(self):
+    def network(self) -> None:
         """Compares all outages of the network."""
-        status, report, told = run(self.program, self.folder, ["outage", *self.words[1:]])
-        screened, whole, screen_told = self.screen()
-        is_like = (status, told) == (screened, screen_told) and status in (0, *FAULTS)
-        self.expect(is_like, "outage", status, told, "screen", screened, screen_told)
-        if status or screened:
+        ran, screened = run(self.program, self.folder, ["outage", *self.words[1:]]), self.screen()
+        is_like = (ran.status, ran.told) == (screened.status, screened.told) and ran.status in (0, *REFUSALS)
+        self.expect(is_like, "outage", ran.status, ran.told, "screen", screened.status, screened.told)
+        if ran.status or screened.status:
             return
+        report, whole = ran.rows, screened.rows
         self.expect(report[0] == ["outage"] and report[1] == whole[1] and report[-1] == ["end"], report[:2], report[-1])
-        threshold = THRESHOLDS[value_of(self.words, "event", "benchmark")]
-        width = int(value_of(self.words, "width", "100"))
-        worsts = {row[1]: [] for row in whole if row[0] == "transformer"}
+        threshold = EVENTS[value_of(self.words, "event", DEFAULT_EVENT)].threshold
+        width = int(value_of(self.words, "width", str(DEFAULT_WIDTH)))
+        worsts: dict[str, list[Interval]] = {row[1]: [] for row in whole if row[0] == "transformer"}
         outside = {row[1] for row in whole if row[0] == "transformer" and row[-1] == "outside"}
         for line in report[1:]:
             if line[0] == "outage":
                 for row in self.outage(line, whole):
-                    worsts[row[1]].append((int(row[-3]), int(row[-2])))
+                    worsts[row[1]].append(Interval(int(row[-3]), int(row[-2])))
         told = [line for line in report if line[0] == "transformer"]
         self.expect([line[1] for line in told] == list(worsts), "transformers", told)
         for line in told:
             self.expect(is_greatest(line, worsts[line[1]], line[1] in outside, threshold, width), line)
 
 
-def main():
-    program = os.path.abspath(sys.argv[1])
-    given = sys.argv[2:5]
-    count, seed, nodes = given + ["20", "1", "40"][len(given):]
-    networks, outages, different = 0, 0, []
+def main() -> None:
+    program = program_of(sys.argv[1])
+    count, seed, nodes = numbers_of(sys.argv[2:], 20, 1, 40)
+    networks = outages = 0
+    different: list[tuple[object, ...]] = []
     with tempfile.TemporaryDirectory() as scratch:
-        script = [sys.executable, os.path.join(HERE, "random_cases.py"), scratch, count, seed, nodes, "--mode=screen"]
-        subprocess.run(script, check=True)
-        for name in sorted(os.listdir(scratch)):
-            folder = os.path.join(scratch, name)
-            with open(os.path.join(folder, "words")) as file:
-                one = Comparison(program, folder, file.read().split())
+        for folder in write_folders(Path(scratch), count, seed, nodes, "screen"):
+            one = Comparison(program, folder)
             one.network()
             networks, outages, different = networks + bool(one.outages), outages + one.outages, different + one.different
-    for one in different:
-        print("different", *one)
+    for told in different:
+        print("different", *told)
     print(f"{networks} networks with outages")
     print(f"{outages} outages compared, {len(different)} differ")
     sys.exit(bool(different))

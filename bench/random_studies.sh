@@ -10,7 +10,7 @@
 # is no wider than asked, and has the verdict that belongs to it: the detail block, the peaks, and the texts of the
 # monitors. It ends with status 0 only where nothing was wrong, and so does this script.
 #
-# The studies are those of `random_cases.py` for SEED (1), so the same ones each time: networks of at most 40 nodes,
+# The studies are those of `generators/random_cases.py` for SEED (1), so the same ones each time: networks of at most 40 nodes,
 # most of them solved, the others refused, over storms of up to twelve steps.
 set -eu
 if [ $# -lt 2 ]; then
@@ -20,8 +20,8 @@ fi
 read -ra checker <<<"$1"
 program=$(readlink -f "$2")
 seed=${3:-1}
-here=$(cd "$(dirname "$0")" && pwd)
+top=$(cd "$(dirname "$0")/.." && pwd)
 scratch=$(mktemp -d)
 trap 'rm -rf "$scratch"' EXIT
-python3 "$here/random_cases.py" "$scratch" 300 "$seed" 40 --mode=study
+python3 "$top/generators/random_cases.py" "$scratch" 300 "$seed" 40 --mode=study
 "${checker[@]}" "$program" --cases "$scratch"

@@ -8,10 +8,10 @@
 # PROGRAM is the built program. The machine should have nothing else to do. Nothing is promised of these times.
 set -eu
 program=$(readlink -f "$1")
-here=$(cd "$(dirname "$0")" && pwd)
+top=$(cd "$(dirname "$0")/.." && pwd)
 scratch=$(mktemp -d)
 trap 'rm -rf "$scratch"' EXIT
-python3 "$here/solver_cases.py" "$here/../crates/gic_examples/data/realistic.txt" "$scratch"
+python3 "$top/generators/solver_cases.py" "$top/crates/gic_examples/data/realistic.txt" "$scratch"
 cd "$scratch"
 : >empty
 

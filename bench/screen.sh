@@ -6,11 +6,11 @@
 # PROGRAM is the built program. The machine should have nothing else to do. Nothing is promised of these times.
 set -eu
 program=$(readlink -f "$1")
-here=$(cd "$(dirname "$0")" && pwd)
+top=$(cd "$(dirname "$0")/.." && pwd)
 scratch=$(mktemp -d)
 trap 'rm -rf "$scratch"' EXIT
-python3 "$here/made_case.py" >"$scratch/made"
-python3 "$here/limit_case.py" >"$scratch/limit"
+python3 "$top/generators/made_case.py" >"$scratch/made"
+python3 "$top/generators/limit_case.py" >"$scratch/limit"
 cd "$scratch"
 
 # Microseconds of one run.

@@ -26,7 +26,7 @@ if [ ! -x "$binary" ]; then
 	python3 "$bench/solver/make_crate.py" "$scratch"
 	(cd "$scratch/crates/gic_bench" && rt run >/dev/null)
 fi
-python3 "$bench/solver_cases.py" "$top/crates/gic_examples/data/realistic.txt" "$scratch"
+python3 "$top/generators/solver_cases.py" "$top/crates/gic_examples/data/realistic.txt" "$scratch"
 
 # A baseline that can't be built or run has no figure.
 cc -O2 "$bench/baselines/direct.c" -o "$scratch/direct" -lcholmod -lm 2>/dev/null || true

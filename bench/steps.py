@@ -3,7 +3,7 @@
 
     python3 bench/steps.py PROGRAM [COUNT] [SEED]
 
-PROGRAM is the built program. COUNT random networks (20) are made as in `random_cases.py`, the same ones for the same
+PROGRAM is the built program. COUNT random networks (20) are made as in `generators/random_cases.py`, the same ones for the same
 SEED (1), each with a storm of up to six steps that has one field for all zones, and without switchings. For each step
 K the lines of `study --detail=K` are compared with those of `field`, one by one: a line must name what the other one
 names, the two intervals must overlap, since both hold the exact value, and neither may be wider than asked. They need
@@ -14,100 +14,104 @@ The last line tells how many pairs of intervals were compared, how many of them 
 failed. The exit status is 1 where any failed.
 """
 
-import os
+from __future__ import annotations
+
 import random
-import subprocess
 import sys
 import tempfile
+from collections.abc import Iterator
+from pathlib import Path
+from typing import NamedTuple, Optional
 
-HERE = os.path.dirname(os.path.abspath(__file__))
-sys.dont_write_bytecode = True
-sys.path.insert(0, HERE)
-import random_cases  # noqa: E402
+from running import REFUSALS, numbers_of, program_of, run  # which finds the modules below
+
+from generators import random_cases
+from generators.storms import HEAD
+from referee.values import Interval
 
 NODES = 120
 STEPS = 6
 
 
-def storm(draw):
-    """The steps of a storm: a time in seconds, and a field to the north and to the east."""
+class Step(NamedTuple):
+    """A step of a storm: its time in seconds, and its field to the north and to the east."""
+
+    time: int
+    north: int
+    east: int
+
+
+def storm(draw: random.Random) -> Iterator[Step]:
+    """The steps of a storm."""
     time = 0
     for _ in range(draw.randint(1, STEPS)):
         strength = draw.choice([20, 1000, 8000, 20000])
-        yield time, draw.randint(-strength, strength), draw.randint(-strength, strength)
+        yield Step(time, draw.randint(-strength, strength), draw.randint(-strength, strength))
         time += draw.randint(1, 60)
 
 
-def report(program, folder, words):
-    """The status of a run, the lines of its report, and what it told on the error stream."""
-    ran = subprocess.run([program, *words], cwd=folder, capture_output=True, text=True, check=False)
-    return ran.returncode, ran.stdout.splitlines(), ran.stderr
-
-
-def block(lines, step, time, north, east):
+def block(lines: list[str], number: int, step: Step) -> Optional[list[str]]:
     """The items of the detail block, or none where its head is another one."""
     if lines[:1] != ["study"] or lines[-1] != "end" or "peaks" not in lines:
         return None
-    if lines[2] != f"step {step} time {time}":
+    if lines[2] != f"step {number} time {step.time}":
         return None
     inside = lines[3 : lines.index("peaks")]
     zones = [line.split() for line in inside if line.startswith("zone ")]
-    is_field = all(zone[2:] == ["north", str(north), "east", str(east)] for zone in zones)
-    return inside[len(zones):] if is_field and zones else None
+    is_field = all(zone[2:] == ["north", str(step.north), "east", str(step.east)] for zone in zones)
+    return inside[len(zones) :] if is_field and zones else None
 
 
-def items(lines, north, east):
+def items(lines: list[str], step: Step) -> Optional[list[str]]:
     """The signed items of a report of `field`, or none where its head is another one."""
-    if lines[:1] != ["field"] or lines[-1] != "end" or not lines[1].startswith(f"north {north} east {east} "):
+    if lines[:1] != ["field"] or lines[-1] != "end" or not lines[1].startswith(f"north {step.north} east {step.east} "):
         return None
     return [line for line in lines[2:-1] if not line.startswith("transformer ")]
 
 
-def interval(line):
+def interval(line: str) -> tuple[list[str], Optional[Interval]]:
     """The words of a line, and its interval: the last two words, for a name can be a number too. Some lines have none."""
     words = line.split()
     if words[-1] in ("dead", "open", "blocked"):
         return words, None
-    return words[:-2], (int(words[-2]), int(words[-1]))
+    return words[:-2], Interval(int(words[-2]), int(words[-1]))
 
 
 class Tally:
     """What was compared so far."""
 
-    def __init__(self):
+    def __init__(self) -> None:
         self.networks = self.pairs = self.differ = self.failed = 0
 
-    def fail(self, *words):
+    def fail(self, *words: object) -> None:
         self.failed += 1
         print("fails:", *words)
 
-    def pair(self, where, width, detail, field):
+    def pair(self, where: str, width: int, detail: str, field: str) -> None:
         """Compares a line of a detail block with the line of `field` in its place."""
         (names, shown), (other_names, other) = interval(detail), interval(field)
         if names != other_names or (shown is None) != (other is None):
             self.fail(where, "names:", detail, "|", field)
-        elif shown is not None:
+        elif shown is not None and other is not None:
             self.pairs += 1
             self.differ += shown != other
             is_narrow = all(0 <= high - low <= width for low, high in (shown, other))
-            if not is_narrow or shown[0] > other[1] or other[0] > shown[1]:
+            if not is_narrow or shown.low > other.high or other.low > shown.high:
                 self.fail(where, "ends:", detail, "|", field)
 
-    def step(self, program, folder, width, number, step):
+    def step(self, program: str, folder: Path, width: int, number: int, step: Step) -> bool:
         """Compares a step of a study with `field` in the field of the step. It tells whether both solved it."""
-        time, north, east = step
-        where = f"{os.path.basename(folder)} step {number}"
-        study = ["study", "--case=p", "--storm=t", f"--width={width}", f"--detail={number}"]
-        field = ["field", "--case=p", f"--width={width}", f"--north={north}", f"--east={east}"]
-        (status, lines, told), (other_status, other_lines, other_told) = (
-            report(program, folder, words) for words in (study, field)
+        where = f"{folder.name} step {number}"
+        study = run(program, folder, ["study", "--case=p", "--storm=t", f"--width={width}", f"--detail={number}"])
+        field = run(
+            program, folder, ["field", "--case=p", f"--width={width}", f"--north={step.north}", f"--east={step.east}"]
         )
-        if status != other_status or told != other_told or status not in (0, 8, 9):
-            self.fail(where, f"statuses {status} and {other_status}:", told.strip(), "|", other_told.strip())
+        if study.status != field.status or study.told != field.told or study.status not in (0, *REFUSALS):
+            self.fail(where, f"statuses {study.status} and {field.status}:", study.told, "|", field.told)
             return False
-        if status != 0:
+        if study.status != 0:
             return False
-        shown, other = block(lines, number, time, north, east), items(other_lines, north, east)
+        shown, other = block(study.lines, number, step), items(field.lines, step)
         if shown is None or other is None or len(shown) != len(other):
             self.fail(where, "another head, or another number of lines")
             return False
@@ -116,25 +120,22 @@ class Tally:
         return True
 
 
-def network(tally, program, scratch, seed, place):
+def network(tally: Tally, program: str, scratch: str, seed: int, place: int) -> None:
     """Makes a network and a storm, and compares all steps."""
-    draw = random.Random(seed * 1000003 + place)
-    text, _, _ = random_cases.network(draw, draw.randint(2, NODES))
+    draw = random.Random(seed * random_cases.SEEDS_APART + place)
+    made = random_cases.network(draw, draw.randint(2, NODES))
     steps, width = list(storm(draw)), draw.choice([10, 11, 100, 100, 1000])
-    folder = os.path.join(scratch, f"network_{place:04}")
-    os.makedirs(folder)
-    with open(os.path.join(folder, "p"), "w") as file:
-        file.write(text)
-    with open(os.path.join(folder, "t"), "w") as file:
-        file.write("time,north,east\n" + "".join(f"{time},{north},{east}\n" for time, north, east in steps))
+    folder = Path(scratch, f"network_{place:04}")
+    folder.mkdir()
+    (folder / "p").write_text(made.text)
+    (folder / "t").write_text(HEAD + "".join(f"{time},{north},{east}\n" for time, north, east in steps))
     solved = [tally.step(program, folder, width, number, step) for number, step in enumerate(steps, 1)]
     tally.networks += all(solved)
 
 
-def main():
-    program = os.path.abspath(sys.argv[1])
-    given = [int(word) for word in sys.argv[2:4]]
-    count, seed = given + [20, 1][len(given):]
+def main() -> None:
+    program = program_of(sys.argv[1])
+    count, seed = numbers_of(sys.argv[2:], 20, 1)
     tally = Tally()
     with tempfile.TemporaryDirectory() as scratch:
         for place in range(count):

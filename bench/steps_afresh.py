@@ -4,7 +4,7 @@ prints a table.
 
     python3 bench/steps_afresh.py PROGRAM CASE ..
 
-PROGRAM is the built program, and each CASE a file with a line, as `solver_cases.py` writes them. No contract tells the two
+PROGRAM is the built program, and each CASE a file with a line, as `generators/solver_cases.py` writes them. No contract tells the two
 apart, and a solve of a small network is too fast for a test's time limit to tell them; so this ratio is where it would be
 seen that a study solves each of its steps.
 
@@ -18,7 +18,6 @@ don't, or where a run fails.
 
 from __future__ import annotations
 
-import random
 import re
 import subprocess
 import sys
@@ -27,10 +26,15 @@ import time
 from dataclasses import dataclass
 from pathlib import Path
 
+import paths  # noqa: F401 - it finds the modules below
+
+from generators import storms
+from generators.random_cases import NO_SWITCHINGS
+from generators.storms import SECONDS
+
 # The most steps and rows of switchings that are timed.
 STEPS, ROWS = 2000, 1000
 RUNS = 3
-SECONDS = 10
 
 
 @dataclass(frozen=True)
@@ -54,18 +58,11 @@ def read(path: Path) -> Case:
     return Case(path.stem, text, len(zones), name[1])
 
 
-def storm(steps: int) -> str:
-    """Another field at each step."""
-    draw = random.Random(steps)
-    rows = (f"{SECONDS * step},{draw.randint(-8000, 8000)},{draw.randint(-8000, 8000)}\n" for step in range(steps))
-    return "time,north,east\n" + "".join(rows)
-
-
 def switchings(case: Case, steps: int, *, is_afresh: bool) -> str:
     """Closings of a line that is closed: one at the beginning of each short epoch, or as many at the first time."""
     length = 2 * case.zones
     times = [SECONDS * step for step in range(length, steps, length)]
-    return "time,item,action\n" + "".join(f"{at if is_afresh else 0},{case.line},close\n" for at in times)
+    return NO_SWITCHINGS + "".join(f"{at if is_afresh else 0},{case.line},close\n" for at in times)
 
 
 def study(program: Path, folder: Path, steps: int, way: str) -> tuple[float, list[str]]:
@@ -101,7 +98,7 @@ def row(program: Path, case: Case) -> tuple[str, bool]:
         folder = Path(name)
         (folder / "case").write_text(case.text, encoding="utf-8")
         for steps in (few, most):
-            (folder / f"storm{steps}").write_text(storm(steps), encoding="utf-8")
+            (folder / f"storm{steps}").write_text(storms.drawn(steps), encoding="utf-8")
             for way in ("together", "afresh"):
                 rows = switchings(case, steps, is_afresh=way == "afresh")
                 (folder / f"{way}{steps}").write_text(rows, encoding="utf-8")

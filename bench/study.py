@@ -6,9 +6,11 @@ doubles, and prints a table. `study.sh` calls it.
 
 PROGRAM is the built program, SUPERPOSE the built `baselines/superpose.c`, and each CASE a file. Times are the least of some
 runs. The time of a step is that of more than 20 steps by the number of those more; what is left of a run of 20 steps is
-reading, certifying the base fields and writing. A case of more than a hundred zones gets 500 steps, each with one field for all zones:
-its steps are slow enough to be timed so.
+reading, certifying the base fields and writing. A case of more than a hundred zones gets 500 steps, each with one field for
+all zones: its steps are slow enough to be timed so.
 """
+
+from __future__ import annotations
 
 import os
 import random
@@ -17,80 +19,113 @@ import subprocess
 import sys
 import tempfile
 import time
+from collections.abc import Sequence
+from pathlib import Path
+from typing import NamedTuple
 
-FEW, MANY, MOST = 20, 2000, 20000
+import paths  # noqa: F401 - it finds the modules below
+
+from generators import storms
+from referee.storm import MOST_STORM_ROWS
+
+FEW, MANY, MOST = 20, 2000, MOST_STORM_ROWS
 SLOW = 500
-ROWS = 20000
+MANY_ZONES = 100
+HEADS = (
+    "case",
+    "zones",
+    "field, us",
+    "20 steps, us",
+    "a step, us",
+    "step ÷ field",
+    "20000 steps ÷ 2000 steps",
+    "memory, 20000 ÷ 20 steps",
+    "superposition, us",
+    "step ÷ superposition",
+)
+INTERVAL = re.compile(r"^(?:node|ground|line|winding|neutral|effective) .* (-?\d+) (-?\d+)$", re.MULTILINE)
 
 
-def storm(zones, steps):
-    """Other fields at each step, zone by zone where the rows suffice for it."""
-    draw = random.Random(steps)
-    lines = ["time,zone,north,east"]
-    for step in range(steps):
-        for zone in zones if steps * len(zones) <= ROWS else ["*"]:
-            lines.append(f"{10 * step},{zone},{draw.randint(-8000, 8000)},{draw.randint(-8000, 8000)}")
-    return "\n".join(lines) + "\n"
+class Took(NamedTuple):
+    """What a run took: seconds by the clock, and the peak of memory in kB."""
+
+    seconds: float
+    memory: int
 
 
-def timed(words, folder):
-    """Seconds of a run and its peak memory in kB."""
-    begin = time.perf_counter()
-    process = subprocess.Popen(words, cwd=folder, stdout=open(os.path.join(folder, "out"), "wb"))
-    _, status, usage = os.wait4(process.pid, 0)
+def timed(words: Sequence[str], folder: str) -> Took:
+    """What one run takes."""
+    with open(os.path.join(folder, "out"), "wb") as out:
+        begin = time.perf_counter()
+        process = subprocess.Popen(words, cwd=folder, stdout=out)
+        _, status, usage = os.wait4(process.pid, 0)
+        seconds = time.perf_counter() - begin
     if status:
         sys.exit(f"study.py: {' '.join(words)} ended with status {os.waitstatus_to_exitcode(status)}")
-    return time.perf_counter() - begin, usage.ru_maxrss
+    return Took(seconds, usage.ru_maxrss)
 
 
-def least(words, folder, runs):
-    times = [timed(words, folder) for _ in range(runs)]
-    return min(t for t, _ in times), max(m for _, m in times)
+def least(words: Sequence[str], folder: str, runs: int) -> Took:
+    """The least time and the greatest memory of some runs."""
+    took = [timed(words, folder) for _ in range(runs)]
+    return Took(min(run.seconds for run in took), max(run.memory for run in took))
 
 
-def report(program, folder, north, east):
-    out = subprocess.run([program, "field", "--case=case", f"--north={north}", f"--east={east}"], cwd=folder,
-                         capture_output=True, text=True, check=True).stdout
-    return [(int(low) + int(high)) / 2 for low, high in re.findall(r"^(?:node|ground|line|winding|neutral|effective) .* (-?\d+) (-?\d+)$", out, re.M)]
+def middles(program: str, folder: str, north: int, east: int) -> list[float]:
+    """The middles of the signed intervals of a field."""
+    words = [program, "field", "--case=case", f"--north={north}", f"--east={east}"]
+    out = subprocess.run(words, cwd=folder, capture_output=True, text=True, check=True).stdout
+    return [(int(low) + int(high)) / 2 for low, high in INTERVAL.findall(out)]
 
 
-def superposed(program, superpose, folder):
+def superposed(program: str, superpose: str, folder: str) -> int:
     """Nanoseconds of a step by superposition in doubles, of all that `study` looks at."""
-    north, east = report(program, folder, 1000, 0), report(program, folder, 0, 1000)
+    north, east = middles(program, folder, 1000, 0), middles(program, folder, 0, 1000)
     draw = random.Random(1)
     numbers = [f"{len(north)} 2000"] + [f"{a / 1000} {b / 1000}" for a, b in zip(north, east)]
     numbers += [f"{draw.randint(-8000, 8000)} {draw.randint(-8000, 8000)}" for _ in range(2000)]
     return int(subprocess.run([superpose], input="\n".join(numbers), capture_output=True, text=True, check=True).stdout)
 
 
-def main():
+def row(program: str, superpose: str, case: Path) -> list[str]:
+    """The cells of a case."""
+    text = case.read_text()
+    zones = sorted(set(re.findall(r'zone = "([^"]+)"', text)))
+    many = MANY if len(zones) <= MANY_ZONES else SLOW
+    with tempfile.TemporaryDirectory() as folder:
+        Path(folder, "case").write_text(text)
+        field = least([program, "field", "--case=case", "--north=8000"], folder, 7).seconds
+        took = {}
+        for steps in (FEW, many, *([MOST] if many == MANY else [])):
+            Path(folder, "storm").write_text(storms.drawn_by_zone(zones, steps))
+            took[steps] = least([program, "study", "--case=case", "--storm=storm"], folder, 1 if steps == MOST else 3)
+        plain = superposed(program, superpose, folder) / 1e9
+    few = took[FEW]
+    step = (took[many].seconds - few.seconds) / (many - FEW)
+    growth = memory = "-"
+    if MOST in took:
+        growth = f"{(took[MOST].seconds - few.seconds) / (took[many].seconds - few.seconds):.2f}"
+        memory = f"{took[MOST].memory / few.memory:.2f}"
+    return [
+        case.name.removesuffix(".toml"),
+        f"{len(zones)}",
+        f"{field * 1e6:.0f}",
+        f"{few.seconds * 1e6:.0f}",
+        f"{step * 1e6:.1f}",
+        f"1/{field / step:.1f}",
+        growth,
+        memory,
+        f"{plain * 1e6:.1f}",
+        f"{step / plain:.1f}",
+    ]
+
+
+def main() -> None:
     program, superpose = os.path.abspath(sys.argv[1]), os.path.abspath(sys.argv[2])
-    print("| case | zones | field, us | 20 steps, us | a step, us | step ÷ field | 20000 steps ÷ 2000 steps | memory, 20000 ÷ 20 steps | superposition, us | step ÷ superposition |")
-    print("|---|---|---|---|---|---|---|---|---|---|")
+    print("| " + " | ".join(HEADS) + " |")
+    print("|" + "---|" * len(HEADS))
     for case in sys.argv[3:]:
-        with tempfile.TemporaryDirectory() as folder, open(case) as file:
-            text = file.read()
-            zones = sorted(set(re.findall(r'zone = "([^"]+)"', text)))
-            with open(os.path.join(folder, "case"), "w") as out:
-                out.write(text)
-            many = MANY if len(zones) <= 100 else SLOW
-            counts = [FEW, many] + ([MOST] if many == MANY else [])
-            for steps in counts:
-                with open(os.path.join(folder, f"storm{steps}"), "w") as out:
-                    out.write(storm(zones, steps))
-            field, _ = least([program, "field", "--case=case", "--north=8000"], folder, 7)
-            took = {}
-            for steps in counts:
-                took[steps] = least([program, "study", "--case=case", f"--storm=storm{steps}"], folder, 1 if steps == MOST else 3)
-            step = (took[many][0] - took[FEW][0]) / (many - FEW)
-            plain = superposed(program, superpose, folder) / 1e9
-            name = os.path.basename(case).removesuffix(".toml")
-            growth = memory = "-"
-            if MOST in took:
-                growth = f"{(took[MOST][0] - took[FEW][0]) / (took[many][0] - took[FEW][0]):.2f}"
-                memory = f"{took[MOST][1] / took[FEW][1]:.2f}"
-            print(f"| {name} | {len(zones)} | {field * 1e6:.0f} | {took[FEW][0] * 1e6:.0f} | {step * 1e6:.1f} | 1/{field / step:.1f} "
-                  f"| {growth} | {memory} | {plain * 1e6:.1f} | {step / plain:.1f} |", flush=True)
+        print("| " + " | ".join(row(program, superpose, Path(case))) + " |", flush=True)
 
 
 if __name__ == "__main__":

@@ -11,6 +11,6 @@ top=$(cd "$(dirname "$0")/.." && pwd)
 scratch=$(mktemp -d)
 trap 'rm -rf "$scratch"' EXIT
 cc -O2 "$top/bench/baselines/superpose.c" -o "$scratch/superpose" -lm
-python3 "$top/bench/solver_cases.py" "$top/crates/gic_examples/data/realistic.txt" "$scratch"
+python3 "$top/generators/solver_cases.py" "$top/crates/gic_examples/data/realistic.txt" "$scratch"
 cd "$scratch"
 python3 "$top/bench/study.py" "$program" ./superpose realistic.toml ps.toml made-2000.toml limit.toml

@@ -1,10 +1,13 @@
 #!/usr/bin/env python3
 """Makes a table in Markdown of the lines of words that solver.sh collects.
 
-    python3 table.py < figures.txt
+    python3 bench/table.py < figures.txt
 """
 
+from __future__ import annotations
+
 import sys
+from collections.abc import Sequence
 
 HEADS = (
     "case",
@@ -29,7 +32,7 @@ HEADS = (
 )
 
 
-def ratio(part, whole):
+def ratio(part: str, whole: str) -> str:
     """How many times less, or more, as a number."""
     if whole == "-":
         return "-"
@@ -37,7 +40,7 @@ def ratio(part, whole):
     return f"{number:.2f}" if number >= 0.1 else f"1/{1 / number:.0f}"
 
 
-def row(words):
+def row(words: Sequence[str]) -> tuple[str, ...]:
     figures = dict(zip(words[::2], words[1::2]))
     ended = figures["ended"] == "1"
     outage = "-" if figures["outages"] == "0" else figures["outage_bound"]
@@ -65,7 +68,7 @@ def row(words):
     )
 
 
-def main():
+def main() -> None:
     print("| " + " | ".join(HEADS) + " |")
     print("|---" * len(HEADS) + "|")
     for line in sys.stdin:

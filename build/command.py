@@ -21,7 +21,6 @@ from teller import Teller
 from version import version
 
 USAGE = "usage: words"
-HELP = "./gicstudy --help shows the modes and options"
 
 
 def become(program: Path, words: list[str]) -> NoReturn:

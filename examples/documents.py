@@ -79,7 +79,7 @@ def table_blocks(lines: list[str]) -> Iterator[Block]:
             yield Block(place, "row", "./gicstudy " + ("" if words == "no words" else words), [told])
 
 
-def tie_of(language: str, comment: re.Match | None, commands: list[str]) -> tuple[str, str]:
+def tie_of(language: str, comment: re.Match[str] | None, commands: list[str]) -> tuple[str, str]:
     """How a block is tied, and to what."""
     if comment:
         return comment[1] or comment[3], comment[2] or ""
@@ -93,11 +93,15 @@ def tie_of(language: str, comment: re.Match | None, commands: list[str]) -> tupl
 def blocks_of(text: str) -> list[Block]:
     """The blocks of a document, in order."""
     lines = text.split("\n")
-    blocks, commands, comment, fence = [], [], None, None
+    blocks: list[Block] = []
+    commands: list[str] = []
+    comment: re.Match[str] | None = None
+    fence: int | None = None
+    tie = "untied", ""
     for place, line in enumerate(lines):
         if fence is not None:
             if line == "```":
-                blocks.append(Block(fence, *tie, lines[fence + 1 : place]))
+                blocks.append(Block(fence, tie[0], tie[1], lines[fence + 1 : place]))
                 fence, comment, commands = None, None, []
         elif line.startswith("```"):
             fence = place
@@ -254,7 +258,7 @@ def odd_fault_lines() -> list[str]:
 def main(words: list[str]) -> int:
     programs = [word for word in words if word != "--write"]
     if "--help" in words or "-h" in words or len(programs) != 1:
-        print(__doc__.strip(), file=sys.stdout if len(programs) == 1 else sys.stderr)
+        print((__doc__ or "").strip(), file=sys.stdout if len(programs) == 1 else sys.stderr)
         return 0 if len(programs) == 1 else 2
     program = os.path.abspath(programs[0])
     counts = [look_at(document, program, "--write" in words) for document in DOCUMENTS]

@@ -28,8 +28,8 @@ import time
 from collections.abc import Callable, Iterator, Sequence
 
 import shared
+from paths import TOP
 
-TOP = pathlib.Path(shared.TOP).resolve()
 PAIR = TOP / "desk" / "tests" / "pair"
 STOPS = (signal.SIGINT, signal.SIGTERM, signal.SIGHUP)
 MARK = "DESK_ATTACK"  # the variable by which processes of an attack are found

@@ -11,11 +11,11 @@ expected here."""
 
 import os
 import sys
-from pathlib import Path
 from typing import Any
 
-sys.path[:0] = [str(Path(__file__).resolve().parent.parent / "build")]
-from kit import UNKNOWN_TOOLCHAIN, UnknownToolchain, crate_of, load  # noqa: E402
+import paths  # noqa: F401 - it finds the modules below
+
+from kit import UNKNOWN_TOOLCHAIN, UnknownToolchain, crate_of, load
 
 PASSED, FAILED = "passed: ", "failed: "
 
@@ -41,7 +41,6 @@ def main(words: list[str]) -> int:
         print(__doc__, file=sys.stderr)
         return 2
     rt, verb, name, *edits = words
-    sys.dont_write_bytecode = True
     try:
         kit: Any = load(os.path.realpath(rt), "rt_of_toolchain")
         crate = crate_of(kit.rtlib, os.getcwd(), name)

@@ -14,19 +14,18 @@ from contextlib import AbstractContextManager, contextmanager, nullcontext
 from dataclasses import dataclass, field
 from pathlib import Path
 
-HERE = Path(__file__).resolve().parent
-TOP = HERE.parent
-sys.path[:0] = [str(TOP / "build")]
-import machine  # noqa: E402
-from crates import Crate, Fault, below, read_crates, read_text  # noqa: E402
-from edit_kit import FAILED, PASSED  # noqa: E402
-from kit import UNKNOWN_TOOLCHAIN  # noqa: E402
-from locks import locked  # noqa: E402
-from plan import chains, read_table, weigh  # noqa: E402
-from runs import Ended, Run  # noqa: E402
-from sources import read_sources  # noqa: E402
-from stops import Stopped, end_by, stop_on_signals  # noqa: E402
-from teller import Teller  # noqa: E402
+from paths import HERE, TOP  # which finds the modules below
+
+import machine
+from crates import Crate, Fault, below, read_crates, read_text
+from edit_kit import FAILED, PASSED
+from kit import UNKNOWN_TOOLCHAIN
+from locks import locked
+from plan import chains, read_table, weigh
+from runs import Ended, Run
+from sources import read_sources
+from stops import Stopped, end_by, stop_on_signals
+from teller import Teller
 
 # The folders of a crate with its wrong edits: what the gate leaves out, and what it tries.
 ON_DEMAND, GATE = "wrong", "must-fail"

@@ -13,189 +13,229 @@ whether such a report is still right, of the width and the event that its second
 shown, and one that is right not be refuted.
 """
 
-import collections
+from __future__ import annotations
+
 import contextlib
 import functools
-import importlib.util
 import io
 import os
 import random
 import re
+from collections import Counter
+from collections.abc import Sequence
+from typing import NamedTuple, Union
 
 import shared  # which finds the modules below
 
-import reports
-import studies
-from checker import VERDICTS
-from judge import report_faults
-from outcome import predict
+import judge
+import paths
+from generators.changed_reports import FURTHER_CHANGES, Lines
+from generators.networks import KINDS, first_files
+from referee.faults import report_faults
+from referee.outcome import predict
+from referee.words import DEFAULT_EVENT, EVENTS
 
-INDEPENDENT = os.path.join(shared.TOP, "independent")
-KINDS = studies.KINDS[:3]
+NETWORKS = KINDS[:3]
 MODES = ("field", "screen", "outage")
-FIELDS = {"benchmark": 8000, "supplemental": 12000}
 ENDS = {0: "shown", 13: "refused", 14: "refused", 15: "refuted", 16: "open"}
 # What FORMATS fixes and the referee doesn't ask: the third interval of a screen, and the 0 0 of a unit without a winding.
 FIXED = re.compile(r"refuted: .*(the others make|and 0\.0+ to 0\.0+ is shown)")
 FIGURES = re.compile(r"(\d+) intervals and (\d+) verdicts shown, (\d+) refuted, (\d+) open")
 
 
-def load_judge():
-    """The module `judge` of `independent`; another one of the referee has this name."""
-    found = importlib.util.spec_from_file_location("independent_judge", os.path.join(INDEPENDENT, "judge.py"))
-    module = importlib.util.module_from_spec(found)
-    found.loader.exec_module(module)
-    return module
+class Ended(NamedTuple):
+    """How the judge ended: its status, the lines of its output, and what it told on the error stream."""
+
+    status: int
+    output: list[str]
+    told: str
 
 
-JUDGE = load_judge()
+class Figures(NamedTuple):
+    """How many intervals and verdicts of reports are shown, and how many are refuted or left open."""
+
+    intervals: int = 0
+    verdicts: int = 0
+    refuted: int = 0
+    is_open: int = 0
+
+    def and_those(self, other: Figures) -> Figures:
+        return Figures(*(mine + its for mine, its in zip(self, other)))
 
 
-def change_by_much(draw, lines):
-    def other(text):
-        return str(int(text) + draw.choice([-1, 1]) * int(10 ** draw.uniform(2, 9)))
+class Item(NamedTuple):
+    """What is judged: a report of a mode of the network of a seed and a kind, and so many changed ones."""
 
-    return reports.with_number(draw, lines, other)
-
-
-def change_verdict(draw, lines):
-    """Another verdict at the end of a line that has one."""
-    found = [place for place, line in enumerate(lines) if line.split(" ")[-1] in VERDICTS]
-    if not found:
-        return lines
-    place = draw.choice(found)
-    words = lines[place].split(" ")
-    words[-1] = draw.choice([verdict for verdict in VERDICTS if verdict != words[-1]])
-    return lines[:place] + [" ".join(words)] + lines[place + 1 :]
+    seed: int
+    mode: str
+    kind: str
+    changed: int
 
 
-CHANGES = [*dict.fromkeys(reports.CHANGES), change_by_much, change_by_much, change_verdict]
+class Judged(NamedTuple):
+    """What came of a report: the figures of the judge, its lines of what is open, what came of changed reports (by the
+    change, the judge's end, and whether the report is `right` or `wrong`), and the faults."""
+
+    mode: str
+    figures: Figures
+    opened: list[str]
+    ends: Counter[tuple[str, str, str]]
+    faults: list[str]
 
 
-def judged(folder, options):
-    """How the judge ends in a folder: its status, the lines of its output, and what it told on the error stream."""
+def judged(folder: str, options: Sequence[str]) -> Ended:
+    """How the judge ends in a folder."""
     output, told, before = io.StringIO(), io.StringIO(), os.getcwd()
     os.chdir(folder)
     try:
         with contextlib.redirect_stdout(output), contextlib.redirect_stderr(told):
-            status = JUDGE.main(["--case=p", "--switch=s", "--report=r", *options])
+            status = judge.main(["--case=p", "--switch=s", "--report=r", *options])
     finally:
         os.chdir(before)
-    return status, output.getvalue().splitlines(), told.getvalue().strip()
+    return Ended(status, output.getvalue().splitlines(), told.getvalue().strip())
 
 
-def solved_network(draw, command, folder, mode, kind):
+def solved_network(
+    draw: random.Random, command: Sequence[str], folder: str, mode: str, kind: str
+) -> tuple[list[str], shared.Values]:
     """Writes the files of a network that has a report in a mode, and that report `r`; the words and their values."""
     while True:
-        if not studies.fill(draw, folder, kind):
-            continue
-        values = studies.values(draw)
+        shared.write_all(folder, first_files(draw, kind))
+        values = shared.random_values(draw)
         words = shared.words_of(mode, **values)
-        answer = shared.run(command + words, folder)
+        answer = shared.run([*command, *words], folder)
         if answer.status == 0:
             shared.write(folder, "r", answer.output)
             return words, values
 
 
-def certified(command, folder, mode, values):
+def certified(command: Sequence[str], folder: str, mode: str, values: shared.Values) -> list[str]:
     """Makes the certificates of a report, and tells the options of the judge that name them."""
     if mode == "outage":
-        script = ["bash", os.path.join(INDEPENDENT, "outages.sh"), f"--program={command[-1]}"]
+        script = ["bash", str(paths.INDEPENDENT / "outages.sh"), f"--program={command[-1]}"]
         answer = shared.run([*script, "--case=p", "--switch=s", "--report=r", "--certs=certs"], folder, seconds=600)
         if answer.status != 0:
             raise RuntimeError(f"outages.sh: {answer}")
         return ["--certs=certs"]
-    strength = FIELDS[values["event"]]
-    fields = [values] if mode == "field" else [{"north": strength, "east": 0}, {"north": 0, "east": strength}]
-    options = []
-    for name, field in zip(["cert"] if mode == "field" else ["north", "east"], fields):
-        answer = shared.run(command + shared.words_of("certify", north=field["north"], east=field["east"]), folder)
+    strength = EVENTS[str(values["event"])].field
+    fields: dict[str, tuple[Union[int, str], Union[int, str]]]
+    if mode == "field":
+        fields = {"cert": (values["north"], values["east"])}
+    else:
+        fields = {"north": (strength, 0), "east": (0, strength)}
+    for name, (north, east) in fields.items():
+        words = shared.words_of("certify", north=north, east=east)
+        answer = shared.run([*command, *words], folder)
         if answer.status != 0:
             raise RuntimeError(f"certify: {answer}")
         shared.write(folder, name, answer.output)
-        options.append(f"--{name}={name}")
-    return options
+    return [f"--{name}={name}" for name in fields]
 
 
-def faults_by_head(folder, mode, values, lines, content):
+def faults_by_head(folder: str, mode: str, values: shared.Values, lines: Lines, content: bytes) -> list[str]:
     """The faults of a report with another second line, as one with the width and of the event that are named there."""
     words = lines[1].split(" ") if len(lines) > 1 else []
     named = dict(zip(words[::2], words[1::2]))
-    event = "supplemental" if named.get("threshold") == "85000" else "benchmark"
-    asked = shared.words_of(mode, **{**values, "width": named.get("width", "0"), "event": event})
-    outcome = predict([os.fsencode(word) for word in asked], folder)
+    thresholds = {str(event.threshold): name for name, event in EVENTS.items()}
+    event = thresholds.get(named.get("threshold", ""), DEFAULT_EVENT)
+    as_named: shared.Values = {**values, "width": named.get("width", "0"), "event": event}
+    outcome = predict(shared.in_bytes(shared.words_of(mode, **as_named)), folder)
     return report_faults(outcome, content) if outcome.status == 0 else ["no words ask for it"]
 
 
-def report(command, item):
-    """One network and its report in one mode: the figures of the judge, what came of changed reports, and the faults."""
-    seed, mode, kind, changed = item
-    draw, ends, opened, faults = random.Random(seed), collections.Counter(), [], []
-    with shared.scratch() as folder:
-        words, values = solved_network(draw, command, folder, mode, kind)
-        label = f"seed {seed} {kind}: {' '.join(words)}"
-        try:
-            options = certified(command, folder, mode, values)
-        except RuntimeError as error:
-            faults.append(f"{label}: {error}")
-            return mode, kind, [0, 0, 0, 0], opened, ends, faults
-        status, output, told = judged(folder, options)
+class Trial:
+    """A report in a folder, with what the judge and the referee say of it and of changed ones."""
+
+    def __init__(self, draw: random.Random, folder: str, mode: str, words: list[str], values: shared.Values) -> None:
+        self.draw, self.folder, self.mode, self.words, self.values = draw, folder, mode, words, values
+        self.options: list[str] = []
+        self.figures = Figures()
+        self.opened: list[str] = []
+        self.ends: Counter[tuple[str, str, str]] = Counter()
+        self.faults: list[str] = []
+
+    def look(self) -> bool:
+        """Judges the report as it is; whether changed ones can be judged too."""
+        status, output, told = judged(self.folder, self.options)
         figures = FIGURES.fullmatch(output[-1]) if output else None
         odd = [line for line in output if line.startswith("open: ") and " unresolved " not in line]
         if status not in (0, 16) or not figures or odd:
             odd += [line for line in output if "refuted: " in line]
-            faults.append(f"{label}: status {status} {told}: {odd[:1]}")
-        figures = [int(word) for word in figures.groups()] if figures else [0, 0, 0, 0]
-        opened += [f"{label}: {line}" for line in output if line.startswith("open: ")]
-        outcome = predict([os.fsencode(word) for word in words], folder)
-        lines = shared.read(folder, "r").decode().split("\n")[:-1]
-        for _ in range(changed if status in (0, 16) else 0):
-            change = draw.choice(CHANGES)
-            after = change(draw, lines)
+            self.faults.append(f"status {status} {told}: {odd[:1]}")
+        self.figures = Figures(*map(int, figures.groups())) if figures else Figures()
+        self.opened = [line for line in output if line.startswith("open: ")]
+        return status in (0, 16)
+
+    def look_at_changed(self, count: int) -> None:
+        """Judges so many reports with one change each, but for changes that find nothing to change."""
+        outcome = predict(shared.in_bytes(self.words), self.folder)
+        lines = shared.read(self.folder, "r").decode().split("\n")[:-1]
+        for _ in range(count):
+            change = self.draw.choice(FURTHER_CHANGES)
+            after = change(self.draw, lines)
             if after == lines:
                 continue
             content = ("\n".join(after) + "\n").encode()
-            shared.write(folder, "r", content)
-            changed_status, output, told = judged(folder, options)
-            end = ENDS.get(changed_status, f"status {changed_status}")
+            shared.write(self.folder, "r", content)
+            status, output, told = judged(self.folder, self.options)
+            end = ENDS.get(status, f"status {status}")
             if after[1:2] == lines[1:2]:
                 wrong = report_faults(outcome, content)
             else:
-                wrong = faults_by_head(folder, mode, values, after, content)
+                wrong = faults_by_head(self.folder, self.mode, self.values, after, content)
             wrong = [*wrong, *filter(FIXED.match, output)]
-            ends[change.__name__, end, "wrong" if wrong else "right"] += 1
-            if bool(wrong) == (end == "shown") and end != "open" or changed_status not in ENDS:
+            self.ends[change.__name__, end, "wrong" if wrong else "right"] += 1
+            if bool(wrong) == (end == "shown") and end != "open" or status not in ENDS:
                 pairs = [pair for pair in zip(lines, after) if pair[0] != pair[1]][:1]
-                faults.append(f"{label}: {change.__name__}: {end} {told}, and the referee has {wrong[:1]}: {pairs}")
-    return mode, kind, figures, opened, ends, faults
+                self.faults.append(f"{change.__name__}: {end} {told}, and the referee has {wrong[:1]}: {pairs}")
 
 
-def main():
+def report(command: Sequence[str], item: Item) -> Judged:
+    """One network and its report in one mode, and changed ones."""
+    seed, mode, kind, changed = item
+    draw = random.Random(seed)
+    with shared.scratch() as folder:
+        trial = Trial(draw, folder, mode, *solved_network(draw, command, folder, mode, kind))
+        try:
+            trial.options = certified(command, folder, mode, trial.values)
+            if trial.look():
+                trial.look_at_changed(changed)
+        except RuntimeError as error:
+            trial.faults.append(str(error))
+    label = f"seed {seed} {kind}: {' '.join(trial.words)}: "
+    return Judged(
+        mode, trial.figures, [label + line for line in trial.opened], trial.ends, [label + fault for fault in trial.faults]
+    )
+
+
+def main() -> None:
     sizes = [("field", 300), ("screen", 300), ("outage", 60), ("changed", 3000)]
     given = shared.arguments(__doc__, 60, sizes)
     # The modes are mixed, so that a run that is cut by its minutes has seen all of them.
     parts = sorted((part / getattr(given, mode), mode) for mode in MODES for part in range(getattr(given, mode)))
     share = -(-given.changed // max(1, len(parts)))
     items = [
-        (given.seed * 10**6 + place, mode, KINDS[place % len(KINDS)], share) for place, (_, mode) in enumerate(parts)
+        Item(given.seed * 10**6 + place, mode, NETWORKS[place % len(NETWORKS)], share)
+        for place, (_, mode) in enumerate(parts)
     ]
     faults, clock = shared.Faults(), shared.Clock(given.minutes)
-    reports_of, shown, ends = collections.Counter(), collections.defaultdict(lambda: [0, 0, 0, 0]), collections.Counter()
-    for mode, kind, figures, opened, changed, found in shared.side_by_side(
-        given.jobs, functools.partial(report, shared.command_of(given.program)), items, clock
-    ):
-        reports_of[mode] += 1
-        shown[mode] = [old + new for old, new in zip(shown[mode], figures)]
-        ends += changed
-        for line in opened:
+    work = functools.partial(report, shared.command_of(given.program))
+    reports_of: Counter[str] = Counter()
+    shown = {mode: Figures() for mode in MODES}
+    ends: Counter[tuple[str, str, str]] = Counter()
+    for done in shared.side_by_side(given.jobs, work, items, clock):
+        reports_of[done.mode] += 1
+        shown[done.mode] = shown[done.mode].and_those(done.figures)
+        ends += done.ends
+        for line in done.opened:
             print(line, flush=True)
-        for fault in found:
+        for fault in done.faults:
             faults.add(fault)
     for mode in MODES:
         intervals, verdicts, refuted, is_open = shown[mode]
         told = f"{intervals} intervals and {verdicts} verdicts shown, {refuted} refuted, {is_open} open"
         print(f"{mode}: {reports_of[mode]} reports, {told}")
-    for name in dict.fromkeys(change.__name__ for change in CHANGES):
+    for name in dict.fromkeys(change.__name__ for change in FURTHER_CHANGES):
         found = [(end, right, count) for (other, end, right), count in sorted(ends.items()) if other == name]
         print(f"{name}: " + ", ".join(f"{count} {end} ({right})" for end, right, count in found))
     shared.finish(faults, f"{reports_of.total()} reports", f"{ends.total()} changed ones")

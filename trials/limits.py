@@ -20,22 +20,28 @@ one that takes longer has `over`. Rows for which no minutes are left are `not ru
 is. With --only the rows whose name has WORD are run alone.
 """
 
+from __future__ import annotations
+
 import os
 import re
 import signal
 import subprocess
-from typing import Callable, NamedTuple, Optional
+from collections.abc import Callable, Iterator, Sequence
+from typing import NamedTuple, Optional
 
 import shared  # which finds the modules below
 
-import limit_case
-import made_case
-from case_text import case_text
+import paths
+from generators import limit_case, made_case, storms
+from generators.case_text import Row as CaseRow
+from generators.case_text import case_text
+from referee.case import LIMITS, LIMITS_3, MOST_ENDS, OHM, PARTS
+from referee.outcome import MOST_BYTES
+from referee.storm import MOST_STORM_ROWS, MOST_SWITCHINGS
+from referee.words import MODES
 
-MOST_BYTES = 16777216
-STATIONS = 1024
+STATIONS = LIMITS["substation"]
 MADE_SITES = 1000
-ALL_STEPS, ALL_SWITCHINGS = 20000, 4096
 # Over the network at every limit each step takes so long that all steps would take a quarter of an hour.
 SOME_STEPS = 1000
 # How many times as long as without switchings a storm may take with a row at each step: of rows that change nothing, and of
@@ -46,16 +52,16 @@ LONGER = 3
 NAME = re.compile(r'"((?:zone|station|bus|line|unit)-[0-9-]+)"')
 NAME_BYTES = 32
 LINE, UNIT, STATION = "line-1", "unit-1", "station-1"
-STATIONS_3, LINE_3, UNIT_3 = 4096, "l1", "u1"
+STATIONS_3, LINE_3, UNIT_3 = LIMITS_3["substation"], "l1", "u1"
 # The limits of format 3, each by what there may be so many of.
 EDGES = {
-    "zones": 256,
-    "substations": 4096,
-    "buses": 12288,
-    "lines": 24576,
-    "transformers": 8192,
-    "parts of a line": 16,
-    "elements at a bus": 256,
+    "zones": LIMITS_3["zone"],
+    "substations": LIMITS_3["substation"],
+    "buses": LIMITS_3["bus"],
+    "lines": LIMITS_3["line"],
+    "transformers": LIMITS_3["transformer"],
+    "parts of a line": PARTS.most,
+    "elements at a bus": MOST_ENDS,
 }
 SOME_BUSES = 300
 ADDRESS_SPACE = 6 << 30
@@ -63,12 +69,14 @@ ADDRESS_SPACE = 6 << 30
 # then, or that something else ends, is a fault.
 WAITS = 10
 OUT_OF_TIME = (signal.SIGXCPU,)
+Fill = Callable[[str, int], None]  # writes the files for a size into a folder
+Content = Callable[[int], bytes]  # the bytes of a file of a size
 
 
 class Measure(NamedTuple):
     """A run: its status or None, its time in seconds, its peak of memory in MiB."""
 
-    status: int
+    status: Optional[int]
     seconds: float
     mebibytes: float
 
@@ -79,23 +87,30 @@ class Row(NamedTuple):
     take `most` times as long."""
 
     name: str
-    words: list
-    fill: Callable
+    words: list[str]
+    fill: Fill
     full: int
     half: Optional[int]
-    wanted: tuple = (0,)
-    plain: Optional[list] = None
+    wanted: tuple[int, ...] = (0,)
+    plain: Optional[list[str]] = None
     most: float = 0
 
 
-def build(folder):
+class Measured(NamedTuple):
+    """The run of a row, and the one that is set beside it, where there is one."""
+
+    full: Measure
+    half: Optional[Measure]
+
+
+def build(folder: str) -> str:
     """The path of the built program of `measure.c`."""
     program = os.path.join(folder, "measure")
-    subprocess.run(["cc", "-O2", "-o", program, os.path.join(shared.HERE, "measure.c")], check=True)
+    subprocess.run(["cc", "-O2", "-o", program, paths.HERE / "measure.c"], check=True)
     return program
 
 
-def measure(measurer, command, folder, seconds):
+def measure(measurer: str, command: Sequence[str], folder: str, seconds: float) -> Measure:
     """Runs a command with its output thrown away."""
     limits = [str(max(1, int(seconds))), str(ADDRESS_SPACE >> 10)]
     answer = shared.run([measurer, *limits, *command], folder, seconds=WAITS * seconds)
@@ -108,95 +123,89 @@ def measure(measurer, command, folder, seconds):
 # What the files are.
 
 
-def lengthened(name):
+def lengthened(name: str) -> str:
     return name.ljust(NAME_BYTES, "x")
 
 
-def limit_text(stations, ground=None, has_long_names=False):
-    text = "\n".join(limit_case.rows(stations, ground)) + "\n"
+def limit_text(stations: int, ground: Optional[int] = None, has_long_names: bool = False) -> str:
+    text = limit_case.text(stations, ground)
     if has_long_names:
         text = NAME.sub(lambda name: f'"{lengthened(name[1])}"', text)
     return text
 
 
-def storm_text(steps):
-    return "time,north,east\n" + "".join(
-        f"{step},{step % 40001 - 20000},{20000 - step * 7 % 40001}\n" for step in range(steps)
-    )
-
-
-def fill_limit(command, has_long_names=False, steps=2):
+def fill_limit(command: Sequence[str], has_long_names: bool = False) -> Fill:
     """Files of the network at every limit, with a certificate."""
 
-    def fill(folder, stations):
+    def fill(folder: str, stations: int) -> None:
         line = lengthened(LINE) if has_long_names else LINE
         shared.write(folder, "p", limit_text(stations, None, has_long_names))
-        shared.write(folder, "t", storm_text(steps))
+        shared.write(folder, "t", storms.steady(2))
         shared.write(folder, "s", f"time,item,action\n0,{line},open\n")
         shared.certify(command, folder)
 
     return fill
 
 
-def fill_made(folder, steps, switchings=0, sites=MADE_SITES):
-    """A made network; line 1 is opened and closed by turns."""
-    shared.write(folder, "p", "\n".join(made_case.lines(sites, 7)) + "\n")
-    shared.write(folder, "t", storm_text(steps))
-    rows = (f"{row},S{row // 2 % sites},{'close' if row % 2 else 'open'}\n" for row in range(switchings))
+def fill_made(folder: str, steps: int, switchings: int = 0) -> None:
+    """A made network; one earthing after the other is opened and closed again."""
+    shared.write(folder, "p", made_case.text(MADE_SITES, 7))
+    shared.write(folder, "t", storms.steady(steps))
+    rows = (f"{row},S{row // 2 % MADE_SITES},{'close' if row % 2 else 'open'}\n" for row in range(switchings))
     shared.write(folder, "s", "time,item,action\n" + "".join(rows))
 
 
-def fill_steps(folder, steps):
+def fill_steps(folder: str, steps: int) -> None:
     fill_made(folder, steps)
 
 
-def fill_limit_steps(folder, steps):
+def fill_limit_steps(folder: str, steps: int) -> None:
     shared.write(folder, "p", limit_text(STATIONS))
-    shared.write(folder, "t", storm_text(steps))
+    shared.write(folder, "t", storms.steady(steps))
 
 
-def fill_epochs(folder, switchings):
+def fill_epochs(folder: str, switchings: int) -> None:
     fill_made(folder, switchings, switchings)
 
 
-def fill_idle_epochs(folder, switchings):
+def fill_idle_epochs(folder: str, switchings: int) -> None:
     """The network at every limit, with an epoch for each row, all of which open one earthing."""
     shared.write(folder, "p", limit_text(STATIONS))
-    shared.write(folder, "t", storm_text(switchings))
+    shared.write(folder, "t", storms.steady(switchings))
     rows = (f"{row},{STATION},open\n" for row in range(switchings))
     shared.write(folder, "s", "time,item,action\n" + "".join(rows))
 
 
-def fill_changing_epochs(folder, switchings):
+def fill_changing_epochs(folder: str, switchings: int) -> None:
     """The network at every limit, with an epoch for each row: one earthing after the other is opened and closed again."""
     shared.write(folder, "p", limit_text(STATIONS))
-    shared.write(folder, "t", storm_text(switchings))
+    shared.write(folder, "t", storms.steady(switchings))
     rows = (
         f"{row},station-{row // 2 % STATIONS},{'close' if row % 2 else 'open'}\n" for row in range(switchings)
     )
     shared.write(folder, "s", "time,item,action\n" + "".join(rows))
 
 
-def fill_limit_3(command):
+def fill_limit_3(command: Sequence[str]) -> Fill:
     """Files of the network at every limit of format 3, with a certificate."""
 
-    def fill(folder, stations):
+    def fill(folder: str, stations: int) -> None:
         shared.write(folder, "p", case_text(3, limit_case.lists_3(stations)))
-        shared.write(folder, "t", storm_text(2))
+        shared.write(folder, "t", storms.steady(2))
         shared.write(folder, "s", f"time,item,action\n0,{LINE_3},open\n")
         shared.certify(command, folder)
 
     return fill
 
 
-def edge_lists(what, count):
+def edge_lists(what: str, count: int) -> dict[str, list[CaseRow]]:
     """The lists of a small case of format 3, but for the one thing of which there are so many."""
 
-    def number(name, usual):
+    def number(name: str, usual: int) -> int:
         return count if what == name else usual
 
     part = [{"zone": "z0", "north": 1, "east": 1}] * number("parts of a line", 2)
-    lines = []
+    lines: list[CaseRow] = []
     for place in range(number("lines", number("elements at a bus", 1))):
         start, end = place % SOME_BUSES, (place + 1 + place // SOME_BUSES) % SOME_BUSES
         if what == "elements at a bus":
@@ -214,27 +223,27 @@ def edge_lists(what, count):
     }
 
 
-def fill_edge(what):
+def fill_edge(what: str) -> Fill:
     return lambda folder, count: shared.write(folder, "p", case_text(3, edge_lists(what, count)))
 
 
-def greatest_ground(command, stations, folder):
+def greatest_ground(command: Sequence[str], stations: int, folder: str) -> int:
     """The greatest resistance of all grounds, in micro-ohm, with which the network at every limit can be solved."""
-    low, high = 1000, 1000000000
+    low, high = OHM
     while high - low > 1:
         middle = (low + high) // 2
         shared.write(folder, "p", limit_text(stations, middle))
-        if shared.run(command + shared.words_of("certify", False), folder).status == 0:
+        if shared.run([*command, *shared.words_of("certify", False)], folder).status == 0:
             low = middle
         else:
             high = middle
     return low
 
 
-def fill_walk(command, known, more):
+def fill_walk(command: Sequence[str], known: dict[int, int], more: int) -> Fill:
     """The network just within 4096, or with so much more resistance in its grounds. `known` keeps what was found."""
 
-    def fill(folder, stations):
+    def fill(folder: str, stations: int) -> None:
         if stations not in known:
             known[stations] = greatest_ground(command, stations, folder)
         shared.write(folder, "p", limit_text(stations, known[stations] + more))
@@ -248,14 +257,14 @@ SWITCHINGS = b"time,item,action\n0,A,close\n"
 CERTIFICATE = b"certificate\nnodes 1 north 0 east 0\ncert A 1 0 0\nend\n"
 
 
-def padded(content, padding, size):
+def padded(content: bytes, padding: bytes, size: int) -> bytes:
     return content + (padding * (size // len(padding) + 1))[: size - len(content)]
 
 
-def fill_file(name, make):
+def fill_file(name: str, make: Content) -> Fill:
     """Small files, but for the one of a name, which has a size."""
 
-    def fill(folder, size):
+    def fill(folder: str, size: int) -> None:
         files = {"p": PLAIN, "t": STORM, "s": SWITCHINGS, "c": CERTIFICATE, name: make(size)}
         for other, content in files.items():
             shared.write(folder, other, content)
@@ -264,14 +273,14 @@ def fill_file(name, make):
 
 
 # Contents of a size that are accepted, or refused only at their end.
-LARGE = {
+LARGE: dict[str, tuple[str, Content, tuple[int, ...]]] = {
     "p": ("list", lambda size: padded(PLAIN, b"# a comment\n", size), (0,)),
     "t": ("study", lambda size: padded(STORM, b"\n", size), (0,)),
     "s": ("check", lambda size: padded(SWITCHINGS, b"\r\n", size), (0,)),
     "c": ("recheck", lambda size: padded(CERTIFICATE, b"x", size), (13,)),
 }
 # Contents of a size that give a reader much to do.
-HOSTILE = [
+HOSTILE: list[tuple[str, str, str, Content]] = [
     ("one long string", "p", "list", lambda size: padded(b'a = "', b"x", size - 1) + b'"'),
     ("one long key", "p", "list", lambda size: padded(b"", b"k", size - 4) + b" = 1"),
     ("brackets in brackets", "p", "list", lambda size: padded(b"a = ", b"[", size)),
@@ -292,19 +301,19 @@ HOSTILE = [
 ]
 
 
-def dotted(size):
+def dotted(size: int) -> bytes:
     """Keys of forty parts, each another one."""
     keys = (f"k{place}" + ".a" * 39 + "=1\n" for place in range(size // 88))
     return "".join(keys).encode()[:size]
 
 
-def inline(size):
+def inline(size: int) -> bytes:
     keys = ",".join(f"k{place}=1" for place in range(size // 11))
     return ("a = {" + keys)[: size - 1].rsplit(",", 1)[0].encode() + b"}"
 
 
-def rows(command, limit_steps):
-    for mode in shared.MODES:
+def rows(command: Sequence[str], limit_steps: int) -> Iterator[Row]:
+    for mode in MODES:
         if mode == "make":
             words = shared.words_of(mode, size="{size}")
             yield Row("make, sites", words, lambda folder, size: None, 1000, 500)
@@ -320,16 +329,19 @@ def rows(command, limit_steps):
             yield Row(f"{mode}, limit, names of 32 bytes", words, fill_limit(command, True), *sizes)
     study = shared.words_of("study", False)
     switched = [*study, "--switch=s"]
-    yield Row("study, 2000 nodes, 20000 steps", study, fill_steps, ALL_STEPS, ALL_STEPS // 2)
+    yield Row("study, 2000 nodes, 20000 steps", study, fill_steps, MOST_STORM_ROWS, MOST_STORM_ROWS // 2)
     yield Row(f"study, limit, {limit_steps} steps", study, fill_limit_steps, limit_steps, limit_steps // 2)
-    yield Row("study, 2000 nodes, 4096 epochs", switched, fill_epochs, ALL_SWITCHINGS, ALL_SWITCHINGS // 2)
+    yield Row("study, 2000 nodes, 4096 epochs", switched, fill_epochs, MOST_SWITCHINGS, MOST_SWITCHINGS // 2)
     idle = f"study, limit, {limit_steps} epochs that change nothing"
     yield Row(idle, switched, fill_idle_epochs, limit_steps, limit_steps // 2)
-    attacks = [("change nothing", fill_idle_epochs, MOST_IDLE), ("each change something", fill_changing_epochs, MOST_CHANGING)]
-    for told, fill, most in attacks:
+    fill: Fill
+    for told, fill, most in (
+        ("change nothing", fill_idle_epochs, MOST_IDLE),
+        ("each change something", fill_changing_epochs, MOST_CHANGING),
+    ):
         name = f"study, limit, 4096 epochs that {told}, beside none ({most} times at most)"
-        yield Row(name, switched, fill, ALL_SWITCHINGS, None, (0,), study, most)
-    known = {}
+        yield Row(name, switched, fill, MOST_SWITCHINGS, None, (0,), study, most)
+    known: dict[int, int] = {}
     for mode in ("field", "screen", "certify"):
         words, sizes = shared.words_of(mode, False), (STATIONS // 2, STATIONS // 4)
         yield Row(f"{mode}, limit, just within 4096", words, fill_walk(command, known, 0), *sizes)
@@ -345,9 +357,9 @@ def rows(command, limit_steps):
         yield Row(f"{mode}, {name}: {told}", words, fill, MOST_BYTES, MOST_BYTES // 2, refused[name])
 
 
-def rows_3(command):
+def rows_3(command: Sequence[str]) -> Iterator[Row]:
     """The rows of format 3."""
-    for mode in shared.MODES:
+    for mode in MODES:
         words = shared.words_of(mode, transformer=UNIT_3)
         if mode == "outage":
             sizes = STATIONS_3 // 16, STATIONS_3 // 32
@@ -360,15 +372,15 @@ def rows_3(command):
         yield Row(f"list, format 3, {most + 1} {what}", words, fill, most + 1, None, (5,))
 
 
-def ratio(full, half):
+def ratio(full: float, half: float) -> str:
     return f"{full / half:.2f}" if half > 0.005 else "-"
 
 
-def time_of(measured):
+def time_of(measured: Measure) -> str:
     return "over" if measured.status is None else f"{measured.seconds:.2f}"
 
 
-def cells(row, full, half):
+def cells(row: Row, full: Measure, half: Optional[Measure]) -> list[object]:
     """The cells of a row of the table."""
     head = [row.name, full.status, row.full, time_of(full)]
     if half is None:
@@ -378,36 +390,40 @@ def cells(row, full, half):
     return [*head, time_of(half), times, *memory, ratio(full.mebibytes, half.mebibytes)]
 
 
-def measure_row(measurer, command, row, words, size, seconds):
-    """The run of a row at a size, in a folder of its own; None where there is no such size."""
-    if size is None:
-        return None
+def measure_row(
+    measurer: str, command: Sequence[str], row: Row, words: Sequence[str], size: int, seconds: float
+) -> Measure:
+    """The run of a row at a size, in a folder of its own."""
     with shared.scratch() as folder:
         row.fill(folder, size)
         words = [word.replace("{size}", str(size)) for word in words]
-        return measure(measurer, command + words, folder, seconds)
+        return measure(measurer, [*command, *words], folder, seconds)
 
 
-def measure_both(measurer, command, row, seconds):
+def measure_both(measurer: str, command: Sequence[str], row: Row, seconds: float) -> Measured:
     """The run of a row, and what is set beside it."""
     if row.plain is None:
-        return [measure_row(measurer, command, row, row.words, size, seconds) for size in (row.full, row.half)]
+        full = measure_row(measurer, command, row, row.words, row.full, seconds)
+        half = None if row.half is None else measure_row(measurer, command, row, row.words, row.half, seconds)
+        return Measured(full, half)
     plain = measure_row(measurer, command, row, row.plain, row.full, LONGER * seconds)
     if plain.status != 0:
-        return plain, plain
-    return measure_row(measurer, command, row, row.words, row.full, max(1, row.most * plain.seconds)), plain
+        return Measured(plain, plain)
+    full = measure_row(measurer, command, row, row.words, row.full, max(1, row.most * plain.seconds))
+    return Measured(full, plain)
 
 
-def print_row(row, full, half, faults):
-    if row.plain is not None and full.status is None and half.status == 0:
+def print_row(row: Row, measured: Measured, faults: shared.Faults) -> None:
+    full, half = measured
+    if row.plain is not None and full.status is None and half is not None and half.status == 0:
         faults.add(row.name, "takes longer than that")
-    for measured in (full, half):
-        if measured is not None and measured.status not in (None, *row.wanted):
-            faults.add(row.name, "ends with", shared.ending(measured.status))
+    for one in (full, half):
+        if one is not None and one.status not in (None, *row.wanted):
+            faults.add(row.name, "ends with", shared.ending(one.status))
     print("| " + " | ".join(map(str, cells(row, full, half))) + " |", flush=True)
 
 
-def main():
+def main() -> None:
     given = shared.arguments(__doc__, 60, [("only", ""), ("run-seconds", 300), ("limit-steps", SOME_STEPS)])
     command, faults, clock = shared.command_of(given.program), shared.Faults(), shared.Clock(given.minutes)
     heads = ("run", "status", "size", "time", "at half", "ratio", "memory", "at half", "ratio")
@@ -423,8 +439,7 @@ def main():
             if clock.is_over():
                 break
             seconds = min(given.run_seconds, max(10, clock.left()))
-            full, half = measure_both(measurer, command, row, seconds)
-            print_row(row, full, half, faults)
+            print_row(row, measure_both(measurer, command, row, seconds), faults)
             run += 1
     shared.finish(faults, f"{run} rows", f"{len(chosen) - run} not run")
 

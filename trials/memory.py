@@ -24,21 +24,37 @@ solving, the second has to be 0 too, but in `study`, whose monitors take memory 
 to see.
 """
 
-import collections
+from __future__ import annotations
+
+import argparse
 import functools
 import os
 import random
+from collections import Counter
+from collections.abc import Sequence
+from typing import NamedTuple, Optional
 
 import preload
 import shared
+from preload import Counts, Ending, Refusal
+from referee.words import MODES
 
 LINE = b"gicstudy: out of memory\n"
 # All growths from a number on are refused.
 ALL = 2**63
 STRETCH = 200
+Tried = tuple[Refusal, str]  # a refusal, and what came of it
 
 
-def judge(whole, answer, counts):
+class Growths(NamedTuple):
+    """How many growths there are, how many were refused, and how the runs ended."""
+
+    there: int
+    refused: int
+    ends: Counter[str]
+
+
+def end_of(whole: shared.Answer, answer: shared.Answer, counts: Counts) -> str:
     """What kind of end it was, or a fault."""
     if answer.status == 11:
         if answer.output or answer.told not in (LINE, b""):
@@ -49,54 +65,65 @@ def judge(whole, answer, counts):
     return f"fault: {shared.ending(answer.status)}, {len(answer.output)} bytes, told {answer.told[:80]!r}"
 
 
-def refuse(library, folder, command, whole, refusal):
+def refuse(library: str, folder: str, command: Sequence[str], whole: shared.Answer, refusal: Refusal) -> Tried:
     """The refusal, and what came of it in a run of its own."""
     answer, counts = preload.run(library, command, folder, refusal)
-    return refusal, judge(whole, answer, counts)
+    return refusal, end_of(whole, answer, counts)
 
 
-def kind_of(ending):
+def kind_of(ending: Ending) -> Optional[str]:
     """What kind of end for want of memory it was, or None."""
     if ending.status == 11 and ending.output == 0 and ending.line[: ending.told] in (LINE, b""):
         return "out of memory" if ending.told else "out of memory, no line"
     return None
 
 
-def attempt(library, folder, command, whole, first):
+def attempt(
+    library: str, folder: str, command: Sequence[str], whole: shared.Answer, first: int
+) -> tuple[set[int], list[Tried]]:
     """What came of each growth of a stretch where it was refused: alone; with the next, where that was absorbed; and
     with all behind it, where there are any. Any other end than for want of memory is looked at in a run of its own."""
-    runs = [refuse(library, folder, command, whole, preload.Refusal("growth", first, length)) for length in (1, ALL)]
+    runs = [refuse(library, folder, command, whole, Refusal("growth", first, length)) for length in (1, ALL)]
     endings = preload.endings(library, command, folder, first, STRETCH)
     for ending in endings:
-        refusal, kind = preload.Refusal("growth", ending.first, ending.length), kind_of(ending)
+        refusal, kind = Refusal("growth", ending.first, ending.length), kind_of(ending)
         runs.append((refusal, kind) if kind else refuse(library, folder, command, whole, refusal))
     return {ending.first for ending in endings}, runs
 
 
-def starts(growths, draw):
+def starts(growths: int, draw: random.Random) -> list[int]:
     """The first numbers of all stretches in random order, behind a number that no growth has."""
     return [growths + 1, *draw.sample(range(1, growths + 1, STRETCH), -(-growths // STRETCH))]
 
 
-def is_fault(refusal, kind, growths):
+def is_fault(refusal: Refusal, kind: str, growths: int) -> bool:
     is_reached = refusal.first <= growths
     is_wrong = kind == "absorbed" and refusal.length > 1
     return kind.startswith("fault") or is_wrong or (kind == "not reached") == is_reached
 
 
-def trial(library, given, draw, folder, mode, minutes, faults):
-    """Tries one mode in one folder; how many growths there are, how many were refused, and how the runs ended."""
-    command = shared.command_of(given.program) + shared.words_of(mode)
+def trial(
+    library: str,
+    given: argparse.Namespace,
+    draw: random.Random,
+    folder: str,
+    mode: str,
+    minutes: float,
+    faults: shared.Faults,
+) -> Growths:
+    """Tries one mode in one folder."""
+    command = [*shared.command_of(given.program), *shared.words_of(mode)]
     whole, counts = preload.run(library, command, folder)
     name = f"{mode} in {os.path.basename(folder)}"
     if whole.status != 0:
         faults.add(name, "ends with", shared.ending(whole.status), whole.told)
-        return 0, 0, collections.Counter()
+        return Growths(0, 0, Counter())
     behind = counts.growth - counts.growths_at_write
     at_end = counts.growths_at_write - counts.growths_at_pause
     if behind:
         faults.add(name, f"{behind} growths behind the first write")
-    tried, kinds, clock = 0, collections.Counter(), shared.Clock(minutes)
+    tried, clock = 0, shared.Clock(minutes)
+    kinds: Counter[str] = Counter()
     work = functools.partial(attempt, library, folder, command, whole)
     for numbers, runs in shared.side_by_side(given.jobs, work, starts(counts.growth, draw), clock):
         tried += len(numbers)
@@ -110,26 +137,26 @@ def trial(library, given, draw, folder, mode, minutes, faults):
     pause = counts.longest_pause / preload.MILLISECOND
     print(f"{name}: {tried} of {counts.growth} growths refused, {kinds.total()} runs: {told};", end=" ")
     print(f"{behind} behind the first write, {at_end} behind the longest stretch of {pause:.1f} ms", flush=True)
-    return counts.growth, tried, kinds
+    return Growths(counts.growth, tried, kinds)
 
 
-def main():
+def main() -> None:
     given = shared.arguments(__doc__, 30, [("sites", 1000)])
     draw, faults = random.Random(given.seed), shared.Faults()
     growths = tried = 0
-    kinds = collections.Counter()
+    kinds: Counter[str] = Counter()
     with shared.scratch() as top:
         library = preload.build(top)
         folders = shared.two_folders(shared.command_of(given.program), top, given.sites)
-        runs = [(folder, mode) for folder in folders for mode in shared.MODES]
+        runs = [(folder, mode) for folder in folders for mode in MODES]
         clock = shared.Clock(given.minutes)
         for place, (folder, mode) in enumerate(runs):
             minutes = clock.left() / 60 / (len(runs) - place)
-            all_growths, more, ends = trial(library, given, draw, folder, mode, minutes, faults)
-            growths, tried, kinds = growths + all_growths, tried + more, kinds + ends
+            done = trial(library, given, draw, folder, mode, minutes, faults)
+            growths, tried, kinds = growths + done.there, tried + done.refused, kinds + done.ends
     shared.finish(
         faults,
-        f"{len(shared.MODES)} modes over 2 networks",
+        f"{len(MODES)} modes over 2 networks",
         f"{tried} of {growths} growths refused",
         f"{kinds.total()} runs",
         f"{kinds['absorbed']} absorbed",

@@ -1,14 +1,17 @@
 """Builds and drives `refuse.c`, the library that counts the calls of a run and refuses some of them."""
 
+from __future__ import annotations
+
 import os
 import struct
 import subprocess
 import tempfile
-from typing import NamedTuple
+from collections.abc import Sequence
+from typing import NamedTuple, Optional
 
+import paths
 import shared
 
-CALLS = ("growth", "open", "read", "write", "tell")
 FORM = struct.Struct("=5QQQqqQ")
 ENDING = struct.Struct("=QQQqQQ32s")
 STRETCH_SECONDS = 1000
@@ -28,6 +31,10 @@ class Counts(NamedTuple):
     latest_growth: int
     longest_pause: int
     growths_at_pause: int
+
+    def of(self, call: str) -> int:
+        """How many calls of a kind there were: `growth`, `open`, `read`, `write` or `tell`."""
+        return {"growth": self.growth, "open": self.open, "read": self.read, "write": self.write, "tell": self.tell}[call]
 
 
 class Refusal(NamedTuple):
@@ -52,15 +59,20 @@ class Ending(NamedTuple):
     line: bytes
 
 
-def build(folder):
+def build(folder: str) -> str:
     """The path of the built library."""
     library = os.path.join(folder, "refuse.so")
-    source = os.path.join(shared.HERE, "refuse.c")
-    subprocess.run(["cc", "-O2", "-shared", "-fPIC", "-o", library, source], check=True)
+    subprocess.run(["cc", "-O2", "-shared", "-fPIC", "-o", library, paths.HERE / "refuse.c"], check=True)
     return library
 
 
-def run(library, command, folder, refusal=None, seconds=shared.RUN_SECONDS):
+def run(
+    library: str,
+    command: Sequence[str],
+    folder: str,
+    refusal: Optional[Refusal] = None,
+    seconds: float = shared.RUN_SECONDS,
+) -> tuple[shared.Answer, Counts]:
     """Runs a command with some calls refused, or none; its answer and its counts."""
     with tempfile.NamedTemporaryFile(prefix="counts_") as counts:
         counts.write(bytes(FORM.size))
@@ -74,7 +86,7 @@ def run(library, command, folder, refusal=None, seconds=shared.RUN_SECONDS):
         return answer, Counts(*FORM.unpack(counts.read(FORM.size)))
 
 
-def endings(library, command, folder, first, length):
+def endings(library: str, command: Sequence[str], folder: str, first: int, length: int) -> list[Ending]:
     """How the runs ended that split off at so many growths, in which they are refused."""
     with tempfile.NamedTemporaryFile(prefix="endings_") as kept:
         given = ("ENDINGS", kept.name), ("CALL", "growth"), ("FIRST", first), ("LENGTH", length)

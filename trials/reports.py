@@ -10,128 +10,39 @@ it, and the step of a loss may be another one; of a certificate the independent 
 whether it still passes. A change that the referee lets through and that is none of these is a fault.
 """
 
-import collections
+from __future__ import annotations
+
 import contextlib
 import io
 import os
 import random
-import re
-import sys
+from collections import Counter
+from collections.abc import Sequence
+from typing import NamedTuple, Optional
 
 import shared  # which finds the modules below
 
-import studies
-from checker import VERDICTS
-from judge import report_faults
-from outcome import predict
-from reference import Report
+import recheck
+from generators.changed_reports import CHANGES, NUMBER, Lines
+from generators.networks import KINDS, first_files
+from referee.faults import report_faults
+from referee.outcome import predict
+from referee.reference import Report
+from referee.words import MODES
 
-sys.path.insert(0, os.path.join(shared.TOP, "independent"))
-import recheck  # noqa: E402
-
-NUMBER = re.compile(r"-?[0-9]+\Z")
-WORDS_OF_ITEMS = (
-    "live", "dead", "open", "blocked", "high", "low", "series", "common", "third", "line", "neutral", "*", "zone",
-    "substation", "transformer", "resistance", "perkm", "high_volts", "low_volts", "third_volts",
-)
 # Lines whose numbers are intervals or counts that may be wider.
 WIDE = {"node", "ground", "line", "winding", "neutral", "effective", "transformer", "dwell", "earth", "loss", "step"}
 MOST_RADIUS = 2**31
 REPORTS_A_NETWORK = 10
 
 
-def pick_number(draw, words):
-    """The place of a number of a line, or None."""
-    places = [place for place, word in enumerate(words) if place and NUMBER.match(word)]
-    return draw.choice(places) if places else None
-
-
-def with_number(draw, lines, change):
-    """Changes a number of some line by a function of its text."""
-    place = draw.randrange(len(lines))
-    words = lines[place].split(" ")
-    at = pick_number(draw, words)
-    if at is not None:
-        words[at] = change(words[at])
-    return lines[:place] + [" ".join(words)] + lines[place + 1 :]
-
-
-def change_digit(draw, lines):
-    def other(text):
-        at = draw.choice([place for place, letter in enumerate(text) if letter.isdigit()])
-        return text[:at] + draw.choice("0123456789") + text[at + 1 :]
-
-    return with_number(draw, lines, other)
-
-
-def change_sign(draw, lines):
-    return with_number(draw, lines, lambda text: text[1:] if text[0] == "-" else "-" + text)
-
-
-def change_by_one(draw, lines):
-    return with_number(draw, lines, lambda text: str(int(text) + draw.choice([-1, 1, -10, 10])))
-
-
-def drop_line(draw, lines):
-    place = draw.randrange(len(lines))
-    return lines[:place] + lines[place + 1 :]
-
-
-def double_line(draw, lines):
-    place = draw.randrange(len(lines))
-    return lines[:place] + lines[place : place + 1] + lines[place:]
-
-
-def move_line(draw, lines):
-    first, second = draw.randrange(len(lines)), draw.randrange(len(lines))
-    rest = lines[:first] + lines[first + 1 :]
-    return rest[:second] + [lines[first]] + rest[second:]
-
-
-def change_word(draw, lines):
-    """A verdict or another word of an item's state."""
-    found = [place for place, line in enumerate(lines) if set(line.split(" ")[1:]) & {*VERDICTS, *WORDS_OF_ITEMS}]
-    if not found:
-        return drop_line(draw, lines)
-    place = draw.choice(found)
-    words = lines[place].split(" ")
-    at = draw.choice([at for at, word in enumerate(words) if at and word in {*VERDICTS, *WORDS_OF_ITEMS}])
-    words[at] = draw.choice(VERDICTS if words[at] in VERDICTS else WORDS_OF_ITEMS)
-    return lines[:place] + [" ".join(words)] + lines[place + 1 :]
-
-
-def change_name(draw, lines):
-    """The second word of a line in place of that of another line."""
-    place, other = draw.randrange(len(lines)), draw.randrange(len(lines))
-    words, others = lines[place].split(" "), lines[other].split(" ")
-    if len(words) > 1 and len(others) > 1:
-        words[1] = others[1]
-    return lines[:place] + [" ".join(words)] + lines[place + 1 :]
-
-
-def swap_names(draw, lines):
-    place, other = draw.randrange(len(lines)), draw.randrange(len(lines))
-    words, others = lines[place].split(" "), lines[other].split(" ")
-    if len(words) > 1 and len(others) > 1:
-        words[1], others[1] = others[1], words[1]
-    swapped = list(lines)
-    swapped[place], swapped[other] = " ".join(words), " ".join(others)
-    return swapped
-
-
-CHANGES = [
-    change_digit, change_digit, change_sign, change_by_one, drop_line, double_line, move_line, change_word, change_name,
-    swap_names,
-]
-
-
-def roles(words):
+def roles(words: Sequence[str]) -> list[Optional[int]]:
     """For each word of a line whether it may be lower (-1), higher (1), either (0), or is fixed (None)."""
-    allowed = [None] * len(words)
+    allowed: list[Optional[int]] = [None] * len(words)
     if words[0] not in WIDE:
         return allowed
     if words[0] == "step":
-        return [None] * 4 + [-1, 1] if len(words) == 6 else allowed
+        return [None, None, None, None, -1, 1] if len(words) == 6 else allowed
     numbers = [place for place, word in enumerate(words) if place > 1 and NUMBER.match(word)]
     if words[0] == "loss":
         return [None, -1, 1, None, 0] if len(words) == 5 else allowed
@@ -141,7 +52,7 @@ def roles(words):
     return allowed
 
 
-def is_wider(before, after):
+def is_wider(before: Lines, after: Lines) -> bool:
     """Whether the lines are the same but for intervals that got wider."""
     if len(before) != len(after):
         return False
@@ -155,7 +66,7 @@ def is_wider(before, after):
     return True
 
 
-def passes(folder, content, before):
+def passes(folder: str, content: str, before: Lines) -> bool:
     """Whether the independent checker accepts a certificate, with the same field, short numbers and small radii."""
     path = os.path.join(folder, "mutated")
     shared.write(folder, "mutated", content)
@@ -171,18 +82,31 @@ def passes(folder, content, before):
     return all(str(int(number)) == number for number in numbers) and max(radii, default=0) <= MOST_RADIUS
 
 
-def mutate_reports(draw, folder, mode, words, results):
+class Mutated(NamedTuple):
+    """A mutated report: its mode, what came of it, and the change, or what is told of a fault."""
+
+    mode: str
+    end: str
+    told: str
+
+
+def mutate_reports(draw: random.Random, folder: str, mode: str, words: Sequence[str]) -> list[Mutated]:
     """Mutates the report of one run, if it has one."""
-    outcome = predict([os.fsencode(word) for word in words], folder)
+    outcome = predict(shared.in_bytes(words), folder)
     if outcome.status != 0:
-        return
+        return []
+    results: list[Mutated] = []
+
+    def add(end: str, told: str) -> None:
+        results.append(Mutated(mode, end, told))
+
     content = Report(outcome, False).text()
     lines = content.decode().split("\n")[:-1]
     if report_faults(outcome, content):
-        results.append((mode, "fault", f"{words}: the report of exact values is refused"))
+        add("fault", f"{words}: the report of exact values is refused")
     if mode == "certify":
         shared.write(folder, "c", content)
-    for _ in range(REPORTS_A_NETWORK // len(shared.MODES) + 1):
+    for _ in range(REPORTS_A_NETWORK // len(MODES) + 1):
         change = draw.choice(CHANGES)
         after = change(draw, lines)
         mutated = "\n".join(after) + "\n"
@@ -192,33 +116,34 @@ def mutate_reports(draw, folder, mode, words, results):
         may_pass = passes(folder, mutated, lines) if mode == "certify" else is_wider(lines, after)
         name = change.__name__
         if is_caught:
-            results.append((mode, "caught though wider" if may_pass and mode != "certify" else "caught", name))
+            add("caught though wider" if may_pass and mode != "certify" else "caught", name)
         elif may_pass:
-            results.append((mode, "still right", name))
+            add("still right", name)
         else:
             different = [pair for pair in zip(lines, after) if pair[0] != pair[1]][:1]
-            results.append((mode, "fault", f"{words}: {name} isn't caught: {different}"))
+            add("fault", f"{words}: {name} isn't caught: {different}")
         if is_caught and may_pass and mode == "certify":
-            results.append((mode, "fault", f"{words}: {name}: a certificate that passes is caught"))
-
-
-def network(seed):
-    """The mutated reports of one network: mode, what came of it, and the change."""
-    draw, results = random.Random(seed), []
-    with shared.scratch() as folder:
-        kind = draw.choice(studies.KINDS[:2])
-        shared.write(folder, "c", "certificate\n")
-        if studies.fill(draw, folder, kind):
-            for mode in sorted(shared.MODES, key=lambda mode: mode == "recheck"):
-                values = studies.values(draw)
-                mutate_reports(draw, folder, mode, shared.words_of(mode, **values), results)
+            add("fault", f"{words}: {name}: a certificate that passes is caught")
     return results
 
 
-def main():
+def network(seed: int) -> list[Mutated]:
+    """The mutated reports of one network."""
+    draw = random.Random(seed)
+    results: list[Mutated] = []
+    with shared.scratch() as folder:
+        shared.write_all(folder, first_files(draw, draw.choice(KINDS[:2])))
+        shared.write(folder, "c", "certificate\n")
+        for mode in sorted(MODES, key=lambda mode: mode == "recheck"):
+            results += mutate_reports(draw, folder, mode, shared.words_of(mode, **shared.random_values(draw)))
+    return results
+
+
+def main() -> None:
     given = shared.arguments(__doc__, 10, [("reports", 2000)], has_program=False)
     faults, clock = shared.Faults(), shared.Clock(given.minutes)
-    ends, changes = collections.Counter(), collections.Counter()
+    ends: Counter[str] = Counter()
+    changes: Counter[tuple[str, str]] = Counter()
     items = (given.seed * given.reports + place for place in range(given.reports))
     for results in shared.side_by_side(given.jobs, network, items, clock):
         for mode, end, told in results:

@@ -1,18 +1,20 @@
 #!/usr/bin/env python3
 """Makes the crate gic_bench in a copy of this repository, from the texts beside this script.
 
-    python3 make_crate.py COPY
+    python3 bench/solver/make_crate.py COPY
 """
 
-import pathlib
-import sys
+from __future__ import annotations
 
-HERE = pathlib.Path(__file__).parent
+import sys
+from pathlib import Path
+
+HERE = Path(__file__).parent
 LIBRARIES = "gic_base gic_fixed gic_case gic_case_reader gic_model gic_winding gic_net gic_induce gic_sweep gic_bound gic_start gic_enclose gic_effective"
 
 
-def main():
-    copy = pathlib.Path(sys.argv[1])
+def main() -> None:
+    copy = Path(sys.argv[1])
     crate = copy / "crates" / "gic_bench"
     (crate / "src").mkdir(parents=True)
     for name in "main", "measures", "slow":

@@ -49,6 +49,10 @@ class Checkout:
         path = f"{self.bin}:{path}" if has_rt else path
         return {"PATH": path, "FAKE_RT_LOG": str(self.log)}
 
+    def modules(self) -> dict[str, str]:
+        """The variable by which Python finds the modules of the build."""
+        return {"PYTHONPATH": str(self.top / "build")}
+
     def start(
         self, *words: str | bytes, has_rt: bool = True, cwd: str | Path = "/", given: int = subprocess.DEVNULL, **more: str
     ) -> subprocess.Popen[str]:
@@ -68,7 +72,7 @@ class Checkout:
         self, *words: str | bytes, has_rt: bool = True, cwd: str | Path = "/", **more: str
     ) -> tuple[int, str, str]:
         """Status, output and what was said of a call that was waited for."""
-        started = self.start(*words, has_rt=has_rt, cwd=cwd, **more)
+        started = self.start(*words, has_rt=has_rt, cwd=cwd, given=subprocess.DEVNULL, **more)
         out, said = started.communicate(timeout=300)
         return started.returncode, out, said
 
@@ -78,20 +82,23 @@ class Checkout:
 
     def build_again(self) -> tuple[int, str]:
         """Status and what was said of a build that begins where the program is built already."""
-        words = "import sys; sys.path.insert(0, sys.argv[1]); import proving; top = proving.Path(sys.argv[1]).parent"
+        words = "import sys, proving; top = proving.Path(sys.argv[1])"
         words += "; proving.build(top, proving.Teller(), 'it was looked at before', proving.read_sources(top))"
         ran = subprocess.run(
-            [sys.executable, "-B", "-c", words, self.top / "build"], env=self.environment(), capture_output=True, text=True
+            [sys.executable, "-B", "-c", words, self.top],
+            env={**self.environment(), **self.modules()},
+            capture_output=True,
+            text=True,
         )
         return ran.returncode, ran.stderr
 
     def call_with(self, change: str, *words: str, **more: str) -> tuple[int, str, str]:
         """Status, output and what was said of a call with a change of the build's Python, as of what comes at a bad moment."""
-        text = f"import sys; sys.path.insert(0, sys.argv.pop(1))\n{change}\nimport command\nsys.exit(command.main(sys.argv[1:]))"
+        text = f"{change}\nimport command, sys\nsys.exit(command.main(sys.argv[1:]))"
         ran = subprocess.run(
-            [sys.executable, "-B", "-c", text, self.top / "build", *words],
+            [sys.executable, "-B", "-c", text, *words],
             cwd="/",
-            env={**self.environment(), **more},
+            env={**self.environment(), **self.modules(), **more},
             stdin=subprocess.DEVNULL,
             capture_output=True,
             text=True,

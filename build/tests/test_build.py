@@ -2,21 +2,20 @@
 
 import contextlib
 import fcntl
-import importlib
 import io
 import os
 import shutil
 import signal
 import subprocess
-import sys
 import time
 import unittest
+from collections.abc import Callable
 from pathlib import Path
-from typing import Any
 
-sys.path.insert(0, str(Path(__file__).resolve().parent))
-
+import main
+from builder import TRIED
 from checkout import TOP, Checkout
+from command import words_of
 
 BUILT = TOP / "crates/gicstudy/out/gicstudy"
 PROVED = ["low", "left", "right", "high", "gicstudy"]
@@ -80,7 +79,7 @@ class Builds(unittest.TestCase):
     def test_an_older_python_is_told(self) -> None:
         for older in ((3, 10), (3, 6), (2, 7)):
             with contextlib.redirect_stderr(io.StringIO()) as said:
-                self.assertEqual(self.imported("main").main([], older), 1)
+                self.assertEqual(main.main([], older), 1)
             self.assertRegex(said.getvalue(), r"\Agicstudy: .*python3 .* isn't 3\.11 or later\n\Z")
 
     def test_a_build_that_another_has_made_meanwhile_is_none(self) -> None:
@@ -90,7 +89,8 @@ class Builds(unittest.TestCase):
 
     def test_a_record_has_the_time_of_the_sources_and_tells_which_file_the_program_is(self) -> None:
         self.build()
-        for change in (lambda: None, lambda: self.at.write("high", "high again")):
+        changes: list[Callable[[], None]] = [lambda: None, lambda: self.at.write("high", "high again")]
+        for change in changes:
             change()
             self.at.prove("field")
             program, record, stamp = (self.at.out / f"gicstudy{it}" for it in ("", ".sources", ".proved"))
@@ -134,7 +134,8 @@ class Builds(unittest.TestCase):
     def test_an_added_source_and_one_taken_away_are_seen(self) -> None:
         self.build()
         more = self.at.source("left").with_name("more.rt")
-        for change in (lambda: more.write_text("more\n", encoding="utf-8"), more.unlink):
+        changes: list[Callable[[], object]] = [lambda: more.write_text("more\n", encoding="utf-8"), more.unlink]
+        for change in changes:
             change()
             self.assertTrue(self.at.is_looked_at())
             self.assertEqual(self.at.prove()[0], 0)
@@ -318,27 +319,20 @@ class Builds(unittest.TestCase):
         status, _, said = self.at.prove("field")
         self.assertEqual((status, said, self.at.noted()), (0, "", []))
 
-    def imported(self, name: str) -> Any:
-        """A module of the build."""
-        sys.path.insert(0, str(TOP / "build"))
-        self.addCleanup(sys.path.remove, str(TOP / "build"))
-        return importlib.import_module(name)
-
     @unittest.skipUnless(BUILT.is_file(), "no program is built")
     def test_the_run_that_links_the_program_ends_with_status_0(self) -> None:
-        words = [BUILT, *self.imported("builder").TRIED]
+        words: list[str | Path] = [BUILT, *TRIED]
         ran = subprocess.run(words, cwd=TOP / "crates" / "gicstudy", stdin=subprocess.DEVNULL, capture_output=True)
         self.assertEqual((ran.returncode, ran.stderr), (0, b""))
 
     def test_what_failed_is_told_in_a_line(self) -> None:
-        command = self.imported("command")
         full = "No space left on device"
         for error, told in (
             (OSError(28, full), full),
             (OSError(28, full, "a"), f"{full}: a"),
             (shutil.Error([("a", "b", f"[Errno 28] {full}: 'b'")]), f"[Errno 28] {full}: 'b'"),
         ):
-            self.assertEqual(command.words_of(error), told)
+            self.assertEqual(words_of(error), told)
 
 
 if __name__ == "__main__":

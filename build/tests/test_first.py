@@ -6,14 +6,11 @@ import random
 import shutil
 import signal
 import subprocess
-import sys
 import tempfile
 import time
 import unittest
+from collections.abc import Callable
 from pathlib import Path
-
-sys.path.insert(0, str(Path(__file__).resolve().parent))
-sys.path.insert(1, str(Path(__file__).resolve().parent.parent))
 
 from checkout import TOP, Checkout
 from copies import with_copies
@@ -402,7 +399,8 @@ class First(unittest.TestCase):
         shutil.copy2(program, other)
         other.write_text(program.read_text(encoding="utf-8").replace("gicstudy:", "gicother:"), encoding="utf-8")
         os.utime(other, (1, 1))
-        for puts in (shutil.copy2, self.put_over):
+        ways: list[Callable[[Path, Path], object]] = [shutil.copy2, self.put_over]
+        for puts in ways:
             puts(other, program)
             self.assertTrue(self.at.is_looked_at())
             self.assertEqual(self.at.call("--proved", "screen")[:2], (1, ""))

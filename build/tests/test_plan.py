@@ -1,11 +1,6 @@
 """Which crates are begun, and with how many jobs."""
 
-import sys
 import unittest
-from pathlib import Path
-
-BUILD = str(Path(__file__).resolve().parent.parent)
-sys.path.insert(0, BUILD)
 
 from plan import Start, starts
 

@@ -8,9 +8,9 @@ import re
 from collections.abc import Sequence
 from typing import Any, NamedTuple, Optional, Union
 
-import toml_reader
-from toml_reader import TomlTable, TomlValue
-from words import Range, Refusal
+from referee import toml_reader
+from referee.toml_reader import TomlTable, TomlValue
+from referee.words import Range, Refusal
 
 NAME = re.compile(rb"[A-Za-z0-9_.-]{1,32}\Z")
 MOST_ENDS = 256

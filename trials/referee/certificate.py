@@ -5,9 +5,9 @@ from __future__ import annotations
 from collections.abc import Callable, Sequence
 from typing import NamedTuple, Optional
 
-from case import MICRO_OHMS, ROW_UNITS, Case
-from values import Interval
-from words import RANGES, Range, Refusal, read_wide
+from referee.case import MICRO_OHMS, ROW_UNITS, Case
+from referee.values import Interval
+from referee.words import RANGES, Range, Refusal, read_wide
 
 COUNT = Range(0, 65535)
 FIELD = RANGES["north"]

@@ -7,14 +7,14 @@ from collections.abc import Callable, Iterable, Iterator, Sequence
 from fractions import Fraction
 from typing import NamedTuple, Optional
 
-from case import Transformer
-from certificate import GRAINS_PER_MILLIVOLT, Node, check_certificate, read_certificate
-from items import Intervals, ItemLine, Key, effective_key, effective_lines, item_lines
-from outcome import Outcome
-from plain_reports import PLAIN_REPORTS
-from report_text import NUMBER, ReportText, Unreadable, Want
-from study import Study
-from values import (
+from referee.case import Transformer
+from referee.certificate import GRAINS_PER_MILLIVOLT, Node, check_certificate, read_certificate
+from referee.items import Intervals, ItemLine, Key, effective_key, effective_lines, item_lines
+from referee.outcome import Outcome
+from referee.plain_reports import PLAIN_REPORTS
+from referee.report_text import NUMBER, ReportText, Unreadable, Want
+from referee.study import Study
+from referee.values import (
     NOTHING,
     Interval,
     Value,
@@ -25,7 +25,7 @@ from values import (
     magnitude,
     sum_of_squares,
 )
-from words import Refusal
+from referee.words import Refusal
 
 VERDICTS = ("below", "reaches", "undecided", "outside")
 # The numbers of units with each verdict, as a report tells them.

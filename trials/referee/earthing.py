@@ -6,10 +6,10 @@ import functools
 from collections.abc import Iterable, Sequence
 from typing import NamedTuple, Optional
 
-from case import Case, Element, Live, Stand
-from certificate import ENTRY
-from graph import graph_of, reached_from
-from linear import eliminate
+from referee.case import Case, Element, Live, Stand
+from referee.certificate import ENTRY
+from referee.graph import graph_of, reached_from
+from referee.linear import eliminate
 
 CAP = ENTRY.most + 1
 # Of how many networks it is remembered what was found: the runs of a trial come back to the same ones.

@@ -5,8 +5,8 @@ from __future__ import annotations
 from collections.abc import Callable, Iterable, Iterator
 from typing import NamedTuple, Optional, Union
 
-from case import ASSESSED_ABOVE, SIDES, Case, Line, Transformer, Zone
-from graph import split_into_parts
+from referee.case import ASSESSED_ABOVE, SIDES, Case, Line, Transformer, Zone
+from referee.graph import split_into_parts
 
 # The words of a line of a report.
 Words = tuple[Union[str, int], ...]

@@ -5,7 +5,7 @@ from __future__ import annotations
 from collections.abc import Iterable, Sequence
 from typing import NamedTuple
 
-from case import Element
+from referee.case import Element
 
 
 class Graph(NamedTuple):

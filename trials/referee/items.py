@@ -5,8 +5,8 @@ from __future__ import annotations
 from collections.abc import Iterator
 from typing import NamedTuple, Optional
 
-from case import Case
-from values import Interval
+from referee.case import Case
+from referee.values import Interval
 
 
 class Key(NamedTuple):

@@ -5,10 +5,10 @@ from __future__ import annotations
 from collections.abc import Sequence
 from typing import Optional
 
-from checker import COUNTS, VERDICTS, Checker, Counts
-from outages import Outage, outages
-from study import Study
-from values import Interval, Value, at_least, sum_of_squares
+from referee.checker import COUNTS, VERDICTS, Checker, Counts
+from referee.outages import Outage, outages
+from referee.study import Study
+from referee.values import Interval, Value, at_least, sum_of_squares
 
 
 class OutageChecker(Checker):

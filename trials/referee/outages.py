@@ -5,10 +5,10 @@ from __future__ import annotations
 from collections.abc import Iterator
 from typing import NamedTuple
 
-from case import Live, Stand
-from earthing import unearthed, unresolved
-from outcome import Outcome
-from storm import devices, standing
+from referee.case import Live, Stand
+from referee.earthing import unearthed, unresolved
+from referee.outcome import Outcome
+from referee.storm import devices, standing
 
 
 class Outage(NamedTuple):

@@ -8,11 +8,11 @@ from collections.abc import Collection, Sequence
 from pathlib import Path
 from typing import NamedTuple, Optional, Union
 
-from case import Case, Live, Stand, make_case, read_case
-from certificate import Certificate, check_certificate, read_certificate
-from earthing import least_capped, unearthed, unresolved
-from storm import Storm, Switching, read_storm, read_switchings, standing
-from words import EARTHED, LIVE, MODES, SOLVED, Asked, Refusal, read_words
+from referee.case import Case, Live, Stand, make_case, read_case
+from referee.certificate import Certificate, check_certificate, read_certificate
+from referee.earthing import least_capped, unearthed, unresolved
+from referee.storm import Storm, Switching, read_storm, read_switchings, standing
+from referee.words import EARTHED, LIVE, MODES, SOLVED, Asked, Refusal, read_words
 
 MOST_BYTES = 16777216
 MOST_MADE_WALK = 448

@@ -4,8 +4,8 @@ from __future__ import annotations
 
 from collections.abc import Iterator
 
-from findings import Words, lines_of
-from outcome import Outcome
+from referee.findings import Words, lines_of
+from referee.outcome import Outcome
 
 
 def volts_lines(outcome: Outcome) -> Iterator[Words]:

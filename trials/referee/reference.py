@@ -1,38 +1,27 @@
-#!/usr/bin/env python3
-"""A slow program with the words of `gicstudy`, which prints reports of exact values.
+"""Reports of exact values, as the program might print them.
 
-    python3 trials/referee/reference.py MODE --OPTION=VALUE ..
-
-It has the status and the line from `outcome`, and shares with the checker what a report's lines are of (`items`,
-`outages`, `plain_reports`) and the rule of verdicts; each number of a report with intervals it works out by itself. It
-shows that right reports are accepted, and stands in for the program where a trial itself is to be tried. The environment
-variable REFEREE_MODES names the modes that it has, as `volts,list`; with REFEREE_SLACK=1 its intervals are wider at
-random, up to the width.
+They share with the checker what a report's lines are of (`items`, `outages`, `plain_reports`) and the rule of verdicts; each
+number of a report with intervals is worked out here.
 """
 
 from __future__ import annotations
 
-import os
 import random
-import sys
 from collections.abc import Callable, Iterable, Iterator, Sequence
 from fractions import Fraction
 from math import isqrt
 from typing import NamedTuple, Optional, Union
 
-sys.dont_write_bytecode = True
-sys.path.insert(0, os.path.dirname(os.path.abspath(__file__)))
-from case import Live, Stand  # noqa: E402
-from certificate import GRAINS_PER_MILLIVOLT, Node, check_certificate  # noqa: E402
-from checker import VERDICTS, interval_of, verdict_of  # noqa: E402
-from earthing import least_capped  # noqa: E402
-from items import Intervals, Key, effective_key, effective_lines, item_lines  # noqa: E402
-from outages import Outage, outages  # noqa: E402
-from outcome import Outcome, predict  # noqa: E402
-from plain_reports import PLAIN_REPORTS  # noqa: E402
-from study import Study  # noqa: E402
-from values import NOTHING, Interval, Value, magnitude, rounded_down, rounded_up, sum_of_squares  # noqa: E402
-from words import MODES  # noqa: E402
+from referee.case import Live, Stand
+from referee.certificate import GRAINS_PER_MILLIVOLT, Node, check_certificate
+from referee.checker import VERDICTS, interval_of, verdict_of
+from referee.earthing import least_capped
+from referee.items import Intervals, Key, effective_key, effective_lines, item_lines
+from referee.outages import Outage, outages
+from referee.outcome import Outcome
+from referee.plain_reports import PLAIN_REPORTS
+from referee.study import Study
+from referee.values import NOTHING, Interval, Value, magnitude, rounded_down, rounded_up, sum_of_squares
 
 
 def root_up(number: int) -> int:
@@ -296,29 +285,3 @@ class Report:
         verdicts = [self.verdict(place, worst) for place, worst in enumerate(currents)]
         self.say_counts(verdicts, "outage", outage.name)
         return currents
-
-
-def write_all(stream: int, content: bytes) -> None:
-    while content:
-        content = content[os.write(stream, content) :]
-
-
-def main() -> int:
-    words = [os.fsencode(word) for word in sys.argv[1:]]
-    built = tuple(filter(None, os.environ.get("REFEREE_MODES", "").split(","))) or MODES
-    outcome = predict(words, ".", built)
-    if outcome.status == 0:
-        try:
-            write_all(1, Report(outcome, bool(os.environ.get("REFEREE_SLACK"))).text())
-        except OSError:
-            outcome.status, outcome.line = 4, "gicstudy: cannot write"
-    if outcome.status and outcome.line is not None:
-        try:
-            write_all(2, outcome.line.encode() + b"\n")
-        except OSError:
-            pass
-    return outcome.status
-
-
-if __name__ == "__main__":
-    sys.exit(main())

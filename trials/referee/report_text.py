@@ -6,7 +6,7 @@ import re
 from collections.abc import Sequence
 from typing import NamedTuple, Union
 
-from values import Interval
+from referee.values import Interval
 
 NUMBER = re.compile(r"(0|-?[1-9][0-9]*)\Z")
 MOST_FAULTS = 60

@@ -7,10 +7,10 @@ from fractions import Fraction
 from math import lcm
 from typing import Optional
 
-from case import MICRO_OHMS, Element, Winding
-from graph import split_into_parts
-from linear import Conductance, Solved, solve_by_balls, solve_by_fractions, solve_by_lifting
-from values import Quantity
+from referee.case import MICRO_OHMS, Element, Winding
+from referee.graph import split_into_parts
+from referee.linear import Conductance, Solved, solve_by_balls, solve_by_fractions, solve_by_lifting
+from referee.values import Quantity
 
 # Parts of a network up to this many nodes are solved by fractions.
 SMALL_PART = 80

@@ -6,8 +6,8 @@ import re
 from collections.abc import Iterator, Mapping, Sequence
 from typing import NamedTuple, Optional
 
-from case import Case, Item, Stand
-from words import RANGES, Range, Refusal, read_decimal
+from referee.case import Case, Item, Stand
+from referee.words import RANGES, Range, Refusal, read_decimal
 
 MOST_STORM_ROWS = 20000
 MOST_SWITCHINGS = 4096

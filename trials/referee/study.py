@@ -11,11 +11,11 @@ from collections.abc import Sequence
 from dataclasses import dataclass
 from typing import Callable, NamedTuple, Optional
 
-from case import Case, Live, Stand
-from outcome import Epoch, Outcome
-from solution import Solution
-from storm import Step, StormRow
-from values import Quantity, Value, value
+from referee.case import Case, Live, Stand
+from referee.outcome import Epoch, Outcome
+from referee.solution import Solution
+from referee.storm import Step, StormRow
+from referee.values import Quantity, Value, value
 
 
 class Standing(NamedTuple):

@@ -5,12 +5,12 @@ from __future__ import annotations
 from collections.abc import Callable, Sequence
 from typing import Optional
 
-from checker import FLOAT_SLACK, VERDICTS, Checker, Test, interval_of
-from items import Intervals, Key, effective_key
-from outcome import Outcome
-from report_text import ReportText, Unreadable
-from study import Coefficients, Entry, QuantityOf, Study
-from values import Interval, Tie, Value, absolute, approximately, at_least, at_most, magnitude, total, value
+from referee.checker import FLOAT_SLACK, VERDICTS, Checker, Test, interval_of
+from referee.items import Intervals, Key, effective_key
+from referee.outcome import Outcome
+from referee.report_text import ReportText, Unreadable
+from referee.study import Coefficients, Entry, QuantityOf, Study
+from referee.values import Interval, Tie, Value, absolute, approximately, at_least, at_most, magnitude, total, value
 
 LEAST_SLACK = 1e-300
 # A network of a run, and the parts of a step's field in its base fields.

@@ -1,0 +1,269 @@
+#!/usr/bin/env python3
+"""Tests of definitions.py, claim.py and links.py.
+
+    python3 .ci/tests.py docs/tests/test_documents.py
+"""
+
+from __future__ import annotations
+
+import contextlib
+import io
+import tempfile
+import unittest
+from pathlib import Path
+from unittest import mock
+
+import claim
+import definitions
+import links
+
+
+def written(top: Path, texts: dict[str, str]) -> None:
+    """Writes files below a folder."""
+    for name, text in texts.items():
+        (top / name).parent.mkdir(parents=True, exist_ok=True)
+        (top / name).write_text(text)
+
+
+class Definitions(unittest.TestCase):
+    def setUp(self) -> None:
+        folder = tempfile.TemporaryDirectory()
+        self.addCleanup(folder.cleanup)
+        self.top = Path(folder.name)
+        written(
+            self.top,
+            {
+                "crates/gic_low/specs/Far.antt": "-- What is far. And more.\n",
+                "crates/gic_low/specs/Law.antt": "-- What the law\n-- says.\nuse Rattle.gic_low.specs.Far.{far}\n",
+                "crates/gic_low/specs/Own.antt": "",
+                "crates/gic_low/specs/Lib.antt": "pub mod Far\n",
+                "crates/gic_low/src/laws.rt": "ghost use Rattle.gic_low.specs.Law.{law};\n",
+                "crates/gic_study/specs/Near.antt": "-- What is near.\nuse Rattle.gic_low.specs.Far.{far}\n",
+                "crates/gic_study/src/study.rt": "ghost use Rattle.gic_study.specs.Near.{near};\n",
+            },
+        )
+        self.crates = ["gic_low", "gic_study"]
+        self.found = definitions.definitions(self.top, self.crates)
+
+    def test_a_sentence_may_go_over_lines(self) -> None:
+        self.assertEqual(self.found["gic_low/Law"].says, "What the law says")
+        self.assertEqual(self.found["gic_low/Far"].says, "What is far")
+
+    def test_the_list_of_a_crate_is_no_definition(self) -> None:
+        self.assertNotIn("gic_low/Lib", self.found)
+
+    def test_the_parts_follow_what_is_cited(self) -> None:
+        parts = definitions.in_parts(self.top, self.crates, self.found)
+        self.assertEqual(parts, [["gic_study/Near", "gic_low/Far"], ["gic_low/Law"], ["gic_low/Own"]])
+
+    def test_a_crate_has_one_row_in_each_part(self) -> None:
+        low = "**Law**: What the law says (laws.rt)."
+        far = "**Far**: What is far (Law, gic_study/Near)."
+        near = "**Near**: What is near (study.rt)."
+        names = ["gic_low/Law", "gic_study/Near", "gic_low/Far"]
+        self.assertEqual(
+            definitions.crate_rows(self.found, names, True),
+            [f"| gic_low | 1 {low} 3 {far} |", f"| gic_study | 2 {near} |"],
+        )
+        index = definitions.index_of(self.found, [["gic_study/Near"], ["gic_low/Law", "gic_low/Far"], []])
+        self.assertIn(f"| gic_study | 1 {near} |\n\n## What laws", index)
+        self.assertIn(f"\n| gic_low | {far} {low} |\n\n## What other", index)
+
+    def test_crates_of_which_the_same_is_told_have_one_row(self) -> None:
+        found = {
+            name: definitions.Definition(name, "What it shows", [], [f"{name.partition('/')[0]}/laws.rt"])
+            for name in ("gic_low/Shows", "gic_high/Shows")
+        }
+        self.assertEqual(
+            definitions.crate_rows(found, list(found), False),
+            ["| gic_low, gic_high | **Shows**: What it shows (laws.rt). |"],
+        )
+
+    def test_where_a_definition_is_cited(self) -> None:
+        self.assertEqual(self.found["gic_low/Far"].cited_in, ["gic_low/Law", "gic_study/Near"])
+
+    def test_faults_are_told(self) -> None:
+        faults = definitions.faults_of(self.found, "made", "shown", "`Far.antt` and `Gone.antt`")
+        self.assertEqual(
+            [fault.split(";")[0] for fault in faults],
+            [
+                "gic_low/Own begins with no remark",
+                "gic_low/Own is cited nowhere",
+                "docs/DEFINITIONS.md names Gone.antt, which isn't there",
+                "docs/INDEX.md isn't the index that is made today",
+            ],
+        )
+
+    def test_each_crate_stands_once_in_the_map(self) -> None:
+        flow, more = "## Flow\n| `gic_low` |\n\n", "\n## More\n| `gic_study` |\n"
+        text = flow + "## Crates\n\n| `gic_low` | a |\n| `gic_low`, `gic_old` | b |\n" + more
+        self.assertEqual(
+            definitions.odd_crates("\n" + text, self.crates),
+            [
+                "docs/MAP.md has gic_low 2 times in its table of crates",
+                "docs/MAP.md has gic_study 0 times in its table of crates",
+                "docs/MAP.md has gic_old 1 times in its table of crates",
+            ],
+        )
+
+
+class Claim(unittest.TestCase):
+    """Two files: `Near` cites `Far`, whose second definition nothing cites, and a type of the code."""
+
+    FAR = """-- What is far.
+use Rattle.std.specs.Prelude.{ℕ}
+use Rattle.gic_low.specs.declared.part.Item.{Item}
+use Rattle.gic_low.specs.declared.part.Item.TheVariants as item
+
+-- how far an item is
+abbrev pub far : Item → ℕ
+far item.Line = 1
+
+-- unread
+abbrev pub unread : ℕ
+unread = 2
+
+-- near, or far by a number
+pub data Place : Type 0 where
+  Here : Place
+  There : ℕ → Place
+"""
+    NEAR = """-- What is near.
+use Rattle.gic_low.specs.Far.{far as how_far, There}
+
+-- is it? (unread is a word of this remark)
+abbrev pub near : Item → ℕ
+near i = how_far i + twice (There 1)
+
+abbrev twice : ℕ → ℕ
+twice n = n * 2
+"""
+
+    def setUp(self) -> None:
+        self.files = {
+            "gic_low/Far": claim.read_file("gic_low/Far", self.FAR),
+            "gic_top/Near": claim.read_file("gic_top/Near", self.NEAR),
+        }
+        self.known = claim.resolve(self.files)
+
+    def test_a_definition_cites_what_its_code_names(self) -> None:
+        near = self.known["gic_top/Near.near"]
+        self.assertEqual(near.cites, ["gic_low/Far.far", "gic_top/Near.twice", "gic_low/Far.Place"])
+        self.assertEqual(near.lines[0], "-- is it? (unread is a word of this remark)")
+
+    def test_a_type_of_the_code_is_named_by_its_variants_too(self) -> None:
+        self.assertEqual(set(self.known["gic_low/Far.far"].types), {"gic_low/part.Item"})
+
+    def test_only_what_is_reached_is_read(self) -> None:
+        found = claim.reached(self.known, ("gic_top/Near.near",))
+        self.assertNotIn("gic_low/Far.unread", found)
+        order = claim.in_order([d for f in self.files.values() for d in f.definitions if d.key in found], ["gic_low", "gic_top"])
+        self.assertEqual([d.names[0] for d in order], ["far", "Place", "near", "twice"])
+
+    def test_what_comes_later_is_told(self) -> None:
+        part = claim.Part("one", [self.known["gic_top/Near.near"], self.known["gic_low/Far.far"]])
+        self.assertEqual(len(claim.late_cites([part])), 3)
+        self.assertEqual(part.lines, 6)
+
+    def test_a_declaration_is_told_without_what_the_proof_adds(self) -> None:
+        with tempfile.TemporaryDirectory() as folder:
+            text = "use x;\n\n/// What is switched.\n#[derive(Clone)]\npub enum Item {\n    Line,\n}\n\npub const MOST: u8 = 3;\n"
+            written(Path(folder), {"crates/gic_low/src/part.rt": text})
+            item = claim.declaration(Path(folder), "gic_low/part.Item")
+            most = claim.declaration(Path(folder), "gic_low/part.MOST")
+        self.assertEqual(item[2:], ["    /// What is switched.", "    pub enum Item {", "        Line,", "    }"])
+        self.assertEqual(most[2:], ["    pub const MOST: u8 = 3;"])
+
+    def test_the_table_of_a_document_is_replaced(self) -> None:
+        words = "a\n\n| part | files | lines | minutes |\n|---|---|---|---|\n| old | | 1 | 1 |\n\nb\n"
+        self.assertEqual(claim.with_table(words, ["| part |", "|---|"]), "a\n\n| part |\n|---|\n\nb\n")
+
+
+class ClaimOfATree(unittest.TestCase):
+    """A tree with two parts, a name that is passed on, a field named as a definition is, and a type within a type."""
+
+    TEXTS = {
+        "crates.txt": "gic_low:\ngic_far:\ngic_study: gic_low gic_far\n",
+        "crates/gic_low/specs/Sums.antt": "-- Sums.\n\n-- a sum\nabbrev pub total : ℕ\ntotal = 1\n\nabbrev pub spare : ℕ\nspare = 2\n",
+        "crates/gic_low/specs/Passed.antt": "-- What is passed on.\npub use Rattle.gic_low.specs.Sums.{total}\n",
+        "crates/gic_far/specs/First.antt": "-- The first part.\nuse Rattle.gic_low.specs.Passed.{total as whole}\n"
+        "use Rattle.gic_low.specs.declared.item.Line.{Line}\n\n-- first\nabbrev pub first : Line → ℕ\nfirst l = whole\n",
+        "crates/gic_study/specs/Top.antt": "-- The top.\nuse Rattle.gic_far.specs.First.{first}\nuse Rattle.gic_low.specs.Sums.{total, spare}\n\n"
+        "-- top\npub record Top : Type 0 where\n  pub total : ℕ\n  pub is : spare ≡ 2\n\n"
+        "abbrev pub made : Top\nmade = record { total = first 3; is = refl }\n",
+        "crates/gic_low/src/item.rt": "/// A name.\npub(crate) struct Name(pub u8);\n\n/// A line.\npub struct Line {\n    pub name: Name,\n}\n",
+        "crates/gic_study/src/study.rt": "/// The call.\npub fn gicstudy() -> u8\n    ensures { Top }\n{\n    0\n}\n",
+        "docs/DEFINITIONS.md": "| part | files | lines | minutes |\n|---|---|---|---|\n",
+    }
+
+    def setUp(self) -> None:
+        folder = tempfile.TemporaryDirectory()
+        self.addCleanup(folder.cleanup)
+        self.top = Path(folder.name)
+        written(self.top, self.TEXTS)
+        parts = (("one", ("gic_far/First.first",)), ("two", ("gic_study/Top.made",)))
+        chapters = (("low", ("gic_low",)), ("far", ("gic_far/First",)))
+        for name, value in (("TOP", self.top), ("PARTS", parts), ("CHAPTERS", chapters)):
+            patch = mock.patch.object(claim, name, value)
+            patch.start()
+            self.addCleanup(patch.stop)
+
+    def run_main(self, *words: str) -> tuple[int, str]:
+        out = io.StringIO()
+        with contextlib.redirect_stdout(out), contextlib.redirect_stderr(out):
+            status = claim.main(list(words))
+        return status, out.getvalue()
+
+    def test_a_part_has_what_the_ones_before_have_not(self) -> None:
+        files = claim.read_all(self.top)
+        parts = claim.parts_of(files, claim.resolve(files), ["gic_low", "gic_far", "gic_study"])
+        names = [[definition.names[0] for definition in part.definitions] for part in parts]
+        self.assertEqual(names, [["total", "first"], ["spare", "Top", "made"]])
+        top = next(definition for definition in parts[1].definitions if definition.names == ["Top"])
+        self.assertEqual(top.cites, ["gic_low/Sums.spare"])
+
+    def test_the_text_is_made_and_checked(self) -> None:
+        self.assertEqual(self.run_main()[0], 1)
+        self.assertEqual(self.run_main("--write"), (0, "5 definitions of the claim, 0 faults\n"))
+        text = (self.top / "docs/CLAIM.txt").read_text()
+        heads = ["---- 1.1 low", "crates/gic_low/specs/Sums.antt", "---- 1.2 far", "struct Name", "struct Line", "-- first", "2. two", "-- top", "pub fn gicstudy"]
+        places = [text.index(head) for head in heads]
+        self.assertEqual(places, sorted(places))
+        self.assertEqual(text.count("pub struct Line"), 1)
+        self.assertIn("-- a sum\nabbrev pub total : ℕ\ntotal = 1\n    -- cited by first\n", text)
+        table = (self.top / "docs/DEFINITIONS.md").read_text()
+        self.assertIn("| **1. one, all of it** | | 6 | 1 |\n| 2. two | gic_low: Sums; gic_study: Top | 8 | 1 |\n| **all modes** | | 14 | 1 |", table)
+        self.assertEqual(self.run_main(), (0, "5 definitions of the claim, 0 faults\n"))
+        written(self.top, {"docs/DEFINITIONS.md": "no table\n"})
+        self.assertIn("has no table of the parts", self.run_main("--write")[1])
+
+    def test_what_is_wrong_is_told_in_a_line(self) -> None:
+        for name, text, told in (
+            ("crates/gic_low/src/item.rt", "", "gic_low/item.Line is declared nowhere"),
+            ("crates/gic_study/src/study.rt", "", "has no call `gicstudy`"),
+            ("crates/gic_low/specs/Sums.antt", "-- Sums.\n\ninfixl 3 ◌+◌\n", "there is no definition in the lines that begin"),
+            ("crates/gic_far/specs/First.antt", "-- None.\n", "there is no definition gic_far/First.first"),
+        ):
+            with self.subTest(name):
+                written(self.top, {**self.TEXTS, name: text})
+                status, out = self.run_main("--write")
+                self.assertEqual(status, 1)
+                self.assertIn(told, out)
+
+
+class Links(unittest.TestCase):
+    def test_dead_links_and_names(self) -> None:
+        with tempfile.TemporaryDirectory() as folder:
+            top = Path(folder)
+            written(top, {"docs/A.md": "# One thing\n", "src/a.rt": ""})
+            text = (
+                "[a](docs/A.md) [b](docs/A.md#one-thing) [c](docs/A.md#two) [d](gone.md) [e](https://x.org/)\n"
+                "`a.rt` `src/a.rt` `other/a.rt` `NAME.rt`\n```\n[f](gone.md)\n```\n"
+            )
+            found = list(links.dead(Path("B.md"), text, top, links.endings(links.files_below(top))))
+        self.assertEqual([name for name, is_dead in found if is_dead], ["docs/A.md#two", "gone.md", "other/a.rt"])
+        self.assertEqual(len(found), 7)
+
+
+if __name__ == "__main__":
+    unittest.main()
