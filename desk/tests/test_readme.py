@@ -57,6 +57,22 @@ class Readme(DeskTest):
             self.assertEqual(printed(commands, self.folder), text, commands)
 
 
+class Help(DeskTest):
+    def test_each_command_names_the_others(self) -> None:
+        rows = re.findall(r"^\| `(\w+) [A-Z]", README.read_text(), re.M)
+        whole = self.done("--help")
+        for command in rows:
+            self.assertIn(f"\n    {command} ", whole)
+            told = " ".join(self.done(command, "--help").split())
+            self.assertIn(f"The other commands: {', '.join(self.others(rows, command, told))}.", told)
+
+    def others(self, commands: list[str], command: str, told: str) -> list[str]:
+        """The other commands in the order in which they are told."""
+        end = told[told.index("The other commands: ") :]
+        others = [other for other in commands if other != command]
+        return sorted(others, key=lambda other: end.index(f" {other}"))
+
+
 def write(program: str) -> None:
     with tempfile.TemporaryDirectory() as scratch:
         folder = pathlib.Path(scratch)

@@ -267,6 +267,9 @@ def command_words() -> argparse.ArgumentParser:
     four.set_defaults(run=run_psse)
 
     add_case(commands)
+    for name, command in commands.choices.items():
+        others = ", ".join(other for other in commands.choices if other != name)
+        command.epilog = f"The other commands: {others}. desk/README.md says what each does."
     return words
 
 
