@@ -52,7 +52,7 @@ class Readme(DeskTest):
         furnish(self.folder, BUILT.resolve())
         blocks = BLOCKS.findall(README.read_text())
         shown = set(re.findall(r"desk/gicdesk (\w+)", "".join(commands for commands, _ in blocks)))
-        self.assertEqual(shown, {"csv", "compare", "outages", "case", "psse", "study", "losses"})
+        self.assertEqual(shown, {"csv", "compare", "outages", "case", "psse", "study", "losses", "powermodels"})
         for commands, text in blocks:
             self.assertEqual(printed(commands, self.folder), text, commands)
 
@@ -62,7 +62,7 @@ class Help(DeskTest):
         rows = re.findall(r"^\| `(\w+) [A-Z]", README.read_text(), re.M)
         whole = self.done("--help")
         for command in rows:
-            self.assertIn(f"\n    {command} ", whole)
+            self.assertRegex(whole, rf"(?m)^    {command}\b")
             told = " ".join(self.done(command, "--help").split())
             self.assertIn(f"The other commands: {', '.join(self.others(rows, command, told))}.", told)
 
