@@ -9,7 +9,7 @@ import sys
 from collections.abc import Iterator, Sequence
 from typing import Any
 
-from . import case, case_tables, compare, layouts, losses, outages, powermodels, psse, psse_units, reports, zones
+from . import case, case_tables, compare, layouts, losses, outages, powermodels, powermodels_read, psse, psse_units, reports, zones
 from .findings import Refused, refuse, visible
 from .inputs import Copies, copied
 from .outputs import Set, files_set, folder_set, study_set
@@ -167,6 +167,21 @@ def run_powermodels(options: argparse.Namespace) -> None:
     show(visible(f"{options.out} is made: {nodes} rows gmd_bus and {branches} gmd_branch") + "\n")
 
 
+def run_from_powermodels(options: argparse.Namespace) -> None:
+    with files_set([options.out], options.force, [options.north, options.east]) as out:
+        out.publish({file_name(options.out): powermodels_read.make_case(options.north, options.east)})
+    show(visible(f"{options.out} is made") + "\n")
+
+
+def add_from_powermodels(commands: Any) -> None:
+    words = commands.add_parser("from-powermodels", help="a case from GMD data of PowerModels, as JSON, in two fields")
+    words.add_argument("north", metavar="NORTH.json", help="the data with voltages in 1 V/km to the north")
+    words.add_argument("east", metavar="EAST.json", help="the data with voltages in 1 V/km to the east")
+    words.add_argument("--out", metavar="CASE", required=True, help="a new file for the case")
+    words.add_argument("--force", action="store_true", help="replace what is there already under this name")
+    words.set_defaults(run=run_from_powermodels)
+
+
 def add_powermodels(commands: Any) -> None:
     words = commands.add_parser("powermodels", help="a case as GMD data of PowerModels, as JSON, in one field")
     words.add_argument("case", metavar="CASE", help="the file of the case")
@@ -270,6 +285,7 @@ def command_words() -> argparse.ArgumentParser:
     add_study(commands)
     add_losses(commands)
     add_powermodels(commands)
+    add_from_powermodels(commands)
 
     four = commands.add_parser("psse", help="a case from the files .raw and .gic of a power-flow program")
     four.add_argument("raw", metavar="NET.raw", help="the power flow: buses, branches, transformers, fixed shunts")

@@ -9,6 +9,7 @@ import dataclasses
 import json
 import tomllib
 from collections.abc import Mapping
+from typing import Any
 
 from .findings import Finding, Refused, refuse
 from .losses import bus_numbers
@@ -27,6 +28,7 @@ CONFIGS = {
     "wye-wye-wye": "gwye-gwye",
     "auto": "gwye-gwye-auto",
     "auto-wye": "gwye-gwye-auto",
+    "delta-delta": "delta-delta",
 }
 WINDINGS = {"high": "gmd_br_hi", "low": "gmd_br_lo", "series": "gmd_br_series", "common": "gmd_br_common"}
 NONE = -1
@@ -81,7 +83,7 @@ def node_rows(elements: list[Element], numbers: Mapping[str, int]) -> list[Row]:
 
 
 def data_of(
-    case: Mapping[str, list[dict[str, str]]],
+    case: Mapping[str, list[dict[str, Any]]],
     elements: list[Element],
     volts: Mapping[str, int],
     numbers: Mapping[str, int],
@@ -108,6 +110,7 @@ def data_of(
         if unit["kind"] in CONFIGS:
             row: Row = {"name": unit["name"], "type": "xfmr", "config": CONFIGS[unit["kind"]]}
             row |= {key: of_winding.get((unit["name"], role), NONE) for role, key in WINDINGS.items()}
+            row |= {f"{end[:2]}_kv": unit[f"{end}_volts"] / 1000 for end in ("high", "low") if f"{end}_volts" in unit}
             ends = {"hi_bus": unit.get("high", ""), "lo_bus": unit.get("low", "")}
             units.append(row | {key: numbers.get(bus, NONE) for key, bus in ends.items()})
     at = [
