@@ -7,7 +7,7 @@ import re
 import unittest
 from unittest import mock
 
-from shared import FAKE, REPORTS, TOP, DeskTest, desk
+from shared import FAKE, REPORTS, TESTS, TOP, DeskTest, desk
 from small import TABLES
 from test_outages import BOTH, HEADS, LIST, ONE, OUTAGE, VOLTS, screen
 from test_psse import GIC, RAW, ZONES
@@ -590,6 +590,15 @@ UNSEEN = (
     Mistake("two resistances of one unit changed over", "transformers", "0.24,0.19", "0.19,0.24"),
 )
 # fmt: on
+
+
+class Listed(unittest.TestCase):
+    def test_each_mistake_of_the_list_has_its_test(self) -> None:
+        rows = re.findall(r"^\| ([0-9]+) \|.*\| `(test_\w+\.py)` `(test_\w+)` \|$", (TESTS / "MISTAKES.md").read_text(), re.M)
+        self.assertEqual([int(number) for number, _, _ in rows], list(range(1, len(rows) + 1)))
+        self.assertGreaterEqual(len(rows), 30)
+        for _, file, name in rows:
+            self.assertIn(f"def {name}(", (TESTS / file).read_text())
 
 
 class Case(DeskTest):

@@ -9,6 +9,7 @@ import tomllib
 import unittest
 from collections.abc import Callable
 from fractions import Fraction
+from typing import Any
 from unittest import mock
 
 import make_pair
@@ -23,6 +24,7 @@ from gicdesk.psse_text import fields_of
 from gicdesk.vectors import letters_of
 
 PAIR = TESTS / "pair"
+Made = dict[str, dict[str, dict[str, Any]]]  # the rows of a case by their lists and their names
 LISTS = ("zone", "substation", "bus", "line", "transformer")
 
 RAW = """\
@@ -104,7 +106,7 @@ class PsseTest(DeskTest):
         words = ["psse", self.raw, self.gic, f"--zones={self.file('zones.csv', zones)}", f"--out={self.out}"]
         return [*words, "--alpha=table"]
 
-    def case(self, words: list[object], number: int = 2) -> dict[str, dict[str, dict[str, object]]]:
+    def case(self, words: list[object], number: int = 2) -> Made:
         """The lists of the case that is made, which has this format at least, each row by its name."""
         self.shown = self.done(*words).splitlines()
         read = tomllib.loads(self.out.read_text())
@@ -518,7 +520,7 @@ class Refusals(PsseTest):
             ".raw",
             "net.gic line 1: the first line isn't GICFILEVRSN=..; is it another file?",
             'zones.csv line 1: it has no column name, geomagnetic_latitude, and "zone" is none of its columns; allowed '
-            "are name,geomagnetic_latitude,beta, and alpha,note",
+            "are name,geomagnetic_latitude,beta, and alpha,earth_model,note",
         )
         words = "the version is 23; 30 to 36 are read. Save it as one of these"
         self.told(self.words(raw=RAW.replace(" 33,", " 23,")), f"net.raw line 1, REV: {words}")
@@ -643,6 +645,17 @@ class Refusals(PsseTest):
         several = "several: north to 55.6 km, south to 111.2 km"
         self.assertIn(f"lines.csv line 2, zone: {words} {several}; leave the cell empty for parts", told)
         self.assertIn(f"lines.csv line 3, zone: {words} north; leave the cell empty", told)
+
+    def test_a_table_of_substations_beside_polygons(self) -> None:
+        """Where it has the zones of the polygons a line has parts all the same; where it has others they hold, and it is told."""
+        both = self.file("both.csv", "substation,zone\n1,north\n2,south\n3,north\n")
+        case = self.case([*self.border_words(), f"--substations={both}"], 3)
+        self.assertEqual([part["zone"] for part in case["line"]["L1-4-1"]["part"]], ["north", "south"])
+        both.write_text("substation,zone\n1,north\n2,north\n3,north\n")
+        case = self.case([*self.border_words(), f"--substations={both}", "--force"])
+        self.assertEqual(case["line"]["L1-4-1"]["zone"], "north")
+        words = "it is in north by the table of --substations, and by the polygons in north and south; look at both"
+        self.assertIn(f"net.raw line 18: {words}", [line.replace(f"{self.folder}/", "") for line in self.shown])
 
     def test_a_line_over_a_gap_between_polygons(self) -> None:
         words = self.border_words()

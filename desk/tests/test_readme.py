@@ -51,10 +51,26 @@ class Readme(DeskTest):
     def test_what_is_shown_is_what_is_printed(self) -> None:
         furnish(self.folder, BUILT.resolve())
         blocks = BLOCKS.findall(README.read_text())
-        shown = set(re.findall(r"desk/gicdesk (\w+)", "".join(commands for commands, _ in blocks)))
-        self.assertEqual(shown, {"csv", "compare", "outages", "case", "psse", "study", "losses"})
+        shown = set(re.findall(r"desk/gicdesk ([\w-]+)", "".join(commands for commands, _ in blocks)))
+        self.assertEqual(shown, {"csv", "compare", "outages", "case", "psse", "study", "losses", "powermodels", "from-powermodels"})
         for commands, text in blocks:
             self.assertEqual(printed(commands, self.folder), text, commands)
+
+
+class Help(DeskTest):
+    def test_each_command_names_the_others(self) -> None:
+        rows = re.findall(r"^\| `([\w-]+) [A-Z]", README.read_text(), re.M)
+        whole = self.done("--help")
+        for command in rows:
+            self.assertRegex(whole, rf"(?m)^    {command}\b")
+            told = re.sub(r"(\w)- ", r"\1-", " ".join(self.done(command, "--help").split()))
+            self.assertIn(f"The other commands: {', '.join(self.others(rows, command, told))}.", told)
+
+    def others(self, commands: list[str], command: str, told: str) -> list[str]:
+        """The other commands in the order in which they are told."""
+        end = told[told.index("The other commands: ") :]
+        others = [other for other in commands if other != command]
+        return sorted(others, key=lambda other: end.index(f" {other}"))
 
 
 def write(program: str) -> None:

@@ -110,6 +110,7 @@ class Case:
     def format(self) -> int:
         has_more = any(len(rows) > MOST_ROWS_2[name] for name, rows in self.lists.items())
         has_other = any(row.value("kind") not in KINDS_2 for row in self.lists["transformer"])
+        has_other = has_other or any(row.value("scale") for row in self.lists["zone"])
         return 3 if has_more or has_other or any(row.value("part") for row in self.lists["line"]) else 2
 
 

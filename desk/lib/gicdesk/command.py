@@ -9,7 +9,7 @@ import sys
 from collections.abc import Iterator, Sequence
 from typing import Any
 
-from . import case, case_tables, compare, layouts, losses, outages, psse, psse_units, reports, zones
+from . import case, case_tables, compare, layouts, losses, outages, powermodels, powermodels_read, psse, psse_units, reports, zones
 from .findings import Refused, refuse, visible
 from .inputs import Copies, copied
 from .outputs import Set, files_set, folder_set, study_set
@@ -154,6 +154,47 @@ def add_losses(commands: Any) -> None:
     words.set_defaults(run=run_losses)
 
 
+def run_powermodels(options: argparse.Namespace) -> None:
+    roles = ("case", "names", "places")
+    asked = powermodels.Asked(options.north, options.east, options.names, options.places)
+    with (
+        files_set([options.out], options.force, read_names(options, roles)) as out,
+        program_and_copies(options, roles) as (program, copies),
+    ):
+        data = powermodels.make_data(Request(program, copies, options.case), asked)
+        out.publish({file_name(options.out): data.text})
+    nodes, branches = len(data.gmd_bus), len(data.gmd_branch)
+    show(visible(f"{options.out} is made: {nodes} rows gmd_bus and {branches} gmd_branch") + "\n")
+
+
+def run_from_powermodels(options: argparse.Namespace) -> None:
+    with files_set([options.out], options.force, [options.north, options.east]) as out:
+        out.publish({file_name(options.out): powermodels_read.make_case(options.north, options.east)})
+    show(visible(f"{options.out} is made") + "\n")
+
+
+def add_from_powermodels(commands: Any) -> None:
+    words = commands.add_parser("from-powermodels", help="a case from GMD data of PowerModels, as JSON, in two fields")
+    words.add_argument("north", metavar="NORTH.json", help="the data with voltages in 1 V/km to the north")
+    words.add_argument("east", metavar="EAST.json", help="the data with voltages in 1 V/km to the east")
+    words.add_argument("--out", metavar="CASE", required=True, help="a new file for the case")
+    words.add_argument("--force", action="store_true", help="replace what is there already under this name")
+    words.set_defaults(run=run_from_powermodels)
+
+
+def add_powermodels(commands: Any) -> None:
+    words = commands.add_parser("powermodels", help="a case as GMD data of PowerModels, as JSON, in one field")
+    words.add_argument("case", metavar="CASE", help="the file of the case")
+    words.add_argument("--north", metavar="NUMBER", type=int, default=1000, help="the field to the north in mV/km; it is 1000")
+    words.add_argument("--east", metavar="NUMBER", type=int, default=0, help="the field to the east in mV/km; it is 0")
+    words.add_argument("--names", metavar="FILE", help="the table of names that psse has written, for numbers of buses")
+    words.add_argument("--places", metavar="FILE", help="a table with name, latitude and longitude, for bus_gmd")
+    words.add_argument("--program", metavar="FILE", help="the built program, in place of the one of this repository")
+    words.add_argument("--out", metavar="FILE", required=True, help="a new file for the data")
+    words.add_argument("--force", action="store_true", help="replace what is there already under this name")
+    words.set_defaults(run=run_powermodels)
+
+
 def add_study(commands: Any) -> None:
     words = commands.add_parser("study", help="the whole study of a case: every report, each as a table, and one page")
     words.add_argument("case", metavar="CASE", help="the file of the case")
@@ -243,6 +284,8 @@ def command_words() -> argparse.ArgumentParser:
 
     add_study(commands)
     add_losses(commands)
+    add_powermodels(commands)
+    add_from_powermodels(commands)
 
     four = commands.add_parser("psse", help="a case from the files .raw and .gic of a power-flow program")
     four.add_argument("raw", metavar="NET.raw", help="the power flow: buses, branches, transformers, fixed shunts")
@@ -267,6 +310,9 @@ def command_words() -> argparse.ArgumentParser:
     four.set_defaults(run=run_psse)
 
     add_case(commands)
+    for name, command in commands.choices.items():
+        others = ", ".join(other for other in commands.choices if other != name)
+        command.epilog = f"The other commands: {others}. desk/README.md says what each does."
     return words
 
 

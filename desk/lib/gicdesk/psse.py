@@ -8,27 +8,24 @@ from collections.abc import Sequence
 from . import psse_factors
 from .autos import Auto, turned_words
 from .beyond import reactor_row
-from .borders import Stretch
 from .cases import Case, Field, Names, Row, short_enough
-from .decimals import MILLI, shifted
 from .findings import Finding, Refused, collected
-from .latitudes import latitude_words
-from .parts import Piece, Span, crossed_zones, fields_of, pieces_of, pieces_text, too_long, way_fault
-from .places import MOST_KM, SHORT_M, SPAN_FROM_MAP_M, Place, span_metres
-from .polygons import zone_of
+from .parts import fields_of, too_long
+from .places import MOST_KM, SHORT_M
 from .psse_gic import Gic, LineData, Reactor, Substation, Windings, read_gic
 from .psse_grounds import Grounds
 from .psse_half import Shares
-from .psse_raw import Branch, Key, Raw, Switch, Transformer, read_raw
+from .psse_raw import Branch, Key, Raw, Switch, Transformer, read_raw, title
 from .psse_sections import whole_lines
 from .psse_stations import Stations
 from .psse_units import Beyond, Unit, micro_ohm, neutral_field, volts, windings_of
+from .psse_ways import Ways
 from .quantities import Number
 from .records import Record
 from .tables import Table
 from .usual import GROUNDS, REACTORS, unusual, unusual_line, usual_at
 from .zone_scales import FORMULA, read_alpha
-from .zones import Override, ZoneFiles, Zones, read_all
+from .zones import ZoneFiles, Zones, read_all
 
 MOST_OF_TIE = decimal.Decimal("0.1")  # ohm of a phase; bus ties and breakers have less
 MOST_OF_JUMPER = decimal.Decimal("0.0001")  # reactance per unit; to power flows such a branch has no impedance
@@ -38,10 +35,10 @@ NAME_HEADS = ("list", "name", "theirs", "numbers", "circuit", "latitude", "longi
 
 @dataclasses.dataclass(frozen=True)
 class Choices:
-    """What the user says once for all units: what becomes of what has no key, and how vector groups are read."""
+    """What the user says once: how what programs mean differently is taken, and what becomes of what has no key."""
 
-    beyond: str | None
-    vector: str | None
+    beyond: str | None  # what becomes of what format 2 has no key for
+    vector: str | None  # in which order the letters of vector groups stand
     alpha: str = FORMULA
     windings: str | None = None  # what a resistance of 0 is met by
     grounds: Grounds = Grounds()
@@ -69,14 +66,13 @@ class Making:
 
     def __init__(self, raw: Raw, gic: Gic, zones: Zones, choices: Choices, notes: list[Finding]) -> None:
         self.raw, self.gic, self.zones, self.choices, self.notes = raw, gic, zones, choices, notes
+        self.ways = Ways(gic, zones, notes)
         self.beyond = Beyond(choices.beyond, self.notes)
         self.case, self.names, self.groups = Case(), Names(), Groups()
         self.theirs: list[tuple[str, ...]] = []
         self.substation_names: dict[int, str] = {}
         self.bus_names: dict[int, str] = {}
-        self.substation_zones: dict[int, str] = {}
         self.factors: list[psse_factors.Row] = []
-        self.stations_of: dict[str, set[int]] = {}  # of zones, those that its lines join
         self.units = 0  # with a winding in the network
         self.without: set[int] = set()  # buses that were told to be in no substation
 
@@ -119,7 +115,7 @@ class Making:
         for reactor in self.gic.reactors:
             self.reactor(reactor)
         self.records_used()
-        self.latitudes()
+        self.ways.latitudes()
         self.tell_of_autos()
         self.buses()
 
@@ -230,15 +226,13 @@ class Making:
             words = f"it joins a bus of {start.kilovolts:f} kV to one of {end.kilovolts:f} kV; look at BASKV of both"
             branch.record.wrong(None, words)
         override = self.zones.of_lines.get((frozenset(branch.ends), branch.circuit))
-        north, east = self.span(branch, override)
+        north, east = self.ways.span(branch, override)
         if branch.reactance >= 0 and abs(north) + abs(east) < SHORT_M and not self.is_within(branch):
             self.tell(branch.record, f"{name} has a span of less than {SHORT_M} m: look at the coordinates of its ends")
         fields = [Field("from", self.bus(branch.ends[0])), Field("to", self.bus(branch.ends[1]))]
-        pieces = self.pieces(branch, override, (north, east))
+        pieces = self.ways.pieces(branch, override, (north, east))
         if not pieces:
             return name
-        if len(pieces) == 1:  # (one over a border says nothing of the latitude of a zone)
-            self.stations_of.setdefault(pieces[0].zone, set()).update(self.substations(branch.ends))
         resistance = self.line_resistance(branch)
         if branch.reactance >= 0 and abs(north) + abs(east) >= SHORT_M and self.ohm(branch) != 0:
             data = self.line_data(branch)
@@ -286,94 +280,6 @@ class Making:
             self.tell(branch.record, f"the branch {title(branch.ends, branch.circuit)} {words}")
             return Field("resistance", 1000, "0.001 ohm per phase, the least of a case: a jumper without a resistance")
         return Field("resistance", micro_ohm(at, column, ohm), comment)
-
-    def span(self, branch: Branch, override: Override | None) -> tuple[int, int]:
-        """The span of a line: what the table of lines gives, or else that of the coordinates of its substations."""
-        ends = [self.gic.substations[self.gic.substation_of[bus]] for bus in branch.ends]
-        mapped = span_metres(*((end.latitude, end.longitude) for end in ends))
-        for direction, metres in zip(("north", "east"), mapped):
-            if abs(metres) > MOST_KM * 1000:
-                apart = shifted(abs(metres), MILLI)
-                words = f"its ends lie {apart} km apart to the {direction}, and not up to {MOST_KM}"
-                branch.record.wrong(None, f"{words}; look at the coordinates of {ends[0].name} and {ends[1].name}")
-        if override is None or override.span is None:
-            return mapped
-        sign = 1 if override.buses == branch.ends else -1
-        given = (sign * override.span[0], sign * override.span[1])
-        for column, here, there in zip(("north_km", "east_km"), given, mapped):
-            if abs(here - there) > SPAN_FROM_MAP_M:
-                words = f"it is {sign * here / 1000:g}, by the coordinates {sign * there / 1000:g}; is its sign turned?"
-                override.record.wrong(column, words)
-        return given
-
-    def way(self, branch: Branch) -> list[Stretch]:
-        """The straight way between the ends of a branch, by the polygons; nothing where there are none."""
-        if self.zones.borders is None:
-            return []
-        start, end = (self.gic.substations[self.gic.substation_of[bus]] for bus in branch.ends)
-        return self.zones.borders.stretches((start.latitude, start.longitude), (end.latitude, end.longitude))
-
-    def pieces(self, branch: Branch, override: Override | None, span: Span) -> list[Piece]:
-        """A line as it is in the case: whole in the zone of the table of lines, or in the only one, or in that of both its
-        substations; and in parts, where by the polygons it crosses borders. None where that isn't known, a finding."""
-        way = [] if branch.reactance < 0 else self.way(branch)
-        if override is not None and override.zone:
-            self.tell_of_borders(override, way, span)
-            return [Piece(override.zone)]
-        if len(self.zones.zones) == 1:
-            return [Piece(self.zones.zones[0].row.name)]
-        zones = [self.zone_of_substation(self.gic.substation_of[bus]) for bus in branch.ends]
-        if not all(zones):
-            return []
-        crosses = len(crossed_zones(way)) > 1 or way_fault(way) is not None
-        if crosses and len(way[0].zones) + len(way[-1].zones) > 2:
-            return []  # (it is a finding at the station that lies in several)
-        if crosses and zones[0] in way[0].zones and zones[1] in way[-1].zones:
-            return self.in_parts(branch, way, span)
-        if zones[0] != zones[1] and (branch.reactance >= 0 or self.zones.borders is None):
-            words = f"its ends are in {zones[0]} and in {zones[1]}; give --polygons, which cut it at the border"
-            branch.record.wrong(None, f"{words}, or write its zone into the table of --lines")
-            return []
-        if crosses:
-            crossed = " and ".join(sorted(crossed_zones(way)))
-            words = f"it is in {zones[0]} by the table of --substations, and by the polygons in {crossed}"
-            self.tell(branch.record, f"{words}; look at both")
-        return [Piece(zones[0])]
-
-    def tell_of_borders(self, override: Override, way: Sequence[Stretch], span: Span) -> None:
-        """Tells of a line that the table of lines has in one zone, and that by the polygons lies in others too."""
-        zone, crossed = override.zone, crossed_zones(way)
-        words = f"it is {zone}, and by the polygons the line lies in"
-        if crossed and zone not in crossed:
-            self.tell_at(override.record, "zone", f"{words} {' and '.join(sorted(crossed))}; leave the cell empty")
-        elif len(crossed) > 1:
-            parts = pieces_text(pieces_of([stretch for stretch in way if stretch.zones]), span)
-            self.tell_at(override.record, "zone", f"{words} several: {parts}; leave the cell empty for parts")
-
-    def in_parts(self, branch: Branch, way: Sequence[Stretch], span: Span) -> list[Piece]:
-        fault = way_fault(way)
-        if fault is not None:
-            branch.record.wrong(None, f"{fault}; mend the polygons, or write its zone into the table of --lines")
-            return []
-        pieces = pieces_of(way)
-        words = f"the branch {title(branch.ends, branch.circuit)} crosses borders: {pieces_text(pieces, span)}"
-        self.tell(branch.record, f"{words}; it has {len(pieces)} parts")
-        return pieces
-
-    def zone_of_substation(self, number: int) -> str:
-        """The zone of a substation: that of the table, or that of the polygons; empty where it has none, told once."""
-        if number not in self.substation_zones:
-            substation = self.gic.substations[number]
-            row = self.zones.of_substations.get(number)
-            zone = "" if row is None else row.text("zone")
-            if row is None and self.zones.borders is not None:
-                place = (substation.latitude, substation.longitude)
-                zone = zone_of(substation.record, place, self.zones.borders.polygons)
-            elif row is None:
-                words = f"the substation {number} has no zone; write it into the table of --substations"
-                substation.record.wrong(None, f"{words}, or give --polygons")
-            self.substation_zones[number] = zone
-        return self.substation_zones[number]
 
     def transformer(self, unit: Transformer) -> None:
         what = f"the transformer {title(unit.buses, unit.circuit)}"
@@ -442,19 +348,6 @@ class Making:
             row = reactor_row(given, volts(at, kilovolts), self.bus(bus), resistance, neutral)
             self.add("transformer", row, "", [bus])
 
-    def latitudes(self) -> None:
-        """Tells of a zone whose latitude isn't the geomagnetic one of the stations that its lines join."""
-        for zone in self.zones.zones:
-            at = zone.at
-            places = [self.place_of(number) for number in sorted(self.stations_of.get(zone.row.name, set()))]
-            words = latitude_words(float(at.number("geomagnetic_latitude")), places)
-            if words is not None:
-                self.tell_at(at, "geomagnetic_latitude", f"{words}; look up the geomagnetic one of the year")
-
-    def place_of(self, substation: int) -> Place:
-        station = self.gic.substations[substation]
-        return station.latitude, station.longitude
-
     def tell_of_autos(self) -> None:
         autos = []
         for row in self.case.lists["transformer"]:
@@ -521,10 +414,6 @@ class Making:
 def branch_name(branch: Branch) -> str:
     """The name of a branch by its numbers."""
     return f"{'M' if branch.sections else 'L'}{'-'.join(map(str, branch.ends))}-{branch.circuit.lstrip('&')}"
-
-
-def title(buses: Sequence[int], circuit: str) -> str:
-    return "-".join(map(str, buses)) + f" '{circuit}'"
 
 
 @dataclasses.dataclass(frozen=True)

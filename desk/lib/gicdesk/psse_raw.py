@@ -3,6 +3,7 @@
 import dataclasses
 import decimal
 import functools
+from collections.abc import Sequence
 
 from .files import read_text
 from .findings import Finding, refuse, shown
@@ -145,6 +146,10 @@ class Raw:
     shunts: dict[tuple[int, str], Shunt]
     groupings: list[Grouping]
     stations: Stations
+
+
+def title(buses: Sequence[int], circuit: str) -> str:
+    return "-".join(map(str, buses)) + f" '{circuit}'"
 
 
 def look_for_twins(found: list[tuple[Key, Record]]) -> None:

@@ -1,0 +1,231 @@
+"""A case from GMD data of PowerModels: of two files, with the voltages of lines in 1 V/km to the north and to the east.
+
+Alpha and beta are in the voltages already. So a line has a zone with a scale that divides both, and a span that times this
+scale is what the files have. Buses that a unit joins are in the substation at which it is earthed; one that no unit joins to
+an earthed place has a substation of its own without a ground.
+"""
+
+import dataclasses
+import json
+import math
+from collections.abc import Mapping
+
+from .cases import Case, Field, Names, Row, short_enough
+from .files import read_text
+from .findings import Finding, Refused, refuse
+
+TABLES = ("gmd_bus", "gmd_branch", "branch_gmd")
+KINDS = {"gwye-delta": "delta-wye", "gwye-gwye": "wye-wye", "gwye-gwye-auto": "auto", "delta-delta": "delta-delta"}
+WINDINGS: dict[str, dict[str, str]] = {
+    "delta-wye": {"high": "gmd_br_hi"},
+    "wye-wye": {"high": "gmd_br_hi", "low": "gmd_br_lo"},
+    "auto": {"series": "gmd_br_series", "common": "gmd_br_common"},
+    "delta-delta": {},
+}
+MOST_SCALE, MOST_METRES, MICRO = 1500, 1_000_000, 1_000_000
+
+
+@dataclasses.dataclass(frozen=True)
+class Entry:
+    """A row of a table; what is wrong with it becomes a finding."""
+
+    file: str
+    table: str
+    index: str
+    values: Mapping[str, object]
+    findings: list[Finding]
+
+    def wrong(self, words: str) -> None:
+        self.findings.append(Finding(self.file, f"{self.table} {self.index}: {words}"))
+
+    def number(self, key: str, default: float | None = None) -> float:
+        value = self.values.get(key, default)
+        if isinstance(value, bool) or not isinstance(value, (int, float)) or not abs(value) <= 1e15:
+            self.wrong(f"{key} is no number; write one")
+            return 1.0
+        return float(value)
+
+    def index_in(self, key: str, table: Mapping[str, "Entry"]) -> str:
+        """The index of a row of another table; empty where it is of none."""
+        found = str(self.values.get(key, -1))
+        return found if found in table else ""
+
+    @property
+    def name(self) -> str:
+        value = self.values.get("name", "")
+        return value if isinstance(value, str) else ""
+
+
+Table = dict[str, Entry]
+
+
+def read_data(file: str, findings: list[Finding]) -> dict[str, Table]:
+    """The tables of a file by the indices of their rows."""
+    try:
+        data = json.loads(read_text(file))
+    except (json.JSONDecodeError, RecursionError) as error:
+        raise refuse(file, f"it is no JSON ({error}); write the data as JSON") from None
+    tables: dict[str, Table] = {}
+    for name in TABLES:
+        rows = data.get(name) if isinstance(data, dict) else None
+        if not isinstance(rows, dict) or not all(isinstance(row, dict) for row in rows.values()):
+            raise refuse(file, f"it has no table {name} of rows by their indices; write one")
+        tables[name] = {index: Entry(file, name, index, row, findings) for index, row in rows.items()}
+    return tables
+
+
+def scale_of(north: int, east: int) -> int:
+    """The greatest scale in thousandths that divides both products of metres and scale; where with none the span is one of a
+    case, the greatest of all, by which it is rounded."""
+    common, greatest = math.gcd(north, east), max(abs(north), abs(east))
+    fitting = (scale for scale in range(MOST_SCALE, 0, -1) if common % scale == 0 and greatest <= MOST_METRES * scale)
+    return next(fitting, MOST_SCALE)
+
+
+@dataclasses.dataclass(frozen=True)
+class Unit:
+    """A unit on its way into a case: its windings by the indices of their branches, its buses, and where it is earthed."""
+
+    at: Entry
+    kind: str
+    windings: dict[str, str]
+    buses: list[str]
+    earthed: str
+
+
+class Making:
+    """A case in the making, of the tables of the field to the north and the branches of that to the east."""
+
+    def __init__(self, tables: dict[str, Table], east: Table) -> None:
+        self.nodes, self.branches, units = (tables[name] for name in TABLES)
+        self.east = east
+        self.case, self.names = Case(), Names()
+        self.lines = dict(self.branches)  # those that are no winding and no resistor of a neutral
+        self.units = [unit for at in units.values() if (unit := self.read_unit(at)) is not None]
+        self.first: dict[str, str] = {}  # of nodes of one substation, one that stands for them
+        self.stations: dict[str, str] = {}  # the names of substations by the nodes of their grounds
+        self.neutrals: dict[str, list[Field]] = {}  # by the nodes of neutrals
+
+    def ends(self, at: Entry) -> tuple[str, str]:
+        start, end = at.index_in("f_bus", self.nodes), at.index_in("t_bus", self.nodes)
+        if not start or not end:
+            at.wrong("f_bus or t_bus is no row of gmd_bus; write the index of one")
+        return start, end
+
+    def read_unit(self, at: Entry) -> Unit | None:
+        config = str(at.values.get("config", ""))
+        if config == "none":
+            return None  # (a line)
+        if config not in KINDS:
+            at.wrong(f"its config is none of {', '.join(KINDS)}; write one of these")
+            return None
+        kind = KINDS[config]
+        windings = {winding: at.index_in(key, self.branches) for winding, key in WINDINGS[kind].items()}
+        if not all(windings.values()):
+            at.wrong(f"a winding has no row of gmd_branch; write {' and '.join(WINDINGS[kind].values())}")
+            return None
+        pairs = [self.ends(self.branches[index]) for index in windings.values()]
+        for index in windings.values():
+            self.lines.pop(index, None)
+        buses = [start for start, _ in pairs]
+        return Unit(at, kind, windings, buses, pairs[-1][1] if pairs else "")
+
+    def of(self, node: str) -> str:
+        while self.first.get(node, node) != node:
+            node = self.first[node]
+        return node
+
+    def find_stations(self) -> None:
+        """Which nodes are grounds of substations, and what of a neutral lies between it and its ground."""
+        for unit in self.units:
+            node, station = unit.earthed, unit.earthed
+            if node and self.nodes[node].number("g_gnd", 0.0) == 0 and self.nodes[node].name == unit.at.name:
+                station = self.find_neutral(node)
+            if station:
+                self.stations.setdefault(station, "")
+            for bus in (*unit.buses, *([station] if station else [])):
+                self.first[self.of(bus)] = self.of(unit.buses[0])
+        for node, at in self.nodes.items():
+            if node in self.stations or at.number("g_gnd", 0.0) > 0:
+                self.stations[node] = self.names.give(at.name, f"S{node}")
+
+    def find_neutral(self, node: str) -> str:
+        """The ground that a neutral leads to over a resistor; none where it is blocked."""
+        self.neutrals[node] = [Field("neutral", "blocked", "its neutral leads nowhere")]
+        for index, at in list(self.lines.items()):
+            ends = self.ends(at)
+            if node in ends:
+                del self.lines[index]
+                self.neutrals[node] = [Field("neutral", round(MICRO * at.number("br_r")), "br_r: ohm to the ground grid")]
+                return ends[1] if ends[0] == node else ends[0]
+        return ""
+
+    def make(self) -> None:
+        self.find_stations()
+        units = [(unit, self.names.give(unit.at.name, f"T{unit.at.index}")) for unit in self.units]
+        in_station = {self.of(node): name for node, name in self.stations.items()}
+        for node, name in self.stations.items():
+            siemens = self.nodes[node].number("g_gnd", 0.0)
+            ground = [Field("ground", round(MICRO / siemens), "1 over g_gnd")] if siemens > 0 else []
+            self.case.lists["substation"].append(Row(name, ground))
+        buses: dict[str, str] = {}
+        for node, at in self.nodes.items():
+            if node not in self.stations and node not in self.neutrals:
+                buses[node] = self.names.give(at.name, f"B{node}")
+                station = in_station.get(self.of(node)) or self.names.give(f"S_{at.name}", f"S{node}")
+                if self.of(node) not in in_station:
+                    in_station[self.of(node)] = station
+                    self.case.lists["substation"].append(Row(station, []))
+                self.case.lists["bus"].append(Row(buses[node], [Field("substation", station)]))
+        scales: dict[int, str] = {}
+        for index, at in self.lines.items():
+            self.line(index, at, buses, scales)
+        for unit, name in units:
+            self.case.lists["transformer"].append(self.unit_row(unit, name, buses))
+
+    def resistance(self, at: Entry, key: str) -> Field:
+        ohm = 3 * at.number("br_r")
+        if not 0.001 <= ohm <= 1000:
+            at.wrong(f"br_r is a third of {ohm:g} ohm, and a phase of a case has 0.001 to 1000")
+        return Field(key, round(ohm * MICRO), "3 times br_r: ohm per phase")
+
+    def line(self, index: str, at: Entry, buses: Mapping[str, str], scales: dict[int, str]) -> None:
+        start, end = (buses.get(node, "") for node in self.ends(at))
+        other = self.east.get(index)
+        if not start or not end or other is None:
+            at.wrong("it is no winding of a unit, and no line between two buses of both files; write its unit")
+            return
+        north, east = round(at.number("br_v") * MICRO), round(other.number("br_v") * MICRO)
+        scale = scale_of(north, east)
+        if scale not in scales:
+            scales[scale] = self.names.give(f"scale-{scale}", f"Z{scale}")
+            self.case.lists["zone"].append(Row(scales[scale], [Field("scale", scale, "thousandths, by which voltages divide")]))
+        fields = [Field("from", start), Field("to", end), Field("zone", scales[scale]), self.resistance(at, "resistance")]
+        spans = [Field(key, round(volts / scale), "br_v over the scale") for key, volts in (("north", north), ("east", east))]
+        self.case.lists["line"].append(Row(self.names.give(at.name.removesuffix(" line"), f"L{index}"), [*fields, *spans]))
+
+    def unit_row(self, unit: Unit, name: str, buses: Mapping[str, str]) -> Row:
+        volts = [Field("high_volts", round(1000 * unit.at.number("hi_kv")), "hi_kv")]
+        fields = [Field("kind", unit.kind), *volts]
+        for side, node in zip(("high", "low"), unit.buses):
+            fields += [Field("low_volts", round(1000 * unit.at.number("lo_kv")), "lo_kv")] if side == "low" else []
+            fields.append(Field(side, buses.get(node, "")))
+        fields += [self.resistance(self.branches[index], f"{winding}_resistance") for winding, index in unit.windings.items()]
+        return Row(name, [*fields, *self.neutrals.get(unit.earthed, [])])
+
+
+def make_case(north_file: str, east_file: str) -> str:
+    """The case of two files; all that is wrong with any of them is told at once."""
+    findings: list[Finding] = []
+    north, east = read_data(north_file, findings), read_data(east_file, findings)
+    same = {index: row.name for index, row in north["gmd_branch"].items()}
+    if same != {index: row.name for index, row in east["gmd_branch"].items()}:
+        raise refuse(east_file, f"its branches aren't those of {north_file}; write both of one network")
+    making = Making(north, east["gmd_branch"])
+    if not findings:
+        making.make()
+    findings += [Finding(north_file, words) for words in making.case.too_many().values()]
+    if findings:
+        raise Refused(findings)
+    origin = f"Made by gicdesk from-powermodels of {north_file} and {east_file}: change these, and make it again."
+    return short_enough(making.case.text(origin), north_file, [])
