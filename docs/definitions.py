@@ -10,7 +10,7 @@ where it is cited: in definitions (`specs/`) and in contracts (`src/`); proofs a
 
 Without --write it compares docs/INDEX.md with what it makes. It also looks whether each file begins with a remark,
 whether each is cited, whether docs/DEFINITIONS.md names none that isn't there, and whether each crate of crates.txt
-stands once in the first column of the table of crates in docs/MAP.md, and no other. The last line is `N definitions, M
+stands once in the first column of the tables of crates in docs/MAP.md and in crates/README.md, and no other. The last line is `N definitions, M
 faults`, and the status is 0 only where M is 0.
 """
 
@@ -25,6 +25,7 @@ TOP = Path(__file__).resolve().parent.parent
 INDEX = "docs/INDEX.md"
 WORDS = "docs/DEFINITIONS.md"
 MAP = "docs/MAP.md"
+CRATES = "crates/README.md"
 HEADLINE = "crates/gic_study/src/study.rt"
 CITED = re.compile(r"Rattle\.(gic_\w+)\.specs\.([A-Z]\w*)")
 NAMED = re.compile(r"`(\w+\.antt)`")
@@ -161,13 +162,13 @@ def index_of(found: dict[str, Definition], parts: list[list[str]]) -> str:
     return "\n".join(lines)
 
 
-def odd_crates(text: str, crates: list[str]) -> list[str]:
+def odd_crates(text: str, crates: list[str], place: str = MAP) -> list[str]:
     """The crates that don't stand once in the table of crates, and those that stand there and aren't any."""
     table = text.partition("\n## Crates\n")[2].partition("\n## ")[0]
     rows = [line.split("|")[1] for line in table.splitlines() if line.startswith("|")]
     named = [name for row in rows for name in re.findall(r"`(gic\w+)`", row)]
     odd = [name for name in dict.fromkeys(crates + named) if name not in crates or named.count(name) != 1]
-    return [f"{MAP} has {name} {named.count(name)} times in its table of crates" for name in odd]
+    return [f"{place} has {name} {named.count(name)} times in its table of crates" for name in odd]
 
 
 def faults_of(found: dict[str, Definition], index: str, shown: str, words: str) -> list[str]:
@@ -193,7 +194,8 @@ def main(words: list[str]) -> int:
             (TOP / INDEX).write_text(index, encoding="utf-8")
         shown = (TOP / INDEX).read_text(encoding="utf-8") if (TOP / INDEX).exists() else ""
         faults = faults_of(found, index, shown, (TOP / WORDS).read_text(encoding="utf-8"))
-        faults += odd_crates((TOP / MAP).read_text(encoding="utf-8"), crates)
+        for place in (MAP, CRATES):
+            faults += odd_crates((TOP / place).read_text(encoding="utf-8"), crates, place)
     except (OSError, UnicodeDecodeError) as error:
         print(f"definitions.py: {error}", file=sys.stderr)
         return 1

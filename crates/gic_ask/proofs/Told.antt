@@ -14,7 +14,7 @@ use Rattle.gic_switch.specs.Rules.{switchings_of}
 use Rattle.gic_words.specs.Requests.{request_of}
 use Rattle.gic_words.specs.declared.request.Request.{Request}
 use Rattle.gic_words.specs.declared.request.Request.TheVariants as request
-use Rattle.gic_question.specs.declared.asked.Question.{Question}
+use Rattle.gic_screen.specs.declared.asked.Question.{Question}
 use Rattle.gic_words.specs.declared.fault.Usage.{Usage}
 use Rattle.gic_ask.specs.Asks.{IsAnswer}
 use Rattle.gic_ask.specs.Contents.{Given, Nothing, Long, Whole, Contents, Names, MayGive, MayHandOut, name_of_file, names_in, of_case}

@@ -3,7 +3,7 @@ ghost use Rattle.std.specs.Prelude.{◌≡◌, ◌++◌, ℕ, List, IfOk, Some};
 ghost use Rattle.std.specs.declared.option.Option.{Option};
 ghost use Rattle.gic_files.specs.Files.{fetches};
 ghost use Rattle.gic_inputs.specs.Inputs.{IsStormOf};
-ghost use Rattle.gic_question.specs.Ranges.{IsWidth, IsWithinCriteria};
+ghost use Rattle.gic_screen.specs.Ranges.{IsWidth, IsWithinCriteria};
 ghost use Rattle.gic_words.specs.Accepted.{AreWithinRanges};
 ghost use Rattle.gic_words.specs.declared.request.Request.TheVariants as request;
 ghost use Rattle.gic_ask.specs.declared.fault.File.TheVariants as file;
@@ -19,7 +19,7 @@ use crate::request::Asked;
 use gic_case::Case;
 use gic_files::Library;
 use gic_inputs::{Inputs, StormInputs};
-use gic_question::{Criteria, Question, UniformField};
+use gic_screen::{Criteria, Question, UniformField};
 use gic_words::{FileName, Request, Text};
 use std::alloc::Global;
 

@@ -1,3 +1,4 @@
+pub mod Table
 pub mod Earthings
 pub mod NeutralNodes
 pub mod Passed

@@ -1,3 +1,5 @@
+pub mod Alpha
+pub mod ZoneView
 pub mod Courses
 pub mod Windings
 pub mod Lists

@@ -1,7 +1,7 @@
 -- A case as contracts see it: its lists, the names of its nodes, and the ends of its elements.
 use Rattle.std.specs.Prelude.{◌+◌, ◌==◌, ℕ, List, [], ◌∷◌, ◌++◌, length, map, flat_map, slice_index_or, slice_get, Bool, true, false, if◌then◌else◌, Option, Some, None, is_some, count_by}
 use Rattle.std.specs.List.{enumerate_from, filter}
-use Rattle.gic_scale.specs.ZoneView.{ZoneView}
+use Rattle.gic_case.specs.ZoneView.{ZoneView}
 use Rattle.gic_case.specs.declared.item.Substation.{Substation}
 use Rattle.gic_case.specs.declared.item.Bus.{Bus}
 use Rattle.gic_case.specs.declared.item.Line.{Line}

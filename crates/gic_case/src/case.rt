@@ -3,7 +3,7 @@ ghost use Rattle.std.specs.Prelude.{◌≡◌};
 
 use crate::item::{Bus, Line, Substation, Transformer};
 use crate::network::Network;
-use gic_scale::Zone;
+use crate::zone::Zone;
 use std::marker::Model;
 
 /// The zones, substations, buses, lines and transformers of a network, which keep all rules.

@@ -1,7 +1,8 @@
-//! The case: the lists of a network that keep all rules, the windings of its transformers, the names of its nodes, ground
-//! grids and neutral nodes.
+//! The case: the lists of a network that keep all rules, the names of its nodes, ground grids and neutral nodes, and how
+//! strong a field is in each of its zones.
 #![tactic(auto)]
 
+mod alpha;
 mod case;
 mod course;
 mod item;
@@ -10,8 +11,10 @@ mod neutral;
 mod node;
 mod part;
 mod parts;
+mod scaling;
 mod winding;
 mod windings;
+mod zone;
 
 pub use case::Case;
 pub use course::Course;
@@ -21,5 +24,7 @@ pub use neutral::{grid_of, ground_grid, neutrals, substation_at};
 pub use node::{NodeNames, node_count, node_name};
 pub use part::LinePart;
 pub use parts::LineParts;
+pub use scaling::Scaling;
 pub use winding::{Terminal, Winding, WindingEnd, WindingRole};
 pub use windings::Windings;
+pub use zone::Zone;

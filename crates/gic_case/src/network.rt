@@ -1,7 +1,7 @@
 //! The lists of a case, with places in place of names.
 
 use crate::item::{Bus, Line, Substation, Transformer};
-use gic_scale::Zone;
+use crate::zone::Zone;
 use std::marker::Model;
 
 /// The lists of a case whose ends, voltages and degrees are still to be looked at.

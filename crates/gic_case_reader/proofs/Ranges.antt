@@ -11,7 +11,7 @@ use Rattle.gic_base.specs.Refusals.{unless}
 use Rattle.gic_base.proofs.RefusalLaws.{none_of_both, unless_holds}
 use Rattle.gic_base.specs.Name.{is_name}
 use Rattle.gic_base.specs.declared.limits.TheConstants.{MOST_PARTS}
-use Rattle.gic_scale.specs.ZoneView.{IsZone}
+use Rattle.gic_case.specs.ZoneView.{IsZone}
 use Rattle.gic_case_reader.specs.declared.refusal.CaseRefusal.{CaseRefusal}
 use Rattle.gic_case_reader.specs.Keys.{key_of, is_among, has, has_only, has_all, fits}
 use Rattle.gic_case.specs.Names.{same}

@@ -11,7 +11,7 @@ use Rattle.std.specs.Prelude.{All, AllPairs, ◌==◌, unsigned_abs, IsTrue}
 use Rattle.std.specs.List.{AllByRecursion, flat_map, enumerate_from, range_with_len, list_all}
 use Rattle.toml.specs.Data.{Data, Members}
 use Rattle.gic_base.specs.Name.{is_name}
-use Rattle.gic_scale.specs.ZoneView.{IsZone}
+use Rattle.gic_case.specs.ZoneView.{IsZone}
 use Rattle.gic_base.specs.Refusals.{unless}
 use Rattle.gic_base.proofs.Each.{weaker}
 use Rattle.gic_base.proofs.RefusalLaws.{none_of_both, none_settled, unless_holds}

@@ -3,8 +3,8 @@ use Rattle.std.specs.Prelude.{ℕ, ◌+◌, nat_lt, suc, List, [], ◌∷◌, le
 use Rattle.toml.specs.Data.{Data, Items, no_items, item, Members, get_member, as_array, as_bool, as_table}
 use Rattle.gic_base.specs.Refusals.{settle}
 use Rattle.gic_base.specs.Passes.{◌>>=◌, or_refuse, test}
-use Rattle.gic_scale.specs.ZoneView.{ZoneView}
-use Rattle.gic_scale.specs.declared.scaling.Scaling.TheVariants as scalings
+use Rattle.gic_case.specs.ZoneView.{ZoneView}
+use Rattle.gic_case.specs.declared.scaling.Scaling.TheVariants as scalings
 use Rattle.gic_case_reader.specs.Keys.{key_of, has, fits, fits_document, list_key}
 use Rattle.gic_case_reader.specs.Values.{natural_within, read_name, value_at}
 use Rattle.gic_case_reader.specs.Formats.{read_format, most_rows}

@@ -2,8 +2,8 @@
 use Rattle.std.specs.Prelude.{ℕ, ℤ, List, [], ◌∷◌, ◌++◌, Bool, ◌&&◌, if◌then◌else◌, Option, Some, None, option_map, unwrap_or, is_some, codes}
 use Rattle.toml.specs.Data.{Data, Members, no_members, get_member, as_table, as_str}
 use Rattle.gic_base.specs.Refusals.{unless}
-use Rattle.gic_scale.specs.ZoneView.{ZoneView}
-use Rattle.gic_scale.specs.declared.scaling.Scaling.TheVariants as scalings
+use Rattle.gic_case.specs.ZoneView.{ZoneView}
+use Rattle.gic_case.specs.declared.scaling.Scaling.TheVariants as scalings
 use Rattle.gic_case.specs.Lists.{substation_with}
 use Rattle.gic_case_reader.specs.Keys.{key_of, has, fits}
 use Rattle.gic_case_reader.specs.Formats.{is_third}

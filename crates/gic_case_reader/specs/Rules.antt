@@ -6,7 +6,7 @@ use Rattle.toml.specs.Data.{Data, Items, no_items, item, Members, get_member, as
 use Rattle.toml.specs.Parse.{parse_document}
 use Rattle.gic_base.specs.Refusals.{unless, settle}
 use Rattle.gic_base.specs.declared.limits.TheConstants.{MOST_AT_A_NODE}
-use Rattle.gic_scale.specs.ZoneView.{ZoneView}
+use Rattle.gic_case.specs.ZoneView.{ZoneView}
 use Rattle.gic_case_reader.specs.Keys.{fits_document, list_key}
 use Rattle.gic_case_reader.specs.Formats.{read_format, format_in, most_rows}
 use Rattle.gic_case_reader.specs.Rows.{breaks_value, breaks_zone, zone_of, breaks_substation, substation_of, breaks_bus, bus_of}

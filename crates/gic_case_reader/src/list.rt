@@ -14,8 +14,7 @@ use crate::refusal::{CaseRefusal, Part};
 use crate::row::{BusRow, LineRow, TransformerRow, bus_row, line_row, substation_row, zone_row};
 use crate::transformer::transformer_row;
 use gic_base::{Name, ReadFault};
-use gic_case::Substation;
-use gic_scale::Zone;
+use gic_case::{Substation, Zone};
 use std::alloc::{AllocError, Global};
 use toml::{Table, Value};
 

@@ -12,8 +12,7 @@ use crate::parts::parts_at;
 use crate::refusal::{CaseRefusal, Part};
 use crate::value::{metres_at, name_at, natural_at, ohm_at, optional_flag_at, optional_ohm_at};
 use gic_base::{Name, ReadFault};
-use gic_case::{Neutral, Substation};
-use gic_scale::{Scaling, Zone};
+use gic_case::{Neutral, Scaling, Substation, Zone};
 use std::alloc::Global;
 use toml::Value;
 

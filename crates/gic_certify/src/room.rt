@@ -1,6 +1,6 @@
 //! What the mode takes memory for.
 ghost use Rattle.std.specs.Prelude.{IfOk};
-ghost use Rattle.gic_question.specs.Ranges.{IsWithinRanges};
+ghost use Rattle.gic_screen.specs.Ranges.{IsWithinRanges};
 ghost use Rattle.gic_certify.specs.Made.{IsMadeFor};
 
 use gic_base::OutOfMemory;

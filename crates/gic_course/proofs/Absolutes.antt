@@ -16,7 +16,7 @@ use Rattle.gic_model.specs.SolutionLaws.{PotentialsAreBounded}
 use Rattle.gic_model.specs.Standing.{IsLive, standing_elements}
 use Rattle.gic_model.specs.Sums.{Placed}
 use Rattle.gic_model.proofs.Ends.{standing_within}
-use Rattle.gic_peaks.specs.Peaks.{HasAbsolutes}
+use Rattle.gic_view.specs.Peaks.{HasAbsolutes}
 use Rattle.gic_view.specs.Absolute.{HasAbsolute}
 use Rattle.gic_stand.specs.Standing.{IsSolvable}
 use Rattle.gic_view.specs.View.{View, node_at, element_at}

@@ -9,7 +9,7 @@ use Rattle.gic_bound.specs.Entries.{IsBoundWithin}
 use Rattle.gic_case.specs.Lists.{Lists}
 use Rattle.gic_net.specs.Net.{NetView, standing}
 use Rattle.gic_stand.specs.declared.fault.NetworkRefusal.{NetworkRefusal}
-use Rattle.gic_epoch.specs.declared.epoch.Epoch.{Epoch}
+use Rattle.gic_switch.specs.declared.epoch.Epoch.{Epoch}
 use Rattle.gic_inputs.specs.declared.inputs.StormInputs.{StormInputs}
 use Rattle.gic_inputs.specs.Inputs.{IsStormOf}
 use Rattle.gic_winding.specs.ElementList.{elements_of}

@@ -9,7 +9,7 @@ use Rattle.gic_winding.specs.ElementList.{elements_of}
 use Rattle.gic_stand.specs.Needs.{Solved, standing_at, IsMet}
 use Rattle.gic_inputs.specs.Inputs.{rows_in}
 use Rattle.gic_stand.specs.Standing.{IsSolvable}
-use Rattle.gic_epoch.specs.declared.epoch.Epoch.{Epoch}
+use Rattle.gic_switch.specs.declared.epoch.Epoch.{Epoch}
 use Rattle.gic_inputs.specs.declared.inputs.StormInputs.{StormInputs}
 use Rattle.gic_course.specs.declared.switched.SwitchedNet.{SwitchedNet}
 use Rattle.gic_course.specs.Epochs.{HasStep, IsEpochOf}

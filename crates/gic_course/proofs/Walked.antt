@@ -5,8 +5,8 @@ use Rattle.std.specs.List.{AllByRecursion}
 use Rattle.std.proofs.lemmas.Bool.{cases_lt}
 use Rattle.std.proofs.lemmas.List.Elements.{All-nil, All-cons, All-contains}
 use Rattle.gic_storm.specs.Steps.{steps_in}
-use Rattle.gic_epoch.specs.declared.epoch.Epoch.{Epoch}
-use Rattle.gic_epoch.specs.Epochs.{Cover, HoldsIn, AreEpochs}
+use Rattle.gic_switch.specs.declared.epoch.Epoch.{Epoch}
+use Rattle.gic_switch.specs.Epochs.{Cover, HoldsIn, AreEpochs}
 use Rattle.gic_stand.specs.Needs.{Solved, Fails, IsMet, IsUnmet}
 use Rattle.gic_inputs.specs.Inputs.{rows_in}
 use Rattle.gic_stand.specs.Standing.{IsSolvable}

@@ -1,5 +1,5 @@
 -- When a course is that of the inputs.
-use Rattle.gic_epoch.specs.Epochs.{AreEpochs}
+use Rattle.gic_switch.specs.Epochs.{AreEpochs}
 use Rattle.gic_inputs.specs.Inputs.{rows_in, IsStormOf}
 use Rattle.gic_stand.specs.Needs.{Solved, IsMet}
 use Rattle.gic_inputs.specs.declared.inputs.StormInputs.{StormInputs}

@@ -1,8 +1,8 @@
 -- The epochs of a storm. For the contracts of this crate.
 use Rattle.std.specs.Prelude.{ℕ, ◌≤◌, length}
 use Rattle.gic_storm.specs.Steps.{steps_in}
-use Rattle.gic_epoch.specs.declared.epoch.Epoch.{Epoch}
-use Rattle.gic_epoch.specs.Epochs.{HoldsIn}
+use Rattle.gic_switch.specs.declared.epoch.Epoch.{Epoch}
+use Rattle.gic_switch.specs.Epochs.{HoldsIn}
 use Rattle.gic_inputs.specs.Inputs.{rows_in}
 use Rattle.gic_inputs.specs.declared.inputs.StormInputs.{StormInputs}
 

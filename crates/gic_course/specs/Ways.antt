@@ -2,7 +2,7 @@
 use Rattle.std.specs.Prelude.{ℕ, ◌+◌, ◌*◌, ◌-◌, nat_lt, nat_le, Bool, not, ◌||◌, length, None, Some, option_map, if◌then◌else◌}
 use Rattle.std.specs.declared.option.Option.{Option}
 use Rattle.gic_case.specs.Lists.{Lists}
-use Rattle.gic_epoch.specs.declared.epoch.Epoch.{Epoch}
+use Rattle.gic_switch.specs.declared.epoch.Epoch.{Epoch}
 use Rattle.gic_winding.specs.ElementList.{elements_of}
 use Rattle.gic_course.specs.declared.ready.Ready.{Ready}
 use Rattle.gic_course.specs.declared.ready.Way.{Way}

@@ -1,13 +1,12 @@
 //! The epochs of a storm.
 ghost use Rattle.std.specs.Prelude.{◌≡◌, ◌↔◌, [], IfOk, IsTrue, Any, Contains};
-ghost use Rattle.gic_epoch.specs.Epochs.{AreEpochs};
+ghost use Rattle.gic_switch.specs.Epochs.{AreEpochs};
 ghost use Rattle.gic_inputs.specs.Inputs.{rows_in};
 ghost use Rattle.gic_course.specs.Epochs.{HasStep};
 
 use gic_base::OutOfMemory;
-use gic_epoch::{Epoch, epochs};
 use gic_storm::Storm;
-use gic_switch::Switchings;
+use gic_switch::{Epoch, Switchings, epochs};
 use std::alloc::Global;
 
 /// All steps of a storm as one epoch, in which no switching is in force.

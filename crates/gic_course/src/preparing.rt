@@ -14,10 +14,10 @@ use crate::ready::Way;
 use crate::room::Room;
 use gic_base_views::prepare_bases;
 use gic_case::Case;
-use gic_epoch::Epoch;
 use gic_inputs::StormInputs;
 use gic_net::Net;
 use gic_sweep::Steps;
+use gic_switch::Epoch;
 use std::marker::Brand;
 use std::sync::ledger::{Blank, Ledger};
 

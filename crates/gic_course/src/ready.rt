@@ -2,7 +2,7 @@
 ghost use Rattle.std.specs.Prelude.{◌≡◌, ◌≤◌};
 ghost use Rattle.gic_course.specs.Ways.{way_by_count, way_after};
 
-use gic_epoch::Epoch;
+use gic_switch::Epoch;
 
 /// How the steps of an epoch are shown.
 #[derive(Clone, Copy, Debug, PartialEq, Eq)]

@@ -24,11 +24,11 @@ use gic_base_views::{BaseRoom, fill_superposed};
 use gic_case::Case;
 use gic_effective::fill_view;
 use gic_effective::laws::line_items_law;
-use gic_epoch::time_of_step;
 use gic_induce::{Fields, fill_volts};
 use gic_inputs::StormInputs;
 use gic_net::Net;
 use gic_storm::fill_fields;
+use gic_switch::time_of_step;
 use gic_view::StepView;
 
 /// Solves the network in the fields, from the guesses that are there.

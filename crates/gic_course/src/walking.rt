@@ -1,6 +1,6 @@
 //! The walk over the epochs of a storm, which tells whether the network can be solved in each.
 ghost use Rattle.std.specs.Prelude.{ℕ, ◌≡◌, OnOk, IfErr, IsTrue, IsFalse};
-ghost use Rattle.gic_epoch.specs.Epochs.{AreEpochs};
+ghost use Rattle.gic_switch.specs.Epochs.{AreEpochs};
 ghost use Rattle.gic_net.specs.Net.{standing};
 ghost use Rattle.gic_stand.specs.Needs.{Solved, Fails, IsMet, IsUnmet};
 ghost use Rattle.gic_inputs.specs.Inputs.{rows_in};
@@ -13,9 +13,9 @@ ghost use Rattle.gic_course.specs.Switched.{changes_to};
 
 use crate::room::Room;
 use crate::switched::SwitchedNet;
-use gic_epoch::Epoch;
 use gic_inputs::StormInputs;
 use gic_stand::NetworkRefusal;
+use gic_switch::Epoch;
 
 /// Puts the switchings of an epoch in force, and no others, and tells whether what stands may have changed.
 pub(crate) fn put_in_force(inputs: &StormInputs, epoch: Epoch, switched: &mut SwitchedNet) -> bool

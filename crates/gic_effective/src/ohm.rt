@@ -6,8 +6,7 @@ ghost use Rattle.gic_model.specs.Guess.{most_guess};
 ghost use Rattle.gic_model.specs.Limits.{most_volts};
 ghost use Rattle.gic_effective.specs.Ohm.{OhmsLaw, drive_of, current_low, current_high};
 
-use gic_divide::Divisor;
-use gic_fixed::Interval;
+use gic_fixed::{Divisor, Interval};
 use gic_sweep::{GRAINS, drive, in_grains, micro_paths};
 
 /// What drives an element's current between two intervals, in grains.

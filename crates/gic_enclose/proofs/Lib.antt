@@ -1,3 +1,15 @@
+pub mod Links
+pub mod LinkSweeps
+pub mod LinkSums
+pub mod LinkRows
+pub mod CutNumbers
+pub mod OneSweep
+pub mod Closer
+pub mod Stages
+pub mod SettledLinks
+pub mod LinksOfElements
+pub mod RowsOfNetwork
+pub mod Near
 pub mod Intervals
 pub mod Cuts
 pub mod Turns

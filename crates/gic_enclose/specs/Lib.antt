@@ -1,3 +1,4 @@
+pub mod Near
 pub mod Ends
 pub mod Certain
 pub mod Together

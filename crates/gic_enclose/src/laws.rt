@@ -2,6 +2,7 @@
 //! law calls it.
 ghost use Rattle.gic_model.specs.SolutionLaws.{PotentialsAreBounded};
 ghost use Rattle.gic_enclose.specs.Laws.{SolutionsAreBelow, SettledGuessesAreBelow};
+ghost use Rattle.gic_enclose.specs.Near.{FirstSweepIsNear, SweepBringsNearer, NearIsSettled, SweepsSettle};
 
 /// In a network that is earthed within 4096, every solution's potential at a live node is at most 4096 times the
 /// greatest voltage, which is below 2^94 grains, and settled guesses are below them too.
@@ -9,4 +10,17 @@ pub fn potential_bound_law()
     ensures solutions { PotentialsAreBounded }
     ensures grains { SolutionsAreBelow }
     ensures guesses { SettledGuessesAreBelow }
+{}
+
+/// Successive guesses come nearer to each other with each sweep, and near ones are settled.
+pub fn sweeps_converge_law()
+    ensures first { FirstSweepIsNear }
+    ensures next { SweepBringsNearer }
+    ensures last { NearIsSettled }
+{}
+
+/// In a network that is earthed within `MOST_WALK`, 802817 sweeps leave settled guesses, whatever guesses within their
+/// limit they begin with.
+pub fn sweeps_settle_law()
+    ensures { SweepsSettle }
 {}

@@ -2,15 +2,15 @@
 ghost use Rattle.std.specs.Prelude.{◌≡◌, ◌+◌, ◌*◌, ◌%◌, ◌^◌, ◌≤◌, length, slice_index, IsTrue};
 ghost use Rattle.gic_base.specs.declared.limits.TheConstants.{MOST_WALK};
 ghost use Rattle.gic_sweep.specs.declared.solver.TheConstants.{MOST_ROUNDS};
-ghost use Rattle.gic_converge.specs.declared.phases.TheConstants.{PHASE, PHASES};
+ghost use Rattle.gic_enclose.specs.declared.phases.TheConstants.{PHASE, PHASES};
 ghost use Rattle.gic_model.specs.Voltages.{number_at};
 ghost use Rattle.gic_model.specs.Guess.{IsSettled, IsSettledWithin};
 ghost use Rattle.gic_net.specs.Net.{standing};
 ghost use Rattle.gic_bound.specs.Entries.{IsBoundWithin};
 
+use crate::laws::sweeps_converge_law;
+use crate::phases::{PHASE, PHASES};
 use gic_bound::BoundVector;
-use gic_converge::laws::sweeps_converge_law;
-use gic_converge::{PHASE, PHASES};
 use gic_model::Volts;
 use gic_net::Net;
 use gic_sweep::{Solver, Steps, improve, is_settled, sweep};

@@ -5,8 +5,7 @@ use crate::attached::{NeverBegun, ViewCounter};
 use crate::files::{TextFile, bytes_of};
 use gic_base::{MemorySink, Sink, WriteFailed};
 use gic_files::MemoryLibrary;
-use gic_loss::VoltLoss;
-use gic_monitor::{DwellMonitor, EarthMonitor, Monitor};
+use gic_monitor::{DwellMonitor, EarthMonitor, Monitor, VoltLoss};
 use gic_study::gicstudy;
 use std::alloc::{AllocError, Global};
 

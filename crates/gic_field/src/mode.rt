@@ -2,7 +2,7 @@
 ghost use Rattle.std.specs.Prelude.{All};
 ghost use Rattle.gic_base.specs.Writes.{Writes};
 ghost use Rattle.gic_view.specs.Absolute.{HasAbsolute};
-ghost use Rattle.gic_question.specs.Ranges.{IsWithinRanges};
+ghost use Rattle.gic_screen.specs.Ranges.{IsWithinRanges};
 ghost use Rattle.gic_stand.specs.Needs.{Solved};
 ghost use Rattle.gic_stand.specs.Serves.{Serves, shown};
 ghost use Rattle.gic_stand.specs.Standing.{steps_of};
@@ -14,7 +14,7 @@ use crate::text::{Setting, write_field};
 use gic_base::{Sink, WriteFailed};
 use gic_case::Case;
 use gic_inputs::Inputs;
-use gic_question::Question;
+use gic_screen::Question;
 use gic_stand::{ReportFault, ended};
 use gic_text::LineBuilder;
 use gic_uniform::{expect_solvable, solve_view};

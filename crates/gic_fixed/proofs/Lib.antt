@@ -4,3 +4,6 @@ pub mod Divisions
 pub mod Enclosures
 pub mod Sums
 pub mod Widths
+pub mod Ceilings
+pub mod BitSigns
+pub mod Estimates

@@ -1,10 +1,13 @@
-//! Exact whole-number arithmetic: square roots, intervals, and sums, products and quotients of these.
+//! Exact whole-number arithmetic: square roots, intervals, and division by a fixed resistance.
 #![tactic(auto)]
 
 mod division;
+mod divisor;
 pub mod interval;
+mod long;
 pub mod root;
 
+pub use divisor::Divisor;
 pub use interval::Interval;
 pub use root::{isqrt_ceil, isqrt_floor};
 

@@ -22,11 +22,11 @@ use Rattle.gic_model.specs.declared.parts.Item.{Item}
 use Rattle.gic_model.specs.declared.parts.Item.TheVariants as items
 use Rattle.gic_model.specs.Limits.{AreVolts, most_volts}
 use Rattle.gic_model.specs.Voltages.{number_at}
-use Rattle.gic_scale.specs.Alpha.{latitude_row, tenths_or_ten, alpha_of}
-use Rattle.gic_scale.specs.declared.scaling.Scaling.{Scaling}
-use Rattle.gic_scale.specs.declared.scaling.Scaling.TheVariants as scalings
-use Rattle.gic_scale.specs.ZoneView.{ZoneView, IsScaling, IsZone, factor_by, factor_of}
-use Rattle.gic_scale.proofs.Table.{row_tenths}
+use Rattle.gic_case.specs.Alpha.{latitude_row, tenths_or_ten, alpha_of}
+use Rattle.gic_case.specs.declared.scaling.Scaling.{Scaling}
+use Rattle.gic_case.specs.declared.scaling.Scaling.TheVariants as scalings
+use Rattle.gic_case.specs.ZoneView.{ZoneView, IsScaling, IsZone, factor_by, factor_of}
+use Rattle.gic_case.proofs.Table.{row_tenths}
 
 -- a number of a list whose numbers are all within this
 numbers_few : (m : ℕ) (zs : List ℤ) → All (λ z. unsigned_abs z ≤ m) zs → (place : ℕ) → unsigned_abs (number_at zs place) ≤ m

@@ -4,7 +4,7 @@ use lib.IntN.{*ℤ-zero}
 use Rattle.std.proofs.lemmas.List.{get_or_past}
 use Rattle.gic_fixed.specs.Sums.{sum_of}
 use Rattle.gic_fixed.proofs.Integers.{linear, *ℤ-+ℤ, *ℤ_assoc, +ℤ-*ℤ}
-use Rattle.gic_scale.specs.ZoneView.{ZoneView, factor_of}
+use Rattle.gic_case.specs.ZoneView.{ZoneView, factor_of}
 use Rattle.gic_case.specs.Lists.{Lists}
 use Rattle.gic_case.specs.declared.item.Line.{Line}
 use Rattle.gic_case.specs.declared.part.LinePart.{LinePart}

@@ -5,7 +5,7 @@ use Rattle.std.proofs.lemmas.Int.{ints, unsigned_abs-mul}
 use Rattle.std.proofs.lemmas.List.{take_more}
 use Rattle.gic_fixed.specs.Sums.{sum_of}
 use Rattle.gic_fixed.proofs.Sums.{sum_of-++}
-use Rattle.gic_scale.specs.ZoneView.{ZoneView, factor_of}
+use Rattle.gic_case.specs.ZoneView.{ZoneView, factor_of}
 use Rattle.gic_case.specs.declared.part.LinePart.{LinePart}
 use Rattle.gic_induce.specs.Voltage.{part_nanovolts, IsFieldWithin}
 

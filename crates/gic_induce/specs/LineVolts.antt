@@ -1,8 +1,8 @@
 -- The voltages that the fields of the zones induce in the elements of a case.
 use Rattle.std.specs.Prelude.{◌<◌, ℕ, ℤ, pos, List, [], length, map, replicate, slice_index_or}
 use Rattle.gic_fixed.specs.Sums.{sum_of}
-use Rattle.gic_scale.specs.declared.scaling.Scaling.TheVariants as scalings
-use Rattle.gic_scale.specs.ZoneView.{ZoneView}
+use Rattle.gic_case.specs.declared.scaling.Scaling.TheVariants as scalings
+use Rattle.gic_case.specs.ZoneView.{ZoneView}
 use Rattle.gic_case.specs.Lists.{Lists}
 use Rattle.gic_case.specs.declared.item.Line.{Line}
 use Rattle.gic_case.specs.declared.part.LinePart.{LinePart}

@@ -1,7 +1,7 @@
 -- The voltage that a field induces in a part of a line.
 use Rattle.std.specs.Prelude.{◌≤◌, ℤ, pos, ◌+ℤ◌, ◌*ℤ◌, unsigned_abs}
 use Rattle.gic_base.specs.declared.limits.TheConstants.{MOST_FIELD}
-use Rattle.gic_scale.specs.ZoneView.{ZoneView, factor_of}
+use Rattle.gic_case.specs.ZoneView.{ZoneView, factor_of}
 use Rattle.gic_case.specs.declared.part.LinePart.{LinePart}
 
 -- a part of a field is within `MOST_FIELD`, 20000 mV/km

@@ -6,8 +6,7 @@ ghost use Rattle.gic_induce.specs.LineVolts.{part_volts, line_volts};
 ghost use Rattle.gic_induce.specs.Voltage.{part_nanovolts, IsFieldWithin, IsSpanWithin};
 
 use crate::fields::Fields;
-use gic_case::{Line, LinePart};
-use gic_scale::Zone;
+use gic_case::{Line, LinePart, Zone};
 
 /// A part of the field, in mV/km, over the same part of the span, in metres: in microvolts.
 fn along(field: i32, span: i32) -> i64

@@ -5,8 +5,8 @@ use Rattle.gic_files.specs.Files.{Files}
 use Rattle.gic_monitor.specs.RosterView.{RosterView}
 use Rattle.gic_monitor.specs.DwellText.{dwell_text}
 use Rattle.gic_monitor.specs.EarthText.{earth_text}
-use Rattle.gic_loss.specs.LossText.{volt_text, table_text}
-use Rattle.gic_loss.specs.declared.table_loss.NamedFactor.{NamedFactor}
+use Rattle.gic_monitor.specs.LossText.{volt_text, table_text}
+use Rattle.gic_monitor.specs.declared.loss.table_loss.NamedFactor.{NamedFactor}
 use Rattle.gic_study.specs.Answers.{CallEnds, Moment}
 use Rattle.gic_study.specs.Modes.{Plans}
 use Rattle.gic_view.specs.View.{View}

@@ -2,16 +2,14 @@
 ghost use Rattle.std.specs.Prelude.{◌≡◌, ◌≤◌, map, string_bytes, IfOk, IfErr};
 ghost use Rattle.std.specs.IoError.{error_kind};
 ghost use Rattle.gic_study.specs.Answers.{moment};
-ghost use Rattle.gic_program.specs.ProgramEnds.{EndsAtOnce, status_without_words};
+ghost use Rattle.gic_study.specs.ProgramEnds.{EndsAtOnce, status_without_words};
 ghost use Rattle.gic_loss_study.specs.CountedEnds.{FirstEnds, CountedEnds};
 
 use crate::table::table;
 use gic_base::Sink;
 use gic_files::Library;
-use gic_loss::{TableLoss, VoltLoss};
-use gic_monitor::{DwellMonitor, EarthMonitor, Monitor};
-use gic_program::status_without_words;
-use gic_study::gicstudy;
+use gic_monitor::{DwellMonitor, EarthMonitor, Monitor, TableLoss, VoltLoss};
+use gic_study::{gicstudy, status_without_words};
 use gic_text::read_decimal;
 use std::alloc::Global;
 use std::io;

@@ -1,6 +1,6 @@
 //! A table of factors.
 use gic_base::Name;
-use gic_loss::NamedFactor;
+use gic_monitor::NamedFactor;
 use std::alloc::Global;
 use std::io;
 

@@ -14,7 +14,7 @@ use Rattle.gic_winding.specs.ElementList.{earthing, line, winding, winding_eleme
 use Rattle.gic_winding.proofs.Limits.{length-node_names}
 use Rattle.gic_winding.proofs.Parts.{earthing_part, resistor_part}
 use Rattle.gic_make.specs.Generator.{states_after, draw}
-use Rattle.gic_make.specs.Made.{first_draw, made_substation, made_bus, made_transformer, made_line, drawn_case, made_case}
+use Rattle.gic_make.specs.MadeCase.{first_draw, made_substation, made_bus, made_transformer, made_line, drawn_case, made_case}
 use Rattle.gic_make.specs.Accepted.{MadeCasesHaveTheirSize}
 use Rattle.gic_make.proofs.Sites.{AtEach, one_a_site, none_a_site}
 

@@ -12,7 +12,7 @@ use Rattle.gic_model.specs.Network.{ends_at}
 use Rattle.gic_model.proofs.Members.{or_cases}
 use Rattle.gic_winding.specs.ElementList.{element_list}
 use Rattle.gic_winding.proofs.Counts.{HasTwoEnds, as_many_at_a_node}
-use Rattle.gic_make.specs.Made.{made_line, drawn_case}
+use Rattle.gic_make.specs.MadeCase.{made_line, drawn_case}
 use Rattle.gic_make.proofs.Sites.{each_site, few_within, some_within}
 use Rattle.gic_make.proofs.RowsOfSites.{from_before}
 use Rattle.gic_make.proofs.ElementsOfSites.{earthing_at, line_at, winding_at, drawn_elements, elements_are}

@@ -1,14 +1,14 @@
 -- The lists of a made case, made one after the other.
 use Rattle.std.proofs.Common.{◌≡◌, ℕ, ◌-◌, ◌≤◌, List, [], ◌∷◌, map, sym, ap, subst}
 use Rattle.std.specs.List.{range_with_len}
-use Rattle.gic_scale.specs.ZoneView.{ZoneView}
+use Rattle.gic_case.specs.ZoneView.{ZoneView}
 use Rattle.gic_case.specs.declared.item.Substation.{Substation}
 use Rattle.gic_case.specs.declared.item.Bus.{Bus}
 use Rattle.gic_case.specs.declared.item.Line.{Line}
 use Rattle.gic_case.specs.declared.item.Transformer.{Transformer}
 use Rattle.gic_case.specs.Sound.{IsSound, lists_with}
 use Rattle.gic_make.specs.Generator.{states_after}
-use Rattle.gic_make.specs.Made.{first_draw, made_zone, made_substation, made_bus, made_transformer, made_line, drawn_case, made_case}
+use Rattle.gic_make.specs.MadeCase.{first_draw, made_zone, made_substation, made_bus, made_transformer, made_line, drawn_case, made_case}
 use Rattle.gic_make.proofs.SoundCase.{made_sound}
 
 module _ (seed size : ℕ) (states : List ℕ) (zones : List ZoneView) (substations : List Substation) (buses : List Bus) (lines : List Line) (transformers : List Transformer)

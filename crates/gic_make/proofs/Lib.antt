@@ -10,3 +10,7 @@ pub mod Sites
 pub mod SoundCase
 pub mod StandingSites
 pub mod States
+pub mod Solvable
+pub mod Verdicts
+pub mod RightCounts
+pub mod MakeDetermined

@@ -7,7 +7,7 @@ use Rattle.std.proofs.Math.Seq.{take-append_seam}
 use Rattle.std.specs.List.{list_all}
 use Rattle.std.proofs.lemmas.Bool.{and_from}
 use Rattle.gic_base.specs.Name.{is_name_byte, is_name}
-use Rattle.gic_make.specs.Made.{numbered}
+use Rattle.gic_make.specs.MadeCase.{numbered}
 
 digit : (d : ℕ) → d < 10 → is_name_byte (48 + d) ≡ true
 digit d h = grind (arith, nat_tests, h)

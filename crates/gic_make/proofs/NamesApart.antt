@@ -6,7 +6,7 @@ use Rattle.std.proofs.lemmas.List.Elements.{All-from_recursion}
 use Rattle.std.proofs.lemmas.List.Kept.{AllPairs-cons}
 use Rattle.std.specs.List.{AllByRecursion, range_with_len}
 use Rattle.gic_base.proofs.Each.{all_joined, weaker}
-use Rattle.gic_make.specs.Made.{numbered}
+use Rattle.gic_make.specs.MadeCase.{numbered}
 use Rattle.gic_make.proofs.Sites.{each_site}
 
 -- no name of the list stands before it too

@@ -12,7 +12,7 @@ use Rattle.gic_winding.specs.Degrees.{ElementsAreWithinLimits}
 use Rattle.gic_bound.specs.Shares.{entries_where_live}
 use Rattle.gic_bound.specs.ShareLaws.{IsEarthedThroughSubstations, ShareEntriesAreBound, share_entry}
 use Rattle.gic_make.specs.Generator.{states_after}
-use Rattle.gic_make.specs.Made.{first_draw, drawn_case, made_case}
+use Rattle.gic_make.specs.MadeCase.{first_draw, drawn_case, made_case}
 use Rattle.gic_make.specs.Accepted.{all_standing, MadeCasesAreNearEarth}
 use Rattle.gic_make.proofs.ElementsOfSites.{nodes_are}
 use Rattle.gic_make.proofs.SoundCase.{drawn_sound}

@@ -9,7 +9,7 @@ use Rattle.gic_case.specs.Lists.{Lists}
 use Rattle.gic_case.specs.Sound.{IsSoundSubstation, IsSoundLine, IsSoundWinding, IsSoundTransformer}
 use Rattle.gic_case.specs.Windings.{windings_of}
 use Rattle.gic_make.specs.Generator.{draw}
-use Rattle.gic_make.specs.Made.{first_draw, span, made_substation, made_line, made_transformer}
+use Rattle.gic_make.specs.MadeCase.{first_draw, span, made_substation, made_line, made_transformer}
 
 -- a draw is below its bound
 pub draw_small : (states : List ℕ) (place below : ℕ) → 0 < below → draw states place below < below

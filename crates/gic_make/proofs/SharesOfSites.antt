@@ -19,7 +19,7 @@ use Rattle.gic_model.proofs.Members.{kept, placed}
 use Rattle.gic_model.proofs.Row.{weight}
 use Rattle.gic_model.proofs.SumLaws.{sum_over_ohms-≤ℤ, sum_over_ohms-*ℤ, sum_over_ohms-+ℤ, sum_over_ohms-whole}
 use Rattle.gic_bound.specs.Shares.{HaveShare, is_earthing, runs_to_substation}
-use Rattle.gic_make.specs.Made.{first_draw}
+use Rattle.gic_make.specs.MadeCase.{first_draw}
 use Rattle.gic_make.proofs.Sites.{each_site}
 use Rattle.gic_make.proofs.RowsOfSites.{draw_small}
 use Rattle.gic_make.proofs.ElementsOfSites.{earthing_at, line_at, winding_at, drawn_elements}

@@ -7,11 +7,11 @@ use Rattle.std.proofs.lemmas.Simd.{map-map}
 use Rattle.std.specs.List.{AllByRecursion}
 use Rattle.gic_base.specs.Name.{is_name}
 use Rattle.gic_base.proofs.Each.{all_joined, weaker}
-use Rattle.gic_scale.specs.ZoneView.{IsZone}
+use Rattle.gic_case.specs.ZoneView.{IsZone}
 use Rattle.gic_case.specs.declared.item.Bus.{Bus}
 use Rattle.gic_case.specs.Sound.{names_of, IsSoundSubstation, IsSoundLine, IsSoundTransformer, IsSound}
 use Rattle.gic_make.specs.Generator.{states_after}
-use Rattle.gic_make.specs.Made.{first_draw, numbered, made_zone, made_substation, made_bus, made_transformer, made_line, drawn_case, made_case}
+use Rattle.gic_make.specs.MadeCase.{first_draw, numbered, made_zone, made_substation, made_bus, made_transformer, made_line, drawn_case, made_case}
 use Rattle.gic_make.specs.Accepted.{HasRows}
 use Rattle.gic_make.proofs.ElementsOfSites.{nodes_are}
 use Rattle.gic_make.proofs.EndsAtNodes.{few_ends}

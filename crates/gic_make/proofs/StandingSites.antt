@@ -10,7 +10,7 @@ use Rattle.gic_model.specs.Sums.{Placed}
 use Rattle.gic_model.specs.Earthing.{joins, is_earth, LeadsToEarth, IsEarthed}
 use Rattle.gic_winding.specs.ElementList.{elements_of}
 use Rattle.gic_make.specs.Generator.{states_after}
-use Rattle.gic_make.specs.Made.{first_draw, drawn_case, made_case}
+use Rattle.gic_make.specs.MadeCase.{first_draw, drawn_case, made_case}
 use Rattle.gic_make.specs.Accepted.{all_standing, MadeNodesAreEarthed}
 use Rattle.gic_make.proofs.Sites.{any_of_some, some_within}
 use Rattle.gic_make.proofs.ElementsOfSites.{earthing_at, line_at, winding_at, drawn_elements, elements_are, nodes_are}

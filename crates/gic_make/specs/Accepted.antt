@@ -7,8 +7,8 @@ use Rattle.gic_model.specs.Sums.{Placed}
 use Rattle.gic_model.specs.Earthing.{IsEarthed}
 use Rattle.gic_model.specs.Bound.{IsEarthedWithin}
 use Rattle.gic_winding.specs.ElementList.{elements_of}
-use Rattle.gic_make.specs.declared.make.TheConstants.{LEAST_SIZE, MOST_SIZE}
-use Rattle.gic_make.specs.Made.{made_case}
+use Rattle.gic_make.specs.declared.making.TheConstants.{LEAST_SIZE, MOST_SIZE}
+use Rattle.gic_make.specs.MadeCase.{made_case}
 
 -- what holds of the case of every seed and every number of sites
 abbrev pub OfMadeCases : (ℕ → Lists → Type 0) → Type 0

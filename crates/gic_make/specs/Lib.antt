@@ -1,4 +1,10 @@
 pub mod Accepted
 pub mod Generator
-pub mod Made
+pub mod MadeCase
 pub mod Worked
+pub mod MakeText
+pub mod Counting
+pub mod RightMake
+pub mod Solving
+pub mod Determines
+pub mod Made

@@ -1,71 +1,19 @@
--- The case that the generator makes: so many sites, each a substation with its bus and its transformer, and from the second on with a line from the bus of one of the eight sites before. A substation, a bus, a line and a transformer are named by a letter and the number of their site, from 0.
-use Rattle.std.specs.Prelude.{ℕ, ◌+◌, ◌-◌, ◌*◌, min, ℤ, pos, ◌-ℤ◌, ◌*ℤ◌, false, Some, None, List, [], ◌∷◌, map, decimal}
-use Rattle.std.specs.List.{range_with_len}
-use Rattle.gic_scale.specs.declared.scaling.Scaling.TheVariants.{Earth}
-use Rattle.gic_scale.specs.ZoneView.{ZoneView}
-use Rattle.gic_case.specs.declared.item.Substation.{Substation}
-use Rattle.gic_case.specs.declared.course.Course.TheVariants.{One}
-use Rattle.gic_case.specs.declared.item.Bus.{Bus}
-use Rattle.gic_case.specs.declared.item.Line.{Line}
-use Rattle.gic_case.specs.declared.item.Kind.TheVariants.{DeltaWye}
-use Rattle.gic_case.specs.declared.item.Transformer.{Transformer}
-use Rattle.gic_case.specs.Lists.{Lists, substation_with}
-use Rattle.gic_make.specs.Generator.{states_after, draw}
+-- What the mode takes memory for.
+use Rattle.std.specs.Prelude.{◌≡◌, ℕ, None, length}
+use Rattle.gic_make.specs.MadeCase.{made_case}
+use Rattle.gic_model.specs.Voltages.{number_at}
+use Rattle.gic_net.specs.Net.{standing}
+use Rattle.gic_stand.specs.Standing.{standing_of}
+use Rattle.gic_winding.specs.ElementList.{elements_of}
+use Rattle.gic_make.specs.RightMake.{benchmark_volts}
+use Rattle.gic_make.specs.Solving.{IsSummaryRoomFor}
+use Rattle.gic_make.specs.declared.room.Room.{Room}
 
--- how many draws come before those of a site: two for the first site, and six for each other
-abbrev pub first_draw : (site : ℕ) → ℕ
-first_draw site = 6 * site - 4
-
--- a letter, and a number in decimal
-abbrev pub numbered : (letter number : ℕ) → List ℕ
-numbered letter number = letter ∷ decimal number
-
--- the one zone, `Z`
-abbrev pub made_zone : ZoneView
-made_zone = record { name = 90 ∷ []; scaling = Earth 6000 100 }
-
--- substation `S` of a site, whose ground is the site's first draw
-abbrev pub made_substation : (states : List ℕ) → (site : ℕ) → Substation
-made_substation states site = substation_with (numbered 83 site) (Some (100000 + 1000 * draw states (first_draw site) 900))
-
--- bus `B` of a site
-abbrev pub made_bus : (site : ℕ) → Bus
-made_bus site = record { name = numbered 66 site; substation = site }
-
--- transformer `T` of a site, whose resistance is its second draw
-abbrev pub made_transformer : (states : List ℕ) → (site : ℕ) → Transformer
-made_transformer states site = record {
-  name = numbered 84 site;
-  high_volts = 345000;
-  kind = DeltaWye site (100000 + 1000 * draw states (first_draw site + 1) 400);
-  neutral = None;
-}
-
--- a part of a span in metres: hundreds, from a thousand the one way to a thousand the other
-abbrev pub span : (drawn : ℕ) → ℤ
-span drawn = pos 100 *ℤ (pos drawn -ℤ pos 1000)
-
--- line `L` of a site, to its bus, in the one zone. Its next four draws are how far before the last site it comes from, at most eight sites before its own, its resistance, and its span to the north and to the east
-abbrev pub made_line : (states : List ℕ) → (site : ℕ) → Line
-made_line states site = record {
-  name = numbered 76 site;
-  from = site - 1 - draw states (first_draw site + 2) (min site 8);
-  to = site;
-  course = One (record { zone = 0; north = span (draw states (first_draw site + 4) 2001); east = span (draw states (first_draw site + 5) 2001) });
-  resistance = 1000000 + 1000 * draw states (first_draw site + 3) 4000;
-  blocked = false;
-}
-
--- the case of so many sites that is drawn from these states
-abbrev pub drawn_case : (states : List ℕ) → (size : ℕ) → Lists
-drawn_case states size = record {
-  zones = made_zone ∷ [];
-  substations = map (made_substation states) (range_with_len 0 size);
-  buses = map made_bus (range_with_len 0 size);
-  lines = map (made_line states) (range_with_len 1 (size - 1));
-  transformers = map (made_transformer states) (range_with_len 0 size);
-}
-
--- the case of a seed and a number of sites: the states follow from the seed, one for each draw
-unfoldable pub made_case : (seed size : ℕ) → Lists
-made_case seed size = drawn_case (states_after seed (first_draw size)) size
+-- it has the made case with all its elements, the voltages of the benchmark event to the north, and room for a summary
+pub record IsMadeFor (seed size : ℕ) (room : Room) : Type 0 where
+  pub case_is : room.case ≡ made_case seed size
+  pub network : room.net.network ≡ elements_of room.case
+  pub stands : standing room.net ≡ standing_of room.case None
+  pub volts : number_at room.volts ≡ benchmark_volts room.case
+  pub count : length room.volts ≡ length room.net.network.list
+  pub summary : IsSummaryRoomFor room.case room.summary

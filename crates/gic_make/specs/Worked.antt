@@ -2,7 +2,7 @@
 use Rattle.std.specs.Prelude.{ℕ, List, map, flat_map, slice_index, unwrap_or}
 use Rattle.gic_case.specs.Lists.{Lists}
 use Rattle.gic_case.specs.Windings.{windings_of}
-use Rattle.gic_make.specs.Made.{made_case}
+use Rattle.gic_make.specs.MadeCase.{made_case}
 
 -- that case
 abbrev pub small_case : Lists

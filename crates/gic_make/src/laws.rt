@@ -1,11 +1,18 @@
-//! The laws over made cases, each the contract of a function that does nothing but bring the laws that it rests on.
+//! What the text of the mode tells, and the laws over made cases, each the contract of a function that does nothing but
+//! bring the laws that it rests on.
 ghost use Rattle.std.specs.Prelude.{◌≡◌, [], ◌∷◌};
+ghost use Rattle.gic_make.specs.Determines.{TextDeterminesMake};
 ghost use Rattle.gic_make.specs.Generator.{states_after};
 ghost use Rattle.gic_make.specs.Accepted.{MadeCasesAreSound, MadeCasesHaveTheirRows, MadeCasesHaveTheirSize, MadeNodesAreEarthed, MadeCasesAreNearEarth};
 ghost use Rattle.gic_make.specs.Worked.{small_case, grounds_of, first_resistance_of, ways_of};
 
 use gic_bound::laws::second_share_law;
 use gic_winding::laws::limits_law;
+
+/// Texts that are equal show the same seed, the same size and the same summary.
+pub fn text_determines_make_law()
+    ensures { TextDeterminesMake }
+{}
 
 /// For every seed and every number of sites from `LEAST_SIZE` to `MOST_SIZE`: the made case keeps the rules of the reader
 /// of cases, has a row a site in each list but one line less, so that it is within the limits of every format, and two

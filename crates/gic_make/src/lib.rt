@@ -1,9 +1,17 @@
-//! Cases that a generator makes from a seed, and the law that they are accepted.
+//! The mode `make`: a case that a generator makes from a seed, which is always accepted, solved in the field of the
+//! benchmark event to the north, in short.
 #![tactic(auto)]
 
+mod counting;
 mod generator;
 pub mod laws;
-mod make;
+mod making;
+mod mode;
+mod room;
 mod site;
+mod solving;
+mod text;
 
-pub use make::{LEAST_SIZE, MOST_SIZE, make_case};
+pub use making::{LEAST_SIZE, MOST_SIZE, make_case};
+pub use mode::make;
+pub use room::{Room, make_room};

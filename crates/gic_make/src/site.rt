@@ -2,12 +2,11 @@
 ghost use Rattle.std.specs.Prelude.{◌≡◌, ◌+◌, ◌<◌, ◌≤◌, [], ◌∷◌, length, IsTrue};
 ghost use Rattle.gic_base.specs.Name.{is_name_byte, is_name};
 ghost use Rattle.gic_make.specs.Generator.{draw};
-ghost use Rattle.gic_make.specs.Made.{first_draw, numbered, span, made_zone, made_substation, made_bus, made_transformer, made_line};
+ghost use Rattle.gic_make.specs.MadeCase.{first_draw, numbered, span, made_zone, made_substation, made_bus, made_transformer, made_line};
 
 use crate::generator::draw;
 use gic_base::Name;
-use gic_case::{Bus, Course, Kind, Line, LinePart, Substation, Transformer};
-use gic_scale::{Scaling, Zone};
+use gic_case::{Bus, Course, Kind, Line, LinePart, Scaling, Substation, Transformer, Zone};
 
 /// The draws of a site after the first: two for its substation and its transformer, and four for its line.
 const DRAWS_OF_A_SITE: usize = 6;

@@ -8,3 +8,8 @@ pub mod Stored
 pub mod Runs
 pub mod Conductors
 pub mod Already
+pub mod Marks
+pub mod Members
+pub mod Joined
+pub mod SpreadLemmas
+pub mod Steps

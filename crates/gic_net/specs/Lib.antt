@@ -6,3 +6,5 @@ pub mod Rows
 pub mod OpenSet
 pub mod SwitchingLaws
 pub mod Conductor
+pub mod Scratch
+pub mod Spread

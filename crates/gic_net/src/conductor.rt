@@ -3,7 +3,7 @@ ghost use Rattle.std.specs.Prelude.{◌≡◌, ◌<◌, map, IfOk};
 ghost use Rattle.gic_net.specs.Conductor.{conductor_of};
 
 use gic_base::OutOfMemory;
-use gic_divide::Divisor;
+use gic_fixed::Divisor;
 use gic_model::{Element, Elements};
 use std::alloc::Global;
 

@@ -7,7 +7,7 @@ use crate::row::{Row, number_of};
 use crate::rows::{full_rows, gather_item};
 use gic_base::limits::MOST_AT_A_NODE;
 use gic_base::{ElementId, NodeId, OutOfMemory};
-use gic_divide::Divisor;
+use gic_fixed::Divisor;
 use gic_model::{Element, Elements, Item};
 use std::alloc::Global;
 use std::marker::Model;

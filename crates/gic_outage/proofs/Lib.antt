@@ -1,2 +1,14 @@
 pub mod Outages
 pub mod Planned
+pub mod CountedNear
+pub mod Ended
+pub mod Follows
+pub mod Greatest
+pub mod OutageDetermined
+pub mod OutageWritten
+pub mod PlanNames
+pub mod Raised
+pub mod RightOutages
+pub mod Shown
+pub mod Squared
+pub mod Taken

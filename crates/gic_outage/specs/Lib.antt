@@ -1,4 +1,11 @@
 pub mod Plan
 pub mod Removing
 pub mod NetWithout
-pub mod Laws
+pub mod RemovingLaws
+pub mod Outages
+pub mod RightOutage
+pub mod Follows
+pub mod OutageText
+pub mod Determines
+pub mod Taking
+pub mod Made

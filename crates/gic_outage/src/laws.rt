@@ -1,5 +1,30 @@
-//! What taking an item out and bringing it back does to a network.
-ghost use Rattle.gic_outage.specs.Laws.{IdleWhereNotStanding, OthersStandAsBefore, ComesBack, IsLastRow};
+//! What the text of the mode tells, what follows of a right report, and what taking an item out and bringing it back does
+//! to a network.
+ghost use Rattle.gic_outage.specs.Determines.{TextDeterminesOutage};
+ghost use Rattle.gic_outage.specs.Follows.{GreatestWorstIsEnclosed, GreatestWorstIsNarrow, NoneIsWithoutSolvedOutage, GreatestVerdictIsTrue, WorstVerdictIsTrue, UndecidedAreAtMostNear};
+ghost use Rattle.gic_outage.specs.RemovingLaws.{IdleWhereNotStanding, OthersStandAsBefore, ComesBack, IsLastRow};
+
+use gic_screen::laws::{verdict_law, worst_verdict_law};
+
+/// Texts on one case that are equal show the same width, threshold and field, the same outcomes and the same intervals.
+pub fn text_determines_outage_law()
+    ensures { TextDeterminesOutage }
+{}
+
+/// Over right outages the greatest worst interval of a transformer encloses its greatest worst current, and is no wider
+/// than asked; there is none only where no outage is solved. Of a sound case the verdicts on these intervals are true, as
+/// are those on the worst intervals of each outage, and no more are counted undecided than are near the threshold.
+pub fn right_outages_law()
+    ensures enclosed { GreatestWorstIsEnclosed }
+    ensures narrow { GreatestWorstIsNarrow }
+    ensures none { NoneIsWithoutSolvedOutage }
+    ensures verdicts { GreatestVerdictIsTrue }
+    ensures each_verdict { WorstVerdictIsTrue }
+    ensures undecided_most { UndecidedAreAtMostNear }
+{
+    verdict_law();
+    worst_verdict_law();
+}
 
 /// An item is idle where it has no element or is open. Without an item the others stand as before, which is the network with
 /// that item opened last; and an item that isn't idle leaves no trace when it comes back.

@@ -1,9 +1,17 @@
-//! One item of a network out at a time: the items of a case in turn, taking one out and bringing it back.
+//! The mode `outage`: one item of a network out at a time, and what that does to its transformers.
 #![tactic(auto)]
 
+mod counting;
 pub mod laws;
+mod mode;
+mod outcome;
 mod planning;
+mod raising;
 mod removing;
+mod room;
+mod run;
+mod taking;
+mod text;
 
-pub use planning::plan;
-pub use removing::{Removed, idle, restore, take_out};
+pub use mode::outage;
+pub use room::{Room, make_room};

@@ -23,7 +23,7 @@ fn in_order(alloc: Global, lines: u16, transformers: u16) -> Result<Vec<Item>, O
 }
 
 /// Each line and then each transformer of a case, in the order of the case.
-pub fn plan(alloc: Global, case: &Case) -> Result<Vec<Item>, OutOfMemory>
+pub(crate) fn plan(alloc: Global, case: &Case) -> Result<Vec<Item>, OutOfMemory>
     ensures { IfOk result (λ items. items.items ≡ plan_of case.now) }
 {
     let lines = case.lines().len() as u16;

@@ -47,7 +47,7 @@ fn first_element(net: &Net, item: Item) -> Option<ElementId>
 }
 
 /// Whether no element of the item stands. Takes no memory.
-pub fn idle(net: &Net, item: Item) -> bool
+pub(crate) fn idle(net: &Net, item: Item) -> bool
     ensures { result ≡ is_idle (standing net.now) item }
 {
     match first_element(net, item) {
@@ -57,7 +57,7 @@ pub fn idle(net: &Net, item: Item) -> bool
 }
 
 /// Opens an item that isn't idle. All else is as before, and the other elements stand as they did. Takes no memory.
-pub fn take_out(net: &mut Net, item: Item) -> Removed
+pub(crate) fn take_out(net: &mut Net, item: Item) -> Removed
     requires { IsFalse (is_idle (standing net.old) item) }
     ensures removed { result ≡ item }
     ensures opened { IsFalse (stands net.new item) }
@@ -70,7 +70,7 @@ pub fn take_out(net: &mut Net, item: Item) -> Removed
 
 /// Closes an item that was taken out and is open. All else is as before; where nothing else changed meanwhile, the net is
 /// the one from which it was taken. Takes no memory.
-pub fn restore(net: &mut Net, removed: Removed)
+pub(crate) fn restore(net: &mut Net, removed: Removed)
     requires { IsFalse (stands net.old removed) }
     ensures net { net.new ≡ switched_net net.old removed false }
     ensures undone { (before : NetView) → IsFalse (is_idle (standing before) removed) → net.old ≡ net_without before removed → net.new ≡ before }

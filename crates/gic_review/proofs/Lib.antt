@@ -1,1 +1,17 @@
+pub mod Chained
+pub mod Firsts
+pub mod PartLaws
+pub mod Led
+pub mod Pointed
+pub mod Changed
+pub mod LaidOut
+pub mod UngroundedLemmas
+pub mod Collected
+pub mod Followed
+pub mod PartsLeft
+pub mod Counting
+pub mod PartSizesBy
+pub mod SidesWithin
+pub mod WrittenBack
+pub mod PartsAdded
 pub mod ReviewDetermined

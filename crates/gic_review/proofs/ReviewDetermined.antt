@@ -7,14 +7,14 @@ use Rattle.gic_text.specs.Words.{IsWord, IsLine}
 use Rattle.gic_text.specs.Lines.{lines_text}
 use Rattle.gic_text.proofs.Injective.{lines_injective}
 use Rattle.gic_text.proofs.Words.{word_from_test, word_decimal, word_signed, word_name, signed_decimal_injective_wide}
-use Rattle.gic_findings.specs.declared.finding.Finding.{Finding}
-use Rattle.gic_findings.specs.declared.finding.Finding.TheVariants.{Ungrounded, Part, Closure, Value, Volts, Outside}
-use Rattle.gic_findings.specs.declared.finding.CaseList.{CaseList}
-use Rattle.gic_findings.specs.declared.finding.CaseList.TheVariants as lists
-use Rattle.gic_findings.specs.declared.finding.Side.{Side}
-use Rattle.gic_findings.specs.declared.finding.Side.TheVariants.{High, Low, Third}
-use Rattle.gic_findings.specs.declared.measured.Quantity.{Quantity}
-use Rattle.gic_findings.specs.declared.measured.Quantity.TheVariants as values
+use Rattle.gic_review.specs.declared.findings.finding.Finding.{Finding}
+use Rattle.gic_review.specs.declared.findings.finding.Finding.TheVariants.{Ungrounded, Part, Closure, Value, Volts, Outside}
+use Rattle.gic_review.specs.declared.findings.finding.CaseList.{CaseList}
+use Rattle.gic_review.specs.declared.findings.finding.CaseList.TheVariants as lists
+use Rattle.gic_review.specs.declared.findings.finding.Side.{Side}
+use Rattle.gic_review.specs.declared.findings.finding.Side.TheVariants.{High, Low, Third}
+use Rattle.gic_review.specs.declared.findings.measured.Quantity.{Quantity}
+use Rattle.gic_review.specs.declared.findings.measured.Quantity.TheVariants as values
 use Rattle.gic_report.specs.SharedLines.{Words, word_line}
 use Rattle.gic_report.proofs.WordsDetermined.{word_at, same_long}
 use Rattle.gic_review.specs.FindingText.{list_word, field_word, side_word, finding_line}

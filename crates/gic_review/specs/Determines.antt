@@ -4,8 +4,8 @@ use Rattle.std.specs.Int.{w64}
 use Rattle.std.specs.List.{AllByRecursion}
 use Rattle.gic_base.specs.Name.{is_name}
 use Rattle.gic_text.specs.Lines.{lines_text}
-use Rattle.gic_findings.specs.declared.finding.Finding.{Finding}
-use Rattle.gic_findings.specs.declared.finding.Finding.TheVariants.{Ungrounded, Part, Closure, Value, Volts, Outside}
+use Rattle.gic_review.specs.declared.findings.finding.Finding.{Finding}
+use Rattle.gic_review.specs.declared.findings.finding.Finding.TheVariants.{Ungrounded, Part, Closure, Value, Volts, Outside}
 use Rattle.gic_review.specs.ReviewText.{review_report}
 
 -- a finding with a name and with numbers of 64 bits

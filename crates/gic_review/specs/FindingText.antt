@@ -1,14 +1,14 @@
 -- The lines of findings.
 use Rattle.std.specs.Prelude.{ℕ, List, [], ◌∷◌, codes, decimal}
 use Rattle.std.specs.Fmt.{signed_decimal}
-use Rattle.gic_findings.specs.declared.finding.Finding.{Finding}
-use Rattle.gic_findings.specs.declared.finding.Finding.TheVariants.{Ungrounded, Part, Closure, Value, Volts, Outside}
-use Rattle.gic_findings.specs.declared.finding.CaseList.{CaseList}
-use Rattle.gic_findings.specs.declared.finding.CaseList.TheVariants as lists
-use Rattle.gic_findings.specs.declared.finding.Side.{Side}
-use Rattle.gic_findings.specs.declared.finding.Side.TheVariants.{High, Low, Third}
-use Rattle.gic_findings.specs.declared.measured.Quantity.{Quantity}
-use Rattle.gic_findings.specs.declared.measured.Quantity.TheVariants as values
+use Rattle.gic_review.specs.declared.findings.finding.Finding.{Finding}
+use Rattle.gic_review.specs.declared.findings.finding.Finding.TheVariants.{Ungrounded, Part, Closure, Value, Volts, Outside}
+use Rattle.gic_review.specs.declared.findings.finding.CaseList.{CaseList}
+use Rattle.gic_review.specs.declared.findings.finding.CaseList.TheVariants as lists
+use Rattle.gic_review.specs.declared.findings.finding.Side.{Side}
+use Rattle.gic_review.specs.declared.findings.finding.Side.TheVariants.{High, Low, Third}
+use Rattle.gic_review.specs.declared.findings.measured.Quantity.{Quantity}
+use Rattle.gic_review.specs.declared.findings.measured.Quantity.TheVariants as values
 use Rattle.gic_report.specs.SharedLines.{Words}
 
 -- the word of a list

@@ -1,5 +1,5 @@
 -- What the mode takes memory for.
-use Rattle.gic_findings.specs.Findings.{AreFindingsOf}
+use Rattle.gic_review.specs.Findings.{AreFindingsOf}
 use Rattle.gic_inputs.specs.declared.inputs.Inputs.{Inputs}
 use Rattle.gic_review.specs.declared.room.Room.{Room}
 

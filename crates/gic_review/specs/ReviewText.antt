@@ -1,6 +1,6 @@
 -- The report of what is found in a case.
 use Rattle.std.specs.Prelude.{ℕ, List, [], ◌∷◌, ◌++◌, length, map, codes, decimal}
-use Rattle.gic_findings.specs.declared.finding.Finding.{Finding}
+use Rattle.gic_review.specs.declared.findings.finding.Finding.{Finding}
 use Rattle.gic_report.specs.SharedLines.{Words, word_line}
 use Rattle.gic_review.specs.FindingText.{finding_line}
 

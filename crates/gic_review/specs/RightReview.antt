@@ -1,8 +1,8 @@
 -- What the mode prints.
 use Rattle.std.specs.Prelude.{◌≡◌, ℕ, List}
 use Rattle.gic_text.specs.Lines.{lines_text}
-use Rattle.gic_findings.specs.declared.finding.Finding.{Finding}
-use Rattle.gic_findings.specs.Findings.{AreFindingsOf}
+use Rattle.gic_review.specs.declared.findings.finding.Finding.{Finding}
+use Rattle.gic_review.specs.Findings.{AreFindingsOf}
 use Rattle.gic_review.specs.ReviewText.{review_report}
 use Rattle.gic_inputs.specs.declared.inputs.Inputs.{Inputs}
 

@@ -1,6 +1,7 @@
 //! The mode `review`: what a case says that its writer may not have meant.
 #![tactic(auto)]
 
+mod findings;
 pub mod laws;
 mod mode;
 mod room;

@@ -2,8 +2,8 @@
 ghost use Rattle.std.specs.Prelude.{IfOk};
 ghost use Rattle.gic_review.specs.Made.{IsMadeFor};
 
+use crate::findings::{Finding, findings};
 use gic_base::OutOfMemory;
-use gic_findings::{Finding, findings};
 use gic_inputs::Inputs;
 use gic_text::LineBuilder;
 use std::alloc::Global;

@@ -5,9 +5,9 @@ ghost use Rattle.gic_text.specs.Lines.{with_words, line_text, lines_text};
 ghost use Rattle.gic_review.specs.FindingText.{list_word, field_word, finding_line};
 ghost use Rattle.gic_review.specs.ReviewText.{findings_line, review_report};
 
+use crate::findings::{CaseList, Finding, Quantity};
 use crate::words::{field_word, list_word, side_word};
 use gic_base::{Name, Sink, WriteFailed, write_all};
-use gic_findings::{CaseList, Finding, Quantity};
 use gic_report::write_word;
 use gic_text::LineBuilder;
 

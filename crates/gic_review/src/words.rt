@@ -2,7 +2,7 @@
 ghost use Rattle.std.specs.Prelude.{◌≡◌, ◌≤◌, length};
 ghost use Rattle.gic_review.specs.FindingText.{list_word, field_word, side_word};
 
-use gic_findings::{CaseList, Quantity, Side};
+use crate::findings::{CaseList, Quantity, Side};
 
 /// The word of a list.
 pub(crate) fn list_word(list: CaseList) -> &'static str

@@ -1,12 +1,15 @@
-//! Verdicts on transformers against the threshold of an event, and the worst orientation of a uniform field.
+//! What is asked of a network, verdicts on transformers against the threshold of an event, and the worst orientation of
+//! a uniform field.
 #![tactic(auto)]
 
+mod asked;
 mod criterion;
 mod event;
 mod judge;
 pub mod laws;
 mod orientation;
 
+pub use asked::{Criteria, Question, UniformField};
 pub use criterion::Verdict;
 pub use event::Event;
 pub use judge::verdict;

@@ -2,7 +2,7 @@
 use Rattle.std.specs.Prelude.{ℕ, ◌<◌, List, length, ℤ}
 use Rattle.gic_case.specs.Lists.{Lists}
 use Rattle.gic_model.specs.Sums.{Placed}
-use Rattle.gic_question.specs.declared.asked.Question.{Question}
+use Rattle.gic_screen.specs.declared.asked.Question.{Question}
 use Rattle.gic_screen.specs.Event.{threshold_of}
 use Rattle.gic_screening.specs.RightRows.{IsTrueVerdict}
 use Rattle.gic_screening.specs.Rows.{screen_row_at}

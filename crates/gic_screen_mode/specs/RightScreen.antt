@@ -4,7 +4,7 @@ use Rattle.gic_case.specs.Lists.{Lists}
 use Rattle.gic_model.specs.Sums.{Placed}
 use Rattle.gic_screen.specs.Event.{threshold_of, field_of}
 use Rattle.gic_text.specs.Lines.{lines_text}
-use Rattle.gic_question.specs.declared.asked.Question.{Question}
+use Rattle.gic_screen.specs.declared.asked.Question.{Question}
 use Rattle.gic_inputs.specs.declared.inputs.Inputs.{Inputs}
 use Rattle.gic_stand.specs.Standing.{standing_of}
 use Rattle.gic_uniform.specs.Uniform.{uniform_volts}

@@ -1,6 +1,6 @@
 //! The report of the mode.
 ghost use Rattle.gic_base.specs.Writes.{Writes};
-ghost use Rattle.gic_question.specs.Ranges.{IsWithinRanges};
+ghost use Rattle.gic_screen.specs.Ranges.{IsWithinRanges};
 ghost use Rattle.gic_stand.specs.Needs.{Solved};
 ghost use Rattle.gic_stand.specs.Serves.{Serves, shown};
 ghost use Rattle.gic_stand.specs.Standing.{steps_of};
@@ -12,7 +12,7 @@ use crate::text::write_screen;
 use gic_base::{Sink, WriteFailed};
 use gic_case::Case;
 use gic_inputs::Inputs;
-use gic_question::Question;
+use gic_screen::Question;
 use gic_screening::{ScreenRows, screen_net, setting_of};
 use gic_stand::{ReportFault, ended};
 use gic_text::LineBuilder;

@@ -6,7 +6,7 @@ ghost use Rattle.gic_text.specs.Lines.{line_text};
 ghost use Rattle.gic_screening.specs.Setting.{event_setting_line};
 
 use gic_base::{Sink, WriteFailed, write_all};
-use gic_question::Question;
+use gic_screen::Question;
 use gic_text::LineBuilder;
 
 /// What is asked: the width of intervals in mA, the threshold in mA per phase, and the strength of the field in mV/km.

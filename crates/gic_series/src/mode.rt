@@ -1,7 +1,7 @@
 //! The report of the mode.
 ghost use Rattle.std.specs.Prelude.{◌≡◌, ◌<◌, length};
 ghost use Rattle.gic_base.specs.Writes.{Writes};
-ghost use Rattle.gic_question.specs.Ranges.{IsWithinRanges};
+ghost use Rattle.gic_screen.specs.Ranges.{IsWithinRanges};
 ghost use Rattle.gic_stand.specs.Needs.{Solved};
 ghost use Rattle.gic_stand.specs.Serves.{Serves, shown};
 ghost use Rattle.gic_storm.specs.Steps.{steps_in};

@@ -11,14 +11,14 @@ ghost use Rattle.gic_inputs.specs.Inputs.{rows_in};
 ghost use Rattle.gic_stand.specs.Needs.{Earthed, Solved, Fails};
 
 use crate::fault::NetworkRefusal;
+use crate::finding::find_bound;
+use crate::start::Start;
 use gic_base::OutOfMemory;
 use gic_bound::BoundVector;
 use gic_case::{Case, node_name};
-use gic_island::{Scratch, earthed};
 use gic_model::{Elements, Switching};
-use gic_net::Net;
 use gic_net::laws::net_switching_law;
-use gic_start::{Start, find_bound};
+use gic_net::{Net, Scratch, earthed};
 use gic_switch::Switchings;
 use std::alloc::Global;
 

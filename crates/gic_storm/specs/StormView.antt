@@ -2,7 +2,7 @@
 use Rattle.std.specs.Prelude.{ℕ, ◌≤◌, ◌<◌, List, length, map, All, IfSome}
 use Rattle.std.specs.List.Sorted.{IsNonDecreasingBy}
 use Rattle.gic_base.specs.declared.limits.TheConstants.{MOST_ZONES, MOST_ROWS}
-use Rattle.gic_scale.specs.ZoneView.{ZoneView}
+use Rattle.gic_case.specs.ZoneView.{ZoneView}
 use Rattle.gic_induce.specs.Voltage.{IsFieldWithin}
 use Rattle.gic_storm.specs.declared.row.Row.{Row}
 

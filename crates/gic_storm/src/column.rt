@@ -9,8 +9,8 @@ ghost use Rattle.gic_storm.specs.StormView.{zone_names};
 use crate::form::Form;
 use csv::ByteRecord;
 use gic_base::limits::{MOST_FIELD, MOST_ZONES};
+use gic_case::Zone;
 use gic_records::{is_word, text_at};
-use gic_scale::Zone;
 use gic_text::read_decimal;
 
 /// A part of a field, in mV/km.

@@ -15,8 +15,8 @@ use crate::row::Row;
 use csv::ByteRecord;
 use gic_base::ReadFault;
 use gic_base::limits::{MOST_ROWS, MOST_ZONES};
+use gic_case::Zone;
 use gic_records::{Records, RowReader, read_rows, time_in};
-use gic_scale::Zone;
 use std::alloc::Global;
 
 /// The row that a record is, after a record of the time before.

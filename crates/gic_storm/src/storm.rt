@@ -13,9 +13,8 @@ use crate::row::Row;
 use csv::ByteRecord;
 use gic_base::ReadFault;
 use gic_base::limits::{MOST_ROWS, MOST_ZONES};
-use gic_case::Case;
+use gic_case::{Case, Zone};
 use gic_records::Records;
-use gic_scale::Zone;
 use std::alloc::{AllocError, Global};
 use std::marker::Model;
 

@@ -9,3 +9,4 @@ pub mod Certified
 pub mod Accepting
 pub mod AskedSound
 pub mod AskedStorms
+mod Attached

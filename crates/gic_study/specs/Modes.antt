@@ -8,19 +8,19 @@ use Rattle.gic_stand.specs.Needs.{Need, Nothing, Earthed, Solved}
 use Rattle.gic_stand.specs.Standing.{standing_of, steps_of}
 use Rattle.gic_ask.specs.declared.request.Asked.{Asked}
 use Rattle.gic_ask.specs.declared.request.Asked.TheVariants.{Volts, List as ListAsked, Check, Field, Screen, Certify, Outage, Study, Make, Recheck, Series, Review}
-use Rattle.gic_make.specs.Made.{made_case}
+use Rattle.gic_make.specs.MadeCase.{made_case}
 use Rattle.gic_volts.specs.RightVolts.{IsRightVolts}
 use Rattle.gic_list.specs.RightList.{IsRightList}
 use Rattle.gic_check.specs.RightCheck.{IsRightCheck}
 use Rattle.gic_field.specs.RightField.{IsRightField}
 use Rattle.gic_screen_mode.specs.RightScreen.{IsRightScreen}
 use Rattle.gic_certify.specs.RightCertify.{IsRightCertify}
-use Rattle.gic_outage_mode.specs.RightOutage.{IsRightOutage}
+use Rattle.gic_outage.specs.RightOutage.{IsRightOutage}
 use Rattle.gic_review.specs.RightReview.{IsRightReview}
 use Rattle.gic_recheck.specs.Accepted.{IsRefused}
 use Rattle.gic_recheck.specs.RightRecheck.{IsRightRecheck}
 use Rattle.gic_recheck.specs.declared.fault.CertificateRefusal.{CertificateRefusal}
-use Rattle.gic_make_mode.specs.RightMake.{IsRightMake}
+use Rattle.gic_make.specs.RightMake.{IsRightMake}
 use Rattle.gic_study_mode.specs.RightStudy.{IsRightStudy}
 use Rattle.gic_series.specs.RightSeries.{IsRightSeries}
 use Rattle.gic_course.specs.Steps.{storm_steps}

@@ -1,6 +1,6 @@
 //! The modes.
 ghost use Rattle.std.specs.Prelude.{◌<◌, ◌≤◌, length, map};
-ghost use Rattle.gic_question.specs.Ranges.{IsWithinRanges};
+ghost use Rattle.gic_screen.specs.Ranges.{IsWithinRanges};
 ghost use Rattle.gic_inputs.specs.Inputs.{IsStormOf};
 ghost use Rattle.gic_stand.specs.Serves.{shown};
 ghost use Rattle.gic_ask.specs.Within.{IsAskedWithinRanges};
@@ -16,10 +16,9 @@ use gic_check::check;
 use gic_field::field;
 use gic_inputs::{Inputs, StormInputs};
 use gic_list::list;
-use gic_make::{LEAST_SIZE, MOST_SIZE};
-use gic_make_mode::make;
+use gic_make::{LEAST_SIZE, MOST_SIZE, make};
 use gic_monitor::Monitor;
-use gic_outage_mode::outage;
+use gic_outage::outage;
 use gic_recheck::recheck;
 use gic_review::review;
 use gic_screen_mode::screen;
@@ -92,7 +91,7 @@ fn serve_outage<S: Sink>(alloc: Global, inputs: &Inputs, out: &mut S) -> Result<
     ensures { (plans : Plans) → Concludes plans (Outage inputs.now)
         (shown S.written S.faults out.old) (shown S.written S.faults out.new) result }
 {
-    let mut room = gic_outage_mode::make_room(alloc, inputs)?;
+    let mut room = gic_outage::make_room(alloc, inputs)?;
     reported(outage(inputs, &mut room, out))
 }
 
@@ -129,7 +128,7 @@ fn serve_make<S: Sink>(alloc: Global, seed: u32, size: u16, out: &mut S) -> Resu
     ensures { (plans : Plans) → Concludes plans (Make seed size)
         (shown S.written S.faults out.old) (shown S.written S.faults out.new) result }
 {
-    let mut room = gic_make_mode::make_room(alloc, seed, size)?;
+    let mut room = gic_make::make_room(alloc, seed, size)?;
     reported(make(seed, size, &mut room, out))
 }
 

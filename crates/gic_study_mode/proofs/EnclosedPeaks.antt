@@ -16,8 +16,8 @@ use Rattle.gic_winding.specs.ElementList.{elements_of}
 use Rattle.gic_effective.specs.RightView.{IsRightNode, IsRightElement}
 use Rattle.gic_effective.specs.ViewLengths.{HasViewLengths}
 use Rattle.gic_effective.specs.Weighted.{effective_numerator, effective_denominator}
-use Rattle.gic_peaks.specs.Peaks.{peak_of, shown_at_node, shown_at_element, shown_of_transformer, IsPeaksOf}
-use Rattle.gic_peaks.specs.PeakLaws.{cell_at, AreEnclosed, EnclosesGreatest, PeakEnclosesGreatest, TransformerPeakIsPeak}
+use Rattle.gic_view.specs.Peaks.{peak_of, shown_at_node, shown_at_element, shown_of_transformer, IsPeaksOf}
+use Rattle.gic_view.specs.PeakLaws.{cell_at, AreEnclosed, EnclosesGreatest, PeakEnclosesGreatest, TransformerPeakIsPeak}
 use Rattle.gic_inputs.specs.declared.inputs.StormInputs.{StormInputs}
 use Rattle.gic_course.specs.Steps.{IsStepOf, standing_at_step, storm_volts}
 use Rattle.gic_course.specs.Views.{AreRightViews, view_at}

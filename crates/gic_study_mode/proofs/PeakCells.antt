@@ -10,9 +10,9 @@ use Rattle.gic_view.specs.View.{View, node_at, element_at, effective_at}
 use Rattle.gic_view.specs.Kept.{blank_view}
 use Rattle.gic_effective.specs.Narrow.{IsNoWider, IsNarrowView}
 use Rattle.gic_effective.specs.ViewLengths.{HasViewLengths}
-use Rattle.gic_peaks.specs.Peaks.{peak_of, IsPeaksOf}
+use Rattle.gic_view.specs.Peaks.{peak_of, IsPeaksOf}
 use Rattle.gic_view.specs.Absolute.{absolute_ends}
-use Rattle.gic_peaks.specs.PeakLaws.{IsNoWiderThan, PeakIsNoWider, TransformerPeakIsPeak}
+use Rattle.gic_view.specs.PeakLaws.{IsNoWiderThan, PeakIsNoWider, TransformerPeakIsPeak}
 use Rattle.gic_course.specs.Views.{AreNarrowViews, view_at}
 
 cell_narrow : (width : ℕ) (cell : Option Ends) → IsNoWider width cell → IfSome cell (λ e. IsNoWiderThan width (absolute_ends e))

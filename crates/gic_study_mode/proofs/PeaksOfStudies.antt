@@ -8,8 +8,8 @@ use Rattle.gic_effective.specs.Narrow.{IsNarrowView}
 use Rattle.gic_effective.specs.ViewLengths.{HasViewLengths}
 use Rattle.gic_screen.specs.Event.{threshold_of}
 use Rattle.gic_screen.specs.VerdictLaws.{BelowIsUnder, ReachesIsAtLeast, UndecidedIsAcross}
-use Rattle.gic_peaks.specs.Peaks.{HasLengthsOf, IsPeaksOf}
-use Rattle.gic_peaks.specs.PeakLaws.{PeakEnclosesGreatest, TransformerPeakIsPeak, PeakIsNoWider}
+use Rattle.gic_view.specs.Peaks.{HasLengthsOf, IsPeaksOf}
+use Rattle.gic_view.specs.PeakLaws.{PeakEnclosesGreatest, TransformerPeakIsPeak, PeakIsNoWider}
 use Rattle.gic_course.specs.Views.{AreNarrowViews}
 use Rattle.gic_study_mode.specs.Follows.{PeaksAreNarrow, PeaksEnclose, PeakVerdictsAreTrue}
 use Rattle.gic_study_mode.proofs.EnclosedPeaks.{enclosing}

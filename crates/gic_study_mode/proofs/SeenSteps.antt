@@ -8,7 +8,7 @@ use Rattle.std.proofs.lemmas.List.Elements.{All-nil}
 use Rattle.gic_view.specs.View.{View}
 use Rattle.gic_view.specs.Kept.{blank_view}
 use Rattle.gic_effective.specs.Narrow.{IsNarrowView}
-use Rattle.gic_peaks.specs.Peaks.{IsPeaksOf}
+use Rattle.gic_view.specs.Peaks.{IsPeaksOf}
 use Rattle.gic_inputs.specs.declared.inputs.StormInputs.{StormInputs}
 use Rattle.gic_course.specs.Views.{IsRightStep, view_at}
 use Rattle.gic_uniform.specs.Solving.{IsSmallView}

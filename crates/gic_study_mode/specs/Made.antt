@@ -1,6 +1,6 @@
 -- What a study makes before it looks at any step.
 use Rattle.std.specs.Prelude.{◌≡◌, ℕ, [], Option, option_map}
-use Rattle.gic_peaks.specs.Peaks.{IsPeaksOf}
+use Rattle.gic_view.specs.Peaks.{IsPeaksOf}
 use Rattle.gic_inputs.specs.declared.inputs.StormInputs.{StormInputs}
 use Rattle.gic_course.specs.CourseOf.{IsCourseOf}
 use Rattle.gic_course.specs.Steps.{storm_fields}

@@ -3,7 +3,7 @@ use Rattle.std.specs.Prelude.{◌≡◌, ℕ, ◌-◌, ◌≤◌, ◌==◌, ℤ,
 use Rattle.gic_case.specs.Lists.{Lists}
 use Rattle.gic_view.specs.View.{View}
 use Rattle.gic_effective.specs.ViewLengths.{HasViewLengths}
-use Rattle.gic_peaks.specs.Peaks.{IsPeaksOf}
+use Rattle.gic_view.specs.Peaks.{IsPeaksOf}
 use Rattle.gic_inputs.specs.declared.inputs.StormInputs.{StormInputs}
 use Rattle.gic_course.specs.Views.{IsSolvedStep, AreRightSoFar, AreNarrowViews, AreSmallViews, view_at}
 use Rattle.gic_study_text.specs.StudyText.{DetailView}

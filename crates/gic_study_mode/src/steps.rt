@@ -1,8 +1,8 @@
 //! The steps of a storm, seen one after another.
 ghost use Rattle.std.specs.Prelude.{◌≡◌, [], map, length};
 ghost use Rattle.gic_effective.specs.ViewLengths.{HasViewLengths};
-ghost use Rattle.gic_peaks.specs.Peaks.{IsPeaksOf};
-ghost use Rattle.gic_question.specs.Ranges.{IsWithinRanges};
+ghost use Rattle.gic_view.specs.Peaks.{IsPeaksOf};
+ghost use Rattle.gic_screen.specs.Ranges.{IsWithinRanges};
 ghost use Rattle.gic_storm.specs.Steps.{steps_in};
 ghost use Rattle.gic_course.specs.CourseOf.{CanShow};
 ghost use Rattle.gic_course.specs.Steps.{IsStepOf};
@@ -13,8 +13,7 @@ use crate::views::Views;
 use gic_course::Course;
 use gic_inputs::StormInputs;
 use gic_monitor::{Board, Monitor};
-use gic_peaks::Peaks;
-use gic_view::StepView;
+use gic_view::{Peaks, StepView};
 
 /// Whether the step is the asked one.
 fn is_asked(asked: Option<u32>, number: u32) -> bool

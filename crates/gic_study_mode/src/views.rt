@@ -1,14 +1,13 @@
 //! What a study writes to.
 ghost use Rattle.std.specs.Prelude.{[], IfOk};
-ghost use Rattle.gic_peaks.specs.Peaks.{IsPeaksOf};
+ghost use Rattle.gic_view.specs.Peaks.{IsPeaksOf};
 ghost use Rattle.gic_course.specs.CourseOf.{IsCourseOf};
 ghost use Rattle.gic_study_mode.specs.Seen.{IsRoomForViews};
 
 use gic_base::OutOfMemory;
 use gic_course::Course;
 use gic_inputs::StormInputs;
-use gic_peaks::Peaks;
-use gic_view::StepView;
+use gic_view::{Peaks, StepView};
 use std::alloc::Global;
 
 /// What a study writes to. It is made before any step is looked at.

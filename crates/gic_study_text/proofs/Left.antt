@@ -1,6 +1,6 @@
 -- Zones and monitors that are left.
 use Rattle.std.proofs.Common.{◌≡◌, ◌∙◌, ℕ, ◌+◌, ◌<◌, suc, ℤ, List, ◌∷◌, ◌++◌, map, length, drop, get_or, sym, ap, arith, add-one, drop-cons}
-use Rattle.gic_scale.specs.ZoneView.{ZoneView}
+use Rattle.gic_case.specs.ZoneView.{ZoneView}
 use Rattle.gic_induce.specs.Fields.{field_at, no_field}
 use Rattle.gic_text.specs.Lines.{line_text, lines_text}
 use Rattle.gic_study_text.specs.StudyText.{zone_line, zone_lines, monitor_text, monitor_texts}

@@ -4,7 +4,7 @@ use Rattle.std.specs.Prelude.{codes}
 use Rattle.std.specs.Fmt.{signed_decimal}
 use Rattle.std.specs.List.{AllByRecursion}
 use Rattle.gic_fixed.specs.Ends.{Ends}
-use Rattle.gic_scale.specs.ZoneView.{ZoneView}
+use Rattle.gic_case.specs.ZoneView.{ZoneView}
 use Rattle.gic_text.specs.Words.{IsWord, IsLine}
 use Rattle.gic_text.proofs.Words.{word_from_test}
 use Rattle.gic_case.specs.declared.item.Transformer.{Transformer}

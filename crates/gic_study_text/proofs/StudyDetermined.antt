@@ -4,7 +4,7 @@ use Rattle.std.specs.Prelude.{codes, IfSome}
 use Rattle.std.specs.List.{AllByRecursion}
 use Rattle.std.proofs.lemmas.List.Elements.{recursion_from_All}
 use Rattle.gic_fixed.specs.Ends.{Ends}
-use Rattle.gic_scale.specs.ZoneView.{ZoneView}
+use Rattle.gic_case.specs.ZoneView.{ZoneView}
 use Rattle.gic_view.specs.View.{View}
 use Rattle.gic_text.specs.Lines.{lines_text}
 use Rattle.gic_text.specs.Words.{IsWord, IsLine}

@@ -1,7 +1,7 @@
 -- The report of a study: what is asked, a step in detail if there is one, the peaks over all steps, and the texts of monitors.
 use Rattle.std.specs.Prelude.{ℕ, ◌+◌, ℤ, List, [], ◌∷◌, ◌++◌, length, Option, None, Some, codes, decimal}
 use Rattle.std.specs.Fmt.{signed_decimal}
-use Rattle.gic_scale.specs.ZoneView.{ZoneView}
+use Rattle.gic_case.specs.ZoneView.{ZoneView}
 use Rattle.gic_case.specs.Lists.{Lists, node_names}
 use Rattle.gic_view.specs.View.{View}
 use Rattle.gic_text.specs.Lines.{line_text, lines_text}

@@ -7,10 +7,9 @@ ghost use Rattle.gic_study_text.specs.StudyText.{study_setting_line, detail_step
 ghost use Rattle.gic_study_text.specs.Given.{lent, lent_detail, HasZonesOf, HasZones};
 
 use gic_base::{Name, Sink, WriteFailed, write_all};
-use gic_case::Case;
+use gic_case::{Case, Zone};
 use gic_induce::Fields;
 use gic_report::{write_absolutes, write_nodes, write_rows, write_signed, write_word};
-use gic_scale::Zone;
 use gic_text::LineBuilder;
 use gic_view::StepView;
 

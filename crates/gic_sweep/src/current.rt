@@ -11,8 +11,7 @@ ghost use Rattle.gic_sweep.specs.Guesses.{AreCut};
 
 use crate::driving::{drive, in_grains, micro_paths};
 use gic_base::{ElementId, NodeId};
-use gic_divide::Divisor;
-use gic_fixed::Interval;
+use gic_fixed::{Divisor, Interval};
 use gic_model::{Element, End, Volts};
 
 /// The guess at an end, 0 at earth.

@@ -1,3 +1,5 @@
 pub mod ItemsWithin
 pub mod NamedItems
 pub mod PassLaws
+pub mod InForce
+pub mod Runs

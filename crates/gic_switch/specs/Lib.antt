@@ -4,3 +4,4 @@ pub mod ItemsOf
 pub mod Pass
 pub mod Rules
 pub mod SwitchingsView
+pub mod Epochs

@@ -13,7 +13,7 @@ use crate::text::write_volts;
 use gic_base::{Sink, WriteFailed};
 use gic_case::Case;
 use gic_inputs::Inputs;
-use gic_question::Question;
+use gic_screen::Question;
 use gic_stand::{ReportFault, ended};
 use gic_text::LineBuilder;
 

@@ -15,9 +15,9 @@ use Rattle.gic_words.specs.declared.mode.Mode.{Mode}
 use Rattle.gic_words.specs.declared.mode.Mode.TheVariants as mode
 use Rattle.gic_words.specs.declared.request.Request.{Request}
 use Rattle.gic_words.specs.declared.request.Request.TheVariants as request
-use Rattle.gic_question.specs.Questions.{no_field, usual_criteria}
-use Rattle.gic_question.specs.declared.asked.Criteria.{Criteria}
-use Rattle.gic_question.specs.declared.asked.UniformField.{UniformField}
+use Rattle.gic_screen.specs.Questions.{no_field, usual_criteria}
+use Rattle.gic_screen.specs.declared.asked.Criteria.{Criteria}
+use Rattle.gic_screen.specs.declared.asked.UniformField.{UniformField}
 use Rattle.gic_words.specs.declared.mode.Use.{Use}
 use Rattle.gic_words.specs.declared.mode.Use.TheVariants.{Required, Allowed, Unused}
 use Rattle.gic_words.specs.declared.fault.Usage.{Usage}

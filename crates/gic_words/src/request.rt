@@ -2,7 +2,7 @@
 ghost use Rattle.std.specs.Prelude.{◌≡◌, ◌≤◌, IfOk, IfSome, IsSome, Ok, Some, map, option_map, string_bytes, unsigned_abs};
 ghost use Rattle.clap.specs.Words.{rows_of, found_of};
 ghost use Rattle.gic_base.specs.declared.limits.TheConstants.{MOST_FIELD};
-ghost use Rattle.gic_question.specs.Ranges.{IsWidth, IsWithinCriteria, IsWithinField};
+ghost use Rattle.gic_screen.specs.Ranges.{IsWidth, IsWithinCriteria, IsWithinField};
 ghost use Rattle.gic_words.specs.Accepted.{AreWithinRanges, HasRequiredOf, IsSize};
 ghost use Rattle.gic_words.specs.Command.{given};
 ghost use Rattle.gic_words.specs.Within.{IsWithinOption};
@@ -18,8 +18,7 @@ use crate::name::{FileName, Text};
 use crate::option::Opt;
 use crate::value::{read_event, read_number};
 use clap::ArgMatches;
-use gic_question::{Criteria, UniformField};
-use gic_screen::Event;
+use gic_screen::{Criteria, Event, UniformField};
 use std::alloc::{AllocError, Global};
 
 /// What words ask for: a mode, and what that mode is given. `case`, `storm`, `switch` and `cert` are the names of the files

@@ -1,7 +1,7 @@
 //! The program `gicstudy`: analyses geomagnetically induced currents in a transmission network.
 #![tactic(auto)]
 
-use gic_program::run;
+use gic_study::run;
 use gic_system::{FileLibrary, StreamSink, SystemFiles};
 use std::alloc::Global;
 use std::process::ExitCode;

@@ -1,5 +1,5 @@
 use Rattle.std.proofs.Common.{ap, ◌∙◌}
-use Rattle.gic_island.specs.Scratch.{ScratchView}
+use Rattle.gic_net.specs.Scratch.{ScratchView}
 use Rattle.gic_model.specs.Network.{Network}
 use Rattle.gic_net.specs.Net.{standing}
 use Rattle.gic_stand.proofs.StandingOf.{stands_of_case}

@@ -1,5 +1,5 @@
 use Rattle.std.proofs.Common.{ℕ, ◌-◌, ◌<◌, length, get_or}
-use Rattle.gic_epoch.specs.declared.epoch.Epoch.{Epoch}
+use Rattle.gic_switch.specs.declared.epoch.Epoch.{Epoch}
 use Rattle.gic_course.specs.Epochs.{HasStep}
 use Rattle.gic_course.proofs.epochs.epoch_with.Given as goal
 

@@ -3,7 +3,7 @@ use Rattle.gic_sweep.specs.Sweep.{IsSweep}
 use Rattle.gic_model.specs.Voltages.{number_at}
 use Rattle.gic_model.specs.Guess.{IsSettled}
 use Rattle.gic_net.specs.Net.{standing, stands}
-use Rattle.gic_converge.specs.Near.{AreNearGuesses}
+use Rattle.gic_enclose.specs.Near.{AreNearGuesses}
 use Rattle.gic_enclose.proofs.Turns.{left, room, less, phase_done}
 use Rattle.gic_enclose.proofs.settling.settle.Goals as goal
 

@@ -1,7 +1,7 @@
 use Rattle.std.proofs.Common.{◌≡◌, ℕ, ℤ, ◌+◌, ◌*◌, ◌-◌, ◌^◌, ◌≤◌, length, slice_index}
 use Rattle.gic_model.specs.Voltages.{number_at}
 use Rattle.gic_net.specs.Net.{standing}
-use Rattle.gic_converge.specs.Near.{AreNearGuesses}
+use Rattle.gic_enclose.specs.Near.{AreNearGuesses}
 use Rattle.gic_enclose.proofs.settling.settle.Given as goal
 
 abbrev pub invariant-loop-phase : goal.invariant-loop-phase

@@ -2,9 +2,9 @@ use Rattle.std.proofs.Common.{◌≡◌, ◌∙◌, ap}
 use denote.Param.Object.{read_made}
 use Rattle.gic_monitor.specs.DwellText.{dwell_text}
 use Rattle.gic_monitor.specs.EarthText.{earth_text}
-use Rattle.gic_loss.specs.LossText.{volt_text, table_text}
-use Rattle.gic_loss.specs.declared.volt_loss.VoltLoss.{VoltLoss}
-use Rattle.gic_loss.specs.declared.table_loss.TableLoss.{TableLoss}
+use Rattle.gic_monitor.specs.LossText.{volt_text, table_text}
+use Rattle.gic_monitor.specs.declared.loss.volt_loss.VoltLoss.{VoltLoss}
+use Rattle.gic_monitor.specs.declared.loss.table_loss.TableLoss.{TableLoss}
 use Rattle.gic_loss_study.proofs.Attached.{Plan, attached}
 use Rattle.gic_loss_study.proofs.study.study.Goals as goal
 use Rattle.gic_loss_study.proofs.study.study.OwnLists as own

@@ -1,5 +1,5 @@
 use Rattle.std.proofs.Common.{refl}
-use Rattle.gic_make.specs.Made.{made_case}
+use Rattle.gic_make.specs.MadeCase.{made_case}
 use Rattle.gic_make.proofs.laws.worked_case_law.Goals as goal
 
 pub returns-clause-grounds : goal.returns-clause-grounds

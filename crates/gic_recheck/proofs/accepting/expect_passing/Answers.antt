@@ -2,7 +2,7 @@ use Rattle.std.proofs.Common.{◌≡◌, ℕ, ℤ, length, refl, ap, subst, ◌�
 use Rattle.gic_case.specs.Lists.{node_names}
 use Rattle.gic_cert.specs.Passing.{IsPassing}
 use Rattle.gic_cert.specs.Refusals.{IsFirstRefusal}
-use Rattle.gic_island.proofs.Steps.{live_node}
+use Rattle.gic_net.proofs.Steps.{live_node}
 use Rattle.gic_model.specs.Network.{Network}
 use Rattle.gic_model.specs.Voltages.{number_at}
 use Rattle.gic_net.specs.Net.{standing}

@@ -2,7 +2,7 @@ use Rattle.std.proofs.Common.{refl, subst, sym}
 use Rattle.gic_stand.specs.Needs.{Nothing}
 use Rattle.gic_stand.specs.Standing.{steps_of}
 use Rattle.gic_stand.proofs.Served.{served, met_nothing}
-use Rattle.gic_findings.specs.Findings.{AreFindingsOf}
+use Rattle.gic_review.specs.Findings.{AreFindingsOf}
 use Rattle.gic_review.specs.RightReview.{IsRightReview}
 use Rattle.gic_review.proofs.mode.review.Goals as goal
 

@@ -1,6 +1,6 @@
 use Rattle.std.proofs.Common.{◌+◌, ◌++◌, ◌∙◌, map, drop, rules, ap, sym}
 use Rattle.gic_text.specs.Lines.{line_text, lines_text}
-use Rattle.gic_findings.specs.declared.finding.Finding.{Finding}
+use Rattle.gic_review.specs.declared.findings.finding.Finding.{Finding}
 use Rattle.gic_report.proofs.Framed.{next_line}
 use Rattle.gic_report.proofs.Written.{goes_on, stops}
 use Rattle.gic_review.specs.FindingText.{finding_line}

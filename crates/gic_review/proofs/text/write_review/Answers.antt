@@ -1,7 +1,7 @@
 use Rattle.std.proofs.Common.{◌≡◌, List, ◌++◌, map, length}
 use Rattle.std.specs.Prelude.{codes}
 use Rattle.gic_text.specs.Lines.{line_text, lines_text}
-use Rattle.gic_findings.specs.declared.finding.Finding.{Finding}
+use Rattle.gic_review.specs.declared.findings.finding.Finding.{Finding}
 use Rattle.gic_report.specs.SharedLines.{word_line}
 use Rattle.gic_report.proofs.Chained.{writes_as, writes_then, writes_stop}
 use Rattle.gic_report.proofs.Framed.{headed}

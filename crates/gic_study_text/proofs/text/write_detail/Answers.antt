@@ -1,6 +1,6 @@
 use Rattle.std.proofs.Common.{◌≡◌, ◌++◌, ◌∙◌, ℕ, List, refl, ap, sym}
 use Rattle.gic_case.specs.Lists.{Lists}
-use Rattle.gic_scale.specs.ZoneView.{ZoneView}
+use Rattle.gic_case.specs.ZoneView.{ZoneView}
 use Rattle.gic_text.specs.Lines.{line_text, lines_text}
 use Rattle.gic_text.proofs.Joined.{lines_text-append}
 use Rattle.gic_report.specs.SharedLines.{Words}

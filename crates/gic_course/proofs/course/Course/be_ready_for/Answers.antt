@@ -1,6 +1,6 @@
 use Rattle.std.proofs.Common.{sym, subst, List}
 use Rattle.std.specs.Prelude.{Any}
-use Rattle.gic_epoch.specs.declared.epoch.Epoch.{Epoch}
+use Rattle.gic_switch.specs.declared.epoch.Epoch.{Epoch}
 use Rattle.gic_stand.specs.Standing.{IsSolvable}
 use Rattle.gic_course.specs.Epochs.{HasStep}
 use Rattle.gic_course.proofs.Walked.{has_epoch, listed_epoch}

@@ -1,5 +1,5 @@
 use Rattle.std.proofs.Common.{ap}
-use Rattle.gic_island.specs.Scratch.{ScratchView}
+use Rattle.gic_net.specs.Scratch.{ScratchView}
 use Rattle.gic_stand.proofs.Rooms.{room_for}
 use Rattle.gic_uniform.proofs.workspace.Workspace.new.Goals as goal
 

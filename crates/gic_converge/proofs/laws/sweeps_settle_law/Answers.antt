@@ -1,5 +1,0 @@
-use Rattle.gic_converge.proofs.Near.{sweeps_settle}
-use Rattle.gic_converge.proofs.laws.sweeps_settle_law.Goals as goal
-
-pub returns : goal.returns
-returns c = sweeps_settle

@@ -1,4 +1,0 @@
-use Rattle.gic_examples_parts.proofs.corrections.missed_at_the_bus.Given as goal
-
-abbrev pub ghosts-improved : goal.ghosts-improved
-ghosts-improved a = record { name = a.blank.name; parts = a.blank.parts }

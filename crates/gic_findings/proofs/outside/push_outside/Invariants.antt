@@ -1,8 +1,0 @@
-use Rattle.std.proofs.Common.{◌≡◌, ◌++◌, drop}
-use Rattle.std.specs.List.{flat_map}
-use Rattle.gic_findings.specs.Outside.{outside_told}
-use Rattle.gic_findings.proofs.outside.push_outside.Given as goal
-
--- what is told so far and what is left are all
-abbrev pub invariant-loop-transformer : goal.invariant-loop-transformer
-invariant-loop-transformer l = l.findings.items ++ flat_map outside_told (drop l.transformer-index l.transformers) ≡ l.fn.findings.items ++ flat_map outside_told l.transformers

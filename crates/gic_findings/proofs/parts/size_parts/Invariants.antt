@@ -1,6 +1,0 @@
-use Rattle.gic_findings.specs.PartSizes.{part_size}
-use Rattle.gic_findings.proofs.Changed.{Changed}
-use Rattle.gic_findings.proofs.parts.size_parts.Given as goal
-
-abbrev pub invariant-loop-count : goal.invariant-loop-count
-invariant-loop-count l = Changed part_size 0 l.fn.counts l.counts l.count-index

@@ -1,7 +1,0 @@
-use Rattle.std.proofs.Common.{◌≡◌}
-use Rattle.gic_findings.specs.Places.{start_of}
-use Rattle.gic_findings.proofs.places.start_places.Given as goal
-
--- the places so far
-abbrev pub invariant-loop-group : goal.invariant-loop-group
-invariant-loop-group l = l.places.items ≡ start_of l.group

@@ -1,8 +1,0 @@
-use Rattle.std.proofs.Common.{◌≡◌, ◌++◌, drop}
-use Rattle.std.specs.List.{flat_map}
-use Rattle.gic_findings.specs.Readings.{line_told}
-use Rattle.gic_findings.proofs.reading.push_lines.Given as goal
-
--- what is told so far and what is left are all
-abbrev pub invariant-loop-line : goal.invariant-loop-line
-invariant-loop-line l = l.findings.items ++ flat_map line_told (drop l.line-index l.lines) ≡ l.fn.findings.items ++ flat_map line_told l.lines

@@ -1,2 +1,0 @@
-pub mod Scratch
-pub mod Spread

@@ -1,0 +1,9 @@
+pub mod Products
+pub mod Squares
+pub mod Fields
+pub mod Superposed
+pub mod CommonDenominator
+pub mod ShownUnits
+pub mod NearCounts
+pub mod TrueDwells
+pub mod TrueEarthings

@@ -1,0 +1,5 @@
+pub mod Orientation
+pub mod Losses
+pub mod Printed
+pub mod Dwells
+pub mod Earthings

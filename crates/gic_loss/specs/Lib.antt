@@ -1,3 +1,0 @@
-pub mod LossText
-pub mod Seen
-pub mod Bounds

@@ -1,4 +1,0 @@
-pub mod Solvable
-pub mod Verdicts
-pub mod RightCounts
-pub mod MakeDetermined

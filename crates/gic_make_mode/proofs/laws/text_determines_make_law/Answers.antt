@@ -1,5 +1,0 @@
-use Rattle.gic_make_mode.proofs.MakeDetermined.{report_determined}
-use Rattle.gic_make_mode.proofs.laws.text_determines_make_law.Goals as goal
-
-pub returns : goal.returns
-returns c = report_determined

@@ -1,4 +1,0 @@
-pub mod Products
-pub mod Squares
-pub mod Fields
-pub mod Superposed

@@ -1,5 +1,0 @@
-use Rattle.gic_outage_mode.proofs.OutageDetermined.{report_determined}
-use Rattle.gic_outage_mode.proofs.laws.text_determines_outage_law.Goals as goal
-
-pub returns : goal.returns
-returns c = report_determined

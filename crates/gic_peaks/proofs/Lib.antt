@@ -1,4 +1,0 @@
-pub mod Greater
-pub mod Greatest
-pub mod Seen
-pub mod Written

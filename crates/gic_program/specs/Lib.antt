@@ -1,2 +1,0 @@
-pub mod ProgramPlans
-pub mod ProgramEnds

@@ -1,2 +1,0 @@
-pub mod Alpha
-pub mod ZoneView

@@ -1,6 +1,0 @@
-use Rattle.std.proofs.Common.{◌≤◌}
-use Rattle.gic_start.specs.declared.proposing.TheConstants.{MOST_PARTS}
-use Rattle.gic_start.proofs.proposing.most_parts.Given as goal
-
-abbrev pub invariant-loop-node : goal.invariant-loop-node
-invariant-loop-node l = l.most ≤ MOST_PARTS

@@ -1,0 +1,85 @@
+//! The call that the program makes.
+ghost use Rattle.std.specs.Prelude.{◌≡◌, map, string_bytes, IfOk, IfErr};
+ghost use Rattle.std.specs.IoError.{error_kind};
+ghost use Rattle.gic_study.specs.Answers.{moment};
+ghost use Rattle.gic_study.specs.ProgramEnds.{EndsAtOnce, ProgramEnds, status_without_words};
+
+use crate::study::gicstudy;
+use gic_base::Sink;
+use gic_files::Library;
+use gic_monitor::{DwellMonitor, EarthMonitor, Monitor, VoltLoss};
+use std::alloc::Global;
+use std::io;
+use std::io::ErrorKind;
+
+/// The status where memory is wanting for the words or for the monitors.
+const NO_MEMORY: u8 = 11;
+
+/// The status where a word is no text.
+const NO_TEXT: u8 = 2;
+
+/// The status where the words can't be had: 11 for want of memory, and 2 for a word that is no text.
+pub fn status_without_words(error: &io::Error) -> u8
+    ensures { result ≡ status_without_words (error_kind error.now) }
+{
+    match error.kind() {
+        ErrorKind::OutOfMemory => NO_MEMORY,
+        _ => NO_TEXT,
+    }
+}
+
+/// The top call with the program's monitors.
+fn study<L: Library, S: Sink, E: Sink>(
+    alloc: Global,
+    words: &[String],
+    library: &mut L,
+    out: &mut S,
+    err: &mut E,
+) -> u8
+    ensures { ProgramEnds (map string_bytes words.now) (L.content library.old)
+        (moment L.fetched L.failures S.written S.faults E.written E.faults library.old out.old err.old)
+        (moment L.fetched L.failures S.written S.faults E.written E.faults library.new out.new err.new) result }
+{
+    let (Ok(dwells), Ok(earthings), Ok(losses)) = (
+        Box::new(alloc, DwellMonitor::new(alloc)),
+        Box::new(alloc, EarthMonitor::new(alloc)),
+        Box::new(alloc, VoltLoss::new(alloc, 1)),
+    ) else {
+        return NO_MEMORY;
+    };
+    let mut monitors: Vec<Box<dyn Monitor>> = Vec::new(alloc);
+    let (Ok(()), Ok(()), Ok(())) = (
+        monitors.push(dwells),
+        monitors.push(earthings),
+        monitors.push(losses),
+    ) else {
+        return NO_MEMORY;
+    };
+    gicstudy(alloc, words, library, out, err, monitors)
+}
+
+/// Does what the words ask for, with the monitors of dwells, of earthings, and of losses by volts with scale 1, in this
+/// order, and answers the status with which the program ends, as `gicstudy` of `gic_study` does.
+///
+/// The status is 11 also where memory is wanting for the words or for the monitors, and 2 where a word is no text; then
+/// no file is fetched and nothing is written.
+pub fn run<L: Library, S: Sink, E: Sink>(
+    alloc: Global,
+    words: io::Result<Vec<String>>,
+    library: &mut L,
+    out: &mut S,
+    err: &mut E,
+) -> u8
+    // With words: the status, the output and the line on `err` are those of the top call.
+    ensures ends { IfOk words (λ words. ProgramEnds (map string_bytes words.items) (L.content library.old)
+        (moment L.fetched L.failures S.written S.faults E.written E.faults library.old out.old err.old)
+        (moment L.fetched L.failures S.written S.faults E.written E.faults library.new out.new err.new) result) }
+    ensures no_words { IfErr words (λ error. EndsAtOnce (status_without_words (error_kind error))
+        (moment L.fetched L.failures S.written S.faults E.written E.faults library.old out.old err.old)
+        (moment L.fetched L.failures S.written S.faults E.written E.faults library.new out.new err.new) result) }
+{
+    match words {
+        Ok(words) => study(alloc, &words, library, out, err),
+        Err(error) => status_without_words(&error),
+    }
+}

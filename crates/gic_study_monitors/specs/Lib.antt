@@ -1,4 +1,0 @@
-pub mod Losses
-pub mod Printed
-pub mod Dwells
-pub mod Earthings

@@ -1,0 +1,37 @@
+-- What an output in memory holds after a run, by how the program ended.
+use Rattle.std.proofs.Common.{◌≡◌, ℕ, List, [], Option, Some, Ok, inl, inr, sym, subst, arith}
+use Rattle.std.specs.Io.KnownBytes.{Appends}
+use Rattle.gic_files.specs.Files.{Files}
+use Rattle.gic_ask.specs.Held.{AnswersOfFiles}
+use Rattle.gic_study.specs.Answers.{Call, Moment, Served}
+use Rattle.gic_study.specs.Laws.{StatusesSay}
+use Rattle.gic_study.specs.Modes.{IsRightText}
+use Rattle.gic_study.specs.ProgramEnds.{ProgramEnds}
+use Rattle.gic_study.specs.ProgramPlans.{program_plans}
+use Rattle.gic_unit_tests.specs.Told.{IsReport}
+use Rattle.gic_unit_tests.proofs.FilesAsk.{files_ask}
+
+-- what was added to an empty list is all that it holds
+all_added : (before now : Option (List ℕ)) (added text : List ℕ) → before ≡ Some [] → now ≡ Some text → Appends before now added → added ≡ text
+all_added before now added text start end h =
+    let empty : Appends (Some []) now added = subst (λ (x : Option (List ℕ)). Appends x now added) start h in
+    let whole : Appends (Some []) (Some text) added = subst (λ (x : Option (List ℕ)). Appends (Some []) x added) end empty in
+    sym whole
+
+-- a call of the program over these files
+abbrev call : (words : List (List ℕ)) (files : Files) (before now : Moment) → Call
+call words files before now = record { words = words; files = Some files; plans = program_plans; before = before; now = now }
+
+served : AnswersOfFiles → (words : List (List ℕ)) (files : Files) (before now : Moment) (text : List ℕ) → before.out.bytes ≡ Some [] → now.out.bytes ≡ Some text
+    → Served (call words files before now) (Ok tt) → IsReport words files text
+served law words files before now text start end s = record {
+  asked = s.asked;
+  accepted = files_ask law words files before.fetches now.fetches s.asked s.asks;
+  right = subst (λ (t : List ℕ). IsRightText program_plans s.asked t) (all_added before.out.bytes now.out.bytes s.concludes.text text start end s.concludes.written) s.concludes.right;
+}
+
+pub report : AnswersOfFiles → StatusesSay → (words : List (List ℕ)) (files : Files) (before now : Moment) (status : ℕ) (text : List ℕ)
+    → before.out.bytes ≡ Some [] → now.out.bytes ≡ Some text → ProgramEnds words (Some files) before now status → status ≡ 0 → IsReport words files text
+report law say words files before now status text start end (inl ends) done =
+    served law words files before now text start end ((say (call words files before now) status ends).done done)
+report law say words files before now status text start end (inr at_once) done = absurd (omega (arith, done, at_once.status_is))
