@@ -54,7 +54,7 @@ CHAPTERS = (
     ("The case and its elements", ("gic_case", "gic_inputs", "gic_winding/ElementList", "gic_winding/InForce")),
     ("The voltages of a field", ("gic_induce", "gic_uniform")),
     ("A right view", ("gic_view", "gic_winding/Weights", "gic_effective")),
-    ("The text", ("gic_text", "gic_screen", "gic_report", "gic_field/FieldText")),
+    ("The text", ("gic_text", "gic_criteria", "gic_report", "gic_field/FieldText")),
     ("A right report", ("gic_stand/Standing", "gic_field/RightField")),
     ("How the call ends", ("gic_base", "gic_stand/Needs", "gic_stand/Serves")),
 )
@@ -63,7 +63,7 @@ THE CLAIM
 
 All definitions that the headline of gicstudy says, in the order in which a reader needs them; made by
 `python3 docs/claim.py --write`. docs/DEFINITIONS.md has the words, the units, and a table of the parts with lines and
-minutes; docs/PROMISES.md says in sentences what is claimed, which laws stand beside it, and what is trusted. Imports are left
+minutes; docs/PROMISES.md says in sentences what is claimed, which theorems stand beside it, and what is trusted. Imports are left
 out. Under each definition stands which others of the claim cite it, the first four by name; none cites one that comes later. The types and the constants of the
 code stand in front of the first definition that speaks of them, with the file that declares them. Steps of a storm and
 monitors come in part 3, certificates in part 5.
@@ -97,8 +97,8 @@ aren't told (`None`) both say nothing.
 NOTES = {
     FIRST: (
         "Every claim is of all solutions. That there is one where each live node is earthed, and that any two agree at live nodes",
-        "and in currents, are laws (`solutions_exist_law` of gic_claims, `agreement_law` of gic_exists). What follows of a right",
-        "report is said by laws beside it: of `field` that the absolute intervals hold and are narrow, and that its verdicts are",
+        "and in currents, are theorems (`solutions_exist_law` of gic_claims, `agreement_law` of gic_exists). What follows of a right",
+        "report is said by theorems beside it: of `field` that the absolute intervals hold and are narrow, and that its verdicts are",
         "true (`field_verdicts_law`). In `field` bound vectors are there for status 9 alone: it refuses a network that is earthed,",
         "and so has a solution, but not within 4096.",
         "An accepted case keeps the rules of part 11: no two things of one name, no line whose two buses are one, no transformer",
@@ -113,8 +113,8 @@ NOTES = {
         "A call has an answer: done (status 0), or one fault. Faults of input (2, 3, 5, 6, 7, 10, 12) are told by parts 11 and 12,",
         "8 and 9 are that the network doesn't meet the need of the mode, 4 that the output can't be written (a part of the text was",
         "written, perhaps none or all of it), 13 that a certificate is refused, 11 that memory is wanting. Status 11 is an answer",
-        "to any call: a program that always gave it would satisfy the headline. That others come is said by laws of gic_study",
-        "(`accepted_is_reported_law` and others in PROMISES), and by the contract of each mode's call, which, once the mode's room is",
+        "to any call: a program that always gave it would satisfy the headline. That others come is said by theorems of gic_study",
+        "(`accepted_is_reported_law` and others in PROMISES), and by the contract of each mode's call, which, once the mode's workspace is",
         "made, has no such answer but in `study` for the texts of monitors.",
         "The files and the streams of the system tell no bytes. Of a run over them the headline says only that there are bytes which",
         "the files may have held and for which a right text exists, or which fault there was; that the same code writes this text is",

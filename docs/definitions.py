@@ -4,7 +4,7 @@
     python3 docs/definitions.py [--write]
 
 The index has each file of definitions, `crates/NAME/specs/FILE.antt`, once: first those that the headline leads to,
-numbered in the order in which a reader comes to them who follows what is cited, step by step; then those that laws lead
+numbered in the order in which a reader comes to them who follows what is cited, step by step; then those that theorems lead
 to; then the others. A crate has one row in each of the three. With each file stand the first sentence of its head, and
 where it is cited: in definitions (`specs/`) and in contracts (`src/`); proofs aren't counted.
 
@@ -37,7 +37,7 @@ Made by `python3 docs/definitions.py --write`, which without `--write` checks it
 """
 PARTS = (
     "What the headline leads to, numbered in reading order",
-    "What laws lead to besides",
+    "What theorems lead to besides",
     "What other contracts cite",
 )
 

@@ -4,7 +4,7 @@ use Rattle.std.specs.Prelude.{IfOk, IfErr, IfSome, IsSomeAnd, IsOkAnd, ok_or}
 use Rattle.gic_files.specs.Files.{Files, Fetches, HasFailed}
 use Rattle.gic_case.specs.Lists.{Lists}
 use Rattle.gic_inputs.specs.declared.inputs.Inputs.{Inputs}
-use Rattle.gic_screen.specs.declared.asked.Question.{Question}
+use Rattle.gic_criteria.specs.declared.asked.Question.{Question}
 use Rattle.gic_words.specs.Requests.{request_of}
 use Rattle.gic_words.specs.declared.fault.Usage.{Usage}
 use Rattle.gic_words.specs.declared.request.Request.{Request}

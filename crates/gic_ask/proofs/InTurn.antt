@@ -86,36 +86,36 @@ stops_nowhere named (Err fault) h = subst (λ (at : Option File). IfSome at (End
 -- no name yet
 pub none_fetched : {A : Type 0} (named : List NamedFile) (before : List (List ℕ)) (answer : Result A InputFault) → OnOk answer (named ≡ []) → StopsAt [] answer
     → FetchesInOrder named before before answer
-none_fetched named before answer h none = record { front = []; rest = named; named_are = refl; later = sym (append-nil before); all = h; none_after = none }
+none_fetched named before answer h none = record { prefix = []; rest = named; named_are = refl; later = sym (append-nil before); all = h; none_after = none }
 
 all_fetched : {A : Type 0} (named : List NamedFile) (before now : List (List ℕ)) (answer : Result A InputFault) → now ≡ before ++ names_of named → StopsAt named answer
     → FetchesInOrder named before now answer
-all_fetched named before now answer h none = record { front = named; rest = []; named_are = sym (append-nil named); later = h; all = on_ok answer refl; none_after = none }
+all_fetched named before now answer h none = record { prefix = named; rest = []; named_are = sym (append-nil named); later = h; all = on_ok answer refl; none_after = none }
 
 -- all names, where there is no fault
 all_of : {A : Type 0} (named : List NamedFile) (before now : List (List ℕ)) (a : A) → FetchesInOrder {A = A} named before now (Ok a) → now ≡ before ++ names_of named
-all_of named before now a f = f.later ∙ ap (λ l. before ++ names_of l) (sym (f.named_are ∙ ap (λ l. f.front ++ l) f.all ∙ append-nil f.front))
+all_of named before now a f = f.later ∙ ap (λ l. before ++ names_of l) (sym (f.named_are ∙ ap (λ l. f.prefix ++ l) f.all ∙ append-nil f.prefix))
 
 -- and further ones after them
 in_order : {A B : Type 0} (named more : List NamedFile) (before mid now : List (List ℕ)) (a : A) (answer : Result B InputFault) → FetchesInOrder {A = A} named before mid (Ok a)
     → FetchesInOrder more mid now answer → FetchesInOrder (named ++ more) before now answer
 in_order named more before mid now a answer f g = record {
-  front = named ++ g.front;
+  prefix = named ++ g.prefix;
   rest = g.rest;
-  named_are = ap (λ l. named ++ l) g.named_are ∙ sym (append_assoc named g.front g.rest);
-  later = g.later ∙ ap (λ l. l ++ names_of g.front) (all_of named before mid a f) ∙ append_assoc before (names_of named) (names_of g.front)
-      ∙ ap (λ l. before ++ l) (sym (map-append (λ (f : NamedFile). f.name) named g.front));
+  named_are = ap (λ l. named ++ l) g.named_are ∙ sym (append_assoc named g.prefix g.rest);
+  later = g.later ∙ ap (λ l. l ++ names_of g.prefix) (all_of named before mid a f) ∙ append_assoc before (names_of named) (names_of g.prefix)
+      ∙ ap (λ l. before ++ l) (sym (map-append (λ (f : NamedFile). f.name) named g.prefix));
   all = g.all;
-  none_after = stops_later named g.front answer g.none_after;
+  none_after = stops_later named g.prefix answer g.none_after;
 }
 
 -- up to a fault, whatever would have come after it
 stopped : {A B : Type 0} (named more : List NamedFile) (before now : List (List ℕ)) (fault : InputFault) → FetchesInOrder {A = A} named before now (Err fault)
     → FetchesInOrder {A = B} (named ++ more) before now (Err fault)
 stopped named more before now fault f = record {
-  front = f.front;
+  prefix = f.prefix;
   rest = f.rest ++ more;
-  named_are = ap (λ l. l ++ more) f.named_are ∙ append_assoc f.front f.rest more;
+  named_are = ap (λ l. l ++ more) f.named_are ∙ append_assoc f.prefix f.rest more;
   later = f.later;
   all = tt;
   none_after = f.none_after;
@@ -125,7 +125,7 @@ stopped named more before now fault f = record {
 refused_after : {A B : Type 0} (named more : List NamedFile) (before now : List (List ℕ)) (a : A) (fault : InputFault) → FetchesInOrder {A = A} named before now (Ok a)
     → IfSome (file_of fault) (EndsAt named) → FetchesInOrder {A = B} (named ++ more) before now (Err fault)
 refused_after named more before now a fault f none = record {
-  front = named;
+  prefix = named;
   rest = more;
   named_are = refl;
   later = all_of named before now a f;
@@ -136,7 +136,7 @@ refused_after named more before now a fault f none = record {
 -- a fault of another kind of answer
 pub still : {A B : Type 0} (named : List NamedFile) (before now : List (List ℕ)) (fault : InputFault) → FetchesInOrder {A = A} named before now (Err fault)
     → FetchesInOrder {A = B} named before now (Err fault)
-still named before now fault f = record { front = f.front; rest = f.rest; named_are = f.named_are; later = f.later; all = tt; none_after = f.none_after }
+still named before now fault f = record { prefix = f.prefix; rest = f.rest; named_are = f.named_are; later = f.later; all = tt; none_after = f.none_after }
 
 -- ---- one file that is fetched
 

@@ -14,7 +14,7 @@ use Rattle.gic_switch.specs.Rules.{switchings_of}
 use Rattle.gic_words.specs.Requests.{request_of}
 use Rattle.gic_words.specs.declared.request.Request.{Request}
 use Rattle.gic_words.specs.declared.request.Request.TheVariants as request
-use Rattle.gic_screen.specs.declared.asked.Question.{Question}
+use Rattle.gic_criteria.specs.declared.asked.Question.{Question}
 use Rattle.gic_words.specs.declared.fault.Usage.{Usage}
 use Rattle.gic_ask.specs.Asks.{IsAnswer}
 use Rattle.gic_ask.specs.Contents.{Given, Nothing, Long, Whole, Contents, Names, MayGive, MayHandOut, name_of_file, names_in, of_case}
@@ -149,7 +149,7 @@ same_words : (files : Files) (r : Result Request Usage) (contents : Contents) �
 same_words files (Ok q) contents may = asked_same files q contents may
 same_words files (Err u) contents may = inl refl
 
--- an answer to a file that is lacking is that it can't be read, or want of memory
+-- an answer to a file that is lacking is that it can't be read, or out of memory
 lacking : (o other : Outcome Asked) (f : File) (answer : Result Asked InputFault) → o ≡ Lacks f → IsAnswer o answer
     → ((file : File) → ¬ (answer ≡ Err (CannotRead file))) → IsAnswer other answer
 lacking o other f (Ok inputs) is h read = absurd (grind (arith, sym is ∙ h))

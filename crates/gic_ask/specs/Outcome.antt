@@ -7,9 +7,9 @@ use Rattle.gic_model.specs.declared.parts.Switching.{Switching}
 use Rattle.gic_storm.specs.Rules.{storm_of}
 use Rattle.gic_storm.specs.StormView.{StormView, zone_names}
 use Rattle.gic_switch.specs.Rules.{switchings_of}
-use Rattle.gic_screen.specs.Questions.{no_field, question_of, usual_criteria}
-use Rattle.gic_screen.specs.declared.asked.Criteria.{Criteria}
-use Rattle.gic_screen.specs.declared.asked.Question.{Question}
+use Rattle.gic_criteria.specs.Questions.{no_field, question_of, usual_criteria}
+use Rattle.gic_criteria.specs.declared.asked.Criteria.{Criteria}
+use Rattle.gic_criteria.specs.declared.asked.Question.{Question}
 use Rattle.gic_words.specs.Requests.{request_of}
 use Rattle.gic_words.specs.declared.request.Request.{Request}
 use Rattle.gic_words.specs.declared.request.Request.TheVariants as request

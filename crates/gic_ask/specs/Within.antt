@@ -1,6 +1,6 @@
 -- The ranges of what is asked for.
 use Rattle.std.specs.Prelude.{◌<◌, length}
-use Rattle.gic_screen.specs.Ranges.{IsWithinRanges}
+use Rattle.gic_criteria.specs.Ranges.{IsWithinRanges}
 use Rattle.gic_inputs.specs.Inputs.{IsStormOf}
 use Rattle.gic_words.specs.Accepted.{IsSize}
 use Rattle.gic_ask.specs.declared.request.Asked.{Asked}

@@ -12,8 +12,8 @@ use gic_words::{WordsRefusal, read_words};
 use std::alloc::Global;
 
 /// Reads the words, and then fetches and reads the files that they name, one after another: the case, the storm, the
-/// switchings, and a certificate, which is fetched alone. The first fault is the answer. Want of memory may come in place of
-/// any answer.
+/// switchings, and a certificate, which is fetched alone. The first fault is the answer. Out of memory may come in
+/// place of any answer.
 pub fn ask<L: Library>(
     alloc: Global,
     words: &[String],

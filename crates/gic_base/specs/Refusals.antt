@@ -12,7 +12,7 @@ abbrev pub settle : {A E : Type 0} → List E → A → Result A E
 settle [] x = Ok x
 settle (e ∷ es) x = Err e
 
--- what a reader answered, seen by view, is the right answer; want of memory may come in place of any
+-- what a reader answered, seen by view, is the right answer; out of memory may come in place of any
 abbrev pub AnswersRead : {X Y E : Type 0} → (X → Y) → Result X (ReadFault E) → Result Y E → Type 0
 AnswersRead view (Ok x) right = right ≡ Ok (view x)
 AnswersRead {X} {Y} {E} view (Err fault) right = (e : E) → fault ≡ Refused e → right ≡ Err e

@@ -1,4 +1,4 @@
-//! Names, places, limits, want of memory, and sinks that bytes are written to.
+//! Names, indices, limits, the out-of-memory error, and byte sinks.
 #![tactic(auto)]
 
 mod id;

@@ -1,7 +1,7 @@
-//! Want of memory.
+//! Out of memory.
 use std::alloc::{AllocError, AllocFailed};
 
-/// Want of memory, where nothing else can be refused.
+/// Out of memory, where nothing else can be refused.
 #[derive(Clone, Copy, Debug, PartialEq, Eq)]
 pub struct OutOfMemory;
 

@@ -35,26 +35,26 @@ use Rattle.gic_base_views.specs.BaseRows.{BaseRows, IsCertifiedZone, AreCertifie
 use Rattle.gic_base_views.specs.Superposed.{shown_where, AreFieldsOf, IsSuperposedView}
 
 -- over plain numbers
-nought_part : (z : ℤ) → (int_min (pos 0 *ℤ z) (pos 0 *ℤ z) ≡ pos 0) × (int_max (pos 0 *ℤ z) (pos 0 *ℤ z) ≡ pos 0)
-nought_part z =
+zero_part : (z : ℤ) → (int_min (pos 0 *ℤ z) (pos 0 *ℤ z) ≡ pos 0) × (int_max (pos 0 *ℤ z) (pos 0 *ℤ z) ≡ pos 0)
+zero_part z =
     let none : pos 0 *ℤ z ≡ pos 0 = *ℤ_comm (pos 0) z ∙ *ℤ-zero z in
     (ap₂ int_min none none, ap₂ int_max none none)
 
-sum_below-nought : (f : ℕ → ℤ) (n : ℕ) → ((i : ℕ) → i < n → f i ≡ pos 0) → sum_below f n ≡ pos 0
-sum_below-nought f zero h = refl
-sum_below-nought f (suc n) h = ap₂ (λ x y. x +ℤ y) (sum_below-nought f n (λ i less. h i (omega arith))) (h n (omega arith))
+sum_below-zero : (f : ℕ → ℤ) (n : ℕ) → ((i : ℕ) → i < n → f i ≡ pos 0) → sum_below f n ≡ pos 0
+sum_below-zero f zero h = refl
+sum_below-zero f (suc n) h = ap₂ (λ x y. x +ℤ y) (sum_below-zero f n (λ i less. h i (omega arith))) (h n (omega arith))
 
-zone_nought : (field : ℤ × ℤ) (zone : ZoneEnds) → zone ≡ no_zone_ends → (zone_low field zone ≡ pos 0) × (zone_high field zone ≡ pos 0)
-zone_nought field zone is = (
-  ap (zone_low field) is ∙ ap₂ (λ x y. x +ℤ y) (nought_part field.0).0 (nought_part field.1).0,
-  ap (zone_high field) is ∙ ap₂ (λ x y. x +ℤ y) (nought_part field.0).1 (nought_part field.1).1,
+zone_zero : (field : ℤ × ℤ) (zone : ZoneEnds) → zone ≡ no_zone_ends → (zone_low field zone ≡ pos 0) × (zone_high field zone ≡ pos 0)
+zone_zero field zone is = (
+  ap (zone_low field) is ∙ ap₂ (λ x y. x +ℤ y) (zero_part field.0).0 (zero_part field.1).0,
+  ap (zone_high field) is ∙ ap₂ (λ x y. x +ℤ y) (zero_part field.0).1 (zero_part field.1).1,
 )
 
 -- rows of 0 alone give 0 alone
-superposed_nought : (fields : List (ℤ × ℤ)) (row : List ZoneEnds) → ((zone : ℕ) → zone < length fields → zone_at row zone ≡ no_zone_ends) → superposed fields row ≡ zero_ends
-superposed_nought fields row none =
-    let low = sum_below-nought (λ zone. zone_low (field_at fields zone) (zone_at row zone)) (length fields) (λ zone less. (zone_nought (field_at fields zone) (zone_at row zone) (none zone less)).0) in
-    let high = sum_below-nought (λ zone. zone_high (field_at fields zone) (zone_at row zone)) (length fields) (λ zone less. (zone_nought (field_at fields zone) (zone_at row zone) (none zone less)).1) in
+superposed_zero : (fields : List (ℤ × ℤ)) (row : List ZoneEnds) → ((zone : ℕ) → zone < length fields → zone_at row zone ≡ no_zone_ends) → superposed fields row ≡ zero_ends
+superposed_zero fields row none =
+    let low = sum_below-zero (λ zone. zone_low (field_at fields zone) (zone_at row zone)) (length fields) (λ zone less. (zone_zero (field_at fields zone) (zone_at row zone) (none zone less)).0) in
+    let high = sum_below-zero (λ zone. zone_high (field_at fields zone) (zone_at row zone)) (length fields) (λ zone less. (zone_zero (field_at fields zone) (zone_at row zone) (none zone less)).1) in
     ap₂ (λ (l h : ℤ). record { low = floor_div l (pos 20000000000); high = ceil_div h (pos 20000000000) }) low high
 
 module _ (case : Lists) (stands : Item → Bool) (fields : List (ℤ × ℤ)) (rows : BaseRows) (view : View) (width : ℕ)
@@ -112,7 +112,7 @@ module _ (case : Lists) (stands : Item → Bool) (fields : List (ℤ × ℤ)) (r
         let same : 1000000 * (3 * (transformer_at case t).high_volts) * s.denominator ≡ effective_denominator case t s = omega arith in
         subst (λ (m : ℕ). Encloses (superposed fields (rows.effective t)).low (superposed fields (rows.effective t)).high (effective_numerator case s t) m) same
         (held (λ s. effective_numerator case s t) (3 * (transformer_at case t).high_volts) (rows.effective t) (weighted_linear standing (weighted_windings case t)) (λ zone within. ((certified zone within).effective t less).certified) s solves);
-    nought = λ none. superposed_nought fields (rows.effective t) (λ zone within. ((certified zone (within_zones zone within)).effective t less).nought none);
+    zeroed = λ none. superposed_zero fields (rows.effective t) (λ zone within. ((certified zone (within_zones zone within)).effective t less).zeroed none);
   }
 
   pub right_view : IsRightView case standing volts view

@@ -11,8 +11,8 @@ use Rattle.gic_model.specs.Voltages.{number_at}
 use Rattle.gic_net.specs.Net.{NetView, standing}
 use Rattle.gic_winding.specs.ElementList.{elements_of}
 use Rattle.gic_effective.specs.Holds.{AreOfNetwork, HoldsSolutions}
-use Rattle.gic_base_views.specs.declared.room.BaseField.{BaseField}
-use Rattle.gic_base_views.specs.declared.room.BaseRoom.{BaseRoom}
+use Rattle.gic_base_views.specs.declared.workspace.BaseField.{BaseField}
+use Rattle.gic_base_views.specs.declared.workspace.BaseWorkspace.{BaseWorkspace}
 use Rattle.gic_base_views.specs.Table.{IsTableOf}
 use Rattle.gic_enclose.specs.Certain.{AreTight}
 
@@ -35,8 +35,8 @@ pub record IsSolvedBase (case : Lists) (standing : List Placed) (zone : ℕ) (fi
   pub induced : base.volts ≡ volts_of case (lone_field (length case.zones) zone field) (elements_of case).list
   pub solved : IsSolvedIn (elements_of case) standing base
 
--- both base fields have room for the elements and nodes of the case, and the table is one of the case
-pub record IsBaseRoomFor (case : Lists) (room : BaseRoom) : Type 0 where
-  pub north : AreOfNetwork (elements_of case) room.north.volts room.north.potentials
-  pub east : AreOfNetwork (elements_of case) room.east.volts room.east.potentials
-  pub table : IsTableOf case room.table
+-- both base fields have space for the elements and nodes of the case, and the table is one of the case
+pub record IsBaseWorkspaceFor (case : Lists) (workspace : BaseWorkspace) : Type 0 where
+  pub north : AreOfNetwork (elements_of case) workspace.north.volts workspace.north.potentials
+  pub east : AreOfNetwork (elements_of case) workspace.east.volts workspace.east.potentials
+  pub table : IsTableOf case workspace.table

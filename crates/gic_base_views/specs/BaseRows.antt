@@ -18,7 +18,7 @@ pub record BaseRows : Type 0 where
   pub elements : ℕ → List ZoneEnds
   pub effective : ℕ → List ZoneEnds
 
--- two intervals, one to the north and one to the east, are narrow and hold the quantity, over so many times the denominator, in every solution for these voltages
+-- two intervals, one to the north and one to the east, are narrow and hold the quantity, over n times the denominator, in every solution for these voltages
 pub record IsCertifiedPair (standing : List Placed) (north east : ℕ → ℤ) (quantity : Solution → ℤ) (over : ℕ) (pair : ZoneEnds) : Type 0 where
   pub holds : HoldsInZone standing north east quantity over pair
   pub narrow : IsNarrowZone pair
@@ -31,7 +31,7 @@ IsCertifiedZone case standing quantity over zone row =
 -- the two intervals of a transformer are certified for the voltages of two base fields, and are 0 alone where no winding that stands has a weight
 pub record IsCertifiedEffective (case : Lists) (standing : List Placed) (north east : ℕ → ℤ) (t : ℕ) (pair : ZoneEnds) : Type 0 where
   pub certified : IsCertifiedPair standing north east (λ s. effective_numerator case s t) (3 * (transformer_at case t).high_volts) pair
-  pub nought : HasNoEffect case standing t → pair ≡ no_zone_ends
+  pub zeroed : HasNoEffect case standing t → pair ≡ no_zone_ends
 
 -- of one zone: the intervals are certified where something shows: live nodes, standing elements, and all transformers
 pub record IsCertifiedIn (case : Lists) (standing : List Placed) (rows : BaseRows) (zone : ℕ) : Type 0 where

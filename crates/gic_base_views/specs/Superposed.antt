@@ -1,4 +1,4 @@
--- Views of superposed intervals, and what the law says of them.
+-- Views of superposed intervals, and what the theorem says of them.
 use Rattle.std.specs.Prelude.{ℕ, ◌≡◌, ◌≤◌, ◌<◌, Bool, Option, None, Some, List, All, length, ℤ, if◌then◌else◌}
 use Rattle.gic_base.specs.declared.limits.TheConstants.{MOST_ZONES}
 use Rattle.gic_case.specs.Lists.{Lists, node_names}

@@ -5,12 +5,12 @@ ghost use Rattle.gic_enclose.specs.declared.solving.TheConstants.{MOST_TICKS};
 ghost use Rattle.gic_net.specs.Net.{standing};
 ghost use Rattle.gic_winding.specs.ElementList.{elements_of};
 ghost use Rattle.gic_base_views.specs.BaseRows.{IsCertifiedIn, AreCertifiedRows};
-ghost use Rattle.gic_base_views.specs.BaseFields.{CanSolveBases, IsSolvedBase, IsBaseRoomFor};
+ghost use Rattle.gic_base_views.specs.BaseFields.{CanSolveBases, IsSolvedBase, IsBaseWorkspaceFor};
 ghost use Rattle.gic_base_views.specs.Table.{base_rows_of, IsTableOf, IsSameElsewhere};
 
-use crate::room::{BaseField, BaseRoom};
 use crate::solving::solve_base;
 use crate::table::BaseTable;
+use crate::workspace::{BaseField, BaseWorkspace};
 use crate::writing::{write_effective, write_elements, write_nodes};
 use gic_base::limits::MOST_FIELD;
 use gic_bound::BoundVector;
@@ -51,16 +51,16 @@ fn prepare_zone<L: Ledger>(
     zone: u16,
     fields: &mut Fields,
     solver: &mut Solver,
-    room: &mut BaseRoom,
+    workspace: &mut BaseWorkspace,
     steps: &mut Steps<L>,
 )
     requires zone { zone < length case.now.zones }
     requires can { CanSolveBases case.now net.now bound.now fields.old solver.old }
-    requires room { IsBaseRoomFor case.now room.old }
-    ensures certified { IsCertifiedIn case.now (standing net.now) (base_rows_of room.new.table) zone }
-    ensures others { IsSameElsewhere zone room.old.table room.new.table }
+    requires workspace { IsBaseWorkspaceFor case.now workspace.old }
+    ensures certified { IsCertifiedIn case.now (standing net.now) (base_rows_of workspace.new.table) zone }
+    ensures others { IsSameElsewhere zone workspace.old.table workspace.new.table }
     ensures can { CanSolveBases case.now net.now bound.now fields.new solver.new }
-    ensures room { IsBaseRoomFor case.now room.new }
+    ensures workspace { IsBaseWorkspaceFor case.now workspace.new }
     ensures ticks { steps.new ≤ steps.old + 2 * MOST_TICKS }
 {
     let to_north = (MOST_FIELD as i32, 0);
@@ -73,7 +73,7 @@ fn prepare_zone<L: Ledger>(
         to_north,
         fields,
         solver,
-        &mut room.north,
+        &mut workspace.north,
         steps,
     );
     solve_base(
@@ -84,10 +84,17 @@ fn prepare_zone<L: Ledger>(
         to_east,
         fields,
         solver,
-        &mut room.east,
+        &mut workspace.east,
         steps,
     );
-    certify_zone(case, net, zone, &room.north, &room.east, &mut room.table);
+    certify_zone(
+        case,
+        net,
+        zone,
+        &workspace.north,
+        &workspace.east,
+        &mut workspace.table,
+    );
 }
 
 /// Solves the two base fields of each zone of the case in the net that stands, 20000 mV/km to the north or to the east in
@@ -101,18 +108,18 @@ pub fn prepare_bases<L: Ledger>(
     bound: &BoundVector,
     fields: &mut Fields,
     solver: &mut Solver,
-    room: &mut BaseRoom,
+    workspace: &mut BaseWorkspace,
     steps: &mut Steps<L>,
 )
     requires can { CanSolveBases case.now net.now bound.now fields.old solver.old }
-    requires room { IsBaseRoomFor case.now room.old }
-    ensures certified { AreCertifiedRows case.now (standing net.now) (base_rows_of room.new.table) }
+    requires workspace { IsBaseWorkspaceFor case.now workspace.old }
+    ensures certified { AreCertifiedRows case.now (standing net.now) (base_rows_of workspace.new.table) }
     ensures can { CanSolveBases case.now net.now bound.now fields.new solver.new }
-    ensures room { IsBaseRoomFor case.now room.new }
+    ensures workspace { IsBaseWorkspaceFor case.now workspace.new }
     ensures ticks { steps.new ≤ steps.old + length case.now.zones * (2 * MOST_TICKS) }
 {
     for zone in 0..fields.zones() {
-        prepare_zone(case, net, bound, zone, fields, solver, room, steps);
+        prepare_zone(case, net, bound, zone, fields, solver, workspace, steps);
     }
-    room.table.choose_numbers();
+    workspace.table.choose_numbers();
 }

@@ -25,7 +25,7 @@ use gic_net::Net;
 use gic_winding::effective_weights;
 
 /// The current of an element in nanoamperes, 0 where it doesn't stand.
-fn current_or_nought(
+fn current_or_zero(
     net: &Net,
     volts: &Volts,
     potentials: &Potentials,
@@ -47,7 +47,7 @@ fn current_or_nought(
 }
 
 /// The current of a winding in nanoamperes. One that is open, or isn't there, counts as 0.
-fn winding_or_nought(
+fn winding_or_zero(
     net: &Net,
     volts: &Volts,
     potentials: &Potentials,
@@ -60,7 +60,7 @@ fn winding_or_nought(
     ensures tight { AreTight potentials.now → IsAtMostWide 400 result.lo result.hi }
 {
     match winding {
-        Some((element, _)) => current_or_nought(net, volts, potentials, element),
+        Some((element, _)) => current_or_zero(net, volts, potentials, element),
         None => Interval::point(0),
     }
 }
@@ -79,15 +79,15 @@ pub fn base_effective(
     requires place { transformer < length case.now.transformers }
     ensures holds { HoldsSolutions (standing net.now) (number_at volts.now) potentials.now →
         HoldsQuantity (standing net.now) (number_at volts.now) (λ s. effective_numerator case.now s transformer) (3 * (transformer_at case.now transformer).high_volts) (ends_of result) }
-    ensures nought { HasNoEffect case.now (standing net.now) transformer → ends_of result ≡ zero_ends }
+    ensures zeroed { HasNoEffect case.now (standing net.now) transformer → ends_of result ≡ zero_ends }
     ensures narrow { AreTight potentials.now → IsNarrowBase (ends_of result) }
     ensures small { IsWithin most_base result.lo result.hi }
 {
     // Brings that the transformer's row is sound.
     let _row = &case.transformers()[transformer as usize];
     let weights = effective_weights(case, net.list(), transformer);
-    let first = winding_or_nought(net, volts, potentials, weights.first);
-    let second = winding_or_nought(net, volts, potentials, weights.second);
-    let third = winding_or_nought(net, volts, potentials, weights.third);
+    let first = winding_or_zero(net, volts, potentials, weights.first);
+    let second = winding_or_zero(net, volts, potentials, weights.second);
+    let third = winding_or_zero(net, volts, potentials, weights.third);
     effective_na(&weights, first, second, third)
 }

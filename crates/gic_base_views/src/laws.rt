@@ -1,5 +1,5 @@
-//! Laws over the definitions, each the contract of a function that does nothing: a function whose proof rests on a
-//! law calls it.
+//! Theorems over the definitions, each the contract of a function that does nothing: a function whose proof rests on a
+//! theorem calls it.
 ghost use Rattle.gic_base_views.specs.Superposed.{SuperposedViewsAreRight};
 
 /// What certifies the view of a step: where the rows of all base fields are certified for the network that stands, and

@@ -1,19 +1,19 @@
-//! Views whose intervals are superposed from those in base fields.
+//! Superposition of base fields: certified responses to unit fields, combined for each step of a storm.
 #![tactic(auto)]
 
 mod certifying;
 mod effective;
 mod intervals;
 pub mod laws;
-mod room;
 mod showing;
 mod solving;
 mod table;
+mod workspace;
 mod writing;
 
 pub use certifying::prepare_bases;
 pub use effective::base_effective;
 pub use intervals::{base_current, base_potential};
-pub use room::{BaseField, BaseRoom};
 pub use showing::fill_superposed;
 pub use table::BaseTable;
+pub use workspace::{BaseField, BaseWorkspace};

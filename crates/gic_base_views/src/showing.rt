@@ -38,7 +38,7 @@ pub fn fill_superposed(
     requires net { net.now.network ≡ elements_of case.now }
     requires table { IsTableOf case.now table.now }
     requires zones { length fields.now ≡ length case.now.zones }
-    requires room { HasViewLengths case.now out.old }
+    requires space { HasViewLengths case.now out.old }
     ensures view { IsSuperposedView case.now (standing net.now) fields.now (base_rows_of table.now) out.new }
     ensures small { (t : ℕ) → t < length out.new.effective → IsWithin (2 ^ 113) (effective_at out.new t).low (effective_at out.new t).high }
     ensures stays { IsSameStep out.old out.new }
@@ -81,7 +81,7 @@ fn element_interval(
 
 fn fill_nodes(net: &Net, fields: &Fields, rows: &PairRows, out: &mut StepView)
     requires rows { AreRowsOf net.now.network.nodes (length fields.now) rows.now }
-    requires room { length out.old.nodes ≡ net.now.network.nodes }
+    requires space { length out.old.nodes ≡ net.now.network.nodes }
     ensures shown { (k : ℕ) → k < length out.new.nodes →
         node_at out.new k ≡ shown_where (is_live (standing net.now) k) (superposed fields.now (row_at rows.now k)) }
     ensures rest { out.new ≡ record out.old { nodes = out.new.nodes } }
@@ -95,7 +95,7 @@ fn fill_nodes(net: &Net, fields: &Fields, rows: &PairRows, out: &mut StepView)
 
 fn fill_elements(net: &Net, fields: &Fields, rows: &PairRows, out: &mut StepView)
     requires rows { AreRowsOf (length net.now.network.list) (length fields.now) rows.now }
-    requires room { length out.old.elements ≡ length net.now.network.list }
+    requires space { length out.old.elements ≡ length net.now.network.list }
     ensures shown { (place : ℕ) → place < length out.new.elements →
         element_at out.new place ≡ shown_where (is_standing (standing net.now) place) (superposed fields.now (row_at rows.now place)) }
     ensures rest { out.new ≡ record out.old { elements = out.new.elements } }

@@ -8,7 +8,7 @@ ghost use Rattle.gic_winding.specs.ElementList.{elements_of};
 ghost use Rattle.gic_effective.specs.Holds.{AreOfNetwork};
 ghost use Rattle.gic_base_views.specs.BaseFields.{CanSolveBases, IsSolvedBase};
 
-use crate::room::BaseField;
+use crate::workspace::BaseField;
 use gic_bound::BoundVector;
 use gic_case::Case;
 use gic_effective::laws::line_items_law;
@@ -56,7 +56,7 @@ pub(crate) fn solve_base<L: Ledger>(
     requires zone { zone < length case.now.zones }
     requires field { IsField field }
     requires can { CanSolveBases case.now net.now bound.now fields.old solver.old }
-    requires room { AreOfNetwork (elements_of case.now) out.old.volts out.old.potentials }
+    requires space { AreOfNetwork (elements_of case.now) out.old.volts out.old.potentials }
     ensures solved { IsSolvedBase case.now (standing net.now) zone field out.new }
     ensures can { CanSolveBases case.now net.now bound.now fields.new solver.new }
     ensures ticks { steps.new ≤ steps.old + MOST_TICKS }

@@ -13,7 +13,7 @@ ghost use Rattle.gic_base_views.specs.Table.{OthersStay};
 
 use crate::effective::base_effective;
 use crate::intervals::{base_current, base_potential};
-use crate::room::BaseField;
+use crate::workspace::BaseField;
 use gic_base::{ElementId, NodeId};
 use gic_case::Case;
 use gic_fixed::Interval;

@@ -51,7 +51,7 @@ module _ (standing : List Placed) where
 
   pub alone_held : (v : ℕ → ℕ) → IsInRange standing v → IsHeldAlone standing v → IsSunk standing 1 v v
   alone_held v range alone = record {
-    itself = record { from_low = lowered_below 1 v range; to_cap = λ k. omega arith; rows = λ k live room. absurd (omega (arith, room)) };
+    itself = record { from_low = lowered_below 1 v range; to_cap = λ k. omega arith; rows = λ k live space. absurd (omega (arith, space)) };
     least = λ other held k. omega (arith, alone other held k);
   }
 
@@ -118,7 +118,7 @@ module _ (standing : List Placed) where
         live_above_0 = in_range.live_above_0;
         capped = in_range.capped;
         dead_0 = in_range.dead_0;
-        rows = λ k live room. let e = is k in let f = entry_live (λ j. 4097) k live in held.rows k live (omega (arith, e, f, room));
+        rows = λ k live space. let e = is k in let f = entry_live (λ j. 4097) k live in held.rows k live (omega (arith, e, f, space));
       }
 
   pub below_full : (v : ℕ → ℕ) → IsInRange standing v → IsNotAbove v (entries_where_live standing (λ j. 4097))
@@ -145,7 +145,7 @@ module _ (standing : List Placed) where
           (λ live. let f = entry_live (λ j. 4097) k live in let a = capped.capped k in omega (arith, e, f, a))
           (λ dead. let a = capped.dead_0 k dead in omega (arith, a))
           (live_or_dead standing k);
-      rows = λ k live room. let e = is k in let f = entry_live (λ j. 4097) k live in capped.rows k live (omega (arith, e, f, room));
+      rows = λ k live space. let e = is k in let f = entry_live (λ j. 4097) k live in capped.rows k live (omega (arith, e, f, space));
     });
   }
 
@@ -182,7 +182,7 @@ module _ (nodes : ℕ) (standing : List Placed) (within : AllByRecursion (λ p. 
   below_held : (low cap v other : ℕ → ℕ) (k : ℕ) → IsUnderHeld standing low cap v → IsTooSmall standing cap v k → IsHeld standing low cap other → v k < other k
   below_held low cap v other k under small held =
       ⊎_elim (λ less. less)
-      (λ same. absurd (small.row (row_from v other k (under.under other held) same (held.rows k small.live (omega (arith, same, small.room))))))
+      (λ same. absurd (small.row (row_from v other k (under.under other held) same (held.rows k small.live (omega (arith, same, small.space))))))
       (cases_lt (v k) (other k))
 
   -- an entry that is too small is raised
@@ -193,7 +193,7 @@ module _ (nodes : ℕ) (standing : List Placed) (within : AllByRecursion (λ p. 
         (λ away. omega (arith, away.1, before))
         (raised j);
     to_cap = λ j. ⊎_elim
-        (λ here. let same = ap cap here.0 in omega (arith, here.1, same, small.room))
+        (λ here. let same = ap cap here.0 in omega (arith, here.1, same, small.space))
         (λ away. let before = under.to_cap j in omega (arith, away.1, before))
         (raised j);
     under = λ other held j. ⊎_elim
@@ -208,7 +208,7 @@ module _ (nodes : ℕ) (standing : List Placed) (within : AllByRecursion (λ p. 
     itself = record {
       from_low = under.from_low;
       to_cap = under.to_cap;
-      rows = λ k live room. enough k (live_within nodes standing k within live) live room;
+      rows = λ k live space. enough k (live_within nodes standing k within live) live space;
     };
     least = under.under;
   }
@@ -234,10 +234,10 @@ module _ (nodes : ℕ) (standing : List Placed) (within : AllByRecursion (λ p. 
   shifted_held low cap u d most to_cap capped below = record {
     from_low = λ k. let a = to_cap k in let b = below k in omega arith;
     to_cap = λ k. omega arith;
-    rows = λ k live room.
+    rows = λ k live space.
         let few = most k in
-        let holds = capped.rows k live (omega (arith, room, few)) in
-        let order = parts_le_by d (λ m. min (u m + d) (cap m)) u k (elements_at standing k) (ohms_at_node nodes standing k within) (λ m. omega arith) (omega (arith, room)) in
+        let holds = capped.rows k live (omega (arith, space, few)) in
+        let order = parts_le_by d (λ m. min (u m + d) (cap m)) u k (elements_at standing k) (ohms_at_node nodes standing k within) (λ m. omega arith) (omega (arith, space)) in
         omega (arith, ints, holds, order);
   }
 
@@ -257,7 +257,7 @@ module _ (nodes : ℕ) (standing : List Placed) (within : AllByRecursion (λ p. 
       ⊎_elim
       (λ less. at_node same (omega (arith, less, e, f)))
       (λ more.
-      let holds = capped.rows k small.live (omega (arith, more, small.room)) in
+      let holds = capped.rows k small.live (omega (arith, more, small.space)) in
       let order = parts_le_by d v u k (elements_at standing k) (ohms_at_node nodes standing k within) below more in
       absurd (small.row (omega (arith, ints, holds, order))))
       (cases_lt (v k) (u k + d)))
@@ -281,9 +281,9 @@ module _ (nodes : ℕ) (standing : List Placed) (within : AllByRecursion (λ p. 
     live_above_0 = λ k live. let a = range.live_above_0 k live in let h = held.from_low k in omega (arith, a, h);
     capped = λ k. let a = held.to_cap k in let b = capped.capped k in omega (arith, a, b);
     dead_0 = λ k dead. let a = held.to_cap k in let b = capped.dead_0 k dead in omega (arith, a, b);
-    rows = λ k live room. ⊎_elim
+    rows = λ k live space. ⊎_elim
         (λ less. held.rows k live less)
-        (λ same. row_from w v k held.to_cap same (capped.rows k live (let a = held.to_cap k in omega (arith, a, same, room))))
+        (λ same. row_from w v k held.to_cap same (capped.rows k live (let a = held.to_cap k in omega (arith, a, same, space))))
         (cases_lt (w k) (v k));
   }
 
@@ -324,10 +324,10 @@ module _ (nodes : ℕ) (standing : List Placed) (within : AllByRecursion (λ p. 
   pub sunk_least : (step : ℕ) (v : ℕ → ℕ) → 1 ≤ step → IsCappedVector standing v → IsSunk standing step v v → IsLeastCappedVector standing v
   sunk_least step v some capped sunk = (alone_least v capped).0 (sunk_alone standing step v some sunk)
 
-  -- ---- raising ends, since each raise takes one off the room
+  -- ---- raising ends, since each raise takes one off the space that is left
 
   module _ (low cap : ℕ → ℕ) (few : (k : ℕ) → cap k ≤ 4097) where
-    climb : (room : ℕ) (vs : List ℕ) → length vs ≡ nodes → IsUnderHeld standing low cap (slice_index vs) → nodes * 4097 ≤ sum vs + room → (v : ℕ → ℕ) × IsLeastHeld standing low cap v
+    climb : (space : ℕ) (vs : List ℕ) → length vs ≡ nodes → IsUnderHeld standing low cap (slice_index vs) → nodes * 4097 ≤ sum vs + space → (v : ℕ → ℕ) × IsLeastHeld standing low cap v
     climb zero vs count under h =
         ⊎_elim
         (λ enough. (slice_index vs, least_held low cap (slice_index vs) under enough))
@@ -337,10 +337,10 @@ module _ (nodes : ℕ) (standing : List Placed) (within : AllByRecursion (λ p. 
         let same : length (set vs small.0 (slice_index vs small.0 + 1)) * 4097 ≡ nodes * 4097 = ap (λ n. n * 4097) (up_held_count low cap vs count under small.0 small.1) in
         absurd (omega (arith, most, same, up_held_sum low cap vs count under small.0 small.1, h)))
         (look standing cap (slice_index vs) nodes)
-    climb (suc room) vs count under h =
+    climb (suc space) vs count under h =
         ⊎_elim
         (λ enough. (slice_index vs, least_held low cap (slice_index vs) under enough))
-        (λ small. climb room (set vs small.0 (slice_index vs small.0 + 1)) (up_held_count low cap vs count under small.0 small.1) (up_held low cap vs count under small.0 small.1) (omega (arith, up_held_sum low cap vs count under small.0 small.1, h)))
+        (λ small. climb space (set vs small.0 (slice_index vs small.0 + 1)) (up_held_count low cap vs count under small.0 small.1) (up_held low cap vs count under small.0 small.1) (omega (arith, up_held_sum low cap vs count under small.0 small.1, h)))
         (look standing cap (slice_index vs) nodes)
 
   first_entries : List ℕ

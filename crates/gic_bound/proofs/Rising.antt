@@ -59,10 +59,10 @@ decide : (standing : List Placed) (cap v : ℕ → ℕ) (k : ℕ) → IsEnough s
 decide standing cap v k =
     ⊎_elim
     (λ live. ⊎_elim
-    (λ room. by_lt_z (sum_of (row_part v k) (elements_at standing k)) (pos 0)
-    (λ fails. inr (record { live = live; room = room; row = λ holds. omega (arith, ints, fails, holds) }))
+    (λ space. by_lt_z (sum_of (row_part v k) (elements_at standing k)) (pos 0)
+    (λ fails. inr (record { live = live; space = space; row = λ holds. omega (arith, ints, fails, holds) }))
     (λ holds. inl (λ _ _. holds)))
-    (λ full. inl (λ _ room. absurd (omega (arith, full, room))))
+    (λ full. inl (λ _ space. absurd (omega (arith, full, space))))
     (cases_lt (v k) (cap k)))
     (λ dead. inl (λ live. absurd (no_way (sym dead ∙ live))))
     (live_or_dead standing k)

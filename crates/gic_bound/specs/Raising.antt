@@ -15,5 +15,5 @@ pub record IsUnderCapped (standing : List Placed) (v : ℕ → ℕ) : Type 0 whe
 -- the entry at the node k is too small: the node is live, the entry is below the cap, and the row rule fails
 pub record IsTooSmall (standing : List Placed) (cap v : ℕ → ℕ) (k : ℕ) : Type 0 where
   pub live : IsLive standing k
-  pub room : v k < cap k
+  pub space : v k < cap k
   pub row : ¬ (MeetsRowRule standing v k)

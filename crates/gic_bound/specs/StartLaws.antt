@@ -1,4 +1,4 @@
--- What the laws of starts say.
+-- What the theorems of starts say.
 use Rattle.std.specs.Prelude.{ℕ, ◌+◌, ◌==◌, ◌↔◌, Bool, if◌then◌else◌}
 use Rattle.gic_base.specs.declared.limits.TheConstants.{FULL_WALK}
 use Rattle.gic_model.specs.declared.parts.Item.{Item}

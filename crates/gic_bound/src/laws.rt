@@ -1,5 +1,5 @@
-//! Laws over the definitions, each the contract of a function that does nothing: a function whose proof rests on a
-//! law calls it.
+//! Theorems over the definitions, each the contract of a function that does nothing: a function whose proof rests on a
+//! theorem calls it.
 ghost use Rattle.gic_bound.specs.Laws.{LeastCappedVectorExists, NoFullEntryIsEarthed, NoFullEntryIsBound, FullEntryIsBelowAll};
 ghost use Rattle.gic_bound.specs.StartLaws.{RaisesKeepShifts, ShiftsLeadUnder, HeldAloneIsUnder, HeldAloneIsLeast, HeldIsCapped};
 ghost use Rattle.gic_bound.specs.Shares.{IsCaseNetwork};
@@ -47,7 +47,7 @@ pub fn second_share_law()
     ensures entries { ShareEntriesAreBound }
 {}
 
-/// The loop worked by hand meets what the share laws ask: it is a case network of two substations, with shares of an
+/// The loop worked by hand meets what the share theorems ask: it is a case network of two substations, with shares of an
 /// eleventh and a half; and with everything open but its earthings it is earthed everywhere.
 pub fn worked_shares_law()
     ensures case { IsCaseNetwork 2 loop }

@@ -1,4 +1,5 @@
-//! Bound vectors: how far each node can lie from earth, and the least vector that tells it.
+//! Bound vectors: positive vectors that certify the conductance matrix as an M-matrix and bound the error of guesses by
+//! their residuals; and the least of them.
 #![tactic(auto)]
 
 mod cap;
@@ -6,12 +7,12 @@ mod estimate;
 pub mod laws;
 mod lifting;
 mod raising;
-mod room;
 mod row;
 mod starting;
 mod vector;
+mod workspace;
 
 pub use raising::{Unresolved, bound, bound_from, some_bound};
-pub use room::Room;
 pub use row::meets_row_rule;
 pub use vector::BoundVector;
+pub use workspace::Workspace;

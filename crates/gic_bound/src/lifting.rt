@@ -20,8 +20,8 @@ use gic_net::Net;
 const LOOKS: u32 = 8;
 
 /// Raises entries that are too small until none below the cap is. Entries that are at the cap stay, whether they are too
-/// small or not. The neighbours of a raised node are looked at next, as far as there is room for those that wait: room
-/// for as many as there are nodes serves where little has to be raised, and no room where much has.
+/// small or not. The neighbours of a raised node are looked at next, as far as there is space for those that wait: space
+/// for as many as there are nodes serves where little has to be raised, and none where much has.
 pub fn raise_under(net: &Net, cap: &Cap, out: &mut BoundVector, waiting: &mut [u16])
     requires cap { IsCapFor net.now.network.nodes cap.now }
     requires nodes { length out.old ≡ net.now.network.nodes }
@@ -59,7 +59,7 @@ pub fn raise_all(net: &Net, cap: &Cap, out: &mut BoundVector, waiting: &mut [u16
 }
 
 /// Raises entries that are too small round a node that was raised, and round those that this raises, as far as there is
-/// room for nodes that wait and looks are left. Answers how many are left then.
+/// space for nodes that wait and looks are left. Answers how many are left then.
 fn follow(
     net: &Net,
     cap: &Cap,
@@ -121,7 +121,7 @@ fn raise_if_small(net: &Net, cap: &Cap, out: &mut BoundVector, node: NodeId) -> 
 /// Raises the entry at a node by 1.
 fn raise(vector: &mut BoundVector, node: NodeId)
     requires node { node.0 < length vector.old }
-    requires room { slice_index vector.old node.0 < FULL_WALK }
+    requires space { slice_index vector.old node.0 < FULL_WALK }
     ensures { vector.new ≡ slice_set vector.old node.0 (slice_index vector.old node.0 + 1) }
 {
     let entry = vector.entry(node);
@@ -171,7 +171,7 @@ fn keeps_full(net: &Net, cap: &Cap)
     }
 }
 
-/// Lets a node and its neighbours wait, as far as there is room behind those that do, and answers how many wait then.
+/// Lets a node and its neighbours wait, as far as there is space behind those that do, and answers how many wait then.
 fn wait_round(net: &Net, node: NodeId, waiting: &mut [u16], count: usize) -> usize
     requires node { node.0 < net.now.network.nodes }
     requires count { count ≤ length waiting.old }
@@ -185,7 +185,7 @@ fn wait_round(net: &Net, node: NodeId, waiting: &mut [u16], count: usize) -> usi
     wait(node.0, waiting, many)
 }
 
-/// Lets a node wait, if there is room.
+/// Lets a node wait, if there is space.
 fn wait(node: u16, waiting: &mut [u16], count: usize) -> usize
     requires { count ≤ length waiting.old }
     ensures { result ≤ length waiting.new }

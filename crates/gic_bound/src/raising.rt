@@ -9,9 +9,9 @@ ghost use Rattle.gic_bound.specs.Starting.{AreForNodes};
 use crate::cap::Cap;
 use crate::laws::least_capped_vector_law;
 use crate::lifting::{raise_all, raise_under};
-use crate::room::Room;
 use crate::starting::{begin, is_held_alone, lower, sinks_to_itself};
 use crate::vector::BoundVector;
+use crate::workspace::Workspace;
 use gic_base::NodeId;
 use gic_base::limits::{FULL_WALK, MOST_WALK};
 use gic_net::Net;
@@ -51,11 +51,15 @@ pub fn bound(net: &Net, out: &mut BoundVector) -> Result<(), Unresolved>
 }
 
 /// As [`bound`], with what the vector was before as a proposal: the nearer that is to the least capped vector, the less
-/// there is to do. Where it doesn't serve, raising begins at 1, as in [`bound`]. The vector and the room are for as many
-/// nodes as the net has.
-pub fn bound_from(net: &Net, out: &mut BoundVector, room: &mut Room) -> Result<(), Unresolved>
+/// there is to do. Where it doesn't serve, raising begins at 1, as in [`bound`]. The vector and the workspace are for
+/// as many nodes as the net has.
+pub fn bound_from(
+    net: &Net,
+    out: &mut BoundVector,
+    workspace: &mut Workspace,
+) -> Result<(), Unresolved>
     requires nodes { length out.old ≡ net.now.network.nodes }
-    requires room { room.old ≡ net.now.network.nodes }
+    requires workspace { workspace.old ≡ net.now.network.nodes }
     ensures least { IsLeastCappedVector (standing net.now) (slice_index out.new) }
     ensures earthed { IsOk result ↔ IsEarthedWithin (standing net.now) MOST_WALK }
     ensures bound { OnOk result (IsBoundWithin (standing net.now) MOST_WALK (slice_index out.new)) }
@@ -65,18 +69,28 @@ pub fn bound_from(net: &Net, out: &mut BoundVector, room: &mut Room) -> Result<(
     ensures first { IfErr result (λ refusal. (k : ℕ) → k < refusal.node.0 → slice_index out.new k ≤ MOST_WALK) }
 
     ensures same_length { length out.new ≡ length out.old }
-    ensures same_room { room.new ≡ room.old }
+    ensures same_workspace { workspace.new ≡ workspace.old }
 {
-    raise_proposed(net, out, &mut room.vector, room.waiting.as_mut_slice());
+    raise_proposed(
+        net,
+        out,
+        &mut workspace.vector,
+        workspace.waiting.as_mut_slice(),
+    );
     told(net, out)
 }
 
 /// Makes the vector a bound vector of the net without an entry above [`MOST_WALK`], where there is one, by raising what
-/// it was; else the least capped vector. Where what it was doesn't serve, raising begins at 1, as in [`bound`], and where
-/// it holds nothing of use, [`bound`] is the better call. The vector and the room are for as many nodes as the net has.
-pub fn some_bound(net: &Net, out: &mut BoundVector, room: &mut Room) -> Result<(), Unresolved>
+/// it was; else the least capped vector. Where what it was doesn't serve, raising begins at 1, as in [`bound`], and
+/// where it holds nothing of use, [`bound`] is the better call. The vector and the workspace are for as many nodes as
+/// the net has.
+pub fn some_bound(
+    net: &Net,
+    out: &mut BoundVector,
+    workspace: &mut Workspace,
+) -> Result<(), Unresolved>
     requires nodes { length out.old ≡ net.now.network.nodes }
-    requires room { room.old ≡ net.now.network.nodes }
+    requires workspace { workspace.old ≡ net.now.network.nodes }
     ensures earthed { IsOk result ↔ IsEarthedWithin (standing net.now) MOST_WALK }
     ensures bound { OnOk result (IsBoundWithin (standing net.now) MOST_WALK (slice_index out.new)) }
 
@@ -86,18 +100,23 @@ pub fn some_bound(net: &Net, out: &mut BoundVector, room: &mut Room) -> Result<(
     ensures first { IfErr result (λ refusal. (k : ℕ) → k < refusal.node.0 → slice_index out.new k ≤ MOST_WALK) }
 
     ensures same_length { length out.new ≡ length out.old }
-    ensures same_room { room.new ≡ room.old }
+    ensures same_workspace { workspace.new ≡ workspace.old }
 {
-    raise_to_capped(net, out, room.waiting.as_mut_slice());
+    raise_to_capped(net, out, workspace.waiting.as_mut_slice());
     if is_below_full(net, out) {
         return Ok(());
     }
-    sink(net, out, &mut room.vector, room.waiting.as_mut_slice());
+    sink(
+        net,
+        out,
+        &mut workspace.vector,
+        workspace.waiting.as_mut_slice(),
+    );
     told(net, out)
 }
 
 /// Makes a capped vector the least one, by sinking it; where [`MOST_SINKINGS`] times don't get there, raising begins at 1.
-/// The other vector is room.
+/// The other vector is workspace.
 fn sink(net: &Net, out: &mut BoundVector, other: &mut BoundVector, waiting: &mut [u16])
     requires nodes { AreForNodes net.now.network.nodes out.old other.old }
     requires capped { IsCappedVector (standing net.now) (slice_index out.old) }
@@ -117,7 +136,7 @@ fn sink(net: &Net, out: &mut BoundVector, other: &mut BoundVector, waiting: &mut
 }
 
 /// Makes a vector of any entries the least capped one: it sinks by 1 until it is one to start from, and then it is raised.
-/// Where it isn't one in [`MOST_SINKINGS`] tests, raising begins at 1. The other vector is room.
+/// Where it isn't one in [`MOST_SINKINGS`] tests, raising begins at 1. The other vector is workspace.
 fn raise_proposed(net: &Net, out: &mut BoundVector, other: &mut BoundVector, waiting: &mut [u16])
     requires { AreForNodes net.now.network.nodes out.old other.old }
     ensures least { IsLeastCappedVector (standing net.now) (slice_index out.new) }

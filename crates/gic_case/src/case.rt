@@ -2,14 +2,14 @@
 ghost use Rattle.std.specs.Prelude.{◌≡◌};
 
 use crate::item::{Bus, Line, Substation, Transformer};
-use crate::network::Network;
+use crate::network::CaseLists;
 use crate::zone::Zone;
 use std::marker::Model;
 
 /// The zones, substations, buses, lines and transformers of a network, which keep all rules.
 #[derive(Drop)]
 pub struct Case {
-    network: Network,
+    network: CaseLists,
 }
 
 impl Model for Case {
@@ -27,7 +27,7 @@ impl Case {
     ghost use Rattle.gic_case.specs.Sound.{IsSound, lists_with};
 
     /// The lists.
-    pub(crate) fn network(&self) -> &Network
+    pub(crate) fn network(&self) -> &CaseLists
         ensures value { result.now ≡ self.now }
         ensures sound { IsSound self.now }
     {
@@ -82,7 +82,7 @@ impl Case {
     }
 
     /// The case of these lists, which keep all rules.
-    pub fn of(network: Network) -> Case
+    pub fn of(network: CaseLists) -> Case
         requires { IsSound network }
         ensures { result ≡ network }
     {
@@ -104,7 +104,7 @@ impl Case {
         ensures { result ≡ lists_with zones.items substations.items buses.items lines.items transformers.items }
     {
         Case {
-            network: Network {
+            network: CaseLists {
                 zones,
                 substations,
                 buses,

@@ -1,5 +1,5 @@
-//! The case: the lists of a network that keep all rules, the names of its nodes, ground grids and neutral nodes, and how
-//! strong a field is in each of its zones.
+//! The data model of a case: zones with the scaling of their geoelectric field (alpha, beta), substations, buses, lines
+//! and transformers, validated.
 #![tactic(auto)]
 
 mod alpha;
@@ -19,7 +19,7 @@ mod zone;
 pub use case::Case;
 pub use course::Course;
 pub use item::{Bus, Kind, Line, Neutral, Substation, Third, Transformer};
-pub use network::Network;
+pub use network::CaseLists;
 pub use neutral::{grid_of, ground_grid, neutrals, substation_at};
 pub use node::{NodeNames, node_count, node_name};
 pub use part::LinePart;

@@ -5,7 +5,7 @@ use crate::zone::Zone;
 use std::marker::Model;
 
 /// The lists of a case whose ends, voltages and degrees are still to be looked at.
-pub struct Network {
+pub struct CaseLists {
     pub zones: Vec<Zone>,
     pub substations: Vec<Substation>,
     pub buses: Vec<Bus>,
@@ -13,7 +13,7 @@ pub struct Network {
     pub transformers: Vec<Transformer>,
 }
 
-impl Model for Network {
+impl Model for CaseLists {
     ghost use Rattle.std.specs.Prelude.{◌≤◌, length};
     ghost use Rattle.gic_base.specs.declared.limits.TheConstants.{MOST_SUBSTATIONS, MOST_BUSES, MOST_LINES, MOST_TRANSFORMERS};
     ghost use Rattle.gic_case.specs.Lists.{Lists};
@@ -25,10 +25,10 @@ impl Model for Network {
     ghost invariant = { λ n. (length n.substations.items ≤ MOST_SUBSTATIONS) × (length n.buses.items ≤ MOST_BUSES) × (length n.lines.items ≤ MOST_LINES) × (length n.transformers.items ≤ MOST_TRANSFORMERS) };
 }
 
-impl Drop for Network {
+impl Drop for CaseLists {
     /// Lets go of everything, in one step for whoever drops it.
     fn drop(self) {
-        let Network {
+        let CaseLists {
             zones: _zones,
             substations: _substations,
             buses: _buses,

@@ -5,7 +5,7 @@ ghost use Rattle.gic_case.specs.Lists.{substation_at, grid_of, neutrals_of};
 
 use crate::case::Case;
 use crate::item::{Bus, Transformer};
-use crate::network::Network;
+use crate::network::CaseLists;
 use gic_base::limits::MOST_TRANSFORMERS;
 use gic_base::{NodeId, OutOfMemory};
 use std::alloc::{AllocError, Global};
@@ -62,7 +62,7 @@ fn neutral_of(buses: &[Bus], own: u16, transformer: &Transformer) -> u16
     }
 }
 
-impl Network {
+impl CaseLists {
     /// Each transformer with the node of its neutral.
     pub fn neutrals(&self, alloc: Global) -> Result<Vec<(u16, Transformer)>, AllocError>
         ensures { IfOk result (λ v. v.items ≡ neutrals_of self.now) }

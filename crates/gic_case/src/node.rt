@@ -7,7 +7,7 @@ ghost use Rattle.gic_case.specs.NodeNames.{names_left};
 
 use crate::case::Case;
 use crate::item::{Bus, Substation, Transformer};
-use crate::network::Network;
+use crate::network::CaseLists;
 use gic_base::{Name, NodeId};
 
 /// How many nodes a case has: its substations, its buses, and the transformers that have a neutral device.
@@ -37,7 +37,7 @@ fn device_count(transformers: &[Transformer]) -> usize
         .count()
 }
 
-impl Network {
+impl CaseLists {
     /// How many nodes there are.
     pub fn node_count(&self) -> u16
         ensures { result ≡ length (node_names self.now) }

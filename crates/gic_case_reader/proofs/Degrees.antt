@@ -21,7 +21,7 @@ use Rattle.gic_case.specs.declared.item.Neutral.{Neutral}
 use Rattle.gic_case.specs.declared.item.Neutral.TheVariants as devices
 use Rattle.gic_case.specs.declared.item.Transformer.{Transformer}
 
--- among so many ends there are at most so many at a node
+-- among n ends there are at most n at a node
 pub degree_most : (ends : List ℕ) (i k : ℕ) → i < length ends → degree_of (take i ends) k ≤ i
 degree_most ends i k within =
     let short : length (take i ends) ≡ i = length-take-le i ends (omega arith) in

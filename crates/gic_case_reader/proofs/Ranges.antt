@@ -15,7 +15,7 @@ use Rattle.gic_case.specs.ZoneView.{IsZone}
 use Rattle.gic_case_reader.specs.declared.refusal.CaseRefusal.{CaseRefusal}
 use Rattle.gic_case_reader.specs.Keys.{key_of, is_among, has, has_only, has_all, fits}
 use Rattle.gic_case.specs.Names.{same}
-use Rattle.gic_case_reader.specs.Values.{whole_within, natural_within, near_nought, span_within, read_name, value_at}
+use Rattle.gic_case_reader.specs.Values.{whole_within, natural_within, near_zero, span_within, read_name, value_at}
 use Rattle.gic_case_reader.specs.Rows.{members_in, breaks_keys, breaks_value, breaks_optional, ohm_within, metres_within, device_in, read_neutral, earth_zone_fields, scaled_zone_fields, is_scaled, breaks_earth_zone, breaks_scaled_zone, breaks_zone, earth_zone_of, scaled_zone_of, zone_of, breaks_substation, substation_of, bus_fields, breaks_bus, bus_of}
 use Rattle.gic_case_reader.specs.Lines.{plain_line_fields, parted_line_fields, is_parted, parts_in, north_way, east_way, are_parts, read_parts, breaks_plain_line, breaks_parted_line, breaks_line, plain_line_of, parted_line_of, line_of}
 use Rattle.gic_case.specs.Sound.{IsResistance, IsRated, IsSoundDevice}
@@ -73,7 +73,7 @@ if_near limit z true h = few_of (unsigned_abs z) limit h
 -- and a span within its own
 span_holds : (limit : ℕ) (at : Field) (ms : Members) → IfSome (value_at (span_within limit) at ms) (λ x. unsigned_abs x ≤ limit)
 span_holds limit at ms =
-    then_holds _ (span_within limit) (λ d. then_holds _ (near_nought limit) (λ z. if_near limit z (nat_le (unsigned_abs z) limit) refl) (as_integer d)) (get_member (key_of at) ms)
+    then_holds _ (span_within limit) (λ d. then_holds _ (near_zero limit) (λ z. if_near limit z (nat_le (unsigned_abs z) limit) refl) (as_integer d)) (get_member (key_of at) ms)
 
 natural_taken : (low high : ℕ) (list : Part) (row : ℕ) (at : Field) (ms : Members) → breaks_value (natural_within low high) list row at ms ≡ []
     → (low ≤ unwrap_or (value_at (natural_within low high) at ms) 0) × (unwrap_or (value_at (natural_within low high) at ms) 0 ≤ high)

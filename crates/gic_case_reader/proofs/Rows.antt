@@ -8,18 +8,18 @@ use Rattle.gic_case_reader.specs.Rules.{Written, written_names}
 use Rattle.gic_case_reader.specs.declared.refusal.CaseRefusal.{CaseRefusal}
 
 -- what was read, behind these rows
-abbrev pub with_front : {A : Type 0} → List A → Result (List A) CaseRefusal → Result (List A) CaseRefusal
-with_front front (Ok xs) = Ok (front ++ xs)
-with_front front (Err e) = Err e
+abbrev pub with_prefix : {A : Type 0} → List A → Result (List A) CaseRefusal → Result (List A) CaseRefusal
+with_prefix prefix (Ok xs) = Ok (prefix ++ xs)
+with_prefix prefix (Err e) = Err e
 
 -- the values behind these, where there are any
 abbrev pub behind : {A : Type 0} → List A → Option (List A) → Option (List A)
-behind front None = None
-behind front (Some xs) = Some (front ++ xs)
+behind prefix None = None
+behind prefix (Some xs) = Some (prefix ++ xs)
 
-pub behind_more : {A : Type 0} (front : List A) (x : A) (o : Option (List A)) → behind (front ++ x ∷ []) o ≡ behind front (option_map (λ xs. x ∷ xs) o)
-behind_more front x None = refl
-behind_more front x (Some xs) = ap (λ ys. Some ys) (append_assoc front (x ∷ []) xs)
+pub behind_more : {A : Type 0} (prefix : List A) (x : A) (o : Option (List A)) → behind (prefix ++ x ∷ []) o ≡ behind prefix (option_map (λ xs. x ∷ xs) o)
+behind_more prefix x None = refl
+behind_more prefix x (Some xs) = ap (λ ys. Some ys) (append_assoc prefix (x ∷ []) xs)
 
 pub count_length : (vs : List Value) → count_of (items_view vs) ≡ length vs
 count_length [] = refl

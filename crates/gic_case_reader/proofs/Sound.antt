@@ -166,11 +166,11 @@ all_hold test (x ∷ xs) h =
     (both.0, all_hold test xs both.1)
 
 -- a fact of each two of the others, and of the first beside each of them
-pairs_in_front : {X : Type 0} (R : X → X → Type 0) (x : X) (xs : List X) → All (R x) xs → AllPairs R xs → AllPairs R (x ∷ xs)
-pairs_in_front R x xs first rest zero zero d before within = absurd (omega arith)
-pairs_in_front R x xs first rest zero (suc j) d before within = first j d (omega arith)
-pairs_in_front R x xs first rest (suc i) zero d before within = absurd (omega arith)
-pairs_in_front R x xs first rest (suc i) (suc j) d before within = rest i j d (omega arith) (omega arith)
+pairs_in_prefix : {X : Type 0} (R : X → X → Type 0) (x : X) (xs : List X) → All (R x) xs → AllPairs R xs → AllPairs R (x ∷ xs)
+pairs_in_prefix R x xs first rest zero zero d before within = absurd (omega arith)
+pairs_in_prefix R x xs first rest zero (suc j) d before within = first j d (omega arith)
+pairs_in_prefix R x xs first rest (suc i) zero d before within = absurd (omega arith)
+pairs_in_prefix R x xs first rest (suc i) (suc j) d before within = rest i j d (omega arith) (omega arith)
 
 abbrev HaveTwoBuses : Winding → Winding → Type 0
 HaveTwoBuses v w = v.from.bus ≢ w.from.bus
@@ -180,7 +180,7 @@ differ_by [] h = λ i j d before within. absurd (omega arith)
 differ_by (w ∷ ws) h =
     let both = and_parts (list_all (λ v. not (w.from.bus == v.from.bus)) ws) (sides_differ ws) h in
     let others = weaker (λ v. not (w.from.bus == v.from.bus) ≡ true) (HaveTwoBuses w) (λ v apart. unequal w.from.bus v.from.bus apart) ws (all_hold (λ v. not (w.from.bus == v.from.bus)) ws both.0) in
-    pairs_in_front HaveTwoBuses w ws (All-from_recursion (HaveTwoBuses w) ws others) (differ_by ws both.1)
+    pairs_in_prefix HaveTwoBuses w ws (All-from_recursion (HaveTwoBuses w) ws others) (differ_by ws both.1)
 
 -- windings that are all at one place
 at_one_place : (place : Winding → ℕ) (n : ℕ) (ws : List Winding) → AllByRecursion (λ w. n ≡ place w) ws → AllPairs (λ v w. place v ≡ place w) ws

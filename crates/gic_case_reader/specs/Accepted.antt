@@ -1,4 +1,4 @@
--- What the law says of cases that are accepted.
+-- What the theorem says of cases that are accepted.
 use Rattle.std.specs.Prelude.{◌≡◌, ℕ, List, Ok}
 use Rattle.gic_case.specs.Lists.{Lists}
 use Rattle.gic_case.specs.Sound.{IsSound}

@@ -221,7 +221,7 @@ abbrev pub rows_from : {A : Type 0} → (ℕ → Data → Result A CaseRefusal) 
 rows_from read row no_items = Ok []
 rows_from read row (item d ds) = read row d >>= (λ x. rows_from read (row + 1) ds >>= (λ xs. Ok (x ∷ xs)))
 
--- a list with at most so many rows
+-- a list with at most a given number of rows
 unfoldable pub list_at : {A : Type 0} → Part → (limit : ℕ) → (ℕ → Data → Result A CaseRefusal) → Members → Result (List A) CaseRefusal
 list_at list limit read ms = items_at list ms >>= (λ ds. if nat_lt limit (count_of ds) then Err (refusals.TooMany list) else rows_from read 1 ds)
 

@@ -96,7 +96,7 @@ breaks_scaled_zone row d =
 abbrev pub breaks_zone : Format → ℕ → Data → List CaseRefusal
 breaks_zone format row d = if is_scaled format d then breaks_scaled_zone row d else breaks_earth_zone row d
 
--- the zone by its latitude and its earth that a row is; a field that breaks its rule counts as nought, here and below
+-- the zone by its latitude and its earth that a row is; a field that breaks its rule counts as zero, here and below
 abbrev pub earth_zone_of : Data → ZoneView
 earth_zone_of d =
     let ms = members_in d in

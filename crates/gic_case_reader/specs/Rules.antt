@@ -61,7 +61,7 @@ abbrev pub is_array : Option Data → Bool
 is_array None = true
 is_array (Some d) = is_some (as_array d)
 
--- a list is an array of so many rows at most, and each row keeps its rules
+-- a list is an array of a given number of rows at most, and each row keeps its rules
 abbrev pub breaks_list : Part → (limit : ℕ) → (ℕ → Data → List CaseRefusal) → Members → List CaseRefusal
 breaks_list list limit breaks ms =
     unless (is_array (get_member (list_key list) ms)) (refusals.Key list 0)
@@ -88,7 +88,7 @@ pub record Written : Type 0 where
   pub lines : List LineRow
   pub transformers : List TransformerRow
 
--- the rows of a document, each field that breaks its rule taken as nought
+-- the rows of a document, each field that breaks its rule taken as zero
 unfoldable pub written_in : Members → Written
 written_in ms = record {
   zones = map (zone_of (format_in ms)) (entries_of parts.Zone ms);

@@ -142,11 +142,11 @@ breaks_transformer format row d =
 abbrev pub name_in : Field → Members → List ℕ
 name_in at ms = unwrap_or (value_at read_name at ms) []
 
--- the resistance in a field, and nought where there is none
+-- the resistance in a field, and zero where there is none
 abbrev pub ohm_in : Field → Members → ℕ
 ohm_in at ms = unwrap_or (value_at ohm_within at ms) 0
 
--- the rated voltage in a field, and nought where there is none
+-- the rated voltage in a field, and zero where there is none
 abbrev pub volts_in : Field → Members → ℕ
 volts_in at ms = unwrap_or (value_at volts_within at ms) 0
 

@@ -14,13 +14,13 @@ whole_within low high (negsuc n) = None
 abbrev pub natural_within : (low high : ℕ) → Data → Option ℕ
 natural_within low high d = option_and_then (whole_within low high) (as_integer d)
 
--- the number, where it is at most so far from nought, on either side
-abbrev pub near_nought : (limit : ℕ) → ℤ → Option ℤ
-near_nought limit z = if nat_le (unsigned_abs z) limit then Some z else None
+-- the number, where it is at most so far from zero, on either side
+abbrev pub near_zero : (limit : ℕ) → ℤ → Option ℤ
+near_zero limit z = if nat_le (unsigned_abs z) limit then Some z else None
 
--- an integer that is at most so far from nought
+-- an integer that is at most so far from zero
 abbrev pub span_within : (limit : ℕ) → Data → Option ℤ
-span_within limit d = option_and_then (near_nought limit) (as_integer d)
+span_within limit d = option_and_then (near_zero limit) (as_integer d)
 
 -- a string that is a name
 abbrev pub read_name : Data → Option (List ℕ)

@@ -8,7 +8,7 @@ use crate::ends::{push_device_ends, push_winding_ends};
 use crate::refusal::CaseRefusal;
 use gic_base::limits::MOST_AT_A_NODE;
 use gic_base::{NodeId, ReadFault};
-use gic_case::{Line, Network, Substation};
+use gic_case::{CaseLists, Line, Substation};
 use std::alloc::{AllocError, Global};
 
 /// Adds the nodes at which the earthings end.
@@ -42,7 +42,7 @@ fn push_line_ends(ends: &mut Vec<u32>, first_bus: u32, lines: &[Line]) -> Result
 fn push_transformer_ends(
     alloc: Global,
     ends: &mut Vec<u32>,
-    network: &Network,
+    network: &CaseLists,
 ) -> Result<(), AllocError>
     ensures { OnOk result (ends.new.items ≡ ends.old.items ++ transformer_ends network.now) }
 {
@@ -55,7 +55,7 @@ fn push_transformer_ends(
 
 /// The nodes at which the elements end, a node once for each end.
 #[tactic(auto, unfolding(gic_case::specs::Lists::element_ends))]
-fn element_ends(alloc: Global, network: &Network) -> Result<Vec<u32>, AllocError>
+fn element_ends(alloc: Global, network: &CaseLists) -> Result<Vec<u32>, AllocError>
     ensures ends { IfOk result (λ v. v.items ≡ element_ends network.now) }
     ensures few { IfOk result (λ v. vec_len v < 2 ^ 32) }
 {
@@ -84,7 +84,7 @@ fn degrees(alloc: Global, nodes: usize, ends: &[u32]) -> Result<Vec<u32>, AllocE
 }
 
 /// Whether at most [`MOST_AT_A_NODE`] elements end at each node.
-pub(crate) fn few_ends(alloc: Global, network: &Network) -> Result<(), ReadFault<CaseRefusal>>
+pub(crate) fn few_ends(alloc: Global, network: &CaseLists) -> Result<(), ReadFault<CaseRefusal>>
     ensures { AnswersRead (λ u. u) result (settle (breaks_degree network.now) (tt {0})) }
 {
     let ends = element_ends(alloc, network)?;

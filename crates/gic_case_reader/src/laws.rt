@@ -1,4 +1,4 @@
-//! Laws over the definitions, each the contract of a function that does nothing.
+//! Theorems over the definitions, each the contract of a function that does nothing.
 ghost use Rattle.gic_case_reader.specs.Accepted.{AcceptedCasesAreSound};
 
 /// A case that breaks no rule keeps all that is said of sound lists: limits and ranges, places within the lists, unique

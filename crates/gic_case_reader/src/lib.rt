@@ -1,5 +1,4 @@
-//! The reader of cases: from the bytes of a TOML document to the lists of a network that keeps all rules, or to the
-//! first rule that is broken.
+//! The parser of cases: from the bytes of a TOML document to validated lists, or to the first rule that is broken.
 #![tactic(auto)]
 
 mod degree;

@@ -40,7 +40,7 @@ fn case_in(alloc: Global, table: &Table) -> Result<Case, ReadFault<CaseRefusal>>
 /// then the document's, with places in place of names. The first broken rule answers otherwise: the form of the document
 /// and of each row, unique names, references to rows that are there, two buses for each line and a bus of its own for each
 /// side of a transformer, transformers in one substation, low and third voltages not above the high ones, and at most 256
-/// elements at a node. Want of memory may come in place of any answer.
+/// elements at a node. Out of memory may come in place of any answer.
 pub fn read_case(alloc: Global, bytes: &[u8]) -> Result<Case, ReadFault<CaseRefusal>>
     ensures { AnswersRead (λ c. c) result (case_of bytes.now) }
 {

@@ -14,7 +14,7 @@ use crate::part_row::PartRow;
 use crate::refusal::{CaseRefusal, Part};
 use crate::row::{BusRow, CourseRow, KindRow, LineRow, ThirdRow, TransformerRow};
 use gic_base::{Name, ReadFault};
-use gic_case::{Bus, Course, Kind, Line, LinePart, LineParts, Network, Third, Transformer};
+use gic_case::{Bus, CaseLists, Course, Kind, Line, LinePart, LineParts, Third, Transformer};
 use std::alloc::{AllocError, Global};
 use std::collections::HashMap;
 
@@ -332,7 +332,7 @@ pub(crate) fn resolved_transformers(
 
 /// The lists of these rows, each reference looked up in its list.
 #[tactic(auto, unfolding(crate::specs::Pass::resolve))]
-pub(crate) fn resolve(alloc: Global, rows: Rows) -> Result<Network, ReadFault<CaseRefusal>>
+pub(crate) fn resolve(alloc: Global, rows: Rows) -> Result<CaseLists, ReadFault<CaseRefusal>>
     ensures { AnswersRead (λ n. n) result (resolve rows) }
 {
     let buses = resolved_buses(alloc, &rows)?;
@@ -345,7 +345,7 @@ pub(crate) fn resolve(alloc: Global, rows: Rows) -> Result<Network, ReadFault<Ca
         lines: _,
         transformers: _,
     } = rows;
-    Ok(Network {
+    Ok(CaseLists {
         zones,
         substations,
         buses,

@@ -19,9 +19,9 @@ pub count_named : (nodes : List NodeName) → length (named_nodes nodes) ≡ len
 count_named [] = refl
 count_named (node ∷ nodes) = ap suc (count_named nodes)
 
-pub first_of_front : (xs ys : List CertRefusal) (e : CertRefusal) → IsFirstOf xs e → IsFirstOf (xs ++ ys) e
-first_of_front [] ys e h = absurd h
-first_of_front (x ∷ xs) ys e h = h
+pub first_of_prefix : (xs ys : List CertRefusal) (e : CertRefusal) → IsFirstOf xs e → IsFirstOf (xs ++ ys) e
+first_of_prefix [] ys e h = absurd h
+first_of_prefix (x ∷ xs) ys e h = h
 
 pub first_of_back : (xs ys : List CertRefusal) (e : CertRefusal) → xs ≡ [] → IsFirstOf ys e → IsFirstOf (xs ++ ys) e
 first_of_back xs ys e none h = rw none h
@@ -35,7 +35,7 @@ pub tells : (all : List CertRefusal) (refusal : CertRefusal) → IsFirstOf all r
 tells all refusal h other is = subst (IsFirstOf all) (ap (λ (f : ReadFault CertRefusal). refusal_or f refusal) is) h
 
 -- for the functions that read
-pub ruleset reading = (count_named, first_of_front, first_of_back)
+pub ruleset reading = (count_named, first_of_prefix, first_of_back)
 
 pub settle_none : {A : Type 0} (xs : List CertRefusal) (x : A) → xs ≡ [] → settle xs x ≡ Ok x
 settle_none xs x none = rw none refl

@@ -1,4 +1,4 @@
--- What the laws of certificates say.
+-- What the theorems of certificates say.
 use Rattle.std.specs.Prelude.{ℕ, ◌≡◌, ◌^◌, ◌≤◌, Bool, ℤ, pos, ◌+ℤ◌, ◌-ℤ◌, ◌*ℤ◌}
 use Rattle.gic_fixed.specs.Encloses.{Encloses}
 use Rattle.gic_model.specs.declared.parts.Item.{Item}

@@ -155,6 +155,6 @@ abbrev pub IsFirstOf : List CertRefusal → CertRefusal → Type 0
 IsFirstOf [] refusal = ⊥
 IsFirstOf (first ∷ others) refusal = refusal ≡ first
 
--- a refusal, where there is one and no want of memory, is the first of these
+-- a refusal, where there is one and memory doesn't run out, is the first of these
 abbrev pub TellsFirst : List CertRefusal → ReadFault CertRefusal → Type 0
 TellsFirst all fault = (refusal : CertRefusal) → fault ≡ Refused refusal → IsFirstOf all refusal

@@ -1,4 +1,4 @@
--- What the law of a certificate's text says.
+-- What the theorem of a certificate's text says.
 use Rattle.std.specs.Prelude.{ℕ, ◌≡◌, ◌≤◌, ◌<◌, List, length, map, is_some, true, false, Ok, slice_index_or}
 use Rattle.std.specs.List.{AllByRecursion}
 use Rattle.gic_base.specs.Name.{is_name}

@@ -1,9 +1,8 @@
-//! Written certificates of node potentials: a text with which anybody can check the potentials of a network without
-//! solving it.
+//! Certificates of node potentials: an independent check of a solution without solving the network.
 #![tactic(auto)]
 
 mod cert;
-mod cert_room;
+mod cert_workspace;
 mod checking;
 mod cutting;
 mod from_rows;
@@ -19,7 +18,7 @@ mod step;
 mod writing;
 
 pub use cert::Cert;
-pub use cert_room::{CertRoom, make_cert_room};
+pub use cert_workspace::{CertWorkspace, make_cert_workspace};
 pub use checking::check;
 pub use reader::read_cert;
 pub use refusal::CertRefusal;

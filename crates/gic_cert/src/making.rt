@@ -7,7 +7,7 @@ ghost use Rattle.gic_model.specs.Voltages.{number_at};
 ghost use Rattle.gic_net.specs.Net.{standing};
 
 use crate::cert::Cert;
-use crate::cert_room::CertRoom;
+use crate::cert_workspace::CertWorkspace;
 use crate::checking::needed_radius;
 use crate::laws::settled_step_law;
 use crate::rows::Field;
@@ -68,18 +68,18 @@ impl Cert {
     ghost use Rattle.gic_model.specs.Voltages.{number_at};
     ghost use Rattle.gic_net.specs.Net.{standing};
     ghost use Rattle.gic_cert.specs.Certifiable.{IsCertifiable};
-    ghost use Rattle.gic_cert.specs.CertRoomFor.{IsCertRoomFor};
+    ghost use Rattle.gic_cert.specs.CertWorkspaceFor.{IsCertWorkspaceFor};
     ghost use Rattle.gic_cert.specs.Written.{entry_of, guess_of, radius_of};
     ghost use Rattle.gic_cert.specs.Step.{checked_step as checked_step_of};
     ghost use Rattle.gic_cert.specs.Passing.{IsPassing};
 
-    /// The certificate of settled guesses, whose radii are what the checked step asks for, made in this room. It passes for
-    /// this net and these voltages, and no radius is above [`MOST_MADE_RADIUS`]. North and east, in mV/km, are those of the
-    /// field that makes the voltages. Takes no memory.
+    /// The certificate of settled guesses, whose radii are what the checked step asks for, made in this workspace. It
+    /// passes for this net and these voltages, and no radius is above [`MOST_MADE_RADIUS`]. North and east, in mV/km,
+    /// are those of the field that makes the voltages. Takes no memory.
     ///
     /// [`MOST_MADE_RADIUS`]: crate::limits::MOST_MADE_RADIUS
     pub fn from_solver(
-        room: CertRoom,
+        workspace: CertWorkspace,
         net: &Net,
         volts: &Volts,
         north: i32,
@@ -87,7 +87,7 @@ impl Cert {
         solver: &Solver,
         bound: &BoundVector,
     ) -> Cert
-        requires room { IsCertRoomFor net.now.network.nodes room }
+        requires workspace { IsCertWorkspaceFor net.now.network.nodes workspace }
         requires certifiable { IsCertifiable net.now volts.now solver.now bound.now }
         requires north { unsigned_abs north ≤ MOST_FIELD }
         requires east { unsigned_abs east ≤ MOST_FIELD }
@@ -99,11 +99,11 @@ impl Cert {
     {
         settled_step_law();
         let nodes = net.nodes();
-        let CertRoom {
+        let CertWorkspace {
             mut entries,
             guesses,
             radii,
-        } = room;
+        } = workspace;
         entries.copy_from(bound);
         let guesses = live_guesses(net, solver, guesses);
         let step = checked_step(net, volts, guesses.as_slice());

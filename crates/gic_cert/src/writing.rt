@@ -15,7 +15,7 @@ use gic_report::write_word;
 use gic_text::LineBuilder;
 
 /// Writes the line of the number of nodes and the field.
-#[tactic(auto, using(gic_text::proofs::Sizes::line_room), unfolding(crate::specs::Text::nodes_line))]
+#[tactic(auto, using(gic_text::proofs::Sizes::line_space), unfolding(crate::specs::Text::nodes_line))]
 fn write_nodes_line<S: Sink>(
     count: usize,
     field: &Field,
@@ -43,7 +43,7 @@ fn write_field<S: Sink>(cert: &Cert, line: &mut LineBuilder, out: &mut S) -> Res
 }
 
 /// Writes the line of a node.
-#[tactic(auto, using(gic_text::proofs::Sizes::line_room))]
+#[tactic(auto, using(gic_text::proofs::Sizes::line_space))]
 fn write_node<S: Sink>(
     name: &Name,
     row: &NodeRow,

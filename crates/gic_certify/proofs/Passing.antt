@@ -14,7 +14,7 @@ use Rattle.gic_net.specs.Net.{NetView, stands, standing}
 use Rattle.gic_winding.specs.ElementList.{elements_of}
 use Rattle.gic_certify.specs.RightCertify.{ShowsPassing}
 
--- the radii are just what so many nodes ask for
+-- the radii are just what a given number of nodes ask for
 abbrev IsExact : NetView → (ℕ → ℤ) → Certificate → ℕ → Type 0
 IsExact net volts c nodes = (k : ℕ) → radius_of c k ≡ entry_of c k * checked_step (standing net) volts (guess_of c) nodes
 

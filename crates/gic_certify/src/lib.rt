@@ -1,8 +1,8 @@
-//! The mode `certify`: a certificate of the potentials in one field.
+//! The mode `certify`: writes a certificate of the potentials in one uniform field.
 #![tactic(auto)]
 
 mod mode;
-mod room;
+mod workspace;
 
 pub use mode::certify;
-pub use room::{Room, make_room};
+pub use workspace::{Workspace, make_workspace};

@@ -1,11 +1,11 @@
-//! The mode `check`: which nodes of a case are live, where each of them is earthed.
+//! The mode `check`: the live nodes of a case, where each of them is earthed.
 #![tactic(auto)]
 
 pub mod laws;
 mod live;
 mod mode;
-mod room;
 mod text;
+mod workspace;
 
 pub use mode::check;
-pub use room::{Room, make_room};
+pub use workspace::{Workspace, make_workspace};

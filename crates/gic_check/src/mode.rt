@@ -10,8 +10,8 @@ ghost use Rattle.gic_check.specs.Made.{IsMadeFor};
 ghost use Rattle.gic_check.specs.RightCheck.{check_text, IsRightCheck};
 
 use crate::live::fill_live;
-use crate::room::Room;
 use crate::text::write_check;
+use crate::workspace::Workspace;
 use gic_base::{Sink, WriteFailed};
 use gic_case::Case;
 use gic_inputs::Inputs;
@@ -19,7 +19,7 @@ use gic_net::Net;
 use gic_stand::{ReportFault, ended, expect_earthed};
 use gic_text::LineBuilder;
 
-/// Writes which nodes of a network are live, by way of room for an answer for each.
+/// Writes which nodes of a network are live, by way of space for an answer for each.
 fn write_live<S: Sink>(
     case: &Case,
     net: &Net,
@@ -28,7 +28,7 @@ fn write_live<S: Sink>(
     out: &mut S,
 ) -> Result<(), WriteFailed>
     requires network { net.now.network ≡ elements_of case.now }
-    requires room { length live.old ≡ net.now.network.nodes }
+    requires space { length live.old ≡ net.now.network.nodes }
     ensures { Writes S.written S.faults out.old out.new (check_text case.now (standing net.now)) result }
 {
     fill_live(net, live);
@@ -36,13 +36,23 @@ fn write_live<S: Sink>(
 }
 
 /// Writes which nodes are live with all rows of the switchings in force, where each live one is earthed. Takes no memory.
-pub fn check<S: Sink>(inputs: &Inputs, room: &mut Room, out: &mut S) -> Result<(), ReportFault>
-    requires { IsMadeFor inputs.now room.old }
+pub fn check<S: Sink>(
+    inputs: &Inputs,
+    workspace: &mut Workspace,
+    out: &mut S,
+) -> Result<(), ReportFault>
+    requires { IsMadeFor inputs.now workspace.old }
     ensures { Serves Earthed inputs.now.case (steps_of inputs.now) (IsRightCheck inputs.now)
         (shown S.written S.faults out.old) (shown S.written S.faults out.new) result }
 {
     let case = &inputs.case;
-    expect_earthed(case, &room.net, 1, &mut room.scratch)?;
-    let writing = write_live(case, &room.net, &mut room.live, &mut room.line, out);
+    expect_earthed(case, &workspace.net, 1, &mut workspace.scratch)?;
+    let writing = write_live(
+        case,
+        &workspace.net,
+        &mut workspace.live,
+        &mut workspace.line,
+        out,
+    );
     ended(writing)
 }

@@ -19,7 +19,7 @@ fn state_word(live: bool) -> &'static str
 }
 
 /// Writes the line of a node.
-#[tactic(auto, using(gic_text::proofs::Sizes::line_room))]
+#[tactic(auto, using(gic_text::proofs::Sizes::line_space))]
 fn write_state<S: Sink>(
     name: &Name,
     live: bool,
@@ -58,7 +58,7 @@ fn live_count(live: &[bool]) -> usize
 }
 
 /// Writes the number of live nodes.
-#[tactic(auto, using(gic_text::proofs::Sizes::line_room))]
+#[tactic(auto, using(gic_text::proofs::Sizes::line_space))]
 fn write_live_count<S: Sink>(
     live: &[bool],
     line: &mut LineBuilder,

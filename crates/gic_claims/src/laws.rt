@@ -1,4 +1,4 @@
-//! Laws over the definitions, each the contract of a function that does nothing but bring the laws that it joins.
+//! Theorems over the definitions, each the contract of a function that does nothing but bring the theorems that it joins.
 ghost use Rattle.gic_claims.specs.Claims.{AcceptedNetworksAreSolved, AcceptedSolutionsAgree, BoundNetworksAreEarthed, BoundNetworksAreSolved};
 
 use gic_case_reader::laws::accepted_law;

@@ -1,5 +1,5 @@
-//! What holds of every network that the program accepts: laws that join the reader of cases, the element list, the
-//! voltages and existence. And what holds of a network that has a bound vector: it has a solution.
+//! End-to-end theorems: solutions exist for accepted cases, and for every network that has a bound vector. Nothing is
+//! computed here.
 #![tactic(auto)]
 
 pub mod laws;

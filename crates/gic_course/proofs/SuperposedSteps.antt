@@ -24,7 +24,7 @@ use Rattle.gic_course.specs.Views.{IsShownIn}
 pub fields_given : (case : Lists) (fields : List (ℤ × ℤ)) → IsSound case → length fields ≡ length case.zones → All IsField fields → AreFieldsOf case fields
 fields_given case fields sound zones within = record { zones = zones; few = omega (arith, zones, sound.few_zones); within = within }
 
--- what the law says of a net of the case
+-- what the theorem says of a net of the case
 pub right_and_narrow : SuperposedViewsAreRight → (case : Lists) (net : NetView) (fields : List (ℤ × ℤ)) (rows : BaseRows) (view : View) (width : ℕ) →
     net.network ≡ elements_of case → IsWithinLimits net.network → AreEarthed (standing net) → AreFieldsOf case fields → AreCertifiedRows case (standing net) rows →
     IsSuperposedView case (standing net) fields rows view → 2 ≤ width →

@@ -49,7 +49,7 @@ shown_told case standing fields width view number time h = record {
   driven = h.driven;
 }
 
--- ends within 2^113 leave room
+-- ends within 2^113 leave space
 pub has_absolute : (e : Ends) → IsWithin (2 ^ 113) e.low e.high → HasAbsolute e
 has_absolute e small = fits_signed_from_abs w128 (neg_ℤ e.low) (omega (arith, ints, small.low))
 

@@ -16,7 +16,7 @@ closed_after net rows = fold (λ now row. switched_net now row.item false) net r
 abbrev pub change : NetView → List Switching → Bool
 change net rows = list_any (λ row. not (is_switched net row.item row.opens)) rows
 
--- whether what stands may change on the way to so many rows in force; on the way back it may
+-- whether what stands may change on the way to a given number of rows in force; on the way back it may
 abbrev pub changes_to : SwitchedNet → List Switching → (through : ℕ) → Bool
 changes_to now rows through = if nat_le now.through through then change now.net (take (through - now.through) (drop now.through rows)) else true
 

@@ -7,7 +7,7 @@ use Rattle.gic_winding.specs.ElementList.{elements_of}
 use Rattle.gic_course.specs.declared.ready.Ready.{Ready}
 use Rattle.gic_course.specs.declared.ready.Way.{Way}
 use Rattle.gic_course.specs.declared.ready.Way.TheVariants.{Solve, Superpose}
-use Rattle.gic_course.specs.declared.room.TheConstants.{MOST_PAIRS}
+use Rattle.gic_course.specs.declared.workspace.TheConstants.{MOST_PAIRS}
 
 -- whether base fields can be certified: the pairs of their intervals, one for each zone and each node, element and transformer, are few enough to be kept
 abbrev pub can_superpose : Lists → Bool

@@ -16,10 +16,10 @@ ghost use Rattle.gic_course.specs.Views.{IsSolvedStep};
 use crate::epochs::{epoch_with, epochs_under, has_step};
 use crate::preparing::prepare_epoch;
 use crate::ready::{Ready, Way, way_after};
-use crate::room::{Room, make_room};
 use crate::showing::show_step;
 use crate::switched::SwitchedNet;
 use crate::walking::{expect_epochs, put_in_force};
+use crate::workspace::{Workspace, make_workspace};
 use gic_base::OutOfMemory;
 use gic_effective::view_of_case;
 use gic_exists::laws::existence_law;
@@ -38,7 +38,7 @@ pub struct Course {
     switched: SwitchedNet,
     /// The epoch for whose steps the net and what they take are ready.
     ready: Option<Ready>,
-    room: Room,
+    workspace: Workspace,
 }
 
 impl Drop for Course {
@@ -48,7 +48,7 @@ impl Drop for Course {
             epochs: _epochs,
             switched: _switched,
             ready: _ready,
-            room: _room,
+            workspace: _workspace,
         } = self;
     }
 }
@@ -63,12 +63,12 @@ impl Course {
         let epochs = epochs_under(alloc, &inputs.storm, &inputs.switchings)?;
         let elements = elements(alloc, case)?;
         let switched = SwitchedNet::new(alloc, &elements)?;
-        let room = make_room(alloc, case, &elements, inputs.storm.zones())?;
+        let workspace = make_workspace(alloc, case, &elements, inputs.storm.zones())?;
         Ok(Course {
             epochs,
             switched,
             ready: None,
-            room,
+            workspace,
         })
     }
 
@@ -96,7 +96,7 @@ impl Course {
             inputs,
             self.epochs.as_slice(),
             &mut self.switched,
-            &mut self.room,
+            &mut self.workspace,
         )?;
         Ok(())
     }
@@ -117,7 +117,7 @@ impl Course {
     fn be_ready_for(&mut self, inputs: &StormInputs, number: u32) -> Way
         requires shows { CanShow inputs.now self.old }
         requires step { IsStepOf inputs.now number }
-        ensures ready { IsReadyAt inputs.now number result self.new.switched.net self.new.room }
+        ensures ready { IsReadyAt inputs.now number result self.new.switched.net self.new.workspace }
         ensures way { IsSomeAnd self.new.ready (IsShownBy number result) }
         ensures same { IsSomeAnd self.old.ready (λ ready. HasStep number ready.epoch) → self.new ≡ self.old }
         ensures shows { CanShow inputs.now self.new }
@@ -128,7 +128,7 @@ impl Course {
         let epoch = epoch_with(self.epochs.as_slice(), number);
         let changed = put_in_force(inputs, epoch, &mut self.switched);
         let kept = way_after(changed, self.ready);
-        let way = prepare_epoch(inputs, epoch, kept, &self.switched.net, &mut self.room);
+        let way = prepare_epoch(inputs, epoch, kept, &self.switched.net, &mut self.workspace);
         self.ready = Some(Ready { epoch, way });
         way
     }
@@ -158,7 +158,7 @@ impl Course {
             number,
             way,
             width,
-            &mut self.room,
+            &mut self.workspace,
             view,
         );
     }

@@ -1,14 +1,13 @@
-//! The course of a storm over the network of a case: which switchings are in force at each step, whether the network can
-//! be solved at all of them, and the view of each step.
+//! The time series of a storm over a network with switchings: feasibility and the view of each step.
 #![tactic(auto)]
 
 mod course;
 mod epochs;
 mod preparing;
 mod ready;
-mod room;
 mod showing;
 mod switched;
 mod walking;
+mod workspace;
 
 pub use course::Course;

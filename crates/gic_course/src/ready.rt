@@ -14,7 +14,8 @@ pub(crate) enum Way {
 }
 
 impl Way {
-    /// The way that takes the fewer solves, where no base fields are certified yet; without room for these it is to solve.
+    /// The way that takes the fewer solves, where no base fields are certified yet; without space for these it is to
+    /// solve.
     pub(crate) fn by_count(epoch: Epoch, zones: u16, superposes: bool) -> Way
         requires { epoch.first ≤ epoch.last }
         ensures { result ≡ way_by_count epoch zones superposes }

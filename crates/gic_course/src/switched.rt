@@ -9,7 +9,7 @@ use gic_net::Net;
 use gic_stand::switch_all;
 use std::alloc::Global;
 
-/// A net, and how many rows of a list of switchings are in force in it: the first so many.
+/// A net, and how many rows of a list of switchings are in force in it: the first n.
 #[derive(Drop)]
 pub(crate) struct SwitchedNet {
     pub(crate) net: Net,

@@ -7,12 +7,12 @@ ghost use Rattle.gic_inputs.specs.Inputs.{rows_in};
 ghost use Rattle.gic_stand.specs.Standing.{IsSolvable};
 ghost use Rattle.gic_course.specs.Epochs.{HasStep, IsEpochOf};
 ghost use Rattle.gic_course.specs.Ready.{IsSwitchedFor};
-ghost use Rattle.gic_course.specs.RoomFor.{IsRoomForCourse};
+ghost use Rattle.gic_course.specs.WorkspaceFor.{IsWorkspaceForCourse};
 ghost use Rattle.gic_course.specs.Steps.{standing_at_step, storm_steps};
 ghost use Rattle.gic_course.specs.Switched.{changes_to};
 
-use crate::room::Room;
 use crate::switched::SwitchedNet;
+use crate::workspace::Workspace;
 use gic_inputs::StormInputs;
 use gic_stand::NetworkRefusal;
 use gic_switch::Epoch;
@@ -36,23 +36,24 @@ fn expect_epoch(
     epoch: Epoch,
     seen: bool,
     switched: &mut SwitchedNet,
-    room: &mut Room,
+    workspace: &mut Workspace,
 ) -> Result<(), NetworkRefusal>
     requires epoch { IsEpochOf inputs.now epoch }
     requires switched { IsSwitchedFor inputs.now switched.old }
-    requires room { IsRoomForCourse inputs.now.case room.old }
+    requires workspace { IsWorkspaceForCourse inputs.now.case workspace.old }
     requires seen { IsTrue seen → IsSolvable (standing switched.old.net) }
     ensures net { OnOk result (IsSolvable (standing switched.new.net)) }
     ensures solvable { OnOk result ((number : ℕ) → HasStep number epoch → IsSolvable (standing_at_step inputs.now number)) }
     ensures err { IfErr result (Fails Solved inputs.now.case epoch.first (standing_at_step inputs.now epoch.first)) }
     ensures switched { IsSwitchedFor inputs.now switched.new }
-    ensures room { IsRoomForCourse inputs.now.case room.new }
+    ensures workspace { IsWorkspaceForCourse inputs.now.case workspace.new }
 {
     let changed = put_in_force(inputs, epoch, switched);
     if seen && !changed {
         return Ok(());
     }
-    room.workspace
+    workspace
+        .solve_workspace
         .look(&inputs.case, &switched.net, epoch.first)?;
     Ok(())
 }
@@ -62,18 +63,18 @@ pub(crate) fn expect_epochs(
     inputs: &StormInputs,
     epochs: &[Epoch],
     switched: &mut SwitchedNet,
-    room: &mut Room,
+    workspace: &mut Workspace,
 ) -> Result<(), NetworkRefusal>
     requires epochs { AreEpochs inputs.now.storm.rows (rows_in inputs.now.switchings) epochs.now }
     requires switched { IsSwitchedFor inputs.now switched.old }
-    requires room { IsRoomForCourse inputs.now.case room.old }
+    requires workspace { IsWorkspaceForCourse inputs.now.case workspace.old }
     ensures met { OnOk result (IsMet Solved (storm_steps inputs.now)) }
     ensures unmet { IfErr result (IsUnmet Solved inputs.now.case (storm_steps inputs.now)) }
     ensures switched { IsSwitchedFor inputs.now switched.new }
-    ensures room { IsRoomForCourse inputs.now.case room.new }
+    ensures workspace { IsWorkspaceForCourse inputs.now.case workspace.new }
 {
     for (place, epoch) in epochs.iter().enumerate() {
-        expect_epoch(inputs, *epoch, place > 0, switched, room)?;
+        expect_epoch(inputs, *epoch, place > 0, switched, workspace)?;
     }
     Ok(())
 }

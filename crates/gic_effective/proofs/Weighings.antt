@@ -38,10 +38,10 @@ current_in s (Some winding) = s.current winding.0.0
 abbrev current_of : Solution → ElementId × ℕ → ℤ
 current_of s w = pos w.1 *ℤ s.current w.0.0
 
-in_front : (s : Solution) (winding : Option (ElementId × ℕ)) (rest : List (ElementId × ℕ))
+before : (s : Solution) (winding : Option (ElementId × ℕ)) (rest : List (ElementId × ℕ))
     → weighted winding (current_in s winding) +ℤ sum_of (current_of s) rest ≡ sum_of (current_of s) (option_to_list winding ++ rest)
-in_front s None rest = omega (arith, linear)
-in_front s (Some w) rest = refl
+before s None rest = omega (arith, linear)
+before s (Some w) rest = refl
 
 alone : (s : Solution) (winding : Option (ElementId × ℕ)) → weighted winding (current_in s winding) ≡ sum_of (current_of s) (option_to_list winding)
 alone s None = refl
@@ -52,8 +52,8 @@ pub all_summed : (s : Solution) (w : Weights) →
     weighted_sum w (current_in s w.first) (current_in s w.second) (current_in s w.third) ≡
     sum_of (λ v. pos v.1 *ℤ s.current v.0.0) (option_to_list w.first ++ (option_to_list w.second ++ option_to_list w.third))
 all_summed s w =
-    let first = in_front s w.first (option_to_list w.second ++ option_to_list w.third) in
-    let second = in_front s w.second (option_to_list w.third) in
+    let first = before s w.first (option_to_list w.second ++ option_to_list w.third) in
+    let second = before s w.second (option_to_list w.third) in
     let third = alone s w.third in
     omega (arith, linear, first, second, third)
 
@@ -73,9 +73,9 @@ module _ (standing : List Placed) (volts : ℕ → ℤ) (potentials : List Ends)
 abbrev pub HasNone : List Placed → ElementId × ℕ → Type 0
 HasNone standing w = IsTrue (is_standing standing w.0.0) → w.1 ≡ 0
 
-front_of_all : {X : Type 0} (P : X → Type 0) (a : Option X) (rest : List X) → AllByRecursion P (option_to_list a ++ rest) → IfSome a P × AllByRecursion P rest
-front_of_all P None rest h = (tt, h)
-front_of_all P (Some x) rest h = h
+prefix_of_all : {X : Type 0} (P : X → Type 0) (a : Option X) (rest : List X) → AllByRecursion P (option_to_list a ++ rest) → IfSome a P × AllByRecursion P rest
+prefix_of_all P None rest h = (tt, h)
+prefix_of_all P (Some x) rest h = h
 
 last_of_all : {X : Type 0} (P : X → Type 0) (a : Option X) → AllByRecursion P (option_to_list a) → IfSome a P
 last_of_all P None h = tt
@@ -88,34 +88,34 @@ no_current : (n : ℕ) (z : ℤ) → z ≡ pos 0 → pos n *ℤ z ≡ pos 0
 no_current n z e = ap (λ (y : ℤ). pos n *ℤ y) e ∙ omega (arith, linear)
 
 module _ (standing : List Placed) (volts : ℕ → ℤ) (potentials : List Ends) where
-  weighted_nought : (winding : Option (ElementId × ℕ)) (lo hi : ℤ) → IsShownWinding standing volts potentials winding lo hi → IfSome winding (HasNone standing)
+  weighted_zero : (winding : Option (ElementId × ℕ)) (lo hi : ℤ) → IsShownWinding standing volts potentials winding lo hi → IfSome winding (HasNone standing)
       → (weighted winding lo ≡ pos 0) × (weighted winding hi ≡ pos 0)
-  weighted_nought None lo hi shown none = (refl, refl)
-  weighted_nought (Some w) lo hi shown none = elim (cases_Bool (is_standing standing w.0.0)) [
+  weighted_zero None lo hi shown none = (refl, refl)
+  weighted_zero (Some w) lo hi shown none = elim (cases_Bool (is_standing standing w.0.0)) [
     | inl stands ↦ (no_weight w.1 lo (none stands), no_weight w.1 hi (none stands))
-    | inr out ↦ (no_current w.1 lo (shown.nought out).0, no_current w.1 hi (shown.nought out).1)
+    | inr out ↦ (no_current w.1 lo (shown.zeroed out).0, no_current w.1 hi (shown.zeroed out).1)
   ]
 
   -- where no winding that stands has a weight, the weighted sums of the ends are 0
-  pub sums_nought : (ws : List (ElementId × ℕ)) (w : Weights) (lo hi lo' hi' lo'' hi'' : ℤ)
+  pub sums_zero : (ws : List (ElementId × ℕ)) (w : Weights) (lo hi lo' hi' lo'' hi'' : ℤ)
       → ws ≡ option_to_list w.first ++ (option_to_list w.second ++ option_to_list w.third)
       → IsShownWinding standing volts potentials w.first lo hi → IsShownWinding standing volts potentials w.second lo' hi' → IsShownWinding standing volts potentials w.third lo'' hi''
       → All (HasNone standing) ws → (weighted_sum w lo lo' lo'' ≡ pos 0) × (weighted_sum w hi hi' hi'' ≡ pos 0)
-  sums_nought ws w lo hi lo' hi' lo'' hi'' is one other last none =
+  sums_zero ws w lo hi lo' hi' lo'' hi'' is one other last none =
       let all = subst (AllByRecursion (HasNone standing)) is (recursion_from_All (HasNone standing) ws none) in
-      let front = front_of_all (HasNone standing) w.first _ all in
-      let behind = front_of_all (HasNone standing) w.second _ front.1 in
-      let first = weighted_nought w.first lo hi one front.0 in
-      let second = weighted_nought w.second lo' hi' other behind.0 in
-      let third = weighted_nought w.third lo'' hi'' last (last_of_all (HasNone standing) w.third behind.1) in
+      let prefix = prefix_of_all (HasNone standing) w.first _ all in
+      let behind = prefix_of_all (HasNone standing) w.second _ prefix.1 in
+      let first = weighted_zero w.first lo hi one prefix.0 in
+      let second = weighted_zero w.second lo' hi' other behind.0 in
+      let third = weighted_zero w.third lo'' hi'' last (last_of_all (HasNone standing) w.third behind.1) in
       (omega (arith, linear, first.0, second.0, third.0), omega (arith, linear, first.1, second.1, third.1))
 
 -- and so are their quotients
 abbrev pub ends_by : ℤ → ℤ → Ends
 ends_by lo hi = record { low = lo; high = hi }
 
-pub quotients_nought : (a b lo hi : ℤ) (d : ℕ) → 0 < d → lo ≡ floor_div a (pos d) → hi ≡ ceil_div b (pos d) → a ≡ pos 0 → b ≡ pos 0 → ends_by lo hi ≡ zero_ends
-quotients_nought a b lo hi d some low high e f =
+pub quotients_zero : (a b lo hi : ℤ) (d : ℕ) → 0 < d → lo ≡ floor_div a (pos d) → hi ≡ ceil_div b (pos d) → a ≡ pos 0 → b ≡ pos 0 → ends_by lo hi ≡ zero_ends
+quotients_zero a b lo hi d some low high e f =
     let least = low ∙ ap (λ (z : ℤ). floor_div z (pos d)) e ∙ floor_is (pos 0) d (pos 0) some (omega (arith, linear)) (omega (arith, linear)) in
     let most = high ∙ ap (λ (z : ℤ). ceil_div z (pos d)) f ∙ ceil_is (pos 0) d (pos 0) some (omega (arith, linear)) (omega (arith, linear)) in
     ap₂ ends_by least most
@@ -150,9 +150,9 @@ pub weights_most : (t : Transformer) (ps : List Placed) (w : Weights) → AreAtM
     weighed_by (weight_of t) ps (windings_of t) ≡ option_to_list w.first ++ (option_to_list w.second ++ option_to_list w.third) → total_weight w ≤ 3 * t.high_volts
 weights_most t ps w h is =
     let all = subst (AllByRecursion (λ v. v.1 ≤ t.high_volts)) is (each_most (weight_of t) t.high_volts ps (windings_of t) h) in
-    let front = front_of_all (λ v. v.1 ≤ t.high_volts) w.first _ all in
-    let behind = front_of_all (λ v. v.1 ≤ t.high_volts) w.second _ front.1 in
-    let first = one_most w.first t.high_volts front.0 in
+    let prefix = prefix_of_all (λ v. v.1 ≤ t.high_volts) w.first _ all in
+    let behind = prefix_of_all (λ v. v.1 ≤ t.high_volts) w.second _ prefix.1 in
+    let first = one_most w.first t.high_volts prefix.0 in
     let second = one_most w.second t.high_volts behind.0 in
     let third = one_most w.third t.high_volts (last_of_all (λ v. v.1 ≤ t.high_volts) w.third behind.1) in
     omega (arith, first, second, third)

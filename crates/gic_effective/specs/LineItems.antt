@@ -1,4 +1,4 @@
--- What the law says of the lines that elements belong to.
+-- What the theorem says of the lines that elements belong to.
 use Rattle.std.specs.Prelude.{All}
 use Rattle.gic_case.specs.Lists.{Lists}
 use Rattle.gic_induce.specs.LineVolts.{IsLineWithin}

@@ -32,7 +32,7 @@ HasNoEffect case standing t = All (λ winding. IsTrue (is_standing standing wind
 pub record IsRightEffective (case : Lists) (standing : List Placed) (volts : ℕ → ℤ) (t : ℕ) (ends : Ends) : Type 0 where
   pub holds : (s : Solution) → IsSolution standing volts s →
       Encloses ends.low ends.high (effective_numerator case s t) (effective_denominator case t s)
-  pub nought : HasNoEffect case standing t → ends ≡ zero_ends
+  pub zeroed : HasNoEffect case standing t → ends ≡ zero_ends
 
 -- the view has a place for each node, element and transformer of the case, and what stands there is right for these standing elements and voltages
 pub record IsRightView (case : Lists) (standing : List Placed) (volts : ℕ → ℤ) (view : View) : Type 0 where

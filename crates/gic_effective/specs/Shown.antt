@@ -23,7 +23,7 @@ AreSharp standing volts potentials width = IsSharp standing volts (low_at potent
 pub record IsShownCurrent (standing : List Placed) (volts : ℕ → ℤ) (potentials : List Ends) (place : ℕ) (lo hi : ℤ) : Type 0 where
   pub holds : (s : Solution) → IsSolution standing volts s → HoldsSolution standing potentials s → Encloses lo hi (s.current place) s.denominator
   pub narrow : (width : ℕ) → AreSharp standing volts potentials width → IsAtMostWide width (floor_div lo (pos 1000000)) (ceil_div hi (pos 1000000))
-  pub nought : IsFalse (is_standing standing place) → (lo ≡ pos 0) × (hi ≡ pos 0)
+  pub zeroed : IsFalse (is_standing standing place) → (lo ≡ pos 0) × (hi ≡ pos 0)
 
 -- the same of a winding, and the point 0 where there is none
 abbrev pub IsShownWinding : List Placed → (ℕ → ℤ) → List Ends → Option (ElementId × ℕ) → ℤ → ℤ → Type 0

@@ -45,7 +45,7 @@ pub fn signed_effective(
         Encloses result.lo result.hi (weighted_sum weights.now one other last) (3000000 * weights.now.high_volts * denominator) }
     ensures small { IsWithin (2 ^ 113) result.lo result.hi }
 
-    // From currents at most so many milliamperes wide it is at most one wider, where the weights add up to no more than
+    // From currents at most this many milliamperes wide it is at most one wider, where the weights add up to no more than
     // three times the voltage of the high side.
     ensures narrow { (width : ℕ) →
         total_weight weights.now ≤ 3 * weights.now.high_volts →

@@ -1,4 +1,4 @@
-//! Currents of elements and effective currents of transformers, as intervals that hold those of every solution.
+//! Branch currents and effective GIC of transformers, as guaranteed enclosures.
 #![tactic(auto)]
 
 mod current;

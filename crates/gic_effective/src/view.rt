@@ -48,7 +48,7 @@ pub fn view_of_case(alloc: Global, case: &Case, net: &Net) -> Result<StepView, O
 pub fn fill_view(case: &Case, net: &Net, volts: &Volts, potentials: &Potentials, out: &mut StepView)
     requires net { net.now.network ≡ elements_of case.now }
     requires together { AreOfNetwork net.now.network volts.now potentials.now }
-    requires room { HasViewLengths case.now out.old }
+    requires space { HasViewLengths case.now out.old }
     ensures right { HoldsSolutions (standing net.now) (number_at volts.now) potentials.now →
         IsRightView case.now (standing net.now) (number_at volts.now) out.new }
 
@@ -119,7 +119,7 @@ fn effective_interval(
 
 fn fill_nodes(net: &Net, potentials: &Potentials, out: &mut StepView)
     requires potentials { length potentials.now ≡ net.now.network.nodes }
-    requires room { length out.old.nodes ≡ net.now.network.nodes }
+    requires space { length out.old.nodes ≡ net.now.network.nodes }
     ensures shown { (volts : ℕ → ℤ) (k : ℕ) → k < length out.new.nodes → IsShownNode (standing net.now) volts potentials.now k (node_at out.new k) }
     ensures rest { out.new ≡ record out.old { nodes = out.new.nodes } }
     ensures count { length out.new.nodes ≡ length out.old.nodes }
@@ -132,7 +132,7 @@ fn fill_nodes(net: &Net, potentials: &Potentials, out: &mut StepView)
 
 fn fill_elements(net: &Net, volts: &Volts, potentials: &Potentials, out: &mut StepView)
     requires together { AreOfNetwork net.now.network volts.now potentials.now }
-    requires room { length out.old.elements ≡ length net.now.network.list }
+    requires space { length out.old.elements ≡ length net.now.network.list }
     ensures shown { (place : ℕ) → place < length out.new.elements →
         IsShownElement (standing net.now) (number_at volts.now) potentials.now place (element_at out.new place) }
     ensures rest { out.new ≡ record out.old { elements = out.new.elements } }
@@ -155,7 +155,7 @@ fn fill_effective(
 )
     requires net { net.now.network ≡ elements_of case.now }
     requires together { AreOfNetwork net.now.network volts.now potentials.now }
-    requires room { length out.old.effective ≡ length case.now.transformers }
+    requires space { length out.old.effective ≡ length case.now.transformers }
     ensures shown { (t : ℕ) → t < length out.new.effective →
         IsShownEffective case.now (standing net.now) (number_at volts.now) potentials.now t (effective_at out.new t) }
     ensures rest { out.new ≡ record out.old { effective = out.new.effective } }

@@ -14,7 +14,7 @@ use gic_model::Volts;
 use gic_net::Net;
 
 /// The current of an element in nanoamperes, 0 where it doesn't stand.
-fn current_or_nought(
+fn current_or_zero(
     net: &Net,
     volts: &Volts,
     potentials: &Potentials,
@@ -45,7 +45,7 @@ pub(crate) fn winding_current(
     ensures small { IsWithin (2 ^ 80) result.lo result.hi }
 {
     match winding {
-        Some((element, _)) => current_or_nought(net, volts, potentials, element),
+        Some((element, _)) => current_or_zero(net, volts, potentials, element),
         None => Interval::point(0),
     }
 }

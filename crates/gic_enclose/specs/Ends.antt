@@ -20,8 +20,8 @@ high_at potentials k = (potential_ends potentials k).high
 abbrev pub AreSmall : List Interval → Type 0
 AreSmall intervals = All (λ interval. IsWithin most_guess interval.lo interval.hi) intervals
 
--- what potentials keep: small intervals, and room for as many residuals
+-- what potentials keep: small intervals, and space for as many residuals
 pub record AreIntervals (intervals : List Interval) (low high : List ℤ) : Type 0 where
   pub small : AreSmall intervals
-  pub low_room : length low ≡ length intervals
-  pub high_room : length high ≡ length intervals
+  pub low_space : length low ≡ length intervals
+  pub high_space : length high ≡ length intervals

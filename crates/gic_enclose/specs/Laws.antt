@@ -1,4 +1,4 @@
--- What the law of the potential bound says.
+-- What the theorem of the potential bound says.
 use Rattle.std.specs.Prelude.{ℕ, ◌*◌, ◌<◌, ◌^◌, Bool, ℤ, unsigned_abs}
 use Rattle.gic_base.specs.declared.limits.TheConstants.{MOST_WALK}
 use Rattle.gic_model.specs.declared.parts.Item.{Item}

@@ -1,5 +1,5 @@
-//! Laws over the definitions, each the contract of a function that does nothing: a function whose proof rests on a
-//! law calls it.
+//! Theorems over the definitions, each the contract of a function that does nothing: a function whose proof rests on a
+//! theorem calls it.
 ghost use Rattle.gic_model.specs.SolutionLaws.{PotentialsAreBounded};
 ghost use Rattle.gic_enclose.specs.Laws.{SolutionsAreBelow, SettledGuessesAreBelow};
 ghost use Rattle.gic_enclose.specs.Near.{FirstSweepIsNear, SweepBringsNearer, NearIsSettled, SweepsSettle};

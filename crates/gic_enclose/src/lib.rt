@@ -1,5 +1,5 @@
-//! Potentials that are certain: intervals that hold every solution, and guesses settled enough to make them narrow, with
-//! the laws why sweeps settle them.
+//! Certified enclosures of node potentials: intervals that contain every solution, from residuals and a bound vector;
+//! and convergence of the Jacobi iteration, proved.
 #![tactic(auto)]
 
 mod enclosing;

@@ -10,7 +10,7 @@ use std::marker::Model;
 /// One interval for each node, in grains of 2^-36 nanovolt, each with both ends from -2^96 to 2^96.
 pub struct Potentials {
     intervals: Vec<Interval>,
-    /// Room for the residuals, rounded down and up.
+    /// The workspace for the residuals, rounded down and up.
     low: Vec<i128>,
     high: Vec<i128>,
 }
@@ -86,7 +86,7 @@ impl Potentials {
     pub(crate) fn reach(&mut self, net: &Net, volts: &Volts, solver: &Solver) -> u128
         requires volts { length volts.now ≡ length net.now.network.list }
         requires nodes { length solver.now ≡ net.now.network.nodes }
-        requires room { length self.old ≡ net.now.network.nodes }
+        requires space { length self.old ≡ net.now.network.nodes }
         ensures same { self.new ≡ self.old }
         ensures settled { IsSettledWithin (standing net.now) (number_at volts.now) (number_at solver.now) result }
         ensures small { result ≤ 2 ^ 99 }

@@ -40,7 +40,7 @@ impl Monitor for ViewCounter {
         self.seen = self.seen.saturating_add(1);
     }
 
-    #[tactic(auto, using(gic_text::proofs::Sizes::line_room))]
+    #[tactic(auto, using(gic_text::proofs::Sizes::line_space))]
     fn print(&self, into: &mut Vec<u8>) -> Result<(), OutOfMemory> {
         let mut line = LineBuilder::new(self.alloc)?;
         line.number(i128::from(self.seen));

@@ -24,8 +24,8 @@ impl TextFile {
         Ok(())
     }
 
-    /// Adds so many lines, where `@` stands for their numbers from 0, and `^` for how many are left with this one, below
-    /// zero where the number is odd.
+    /// Adds a given number of lines, where `@` stands for their numbers from 0, and `^` for how many are left with this
+    /// one, below zero where the number is odd.
     pub(crate) fn add_many(
         &mut self,
         alloc: Global,
@@ -43,7 +43,7 @@ impl TextFile {
         Ok(())
     }
 
-    /// Adds a comment up to so many bytes in all.
+    /// Adds a comment up to a given number of bytes in all.
     pub(crate) fn fill(&mut self, length: usize) -> Result<(), AllocError> {
         for _ in self.bytes.len()..length {
             self.bytes.push(b'#')?;
@@ -51,7 +51,7 @@ impl TextFile {
         Ok(())
     }
 
-    /// Takes so many bytes away at the end.
+    /// Takes a given number of bytes away at the end.
     pub(crate) fn cut(&mut self, count: usize) {
         self.bytes.truncate(self.bytes.len().saturating_sub(count));
     }

@@ -1,5 +1,4 @@
-//! Runs the worked examples in the files that its words name, through the top call, and says of each whether it came out.
-//! `data/README.txt` says how an example is written.
+//! Worked examples, run through the whole program: the acceptance tests. `data/README.txt` says how one is written.
 #![tactic(auto)]
 
 mod attached;

@@ -164,7 +164,7 @@ pub(crate) fn run_byte_by_byte(
     })
 }
 
-/// The file `p` cut after so many bytes, alone.
+/// The file `p` cut after a given number of bytes, alone.
 fn prefix_of(alloc: Global, whole: &[u8], length: usize) -> Result<Vec<TextFile>, AllocError> {
     let mut file = TextFile::new(alloc, "p")?;
     file.bytes.extend_from_slice(whole)?;

@@ -1,4 +1,4 @@
--- The laws over a network and a test of its items.
+-- The theorems over a network and a test of its items.
 use Rattle.std.proofs.Common.{ℕ, Bool, ℤ}
 use Rattle.gic_model.specs.declared.parts.Item.{Item}
 use Rattle.gic_model.specs.Network.{Network}

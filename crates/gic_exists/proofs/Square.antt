@@ -1,4 +1,4 @@
--- The law of equations with their coefficients written out.
+-- The theorem of equations with their coefficients written out.
 use Rattle.std.proofs.Common.{◌≡◌, ◌⊎◌, ℕ, zero, suc, ℤ, pos, ◌*ℤ◌, arith, inl, inr}
 use lib.IntN.{*ℤ-zero}
 use Rattle.gic_fixed.proofs.Integers.{linear, *ℤ-+ℤ, *ℤ_left_comm}

@@ -1,4 +1,4 @@
-//! The laws behind existence, each the contract of a function that does nothing.
+//! The theorems behind existence, each the contract of a function that does nothing.
 ghost use Rattle.std.specs.Prelude.{[], ◌∷◌, ℤ};
 ghost use Rattle.gic_model.specs.declared.parts.Item.TheVariants.{Ground};
 ghost use Rattle.gic_model.specs.Limits.{IsWithinLimits};

@@ -1,4 +1,5 @@
-//! Every network whose live nodes are all earthed has a solution, and any two of its solutions agree.
+//! Existence and uniqueness: each network whose live nodes are all earthed has a solution, and any two of its solutions
+//! agree.
 #![tactic(auto)]
 
 ghost use Rattle.std.specs.Prelude.{◌≡◌, length};

@@ -13,9 +13,9 @@ use Rattle.gic_winding.specs.Weights.{transformer_at}
 use Rattle.gic_effective.specs.Narrow.{IsNarrowView}
 use Rattle.gic_effective.specs.RightView.{IsRightView}
 use Rattle.gic_effective.specs.Weighted.{effective_numerator, effective_denominator}
-use Rattle.gic_screen.specs.Verdict.{verdict_of}
-use Rattle.gic_screen.specs.declared.criterion.Verdict.TheVariants.{Below}
-use Rattle.gic_screen.specs.VerdictLaws.{BelowIsUnder, ReachesIsAtLeast, UndecidedIsAcross}
+use Rattle.gic_criteria.specs.Verdict.{verdict_of}
+use Rattle.gic_criteria.specs.declared.criterion.Verdict.TheVariants.{Below}
+use Rattle.gic_criteria.specs.VerdictLaws.{BelowIsUnder, ReachesIsAtLeast, UndecidedIsAcross}
 use Rattle.gic_report.proofs.Absolutes.{absolute_narrow}
 use Rattle.gic_field.specs.Follows.{AreTrueVerdicts, AreRightAbsolutes}
 

@@ -9,9 +9,9 @@ use Rattle.gic_view.specs.Absolute.{absolute_ends}
 use Rattle.gic_view.specs.View.{View, effective_at}
 use Rattle.gic_effective.specs.Threshold.{IsAtLeast, IsUnder}
 use Rattle.gic_effective.specs.Weighted.{effective_numerator, effective_denominator}
-use Rattle.gic_screen.specs.declared.asked.Question.{Question}
-use Rattle.gic_screen.specs.Event.{threshold_of}
-use Rattle.gic_screen.specs.declared.criterion.Verdict.TheVariants.{Below, Reaches, Undecided}
+use Rattle.gic_criteria.specs.declared.asked.Question.{Question}
+use Rattle.gic_criteria.specs.Event.{threshold_of}
+use Rattle.gic_criteria.specs.declared.criterion.Verdict.TheVariants.{Below, Reaches, Undecided}
 use Rattle.gic_report.specs.VerdictText.{IsAcross, verdict_at}
 use Rattle.gic_field.specs.RightField.{ShowsRightView}
 

@@ -5,10 +5,10 @@ use Rattle.gic_model.specs.Sums.{Placed}
 use Rattle.gic_view.specs.View.{View}
 use Rattle.gic_effective.specs.Narrow.{IsNarrowView}
 use Rattle.gic_effective.specs.RightView.{IsRightView}
-use Rattle.gic_screen.specs.Event.{threshold_of}
+use Rattle.gic_criteria.specs.Event.{threshold_of}
 use Rattle.gic_text.specs.Lines.{lines_text}
 use Rattle.gic_field.specs.FieldText.{field_report}
-use Rattle.gic_screen.specs.declared.asked.Question.{Question}
+use Rattle.gic_criteria.specs.declared.asked.Question.{Question}
 use Rattle.gic_inputs.specs.declared.inputs.Inputs.{Inputs}
 use Rattle.gic_stand.specs.Standing.{standing_of}
 use Rattle.gic_uniform.specs.Uniform.{uniform_volts}

@@ -2,7 +2,7 @@
 ghost use Rattle.gic_field.specs.Determines.{TextDeterminesField};
 ghost use Rattle.gic_field.specs.Follows.{AbsolutesAreRight, FieldVerdictsAreTrue};
 
-use gic_screen::laws::verdict_law;
+use gic_criteria::laws::verdict_law;
 
 /// Texts on one case that are equal show the same field, width and threshold and the same intervals.
 pub fn text_determines_field_law()

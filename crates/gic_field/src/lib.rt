@@ -1,10 +1,10 @@
-//! The mode `field`: what a case shows in one field, solved.
+//! The mode `field`: potentials, GIC and verdicts in one uniform geoelectric field.
 #![tactic(auto)]
 
 pub mod laws;
 mod mode;
-mod room;
 mod text;
+mod workspace;
 
 pub use mode::field;
-pub use room::{Room, make_room};
+pub use workspace::{Workspace, make_workspace};

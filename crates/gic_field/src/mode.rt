@@ -2,19 +2,19 @@
 ghost use Rattle.std.specs.Prelude.{All};
 ghost use Rattle.gic_base.specs.Writes.{Writes};
 ghost use Rattle.gic_view.specs.Absolute.{HasAbsolute};
-ghost use Rattle.gic_screen.specs.Ranges.{IsWithinRanges};
+ghost use Rattle.gic_criteria.specs.Ranges.{IsWithinRanges};
 ghost use Rattle.gic_stand.specs.Needs.{Solved};
 ghost use Rattle.gic_stand.specs.Serves.{Serves, shown};
 ghost use Rattle.gic_stand.specs.Standing.{steps_of};
 ghost use Rattle.gic_field.specs.Made.{IsMadeFor};
 ghost use Rattle.gic_field.specs.RightField.{field_text, IsRightField};
 
-use crate::room::Room;
 use crate::text::{Setting, write_field};
+use crate::workspace::Workspace;
 use gic_base::{Sink, WriteFailed};
 use gic_case::Case;
+use gic_criteria::Question;
 use gic_inputs::Inputs;
-use gic_screen::Question;
 use gic_stand::{ReportFault, ended};
 use gic_text::LineBuilder;
 use gic_uniform::{expect_solvable, solve_view};
@@ -42,23 +42,27 @@ fn write_view<S: Sink>(
 
 /// Writes what the case shows in the field that is asked for, with all rows of the switchings in force, where its network
 /// can be solved. Takes no memory.
-pub fn field<S: Sink>(inputs: &Inputs, room: &mut Room, out: &mut S) -> Result<(), ReportFault>
+pub fn field<S: Sink>(
+    inputs: &Inputs,
+    workspace: &mut Workspace,
+    out: &mut S,
+) -> Result<(), ReportFault>
     requires ranges { IsWithinRanges inputs.now.question }
-    requires room { IsMadeFor inputs.now room.old }
+    requires workspace { IsMadeFor inputs.now workspace.old }
     ensures { Serves Solved inputs.now.case (steps_of inputs.now) (IsRightField inputs.now)
         (shown S.written S.faults out.old) (shown S.written S.faults out.new) result }
 {
     let case = &inputs.case;
     let question = &inputs.question;
-    expect_solvable(case, &room.net, &mut room.solving)?;
+    expect_solvable(case, &workspace.net, &mut workspace.solving)?;
     solve_view(
         case,
-        &room.net,
-        &room.volts,
+        &workspace.net,
+        &workspace.volts,
         question.width,
-        &mut room.solving,
-        &mut room.view,
+        &mut workspace.solving,
+        &mut workspace.view,
     );
-    let writing = write_view(case, question, &room.view, &mut room.line, out);
+    let writing = write_view(case, question, &workspace.view, &mut workspace.line, out);
     ended(writing)
 }

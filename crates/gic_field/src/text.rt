@@ -23,7 +23,7 @@ pub(crate) struct Setting {
 }
 
 /// Writes the line of what is asked.
-#[tactic(auto, using(gic_text::proofs::Sizes::line_room))]
+#[tactic(auto, using(gic_text::proofs::Sizes::line_space))]
 fn write_setting<S: Sink>(
     setting: &Setting,
     line: &mut LineBuilder,

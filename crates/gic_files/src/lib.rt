@@ -1,4 +1,4 @@
-//! The library that files are fetched from, and one that is kept in memory.
+//! The file library as a trait, and one in memory.
 #![tactic(auto)]
 
 mod kept_names;

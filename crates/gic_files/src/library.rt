@@ -53,9 +53,9 @@ pub trait Library {
         ensures limit { OnOk result (length into.new.items ≤ limit) }
         ensures whole { OnOk result (IfSome (content self.old) (λ files.
             get files name.now ≡ Some into.new.items)) }
-        // What is too long comes as a front of it, of more than `limit` bytes.
+        // What is too long comes as a prefix of it, of more than `limit` bytes.
         ensures too_long { IsErrOf result FetchRefusal.TooLong → limit < length into.new.items }
-        ensures front { IsErrOf result FetchRefusal.TooLong → IfSome (content self.old) (λ files.
+        ensures prefix { IsErrOf result FetchRefusal.TooLong → IfSome (content self.old) (λ files.
             IsSomeAnd (get files name.now) (λ bytes. StartsWith bytes into.new.items)) };
 }
 

@@ -14,7 +14,7 @@ use std::alloc::Global;
 use std::marker::Model;
 
 /// Keeps files; the first of a name counts. The calls whose number, from 0, is in a list fail, and so does a fetch of a
-/// missing name. Where no memory is found to keep a name, the answer is want of memory.
+/// missing name. Where no memory is found to keep a name, the answer is out of memory.
 #[derive(Drop)]
 pub struct MemoryLibrary {
     alloc: Global,
@@ -47,7 +47,7 @@ fn find_file<'a>(files: &'a [(String, Vec<u8>)], name: &str) -> Option<&'a Vec<u
     None
 }
 
-/// Hands out a file of at most `limit` bytes, or of a longer one its front.
+/// Hands out a file of at most `limit` bytes, or of a longer one a prefix.
 fn hand_out(bytes: &[u8], limit: usize, into: &mut Vec<u8>) -> Result<(), FetchRefusal>
     requires { into.old.items ≡ [] }
     ensures whole { OnOk result ((into.new.items ≡ bytes.now) × (length bytes.now ≤ limit)) }
@@ -99,9 +99,9 @@ impl Library for MemoryLibrary {
         ensures limit { OnOk result (length into.new.items ≤ limit) }
         ensures whole { OnOk result (get (files_of self.old.files) name.now ≡ Some into.new.items) }
         ensures too_long { IsErrOf result FetchRefusal.TooLong → limit < length into.new.items }
-        ensures front { IsErrOf result FetchRefusal.TooLong → IsSomeAnd (get (files_of self.old.files) name.now)
+        ensures prefix { IsErrOf result FetchRefusal.TooLong → IsSomeAnd (get (files_of self.old.files) name.now)
             (λ bytes. StartsWith bytes into.new.items) }
-        // It fails at the calls named and at missing names, want of memory aside, and at no others.
+        // It fails at the calls named and at missing names, out of memory aside, and at no others.
         ensures call { IsNextCall self.old self.new name.now result }
     {
         let call = self.calls;

@@ -44,8 +44,8 @@ more zero d some h = absurd (omega arith)
 more (suc k) d some h = ⊎_elim (λ l. ap pos (omega (arith, next_same k d l))) (λ g. absurd (omega (arith, next_none k d some (omega (arith, mod_below k d some))))) (cases_lt (k % d + 1) d)
 
 -- the quotient of a number that is no multiple of the divisor is below the number
-room_above : (n d : ℕ) → 0 < d → 0 < n % d → n / d + 1 ≤ n
-room_above n d some rest =
+space_above : (n d : ℕ) → 0 < d → 0 < n % d → n / d + 1 ≤ n
+space_above n d some rest =
     let more : n / d ≤ n / d * d = le-mul_of_pos_right (n / d) some in
     omega (arith, div-add-mod' n d)
 
@@ -98,11 +98,11 @@ one_above zero = omega arith
 one_above (suc q) = let next : negsuc (suc q) +ℤ pos 1 ≡ negsuc q = omega (arith, ints) in omega (arith, ap mag next)
 
 -- one more than the quotient of what is no multiple fits into 128 bits
-pub for_room : (z x : ℤ) (d q r over : ℕ) → IsDivided z x d q r over → (r ≡ over → ⊥) → SFits w128 z → SFits w128 (x +ℤ pos 1)
-for_room (pos n) x d q r over is h fits =
+pub for_space : (z x : ℤ) (d q r over : ℕ) → IsDivided z x d q r over → (r ≡ over → ⊥) → SFits w128 z → SFits w128 (x +ℤ pos 1)
+for_space (pos n) x d q r over is h fits =
     let (whole, rest, none, low) = is.above n refl in
     let next : x +ℤ pos 1 ≡ pos (q + 1) = omega (arith, ints, low) in
-    record { sfits = omega (arith, ap mag next, whole, fits.sfits, room_above n d is.some (some_left n d r rest (λ e. h (e ∙ sym none)))) }
-for_room (negsuc n) x d q r over is h fits =
+    record { sfits = omega (arith, ap mag next, whole, fits.sfits, space_above n d is.some (some_left n d r rest (λ e. h (e ∙ sym none)))) }
+for_space (negsuc n) x d q r over is h fits =
     let (whole, rest, all, low) = is.below n refl in
     record { sfits = omega (arith, ints, ap (λ k. mag (k +ℤ pos 1)) low, one_above q, whole, fits.sfits, div-le_self n d) }

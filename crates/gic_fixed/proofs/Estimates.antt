@@ -12,7 +12,7 @@ under n m d h =
     let two : n * (m * d) ≤ n * 2 ^ 64 = mul-le-mul_left n h in
     omega (arith, mul_assoc n m d)
 
--- so many times 2^64 are so many times the product and so many times the slack
+-- n times 2^64 are n times the product and n times the slack
 pub spread : (t m d s : ℕ) → m * d + s ≡ 2 ^ 64 → t * (m * d) + t * s ≡ t * 2 ^ 64
 spread t m d s is = let each : t * (m * d + s) ≡ t * 2 ^ 64 = ap (λ k. t * k) is in omega (arith, each)
 
@@ -27,8 +27,8 @@ over n m d s some is less few =
     omega (arith, mul_assoc n m d, spread n m d s is, one, two, three, some)
 
 -- what is left above 2^64, with one slack more, has 64 bits
-pub room : (t d s low : ℕ) → t < d → d < 2 ^ 32 → s ≤ d → low < 2 ^ 64 → t * s + low - 2 ^ 64 + s < 2 ^ 64
-room t d s low few most less fits =
+pub space : (t d s low : ℕ) → t < d → d < 2 ^ 32 → s ≤ d → low < 2 ^ 64 → t * s + low - 2 ^ 64 + s < 2 ^ 64
+space t d s low few most less fits =
     let one : suc t * s ≤ d * d = mul-le-mul few less in
     let half : d ≤ 2 ^ 32 - 1 = omega (arith, most) in
     let two : d * d ≤ (2 ^ 32 - 1) * (2 ^ 32 - 1) = mul-le-mul half half in

@@ -1,4 +1,4 @@
--- Laws of ℤ that the library lacks: products with sums and the order, and the division that rounds down.
+-- Theorems of ℤ that the library lacks: products with sums and the order, and the division that rounds down.
 use Rattle.std.proofs.Common.{◌≡◌, ℕ, ◌+◌, ◌*◌, ◌<◌, ◌≤◌, ℤ, pos, negsuc, ◌+ℤ◌, ◌-ℤ◌, ◌*ℤ◌, neg_ℤ, ◌≤ℤ◌, unsigned_abs, arith, ap, sym, ◌∙◌, zero, suc, refl}
 use Rattle.std.proofs.lemmas.Int.{ints}
 use Rattle.std.specs.Int.{int_div_euclid}

@@ -1,4 +1,5 @@
-//! Exact whole-number arithmetic: square roots, intervals, and division by a fixed resistance.
+//! Exact integer arithmetic: rounded quotients, square roots, intervals, and division of wide integers by an invariant
+//! divisor.
 #![tactic(auto)]
 
 mod division;

@@ -35,7 +35,7 @@ fn estimated(number: u64, by: Reciprocal) -> Digit
 #[inline(always)]
 fn one_more(digit: Digit, divisor: u64) -> Digit
     requires some { 0 < divisor }
-    requires room { divisor ≤ digit.rest }
+    requires space { divisor ≤ digit.rest }
     requires number { digit.quotient * divisor + digit.rest < 2 ^ 64 }
     ensures more { result.quotient ≡ digit.quotient + 1 }
     ensures less { result.rest + divisor ≡ digit.rest }
@@ -86,14 +86,14 @@ fn last_digit(number: u64, by: Reciprocal) -> Digit
     }
 }
 
-/// So many times the product of estimate and divisor, and what is left.
+/// A multiple of the product of estimate and divisor, and what is left.
 #[derive(Clone, Copy)]
 struct Taken {
     times: u64,
     rest: u64,
 }
 
-/// So many times 2^64 and a number of 64 bits, as so many products of estimate and divisor and what is left: one product
+/// A multiple of 2^64 and a number of 64 bits, as this many products of estimate and divisor and what is left: one product
 /// for each 2^64, and for resistances of a case the slacks hardly ever make up one more.
 #[inline(always)]
 fn take_products(times: u64, low: u64, by: Reciprocal) -> Taken

@@ -25,7 +25,7 @@ impl Fields {
     ghost use Rattle.gic_induce.specs.Fields.{IsField, no_field, field_at, lone_field};
     ghost use Rattle.gic_induce.specs.Voltage.{IsFieldWithin};
 
-    /// No field in any of so many zones.
+    /// No field in any of a given number of zones.
     pub fn new(alloc: Global, zones: u16) -> Result<Fields, OutOfMemory>
         ensures { IfOk result (λ fields. fields ≡ replicate zones no_field) }
     {
@@ -33,7 +33,7 @@ impl Fields {
         Ok(Fields { list })
     }
 
-    /// One field in each of so many zones. Both parts are in mV/km.
+    /// One field in each of a given number of zones. Both parts are in mV/km.
     pub fn uniform(alloc: Global, zones: u16, north: i32, east: i32) -> Result<Fields, OutOfMemory>
         requires north { IsFieldWithin north }
         requires east { IsFieldWithin east }

@@ -1,4 +1,4 @@
-//! The fields of zones, and the voltages that they induce in the lines of a case.
+//! Induced voltages: the geoelectric field of each zone, integrated along the lines.
 #![tactic(auto)]
 
 mod element_volts;

@@ -1,7 +1,7 @@
 //! What a mode is given, and what a mode over a storm is.
 use gic_case::Case;
+use gic_criteria::Question;
 use gic_model::Switching;
-use gic_screen::Question;
 use gic_storm::Storm;
 use gic_switch::Switchings;
 

@@ -1,4 +1,4 @@
-//! What modes are given: files, read and accepted, and what is asked of the network.
+//! The input data of a mode: accepted files, and what is asked of the network.
 #![tactic(auto)]
 
 mod inputs;

@@ -56,7 +56,7 @@ common_currents case s sound some =
     let part : ℕ → ℤ = λ t. pos (product_but ts t) *ℤ effective_numerator case s t in (
       record { numerators = map part (range_with_len 0 (length ts)); denominator = 3000000 * product ts * s.denominator },
       record {
-        above_nought = positive_product (3000000 * product ts) s.denominator (positive_product 3000000 (product ts) (omega arith) (product_some case ts sound.transformers_sound)) some;
+        above_zero = positive_product (3000000 * product ts) s.denominator (positive_product 3000000 (product ts) (omega arith) (product_some case ts sound.transformers_sound)) some;
         equal = λ t within.
             equal (get_or (map part (range_with_len 0 (length ts))) t (pos 0)) (effective_numerator case s t) (transformer_at case t).high_volts (product_but ts t) (product ts) s.denominator
             (get_or-map-range_with_len part 0 (length ts) t t (pos 0) within (omega arith)) (product_at ts t within);

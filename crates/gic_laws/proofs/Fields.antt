@@ -23,13 +23,13 @@ outside n zone field past = get_or_past (replicate n field) zone no_field (omega
 part_combined : (part : ℤ × ℤ → ℤ) (a c d : ℤ) (f g h : ℤ × ℤ) → part no_field ≡ pos 0 → a *ℤ part h ≡ c *ℤ part f +ℤ d *ℤ part g
     → (n zone : ℕ) → ((zone < n) ⊎ (n ≤ zone))
     → a *ℤ part (field_at (replicate n h) zone) ≡ c *ℤ part (field_at (replicate n f) zone) +ℤ d *ℤ part (field_at (replicate n g) zone)
-part_combined part a c d f g h nought is n zone (inl within) =
+part_combined part a c d f g h zeroed is n zone (inl within) =
     let one = ap (λ y. a *ℤ part y) (inside n zone h within) in
     let two = ap (λ y. c *ℤ part y) (inside n zone f within) in
     let three = ap (λ y. d *ℤ part y) (inside n zone g within) in
     omega (arith, linear, one, two, three, is)
-part_combined part a c d f g h nought is n zone (inr past) =
-    let none : (z : ℤ) → z *ℤ part no_field ≡ pos 0 = λ z. ap (λ y. z *ℤ y) nought ∙ *ℤ-zero z in
+part_combined part a c d f g h zeroed is n zone (inr past) =
+    let none : (z : ℤ) → z *ℤ part no_field ≡ pos 0 = λ z. ap (λ y. z *ℤ y) zeroed ∙ *ℤ-zero z in
     let one = ap (λ y. a *ℤ part y) (outside n zone h past) ∙ none a in
     let two = ap (λ y. c *ℤ part y) (outside n zone f past) ∙ none c in
     let three = ap (λ y. d *ℤ part y) (outside n zone g past) ∙ none d in

@@ -36,7 +36,7 @@ begins threshold width unit step s h =
     let hi = (effective_at step.0 unit).high in
     let current = step.1 in
     let least : (threshold + width) * current.denominator ≤ unsigned_abs current.numerator = grind (arith, nat_tests, h) in
-    let end = end_at_least (greatest_abs lo hi) (unsigned_abs current.numerator) current.denominator (threshold + width) s.shown.above_nought least s.shown.encloses.below_hi in
+    let end = end_at_least (greatest_abs lo hi) (unsigned_abs current.numerator) current.denominator (threshold + width) s.shown.above_zero least s.shown.encloses.below_hi in
     let begin = low_end (least_abs lo hi) (greatest_abs lo hi) threshold width (absolute_narrow lo hi width s.narrow) end in
     grind (arith, common_steps, begin)
 

@@ -3,7 +3,7 @@ use Rattle.std.proofs.Common.{◌≡◌, ℕ, ◌*◌, ◌<◌, ℤ, pos, ◌+�
 use borrow.Author.Differences.{same_in}
 use Rattle.gic_fixed.proofs.Integers.{linear, *ℤ-+ℤ, ≤ℤ-from_*ℤ, up-*ℤ, down-*ℤ}
 
--- a common factor of a denominator goes to the front
+-- a common factor of a denominator goes to the prefix
 pub out : (a b : ℤ) (k d : ℕ) → a *ℤ (b *ℤ pos (k * d)) ≡ pos k *ℤ (a *ℤ (pos d *ℤ b))
 out a b k d = same_in _ _ (simp (up-*ℤ, down-*ℤ) (omega arith))
 

@@ -47,7 +47,7 @@ shown_units inputs detail plans text sound study place within s solves currents 
     let step = study.right.right place within in
     let small : IsSmallView case view = All-get_or (IsSmallView case) study.views place (blank_view 0 0 0) within study.small in
     record {
-      above_nought = own.above_nought;
+      above_zero = own.above_zero;
       encloses = λ t inside.
           equal_enclosed (effective_at view t).low (effective_at view t).high (numerator_at currents t) (effective_numerator case s t) (effective_denominator case t s) currents.denominator
           (some_denominator case t s sound inside solves.denominator_above_0) (own.equal t inside) ((step.right.effective t inside).holds s solves);

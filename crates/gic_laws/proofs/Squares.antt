@@ -3,7 +3,7 @@ use Rattle.std.proofs.Common.{◌≡◌, ℕ, zero, suc, ◌+◌, ◌*◌, ◌<�
 use Rattle.std.proofs.lemmas.Int.{ints, unsigned_abs-mul}
 use Rattle.std.proofs.Math.Nat.{mul-le-mul_left, mul-le-mul_right, le_of_mul-le-mul_left}
 use Rattle.gic_fixed.proofs.Integers.{linear, *ℤ-+ℤ, +ℤ-*ℤ}
-use Rattle.gic_screen.specs.Worst.{square_of}
+use Rattle.gic_criteria.specs.Worst.{square_of}
 use Rattle.gic_laws.proofs.Products.{crossed}
 use lib.IntN.{*ℤ_comm}
 
@@ -75,7 +75,7 @@ square_same q n m k d e f is =
     let same : square_of q * (e * e) ≡ square_of n * (d * d) = sym (square-product q (pos e)) ∙ ap square_of is ∙ square-product n (pos d) in
     rw (left, right) (same_plain (square_of q) (square_of n) (square_of m) k d e f same)
 
--- so many times a number has no lesser square
+-- n times a number has no lesser square
 pub square_grows : (q z : ℤ) (k : ℕ) → 0 < k → square_of (q *ℤ z) ≤ square_of ((pos k *ℤ q) *ℤ z)
 square_grows q z k some =
     let left = square-product q z in

@@ -15,7 +15,7 @@ use Rattle.gic_exists.specs.Exists.{AnyTwoAgree, Agree}
 use Rattle.gic_winding.specs.ElementList.{elements_of}
 use Rattle.gic_winding.specs.Weights.{transformer_at, weighted_windings}
 use Rattle.gic_effective.specs.Weighted.{effective_numerator, effective_denominator}
-use Rattle.gic_screen.specs.Worst.{square_of}
+use Rattle.gic_criteria.specs.Worst.{square_of}
 use Rattle.gic_uniform.specs.Uniform.{uniform_volts}
 use Rattle.gic_laws.specs.Orientation.{AreSolutions, times, north_current, east_current, current_squared, worst_squared}
 use Rattle.gic_laws.proofs.Fields.{volts_combined}
@@ -36,7 +36,7 @@ numerator_agrees : (case : Lists) (t : ℕ) (standing : List Placed) (one other 
 numerator_agrees case t standing one other agree =
     sum_agrees (λ (w : ElementId × ℕ). w.1) (λ w. one.current w.0.0) (λ w. other.current w.0.0) (pos other.denominator) (pos one.denominator) (λ w. agree.currents w.0.0) (weighted_windings case t)
 
--- the effective numerator of so many times a solution
+-- the effective numerator of n times a solution
 numerator_times : (case : Lists) (t parts : ℕ) (s : Solution) → effective_numerator case (times parts s) t ≡ pos parts *ℤ effective_numerator case s t
 numerator_times case t parts s =
     sum_times (λ (w : ElementId × ℕ). w.1) (λ w. s.current w.0.0) (λ w. s.current w.0.0) (pos parts) (weighted_windings case t)

@@ -93,7 +93,7 @@ module _ (fewest : CertainAreFewest) (most : PossibleAreMost) (inputs : StormInp
         let narrow = All-get_or (IsNarrowView case width) views place (blank_view 0 0 0) there study.narrow in
         subst (IsNarrowlyShown width t) (sym (step_at place there)) (record {
           shown = record {
-            above_nought = some_denominator case t s sound within solves.denominator_above_0;
+            above_zero = some_denominator case t s sound within solves.denominator_above_0;
             encloses = Encloses-abs (effective_at view t).low (effective_at view t).high (effective_numerator case s t) (effective_denominator case t s)
                 (((study.right.right place there).right.effective t within).holds s solves);
           };

@@ -6,7 +6,7 @@ use Rattle.gic_case.specs.Lists.{Lists}
 use Rattle.gic_model.specs.Solution.{Solution}
 use Rattle.gic_winding.specs.Weights.{transformer_at}
 use Rattle.gic_effective.specs.Weighted.{effective_numerator, effective_denominator}
-use Rattle.gic_screen.specs.Event.{threshold_of}
+use Rattle.gic_criteria.specs.Event.{threshold_of}
 use Rattle.gic_monitor.specs.Bounds.{Current, is_at_least}
 use Rattle.gic_monitor.specs.DwellText.{dwell_text}
 use Rattle.gic_storm.specs.Steps.{steps_in}

@@ -1,4 +1,4 @@
--- That the views of a study show the exact currents of its steps as the law of losses asks.
+-- That the views of a study show the exact currents of its steps as the theorem of losses asks.
 use Rattle.std.specs.Prelude.{◌≡◌, ℕ, suc, ◌<◌, pos, ◌*ℤ◌, List, length, Option}
 use Rattle.gic_case.specs.Lists.{Lists}
 use Rattle.gic_case.specs.Sound.{IsSound}
@@ -14,7 +14,7 @@ use Rattle.gic_study_mode.specs.RightStudy.{IsRightStudy}
 
 -- these are the transformers' signed effective currents in a solution, in mA per phase: as fractions over their one denominator they are those over each transformer's own
 pub record AreEffectiveCurrents (case : Lists) (s : Solution) (currents : Currents) : Type 0 where
-  pub above_nought : 0 < currents.denominator
+  pub above_zero : 0 < currents.denominator
   pub equal : (t : ℕ) → t < length case.transformers →
       numerator_at currents t *ℤ pos (effective_denominator case t s) ≡ effective_numerator case s t *ℤ pos currents.denominator
 

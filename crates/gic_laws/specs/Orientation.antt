@@ -9,8 +9,8 @@ use Rattle.gic_model.specs.Standing.{standing_elements}
 use Rattle.gic_model.specs.Sums.{Placed}
 use Rattle.gic_winding.specs.ElementList.{elements_of}
 use Rattle.gic_effective.specs.Weighted.{effective_numerator, effective_denominator}
-use Rattle.gic_screen.specs.Worst.{square_of}
-use Rattle.gic_screen.specs.VerdictLaws.{worst_square}
+use Rattle.gic_criteria.specs.Worst.{square_of}
+use Rattle.gic_criteria.specs.VerdictLaws.{worst_square}
 use Rattle.gic_uniform.specs.Uniform.{uniform_volts}
 
 -- this many times the potentials and the currents, over the same denominator

@@ -1,15 +1,15 @@
-//! Laws of the currents of a study and of orientations, each the contract of a function that does nothing but bring the
-//! laws that it joins.
+//! Theorems of the currents of a study and of orientations, each the contract of a function that does nothing but bring
+//! the theorems that it joins.
 ghost use Rattle.gic_laws.specs.Dwells.{DwellsAreTrue};
 ghost use Rattle.gic_laws.specs.Earthings.{EarthingsAreTrue};
 ghost use Rattle.gic_laws.specs.Losses.{CurrentsExist, StudiesShowUnits};
 ghost use Rattle.gic_laws.specs.Orientation.{NoFieldGivesMore, AlignedFieldGivesAsMuch};
 
+use gic_criteria::laws::greatest_over_all_orientations_law;
 use gic_exists::laws::agreement_law;
 use gic_induce::laws::linearity_law;
 use gic_model::laws::superposition_law;
 use gic_monitor::laws::monitors_bound_the_exact_currents_law;
-use gic_screen::laws::greatest_over_all_orientations_law;
 use gic_winding::laws::limits_law;
 
 /// Whatever solves the network of each step: the exact absolute effective current of a transformer is the threshold or

@@ -1,5 +1,5 @@
-//! Laws over what other crates compute, and nothing else: why the worst orientation holds in every direction of a uniform
-//! field, and what the texts of the program's monitors say of the exact currents of a study.
+//! Theorems over the modes: the worst orientation of a uniform field, and the texts of monitors and exact currents.
+//! Nothing is computed here.
 #![tactic(auto)]
 
 pub mod laws;

@@ -17,7 +17,7 @@ abbrev pub end_name : Lists → End → List ℕ
 end_name case (Node n) = node_name case n.0
 end_name case Earth = codes "*"
 
--- the line of an element: its item's name, what it is, its two ends, and its parallel paths of so many micro-ohm
+-- the line of an element: its item's name, what it is, its two ends, and its parallel paths of this many micro-ohm
 unfoldable pub element_line : Lists → Element → Words
 element_line case e = codes "element" ∷ item_name case e.item ∷ role_word e.role ∷ node_name case e.from.0 ∷ end_name case e.to ∷ decimal e.times ∷ decimal e.micro_ohm ∷ []
 

@@ -1,10 +1,10 @@
-//! The mode `list`: the elements of the network of a case.
+//! The mode `list`: the branches of the direct-current network of a case.
 #![tactic(auto)]
 
 mod mode;
 mod names;
-mod room;
 mod text;
+mod workspace;
 
 pub use mode::list;
-pub use room::{Room, make_room};
+pub use workspace::{Workspace, make_workspace};

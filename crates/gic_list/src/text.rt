@@ -15,7 +15,7 @@ use gic_text::LineBuilder;
 /// Adds the name of the end to which an element runs to the line.
 fn add_end(case: &Case, element: &Element, line: &mut LineBuilder)
     requires element { Contains (elements_of case.now).list element.now }
-    requires room { length line.old.bytes + 33 ≤ 512 }
+    requires space { length line.old.bytes + 33 ≤ 512 }
     ensures word { line.new ≡ with_word line.old (end_name case.now element.now.to) }
     ensures size { length line.new.bytes ≤ length line.old.bytes + 33 }
 {
@@ -26,7 +26,7 @@ fn add_end(case: &Case, element: &Element, line: &mut LineBuilder)
 }
 
 /// Writes the line of an element.
-#[tactic(auto, using(gic_text::proofs::Sizes::line_room), unfolding(crate::specs::ListText::element_line))]
+#[tactic(auto, using(gic_text::proofs::Sizes::line_space), unfolding(crate::specs::ListText::element_line))]
 fn write_element<S: Sink>(
     case: &Case,
     element: &Element,

@@ -28,16 +28,16 @@ first_plans {X = X} read a b c d table count first second third fourth =
     cut ∙ read_off
 
 -- so the top call ends as the program does
-pub attached : {X : Type 0} (read : X → Plan) (none one two three four front : List X) (a b c d : X) (table : List NamedFactor) (count : ℕ)
-    → none ≡ [] → one ≡ none ++ a ∷ [] → two ≡ one ++ b ∷ [] → three ≡ two ++ c ∷ [] → four ≡ three ++ d ∷ [] → front ≡ take count four
+pub attached : {X : Type 0} (read : X → Plan) (none one two three four prefix : List X) (a b c d : X) (table : List NamedFactor) (count : ℕ)
+    → none ≡ [] → one ≡ none ++ a ∷ [] → two ≡ one ++ b ∷ [] → three ≡ two ++ c ∷ [] → four ≡ three ++ d ∷ [] → prefix ≡ take count four
     → read a ≡ dwell_text → read b ≡ earth_text → read c ≡ volt_text 1 → read d ≡ table_text table
     → (words : List (List ℕ)) (files : Option Files) (before now : Moment) (status : ℕ)
-    → CallEnds (record { words = words; files = files; plans = λ roster views. map (λ m. read m roster views) front; before = before; now = now }) status
+    → CallEnds (record { words = words; files = files; plans = λ roster views. map (λ m. read m roster views) prefix; before = before; now = now }) status
     → FirstEnds count words files before now status
-attached {X = X} read none one two three four front a b c d table count start push1 push2 push3 push4 cut first second third fourth words files before now status ends =
+attached {X = X} read none one two three four prefix a b c d table count start push1 push2 push3 push4 cut first second third fourth words files before now status ends =
     let all : four ≡ a ∷ b ∷ c ∷ d ∷ [] =
     push4 ∙ ap (λ (xs : List X). xs ++ d ∷ []) (push3 ∙ ap (λ (xs : List X). xs ++ c ∷ []) (push2 ∙ ap (λ (xs : List X). xs ++ b ∷ []) (push1 ∙ ap (λ (xs : List X). xs ++ a ∷ []) start))) in
-    let items : front ≡ take count (a ∷ b ∷ c ∷ d ∷ []) = cut ∙ ap (λ (xs : List X). take count xs) all in
-    let plans : ◌≡◌ {A = Plans} (λ roster views. map (λ m. read m roster views) front) (λ roster views. take count (four_plans table roster views)) =
+    let items : prefix ≡ take count (a ∷ b ∷ c ∷ d ∷ []) = cut ∙ ap (λ (xs : List X). take count xs) all in
+    let plans : ◌≡◌ {A = Plans} (λ roster views. map (λ m. read m roster views) prefix) (λ roster views. take count (four_plans table roster views)) =
     ap (λ (xs : List X). λ roster views. map (λ m. read m roster views) xs) items ∙ first_plans read a b c d table count first second third fourth in
     inl (table, subst (λ (p : Plans). CallEnds (record { words = words; files = files; plans = p; before = before; now = now }) status) plans ends)

@@ -1,4 +1,4 @@
-//! A program with a list of monitors of its own: those of `gicstudy`, and losses by a table of factors.
+//! A program with monitors of its own: those of `gicstudy`, and losses by a table of factors.
 //!
 //! Its first word says how many of the four monitors see the steps, from 0 to 4 and in the order in which `study.rt` has
 //! them, so that one program can tell what they cost. The further words are those of `gicstudy`.
@@ -13,7 +13,7 @@ use std::process::ExitCode;
 use std::{env, io};
 use study::run;
 
-/// The words after the program's name. An error is want of memory for them, or a word that is no text in UTF-8.
+/// The words after the program's name. An error is that memory ran out for them, or a word that is no text in UTF-8.
 fn words(rt: &HostRuntime, alloc: Global) -> io::Result<Vec<String>> {
     Ok(env::args(rt)?.skip(1).collect(alloc)?)
 }

@@ -23,8 +23,8 @@ const NO_COUNT: u8 = 2;
 /// The status where memory is wanting for the monitors.
 const NO_MEMORY: u8 = 11;
 
-/// The top call with the first so many of the four monitors.
-fn study<L: Library, S: Sink, E: Sink>(
+/// The top call with the first n of the four monitors.
+fn call_with_monitors<L: Library, S: Sink, E: Sink>(
     alloc: Global,
     count: usize,
     words: &[String],
@@ -77,7 +77,7 @@ fn counted<L: Library, S: Sink, E: Sink>(
     };
     match read_decimal(first.as_bytes(), 0, MONITORS) {
         None => NO_COUNT,
-        Some(count) => study(alloc, count as usize, words, library, out, err),
+        Some(count) => call_with_monitors(alloc, count as usize, words, library, out, err),
     }
 }
 

@@ -46,11 +46,11 @@ numbers_differ letter i j less small same =
     omega arith
 
 -- the names of one letter, in front of names of other letters
-pub apart_in_front : (letter from sites : ℕ) (names : List (List ℕ)) → from + sites ≤ 2 ^ 32 → AllByRecursion (HasOtherLetter letter) names → AreApart names → AreApart (names_by letter from sites ++ names)
-apart_in_front letter from zero names small others apart = apart
-apart_in_front letter from (suc sites) names small others apart = (
+pub apart_before : (letter from sites : ℕ) (names : List (List ℕ)) → from + sites ≤ 2 ^ 32 → AllByRecursion (HasOtherLetter letter) names → AreApart names → AreApart (names_by letter from sites ++ names)
+apart_before letter from zero names small others apart = apart
+apart_before letter from (suc sites) names small others apart = (
   all_joined (λ y. numbered letter from ≢ y) (names_by letter (from + 1) sites) names
       (each_site (λ y. numbered letter from ≢ y) (numbered letter) (from + 1) sites (λ i low high. numbers_differ letter from i (omega arith) (omega arith)))
       (weaker (HasOtherLetter letter) (λ y. numbered letter from ≢ y) (λ y other. other_letter letter (decimal from) y other) names others),
-  apart_in_front letter (from + 1) sites names (omega arith) others apart,
+  apart_before letter (from + 1) sites names (omega arith) others apart,
 )

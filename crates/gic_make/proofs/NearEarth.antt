@@ -1,4 +1,4 @@
--- A made case is earthed within 448, by the second share law.
+-- A made case is earthed within 448, by the second share theorem.
 use Rattle.std.proofs.Common.{ℕ, ◌≤◌, Bool, true, false, cond, nat_lt, List, length, sym, subst, arith}
 use Rattle.std.specs.List.{AllByRecursion}
 use Rattle.gic_case.specs.Lists.{node_names}
@@ -20,10 +20,10 @@ use Rattle.gic_make.proofs.StandingSites.{standing_at, standing_is}
 use Rattle.gic_make.proofs.SharesOfSites.{substation_share, bus_share}
 
 -- the entries are 448 at buses and 436 at substations
-entry_small : (live front : Bool) → cond live (cond front 436 448) 0 ≤ 448
+entry_small : (live prefix : Bool) → cond live (cond prefix 436 448) 0 ≤ 448
 entry_small true true = omega arith
 entry_small true false = omega arith
-entry_small false front = omega arith
+entry_small false prefix = omega arith
 
 -- each node's share
 shares : (states : List ℕ) (size : ℕ) → IsWithinLimits (elements_of (drawn_case states size)) → IsEarthedThroughSubstations (standing_at states size) size 32 6
@@ -33,7 +33,7 @@ shares states size limits =
     let count = nodes_are states size in
     let within = subst (AllByRecursion (λ (p : Placed). IsElementWithin nodes p.1)) (standing_is states size) (standing_within (elements_of (drawn_case states size)) (λ item. true) limits) in
     record {
-      earthings = λ k front live. substation_share states size k front;
+      earthings = λ k prefix live. substation_share states size k prefix;
       ways = λ k back live. bus_share states size k back (omega (arith, live_within nodes (standing_at states size) k within live, count));
     }
 

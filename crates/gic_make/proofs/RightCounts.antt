@@ -15,9 +15,9 @@ use Rattle.gic_report.specs.VerdictText.{is_judged, verdict_at}
 use Rattle.gic_view.specs.Absolute.{absolute_ends}
 use Rattle.gic_report.proofs.Absolutes.{absolute_narrow}
 use Rattle.gic_report.proofs.CountedVerdicts.{total_at, is_below, is_reaching, is_undecided, is_outside, is_below_so, is_reaching_so, is_undecided_so, below_step, reaches_step, undecided_step, outside_step, count_le, counted_at}
-use Rattle.gic_screen.specs.declared.criterion.Verdict.{Verdict}
-use Rattle.gic_screen.specs.declared.criterion.Verdict.TheVariants.{Undecided}
-use Rattle.gic_screen.specs.VerdictLaws.{BelowIsUnder, ReachesIsAtLeast}
+use Rattle.gic_criteria.specs.declared.criterion.Verdict.{Verdict}
+use Rattle.gic_criteria.specs.declared.criterion.Verdict.TheVariants.{Undecided}
+use Rattle.gic_criteria.specs.VerdictLaws.{BelowIsUnder, ReachesIsAtLeast}
 use Rattle.gic_view.specs.View.{View, effective_at}
 use Rattle.gic_winding.specs.Weights.{transformer_at}
 use Rattle.gic_uniform.specs.Solving.{IsSolvedView}

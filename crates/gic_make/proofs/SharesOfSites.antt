@@ -32,7 +32,7 @@ use Rattle.gic_make.proofs.StandingSites.{standing_at}
 abbrev passed : (Element → Bool) → Placed → ℤ
 passed test p = cond (test p.1) (pos (p.1.times * 1000000)) (pos 0)
 
--- an element's conductance is at most s times that of itself, if it passes the test, and so many siemens more
+-- an element's conductance is at most s times that of itself, if it passes the test, and this many siemens more
 abbrev IsBounded : (Element → Bool) → (s : ℕ) → (Role → ℤ) → Element → Type 0
 IsBounded test s siemens e = pos (e.times * 1000000) ≤ℤ (pos e.micro_ohm *ℤ siemens e.role +ℤ pos s *ℤ cond (test e) (pos (e.times * 1000000)) (pos 0))
 

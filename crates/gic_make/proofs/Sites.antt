@@ -4,7 +4,7 @@ use Rattle.std.proofs.lemmas.Bool.{cases_Bool, cases_lt}
 use Rattle.std.proofs.lemmas.List.Sums.{sum_by-cons}
 use Rattle.std.specs.List.{AllByRecursion, range_with_len, enumerate_from, list_any}
 
--- what holds at each of so many sites from a place on
+-- what holds at each of a given number of sites from a place on
 abbrev pub AtEach : (ℕ → Type 0) → (from sites : ℕ) → Type 0
 AtEach P from sites = (i : ℕ) → from ≤ i → i < from + sites → P i
 

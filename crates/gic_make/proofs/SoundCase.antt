@@ -16,7 +16,7 @@ use Rattle.gic_make.specs.Accepted.{HasRows}
 use Rattle.gic_make.proofs.ElementsOfSites.{nodes_are}
 use Rattle.gic_make.proofs.EndsAtNodes.{few_ends}
 use Rattle.gic_make.proofs.Names.{numbered_name}
-use Rattle.gic_make.proofs.NamesApart.{AreApart, HasOtherLetter, names_by, other_letter, other_letters, apart_in_front, pairs_differ}
+use Rattle.gic_make.proofs.NamesApart.{AreApart, HasOtherLetter, names_by, other_letter, other_letters, apart_before, pairs_differ}
 use Rattle.gic_make.proofs.RowsOfSites.{substation_sound, transformer_sound, line_sound}
 use Rattle.gic_make.proofs.Sites.{each_site}
 
@@ -42,12 +42,12 @@ names_are_sound size few =
 names_are_apart : (size : ℕ) → size ≤ 1000 → AreApart (names_by_letters size)
 unfolding names_by_letters
 names_are_apart size few =
-    let last : AreApart (names_by 84 0 size) = subst AreApart (append-nil _) (apart_in_front 84 0 size [] (omega arith) tt tt) in
-    let from_lines : AreApart (names_by 76 1 (size - 1) ++ names_by 84 0 size) = apart_in_front 76 1 (size - 1) _ (omega arith) (other_letters 76 84 0 size (omega arith)) last in
+    let last : AreApart (names_by 84 0 size) = subst AreApart (append-nil _) (apart_before 84 0 size [] (omega arith) tt tt) in
+    let from_lines : AreApart (names_by 76 1 (size - 1) ++ names_by 84 0 size) = apart_before 76 1 (size - 1) _ (omega arith) (other_letters 76 84 0 size (omega arith)) last in
     let from_buses : AreApart (names_by 66 0 size ++ (names_by 76 1 (size - 1) ++ names_by 84 0 size)) =
-    apart_in_front 66 0 size _ (omega arith) (all_joined (HasOtherLetter 66) _ _ (other_letters 66 76 1 (size - 1) (omega arith)) (other_letters 66 84 0 size (omega arith))) from_lines in
+    apart_before 66 0 size _ (omega arith) (all_joined (HasOtherLetter 66) _ _ (other_letters 66 76 1 (size - 1) (omega arith)) (other_letters 66 84 0 size (omega arith))) from_lines in
     let from_substations : AreApart (names_by 83 0 size ++ (names_by 66 0 size ++ (names_by 76 1 (size - 1) ++ names_by 84 0 size))) =
-    apart_in_front 83 0 size _ (omega arith)
+    apart_before 83 0 size _ (omega arith)
     (all_joined (HasOtherLetter 83) _ _ (other_letters 83 66 0 size (omega arith))
     (all_joined (HasOtherLetter 83) _ _ (other_letters 83 76 1 (size - 1) (omega arith)) (other_letters 83 84 0 size (omega arith)))) from_buses in (
       weaker (HasOtherLetter 90) (λ y. (90 ∷ []) ≢ y) (λ y other. other_letter 90 [] y other) _

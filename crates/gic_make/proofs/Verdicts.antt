@@ -4,9 +4,9 @@ use Rattle.std.proofs.lemmas.Bool.{cases_lt}
 use Rattle.std.proofs.lemmas.Int.{ints}
 use Rattle.std.proofs.lemmas.Grind.{common_steps}
 use Rattle.std.proofs.Math.Nat.{mul-le-mul_left}
-use Rattle.gic_screen.specs.declared.criterion.Verdict.TheVariants.{Below, Reaches, Undecided, Outside}
+use Rattle.gic_criteria.specs.declared.criterion.Verdict.TheVariants.{Below, Reaches, Undecided, Outside}
 use Rattle.gic_report.proofs.CountedVerdicts.{is_outside}
-use Rattle.gic_screen.specs.Verdict.{is_assessed, verdict_of}
+use Rattle.gic_criteria.specs.Verdict.{is_assessed, verdict_of}
 
 -- a low end that isn't above a fraction under a number, and a high end that isn't under a fraction of a number or more
 pub low_under : (lo : ℤ) (n d k : ℕ) → (lo *ℤ pos d) ≤ℤ pos n → n < k * d → lo <ℤ pos k

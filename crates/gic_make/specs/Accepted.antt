@@ -1,4 +1,4 @@
--- What the law says of made cases.
+-- What the theorem says of made cases.
 use Rattle.std.specs.Prelude.{ℕ, ◌≡◌, ◌≤◌, ◌<◌, ◌-◌, ◌*◌, ◌^◌, true, List, length}
 use Rattle.gic_case.specs.Lists.{Lists}
 use Rattle.gic_case.specs.Sound.{IsSound}

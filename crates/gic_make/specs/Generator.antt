@@ -5,7 +5,7 @@ use Rattle.std.specs.Prelude.{ℕ, zero, suc, ◌+◌, ◌*◌, ◌/◌, ◌%◌
 abbrev pub next_state : (state : ℕ) → ℕ
 next_state state = (1664525 * state + 1013904223) % 2 ^ 32
 
--- so many states behind this one, each following from the one before
+-- a given number of states behind this one, each following from the one before
 abbrev pub states_after : (state count : ℕ) → List ℕ
 states_after state zero = []
 states_after state (suc count) = next_state state ∷ states_after (next_state state) count

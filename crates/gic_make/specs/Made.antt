@@ -6,14 +6,14 @@ use Rattle.gic_net.specs.Net.{standing}
 use Rattle.gic_stand.specs.Standing.{standing_of}
 use Rattle.gic_winding.specs.ElementList.{elements_of}
 use Rattle.gic_make.specs.RightMake.{benchmark_volts}
-use Rattle.gic_make.specs.Solving.{IsSummaryRoomFor}
-use Rattle.gic_make.specs.declared.room.Room.{Room}
+use Rattle.gic_make.specs.Solving.{IsSummaryWorkspaceFor}
+use Rattle.gic_make.specs.declared.workspace.Workspace.{Workspace}
 
--- it has the made case with all its elements, the voltages of the benchmark event to the north, and room for a summary
-pub record IsMadeFor (seed size : ℕ) (room : Room) : Type 0 where
-  pub case_is : room.case ≡ made_case seed size
-  pub network : room.net.network ≡ elements_of room.case
-  pub stands : standing room.net ≡ standing_of room.case None
-  pub volts : number_at room.volts ≡ benchmark_volts room.case
-  pub count : length room.volts ≡ length room.net.network.list
-  pub summary : IsSummaryRoomFor room.case room.summary
+-- it has the made case with all its elements, the voltages of the benchmark event to the north, and space for a summary
+pub record IsMadeFor (seed size : ℕ) (workspace : Workspace) : Type 0 where
+  pub case_is : workspace.case ≡ made_case seed size
+  pub network : workspace.net.network ≡ elements_of workspace.case
+  pub stands : standing workspace.net ≡ standing_of workspace.case None
+  pub volts : number_at workspace.volts ≡ benchmark_volts workspace.case
+  pub count : length workspace.volts ≡ length workspace.net.network.list
+  pub summary : IsSummaryWorkspaceFor workspace.case workspace.summary

@@ -1,4 +1,4 @@
--- The case that the generator makes: so many sites, each a substation with its bus and its transformer, and from the second on with a line from the bus of one of the eight sites before. A substation, a bus, a line and a transformer are named by a letter and the number of their site, from 0.
+-- The case that the generator makes: a given number of sites, each a substation with its bus and its transformer, and from the second on with a line from the bus of one of the eight sites before. A substation, a bus, a line and a transformer are named by a letter and the number of their site, from 0.
 use Rattle.std.specs.Prelude.{ℕ, ◌+◌, ◌-◌, ◌*◌, min, ℤ, pos, ◌-ℤ◌, ◌*ℤ◌, false, Some, None, List, [], ◌∷◌, map, decimal}
 use Rattle.std.specs.List.{range_with_len}
 use Rattle.gic_case.specs.declared.scaling.Scaling.TheVariants.{Earth}
@@ -56,7 +56,7 @@ made_line states site = record {
   blocked = false;
 }
 
--- the case of so many sites that is drawn from these states
+-- the case of a given number of sites that is drawn from these states
 abbrev pub drawn_case : (states : List ℕ) → (size : ℕ) → Lists
 drawn_case states size = record {
   zones = made_zone ∷ [];

@@ -6,8 +6,8 @@ use Rattle.gic_model.specs.Solution.{Solution, IsSolution}
 use Rattle.gic_model.specs.Sums.{Placed}
 use Rattle.gic_winding.specs.ElementList.{elements_of}
 use Rattle.gic_effective.specs.Weighted.{effective_numerator, effective_denominator}
-use Rattle.gic_screen.specs.declared.event.Event.TheVariants.{Benchmark}
-use Rattle.gic_screen.specs.Event.{threshold_of, field_of}
+use Rattle.gic_criteria.specs.declared.event.Event.TheVariants.{Benchmark}
+use Rattle.gic_criteria.specs.Event.{threshold_of, field_of}
 use Rattle.gic_report.specs.VerdictText.{is_judged}
 use Rattle.gic_stand.specs.Standing.{standing_of}
 use Rattle.gic_uniform.specs.Uniform.{uniform_volts}
@@ -34,7 +34,7 @@ surely_reached = benchmark_threshold + WIDTH
 abbrev pub benchmark_volts : Lists → ℕ → ℤ
 benchmark_volts case = uniform_volts case (field_of Benchmark) (pos 0)
 
--- the greatest entry, over so many nodes, of the least capped vector
+-- the greatest entry, over a given number of nodes, of the least capped vector
 pub record IsWalk (standing : List Placed) (nodes walk : ℕ) : Type 0 where
   pub entries : List ℕ
   pub an_entry_each : length entries ≡ nodes
@@ -42,11 +42,11 @@ pub record IsWalk (standing : List Placed) (nodes walk : ℕ) : Type 0 where
   pub none_above : All (λ entry. entry ≤ walk) entries
   pub reached : Contains entries walk
 
--- it is assessed, and its absolute effective current in a solution is under so many mA per phase
+-- it is assessed, and its absolute effective current in a solution is under this many mA per phase
 abbrev pub is_judged_under : Lists → Solution → (limit t : ℕ) → Bool
 is_judged_under case s limit t = is_judged case t && nat_lt (unsigned_abs (effective_numerator case s t)) (limit * effective_denominator case t s)
 
--- it is assessed, and that current is so many mA per phase or more
+-- it is assessed, and that current is this many mA per phase or more
 abbrev pub is_judged_at_least : Lists → Solution → (limit t : ℕ) → Bool
 is_judged_at_least case s limit t = is_judged case t && nat_le (limit * effective_denominator case t s) (unsigned_abs (effective_numerator case s t))
 

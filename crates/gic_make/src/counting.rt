@@ -7,9 +7,9 @@ ghost use Rattle.gic_report.specs.Counts.{counts_of};
 ghost use Rattle.gic_make.specs.Counting.{verdicts_of};
 
 use gic_case::{Case, Transformer};
+use gic_criteria::Verdict;
 use gic_fixed::Interval;
 use gic_report::{Counts, counted, no_counts, verdict_in};
-use gic_screen::Verdict;
 use gic_view::StepView;
 
 /// The verdict on a transformer, by its signed effective current.

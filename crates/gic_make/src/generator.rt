@@ -20,7 +20,7 @@ fn next_state(state: u32) -> u32
     state.wrapping_mul(MULTIPLIER).wrapping_add(INCREMENT)
 }
 
-/// So many states behind a seed, each following from the one before.
+/// A given number of states behind a seed, each following from the one before.
 pub fn states_after(alloc: Global, seed: u32, count: usize) -> Result<Vec<u32>, OutOfMemory>
     ensures { IfOk result (λ states. states.items ≡ states_after seed count) }
 {

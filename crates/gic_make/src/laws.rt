@@ -1,5 +1,5 @@
-//! What the text of the mode tells, and the laws over made cases, each the contract of a function that does nothing but
-//! bring the laws that it rests on.
+//! What the text of the mode tells, and the theorems over made cases, each the contract of a function that does nothing
+//! but bring the theorems that it rests on.
 ghost use Rattle.std.specs.Prelude.{◌≡◌, [], ◌∷◌};
 ghost use Rattle.gic_make.specs.Determines.{TextDeterminesMake};
 ghost use Rattle.gic_make.specs.Generator.{states_after};

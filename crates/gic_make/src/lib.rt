@@ -1,5 +1,5 @@
-//! The mode `make`: a case that a generator makes from a seed, which is always accepted, solved in the field of the
-//! benchmark event to the north, in short.
+//! The mode `make`: a synthetic case from a seed, proved to be accepted, solved in the field of the benchmark event, in
+//! short.
 #![tactic(auto)]
 
 mod counting;
@@ -7,11 +7,11 @@ mod generator;
 pub mod laws;
 mod making;
 mod mode;
-mod room;
 mod site;
 mod solving;
 mod text;
+mod workspace;
 
 pub use making::{LEAST_SIZE, MOST_SIZE, make_case};
 pub use mode::make;
-pub use room::{Room, make_room};
+pub use workspace::{Workspace, make_workspace};

@@ -19,7 +19,7 @@ pub(crate) struct Summary {
 }
 
 /// Writes the line of what is asked.
-#[tactic(auto, using(gic_text::proofs::Sizes::line_room))]
+#[tactic(auto, using(gic_text::proofs::Sizes::line_space))]
 fn write_seed<S: Sink>(
     seed: u32,
     size: u16,
@@ -37,7 +37,7 @@ fn write_seed<S: Sink>(
 }
 
 /// Writes the line of the walk.
-#[tactic(auto, using(gic_text::proofs::Sizes::line_room))]
+#[tactic(auto, using(gic_text::proofs::Sizes::line_space))]
 fn write_walk<S: Sink>(walk: u16, line: &mut LineBuilder, out: &mut S) -> Result<(), WriteFailed>
     ensures { Writes S.written S.faults out.old out.new (line_text (walk_line walk)) result }
 {
@@ -48,7 +48,7 @@ fn write_walk<S: Sink>(walk: u16, line: &mut LineBuilder, out: &mut S) -> Result
 }
 
 /// Writes the line of the counts.
-#[tactic(auto, using(gic_text::proofs::Sizes::line_room))]
+#[tactic(auto, using(gic_text::proofs::Sizes::line_space))]
 fn write_counts<S: Sink>(
     counts: &Counts,
     line: &mut LineBuilder,

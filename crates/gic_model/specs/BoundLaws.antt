@@ -1,4 +1,4 @@
--- What the laws say of bound vectors and of sharp potentials.
+-- What the theorems say of bound vectors and of sharp potentials.
 use Rattle.std.specs.Prelude.{ℕ, ◌≤◌, List, ℤ}
 use Rattle.gic_base.specs.declared.limits.TheConstants.{MOST_WALK}
 use Rattle.gic_model.specs.Bound.{IsBoundVector, IsCappedVector, IsEarthedWithin}

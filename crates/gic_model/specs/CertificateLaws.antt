@@ -1,4 +1,4 @@
--- What the laws say of guesses: how far they can be from any solution, and what rounded sums tell of them.
+-- What the theorems say of guesses: how far they can be from any solution, and what rounded sums tell of them.
 use Rattle.std.specs.Prelude.{ℕ, ◌*◌, ◌^◌, ◌≤◌, Bool, length, ℤ, pos, ◌+ℤ◌, ◌-ℤ◌, ◌*ℤ◌, ◌≤ℤ◌, unsigned_abs}
 use Rattle.gic_model.specs.declared.parts.Item.{Item}
 use Rattle.gic_model.specs.Network.{Network}

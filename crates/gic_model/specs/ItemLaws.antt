@@ -1,4 +1,4 @@
--- What the laws say of items and of switching lists.
+-- What the theorems say of items and of switching lists.
 use Rattle.std.specs.Prelude.{◌≡◌, not, List, [], ◌∷◌, ◌++◌, IsTrue, ◌↔◌, if◌then◌else◌}
 use Rattle.gic_model.specs.declared.parts.Item.{Item}
 use Rattle.gic_model.specs.declared.parts.Switching.{Switching}

@@ -1,5 +1,5 @@
-//! Laws over the definitions, each the contract of a function that does nothing: a function whose proof rests on a
-//! law calls it.
+//! Theorems over the definitions, each the contract of a function that does nothing: a function whose proof rests on a
+//! theorem calls it.
 ghost use Rattle.std.specs.Prelude.{◌≡◌, ◌*◌, ◌^◌, IsFalse};
 ghost use Rattle.gic_model.specs.Limits.{IsWithinLimits};
 ghost use Rattle.gic_model.specs.declared.parts.Item.TheVariants.{Neutral};

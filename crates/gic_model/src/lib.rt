@@ -1,4 +1,4 @@
-//! The elements of a direct-current network, and what its solutions are.
+//! The direct-current network model: branches, nodes, and solutions by Ohm's and Kirchhoff's laws.
 #![tactic(auto)]
 
 pub mod elements;

@@ -37,7 +37,7 @@ reaching_possible : (threshold unit : ℕ) (view : View) (current : Current) →
     is_at_least threshold current ≡ true → ends_above threshold (effective_at view unit) ≡ true
 reaching_possible threshold unit view current s h =
     let least : threshold * current.denominator ≤ unsigned_abs current.numerator = grind (arith, nat_tests, h) in
-    let end = end_at_least _ (unsigned_abs current.numerator) current.denominator threshold s.above_nought least s.encloses.below_hi in
+    let end = end_at_least _ (unsigned_abs current.numerator) current.denominator threshold s.above_zero least s.encloses.below_hi in
     grind (arith, common_steps, end)
 
 -- a count over the images

@@ -24,12 +24,12 @@ nothing_from f n (x ∷ xs) none =
     omega (arith, linear)
 
 -- may be left out
-sum_of-front : (f : ℕ × ℕ → ℤ) (n m : ℕ) (xs : List ℕ) → ((k x : ℕ) → n + m ≤ k → f (k, x) ≡ pos 0) →
+sum_of-prefix : (f : ℕ × ℕ → ℤ) (n m : ℕ) (xs : List ℕ) → ((k x : ℕ) → n + m ≤ k → f (k, x) ≡ pos 0) →
     sum_of f (enumerate_from n (take m xs)) ≡ sum_of f (enumerate_from n xs)
-sum_of-front f n zero xs none = sym (nothing_from f n xs (λ k x h. none k x (omega arith)))
-sum_of-front f n (suc m) [] none = refl
-sum_of-front f n (suc m) (x ∷ xs) none =
-    ap (λ z. f (n, x) +ℤ z) (sum_of-front f (n + 1) m xs (λ k y h. none k y (omega arith)))
+sum_of-prefix f n zero xs none = sym (nothing_from f n xs (λ k x h. none k x (omega arith)))
+sum_of-prefix f n (suc m) [] none = refl
+sum_of-prefix f n (suc m) (x ∷ xs) none =
+    ap (λ z. f (n, x) +ℤ z) (sum_of-prefix f (n + 1) m xs (λ k y h. none k y (omega arith)))
 
 -- a unit that the view doesn't have draws nothing
 no_loss : (view : View) (k x : ℕ) → length view.effective ≤ k → unit_loss view (k, x) ≡ zero_ends
@@ -41,10 +41,10 @@ no_loss view k x past =
 -- so the units that the view has make the whole
 pub least_of_view : (factors : List ℕ) (view : View) → least_loss (take (length view.effective) factors) view ≡ least_loss factors view
 least_of_view factors view =
-    sum_of-front (λ unit. (unit_loss view unit).low) 0 (length view.effective) factors
+    sum_of-prefix (λ unit. (unit_loss view unit).low) 0 (length view.effective) factors
     (λ k x h. ap (λ (e : Ends). e.low) (no_loss view k x (omega arith)))
 
 pub most_of_view : (factors : List ℕ) (view : View) → most_loss (take (length view.effective) factors) view ≡ most_loss factors view
 most_of_view factors view =
-    sum_of-front (λ unit. (unit_loss view unit).high) 0 (length view.effective) factors
+    sum_of-prefix (λ unit. (unit_loss view unit).high) 0 (length view.effective) factors
     (λ k x h. ap (λ (e : Ends). e.high) (no_loss view k x (omega arith)))

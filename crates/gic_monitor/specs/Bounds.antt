@@ -14,7 +14,7 @@ pub record Current : Type 0 where
 
 -- the denominator is above 0, and the absolute interval that the view shows of the unit encloses the absolute current
 pub record ShowsUnit (unit : ℕ) (view : View) (current : Current) : Type 0 where
-  pub above_nought : 0 < current.denominator
+  pub above_zero : 0 < current.denominator
   pub encloses : EnclosesAbsolute
       (least_abs (effective_at view unit).low (effective_at view unit).high)
       (greatest_abs (effective_at view unit).low (effective_at view unit).high)

@@ -17,7 +17,7 @@ numerator_at currents unit = slice_index_or currents.numerators unit (pos 0)
 
 -- the denominator is above 0, the view's interval of each unit encloses its current, and its ends are within ±2^70
 pub record ShowsUnits (units : ℕ) (view : View) (currents : Currents) : Type 0 where
-  pub above_nought : 0 < currents.denominator
+  pub above_zero : 0 < currents.denominator
   pub encloses : (unit : ℕ) → unit < units →
       Encloses (effective_at view unit).low (effective_at view unit).high (numerator_at currents unit) currents.denominator
   pub within : (unit : ℕ) → unit < units → IsWithin most_counted_current (effective_at view unit).low (effective_at view unit).high

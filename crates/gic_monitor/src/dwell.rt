@@ -88,7 +88,7 @@ fn count_all(tallies: &mut [Tally], view: &StepView, threshold: u32)
 }
 
 /// Adds the line of a unit.
-#[tactic(auto, using(gic_text::proofs::Sizes::line_room))]
+#[tactic(auto, using(gic_text::proofs::Sizes::line_space))]
 fn print_tally(tally: &Tally, line: &mut LineBuilder, into: &mut Vec<u8>) -> Result<(), OutOfMemory>
     ensures { OnOk result (into.new.items ≡ into.old.items
         ++ line_text (dwell_line tally.now.name tally.now.certain tally.now.possible)) }

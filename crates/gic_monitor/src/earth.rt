@@ -71,7 +71,7 @@ fn widen_all(ranges: &mut [SeatRange], view: &StepView)
 }
 
 /// Adds the line of an earthing.
-#[tactic(auto, using(gic_text::proofs::Sizes::line_room))]
+#[tactic(auto, using(gic_text::proofs::Sizes::line_space))]
 fn print_range(
     seat: &SeatRange,
     line: &mut LineBuilder,

@@ -1,5 +1,5 @@
-//! Monitors, which see the view of each step and print a text in the end: of dwells, of earthings and two of losses; and
-//! a board of monitors.
+//! Monitors, which observe each step of a storm and print a text at its end: dwells, earthings, and two of reactive
+//! losses under half-cycle saturation.
 #![tactic(auto)]
 
 mod board;

@@ -16,7 +16,7 @@ none_counted (suc n) = omega (arith, sum_by-cons (λ mark. cond mark 1 0) false 
 -- no marks
 pub marked_none : (n : ℕ) (queue : List ℕ) → length queue ≡ n → IsMarked (replicate n false) queue 0
 marked_none n queue h = record {
-  room = h ∙ sym (length-replicate n false);
+  space = h ∙ sym (length-replicate n false);
   counted = none_counted n;
   marked = λ k _. no_mark n k;
   inside = λ k d h. absurd (omega arith);
@@ -38,11 +38,11 @@ module _ (marks : List Bool) (queue : List ℕ) (count node : ℕ) (h : IsMarked
   one_more : count_by (λ mark. mark) (set marks node true) ≡ count + 1
   one_more = omega (arith, sum_by-set (λ mark. cond mark 1 0) marks node true false inside, no_one, h.counted)
 
-  pub room_left : count < length queue
-  room_left = omega (arith, one_more, count_by-le-length (λ mark. mark) (set marks node true), length-set marks node true, h.room)
+  pub space_left : count < length queue
+  space_left = omega (arith, one_more, count_by-le-length (λ mark. mark) (set marks node true), length-set marks node true, h.space)
 
   pub taken : take (count + 1) (set queue count node) ≡ take count queue ++ node ∷ []
-  taken = take_more_set queue count node room_left
+  taken = take_more_set queue count node space_left
 
   mark_is : (k : ℕ) → k < length marks → get_or (set marks node true) k false ≡ is_reached (take count queue ++ node ∷ []) k
   mark_is k within = by (cases_eq k node) ∙ sym (list_any-append (λ m. m == k) (take count queue) (node ∷ []))
@@ -56,7 +56,7 @@ module _ (marks : List Bool) (queue : List ℕ) (count node : ℕ) (h : IsMarked
 
   pub marked_more : IsMarked (set marks node true) (set queue count node) (count + 1)
   marked_more = record {
-    room = length-set queue count node ∙ h.room ∙ sym (length-set marks node true);
+    space = length-set queue count node ∙ h.space ∙ sym (length-set marks node true);
     counted = one_more;
     marked = λ k within. mark_is k (omega (arith, length-set marks node true)) ∙ ap (λ (ns : List ℕ). is_reached ns k) (sym taken);
     inside =

@@ -21,7 +21,7 @@ with_node reached k = if is_reached reached k then reached else reached ++ k ∷
 
 -- the first `count` in the queue are the marked nodes, each once
 pub record IsMarked (marks : List Bool) (queue : List ℕ) (count : ℕ) : Type 0 where
-  pub room : length queue ≡ length marks
+  pub space : length queue ≡ length marks
   pub counted : count_by (λ mark. mark) marks ≡ count
   pub marked : (k : ℕ) → k < length marks → slice_index_or marks k false ≡ is_reached (take count queue) k
   pub inside : All (λ k. k < length marks) (take count queue)

@@ -1,4 +1,4 @@
--- What the law says of nets that are switched row by row.
+-- What the theorem says of nets that are switched row by row.
 use Rattle.std.specs.Prelude.{◌≡◌, List, IsTrue}
 use Rattle.gic_model.specs.declared.parts.Item.{Item}
 use Rattle.gic_model.specs.declared.parts.Switching.{Switching}

@@ -1,4 +1,4 @@
-//! Laws over runs of `Net::switch`.
+//! Theorems over runs of `Net::switch`.
 ghost use Rattle.gic_net.specs.SwitchingLaws.{NetworkStays, ItemsStandAsRowsSay, ElementsStandAsRowsSay};
 
 /// A net in which all elements stood, switched by the rows of a list one by one, has the items and the elements

@@ -1,5 +1,5 @@
-//! The standing network: which elements stand, and which of them end at each node, while items are opened and closed; and
-//! whether every live node of it is earthed.
+//! The network under switching: which branches are in service, the incidence of each node, and graph search for live
+//! nodes without a path to earth.
 #![tactic(auto)]
 
 mod conductor;

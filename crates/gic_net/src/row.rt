@@ -12,7 +12,7 @@ use std::marker::Model;
 /// The places of all elements that end at a node, and in front of a second list the places of those that stand.
 pub struct Row {
     all: Vec<u16>,
-    front: Vec<u16>,
+    standing_first: Vec<u16>,
     degree: usize,
 }
 
@@ -22,9 +22,9 @@ impl Model for Row {
 
     ghost Value = { NodeRow };
 
-    ghost view = { λ a. record { all = a.all.items; standing = take a.degree a.front.items } };
+    ghost view = { λ a. record { all = a.all.items; standing = take a.degree a.standing_first.items } };
 
-    ghost invariant = { λ a. (length a.front.items ≡ length a.all.items) × (a.degree ≤ length a.all.items) };
+    ghost invariant = { λ a. (length a.standing_first.items ≡ length a.all.items) × (a.degree ≤ length a.all.items) };
 }
 
 impl Drop for Row {
@@ -32,7 +32,7 @@ impl Drop for Row {
     fn drop(self) {
         let Row {
             all: _all,
-            front: _front,
+            standing_first: _standing_first,
             degree: _degree,
         } = self;
     }
@@ -48,7 +48,7 @@ impl Row {
     {
         Row {
             all: Vec::new(alloc),
-            front: Vec::new(alloc),
+            standing_first: Vec::new(alloc),
             degree: 0,
         }
     }
@@ -59,14 +59,14 @@ impl Row {
         requires { self.old.standing ≡ self.old.all }
         ensures { OnOk result (self.new ≡ full_row (self.old.all ++ place ∷ [])) }
     {
-        push_place(&mut self.front, place)?;
+        push_place(&mut self.standing_first, place)?;
         match push_place(&mut self.all, place) {
             Ok(()) => {
                 self.degree = self.all.len();
                 Ok(())
             }
             Err(refusal) => {
-                let _ = self.front.pop();
+                let _ = self.standing_first.pop();
                 Err(refusal)
             }
         }
@@ -84,15 +84,20 @@ impl Row {
         requires { place < length self.now.standing }
         ensures { result ≡ slice_index self.now.standing place }
     {
-        self.front[place]
+        self.standing_first[place]
     }
 
-    /// Puts the elements in front whose items aren't marked open, in their order.
+    /// Puts the elements whose items aren't marked open first, in their order.
     pub fn gather(&mut self, list: &[Element], opened: &[bool])
         requires { AreMarked list.now opened.now self.old.all }
         ensures { self.new ≡ gathered list.now opened.now self.old }
     {
-        self.degree = gather_standing(self.all.as_slice(), self.front.as_mut_slice(), list, opened);
+        self.degree = gather_standing(
+            self.all.as_slice(),
+            self.standing_first.as_mut_slice(),
+            list,
+            opened,
+        );
     }
 }
 
@@ -117,18 +122,23 @@ pub fn number_of(item: Item) -> u32
     4 * place as u32 + kind
 }
 
-/// Writes those of the places whose items aren't marked open to the front of the second list, and says how many.
-fn gather_standing(all: &[u16], front: &mut [u16], list: &[Element], opened: &[bool]) -> usize
-    requires room { length all.now ≤ length front.old }
+/// Writes those of the places whose items aren't marked open to the beginning of the second list, and says how many.
+fn gather_standing(
+    all: &[u16],
+    standing_first: &mut [u16],
+    list: &[Element],
+    opened: &[bool],
+) -> usize
+    requires space { length all.now ≤ length standing_first.old }
     requires marked { AreMarked list.now opened.now all.now }
     ensures within { result ≤ length all.now }
-    ensures gathered { take result front.new ≡ filter (stands_by list.now opened.now) all.now }
+    ensures gathered { take result standing_first.new ≡ filter (stands_by list.now opened.now) all.now }
 {
     let mut degree = 0;
     for place in all {
         let item = list[*place as usize].item;
         if !opened[number_of(item) as usize] {
-            front[degree] = *place;
+            standing_first[degree] = *place;
             degree += 1;
         }
     }

@@ -3,11 +3,11 @@ use gic_base::OutOfMemory;
 use std::alloc::Global;
 use std::marker::Model;
 
-/// Room for the nodes that are reached, each once, in the order in which they are.
+/// The workspace for the nodes that are reached, each once, in the order in which they are.
 pub struct Scratch {
     /// For each node whether it was reached.
     marks: Vec<bool>,
-    /// The nodes that were reached, and room for the others.
+    /// The nodes that were reached, and space for the others.
     queue: Vec<u16>,
     count: usize,
 }

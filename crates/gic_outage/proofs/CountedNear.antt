@@ -15,11 +15,11 @@ use Rattle.gic_report.specs.declared.counts.Counts.{Counts}
 use Rattle.gic_report.specs.Counts.{counts_of, transformers_with}
 use Rattle.gic_report.specs.VerdictText.{is_judged}
 use Rattle.gic_report.proofs.CountedVerdicts.{is_undecided, is_undecided_so, undecided_step, count_le, counted_at}
-use Rattle.gic_screen.specs.declared.criterion.Verdict.{Verdict}
-use Rattle.gic_screen.specs.declared.criterion.Verdict.TheVariants.{Undecided}
-use Rattle.gic_screen.specs.Verdict.{is_assessed, verdict_of}
-use Rattle.gic_screen.proofs.Judged.{worst_under, worst_at_least}
-use Rattle.gic_screening.specs.RightRows.{AreSolutionsOf, IsRightWorst, squared_worst, squared_threshold, worst_verdict_at}
+use Rattle.gic_criteria.specs.declared.criterion.Verdict.{Verdict}
+use Rattle.gic_criteria.specs.declared.criterion.Verdict.TheVariants.{Undecided}
+use Rattle.gic_criteria.specs.Verdict.{is_assessed, verdict_of}
+use Rattle.gic_criteria.proofs.Judged.{worst_under, worst_at_least}
+use Rattle.gic_worst.specs.RightRows.{AreSolutionsOf, IsRightWorst, squared_worst, squared_threshold, worst_verdict_at}
 use Rattle.gic_uniform.proofs.Denominators.{some_denominator}
 use Rattle.gic_winding.specs.Weights.{transformer_at}
 use Rattle.gic_outage.specs.Outages.{worst_at}

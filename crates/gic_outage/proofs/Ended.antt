@@ -7,8 +7,8 @@ use Rattle.gic_model.specs.declared.parts.Item.{Item}
 use Rattle.gic_model.specs.Sums.{Placed}
 use Rattle.gic_report.specs.declared.counts.Counts.{Counts}
 use Rattle.gic_report.specs.Counts.{counts_of}
-use Rattle.gic_screening.specs.Rows.{Row, no_screen_row, screen_row_at}
-use Rattle.gic_screening.specs.Screening.{AreScreened}
+use Rattle.gic_worst.specs.Rows.{Row, no_screen_row, screen_row_at}
+use Rattle.gic_worst.specs.Screening.{AreScreened}
 use Rattle.gic_stand.specs.declared.fault.NetworkRefusal.{NetworkRefusal}
 use Rattle.gic_stand.specs.declared.fault.NetworkRefusal.TheVariants.{Unearthed, Unresolved}
 use Rattle.gic_inputs.specs.declared.inputs.Inputs.{Inputs}

@@ -9,11 +9,11 @@ use Rattle.gic_effective.specs.Weighted.{effective_numerator, effective_denomina
 use Rattle.gic_fixed.specs.Ends.{Ends}
 use Rattle.gic_model.specs.declared.parts.Item.{Item}
 use Rattle.gic_case.specs.Lists.{has_effect}
-use Rattle.gic_screen.specs.declared.criterion.Verdict.TheVariants.{Below, Reaches}
-use Rattle.gic_screen.specs.Verdict.{verdict_of}
-use Rattle.gic_screen.specs.VerdictLaws.{UndecidedIsAcross, WorstBelowIsUnder, WorstReachesIsAtLeast}
-use Rattle.gic_screening.specs.RightRows.{IsTrueVerdict, IsWorstUnder, worst_verdict_at}
-use Rattle.gic_screening.proofs.RightRows.{verdict_true}
+use Rattle.gic_criteria.specs.declared.criterion.Verdict.TheVariants.{Below, Reaches}
+use Rattle.gic_criteria.specs.Verdict.{verdict_of}
+use Rattle.gic_criteria.specs.VerdictLaws.{UndecidedIsAcross, WorstBelowIsUnder, WorstReachesIsAtLeast}
+use Rattle.gic_worst.specs.RightRows.{IsTrueVerdict, IsWorstUnder, worst_verdict_at}
+use Rattle.gic_worst.proofs.RightRows.{verdict_true}
 use Rattle.gic_inputs.specs.declared.inputs.Inputs.{Inputs}
 use Rattle.gic_winding.specs.Weights.{transformer_at}
 use Rattle.gic_outage.specs.Outages.{Outage, standing_in_outage, worst_at, worsts_of, greatest_worst}
@@ -105,7 +105,7 @@ module _ (across : UndecidedIsAcross) (under : WorstBelowIsUnder) (at_least : Wo
       undecided = λ said. across e.low e.high (threshold_asked inputs) (transformer_at inputs.case t).high_volts (has_effect (transformer_at inputs.case t).kind) said;
     }
 
--- the clauses of the law
+-- the clauses of the theorem
 pub greatest_enclosed : GreatestWorstIsEnclosed
 greatest_enclosed inputs outages are_right t within =
     if_some (greatest_worst (worsts_of outages t)) (EnclosesGreatestWorst inputs t) (λ e is. encloses inputs outages are_right t e within (are_greatest outages t e is))

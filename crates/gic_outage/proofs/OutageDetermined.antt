@@ -11,7 +11,7 @@ use Rattle.gic_text.proofs.Words.{word_from_test}
 use Rattle.gic_case.specs.declared.item.Transformer.{Transformer}
 use Rattle.gic_case.specs.Lists.{Lists}
 use Rattle.gic_fixed.specs.Ends.{Ends}
-use Rattle.gic_screen.specs.declared.criterion.Verdict.{Verdict}
+use Rattle.gic_criteria.specs.declared.criterion.Verdict.{Verdict}
 use Rattle.gic_outage.specs.Plan.{plan_of}
 use Rattle.gic_report.specs.SharedLines.{Words, word_line}
 use Rattle.gic_report.specs.Fits.{AreInRange, HasNames}
@@ -22,8 +22,8 @@ use Rattle.gic_report.proofs.CountsDetermined.{counts_are_words, same_counts}
 use Rattle.gic_report.proofs.ViewDetermined.{CellInRange, ends_words, same_ends}
 use Rattle.gic_report.proofs.WordsDetermined.{first_of_lines, pair_at, verdict_is_word, word_at}
 use Rattle.gic_report.specs.VerdictText.{verdict_in}
-use Rattle.gic_screening.specs.Setting.{event_setting_line}
-use Rattle.gic_screening.proofs.SettingDetermined.{same_setting, setting_is_line}
+use Rattle.gic_worst.specs.Setting.{event_setting_line}
+use Rattle.gic_worst.proofs.SettingDetermined.{same_setting, setting_is_line}
 use Rattle.gic_winding.specs.ElementList.{item_name}
 use Rattle.gic_outage.specs.declared.outcome.Outcome.{Outcome}
 use Rattle.gic_outage.specs.declared.outcome.Outcome.TheVariants.{Idle, Unearthed, Unresolved, Solved}

@@ -5,8 +5,8 @@ use Rattle.std.proofs.lemmas.Option.{slice_get-map, slice_get_read}
 use Rattle.std.specs.Prelude.{slice_get}
 use Rattle.gic_fixed.specs.Ends.{Ends, ends_of}
 use Rattle.gic_view.specs.Peaks.{greater}
-use Rattle.gic_screening.specs.declared.rows.ScreenRow.{ScreenRow}
-use Rattle.gic_screening.specs.Rows.{Row, screen_row_of}
+use Rattle.gic_worst.specs.declared.rows.ScreenRow.{ScreenRow}
+use Rattle.gic_worst.specs.Rows.{Row, screen_row_of}
 use Rattle.gic_outage.specs.Outages.{greatest_at}
 use Rattle.gic_outage.specs.Taking.{worsts_in}
 
@@ -16,7 +16,7 @@ row_shown rows row place within is =
     let worst : Row → Ends = λ row. row.worst in
     slice_get-map worst (map screen_row_of rows) place ∙ ap (option_map worst) (slice_get-map screen_row_of rows place ∙ ap (option_map screen_row_of) (slice_get_read rows (length rows) place row refl within is))
 
--- the first so many intervals are raised, and the others are as they were
+-- the first n intervals are raised, and the others are as they were
 pub record AreRaisedBelow (worsts : List Ends) (place : ℕ) (old now : List (Option Ends)) : Type 0 where
   pub count : length now ≡ length old
   pub each : (t : ℕ) → t < place → greatest_at now t ≡ greater (greatest_at old t) (slice_get worsts t)

@@ -14,8 +14,8 @@ use Rattle.gic_model.specs.Bound.{IsCappedVector}
 use Rattle.gic_model.specs.Sums.{Placed}
 use Rattle.gic_outage.specs.Plan.{plan_of}
 use Rattle.gic_report.specs.declared.counts.Counts.{Counts}
-use Rattle.gic_screening.specs.RightRows.{IsRightWorst, IsThirdOfRight}
-use Rattle.gic_screening.proofs.RightRows.{third_right}
+use Rattle.gic_worst.specs.RightRows.{IsRightWorst, IsThirdOfRight}
+use Rattle.gic_worst.proofs.RightRows.{third_right}
 use Rattle.gic_inputs.specs.declared.inputs.Inputs.{Inputs}
 use Rattle.gic_stand.specs.Standing.{IsSolvable, IsNameOfUnearthed, IsNameOfUnresolved}
 use Rattle.gic_outage.specs.declared.outcome.Outcome.{Outcome}
@@ -36,7 +36,7 @@ not_unresolved case standing node solvable named =
       live_above_0 = solvable.within.bound.live_above_0;
       capped = λ k. let most = few k in omega (arith, most);
       dead_0 = solvable.within.bound.dead_0;
-      rows = λ k live room. solvable.within.bound.rows k live;
+      rows = λ k live space. solvable.within.bound.rows k live;
     } in
     let least = named.unresolved.least.least v capped named.node in
     let most = few named.node in

@@ -2,9 +2,9 @@
 use Rattle.std.proofs.Common.{◌≡◌, ℕ, ◌*◌, ◌≤◌, ℤ, pos, ◌*ℤ◌, ◌≤ℤ◌, unsigned_abs, arith, sym, subst}
 use Rattle.std.proofs.lemmas.Int.{ints}
 use Rattle.std.proofs.Math.Nat.{mul-le-mul_right}
-use Rattle.gic_screen.specs.VerdictLaws.{worst_square}
-use Rattle.gic_screen.specs.Worst.{square_of, EnclosesWorst}
-use Rattle.gic_screen.proofs.Squares.{square-le, square-times}
+use Rattle.gic_criteria.specs.VerdictLaws.{worst_square}
+use Rattle.gic_criteria.specs.Worst.{square_of, EnclosesWorst}
+use Rattle.gic_criteria.proofs.Squares.{square-le, square-times}
 
 -- the squares keep the order
 squares_in_order : (a b : ℤ) (d : ℕ) → pos 0 ≤ℤ a → a ≤ℤ b → square_of (a *ℤ pos d) ≤ square_of (b *ℤ pos d)

@@ -8,15 +8,15 @@ use Rattle.gic_model.specs.Solution.{Solution}
 use Rattle.gic_model.specs.Sums.{Placed}
 use Rattle.gic_effective.specs.Narrow.{IsNoWider}
 use Rattle.gic_effective.specs.Weighted.{effective_denominator}
-use Rattle.gic_screen.specs.declared.criterion.Verdict.TheVariants.{Below, Reaches, Undecided}
-use Rattle.gic_screen.specs.Worst.{square_of}
+use Rattle.gic_criteria.specs.declared.criterion.Verdict.TheVariants.{Below, Reaches, Undecided}
+use Rattle.gic_criteria.specs.Worst.{square_of}
 use Rattle.gic_outage.specs.Plan.{plan_of}
 use Rattle.gic_report.specs.declared.counts.Counts.{Counts}
 use Rattle.gic_report.specs.Counts.{transformers_with}
 use Rattle.gic_report.specs.VerdictText.{IsAcross, is_judged}
 use Rattle.gic_inputs.specs.declared.inputs.Inputs.{Inputs}
 use Rattle.gic_stand.specs.Standing.{IsSolvable}
-use Rattle.gic_screening.specs.RightRows.{AreSolutionsOf, IsTrueVerdict, IsWorstUnder, IsWorstAtLeast, squared_worst, squared_threshold, worst_verdict_at}
+use Rattle.gic_worst.specs.RightRows.{AreSolutionsOf, IsTrueVerdict, IsWorstUnder, IsWorstAtLeast, squared_worst, squared_threshold, worst_verdict_at}
 use Rattle.gic_outage.specs.Outages.{Outage, standing_in_outage, worst_at, worsts_of, greatest_worst}
 use Rattle.gic_outage.specs.RightOutage.{northward_volts, eastward_volts, threshold_asked, IsTakenOut, AreRightWorsts, AreRightOutages}
 
@@ -93,7 +93,7 @@ WorstVerdictIsTrue = (inputs : Inputs) (item : Item) (worsts : List Ends) (count
     (t : ℕ) → t < length inputs.case.transformers →
     IsTrueVerdict inputs.case (standing_in_outage inputs item) (northward_volts inputs) (eastward_volts inputs) (threshold_asked inputs) t (worst_at worsts t)
 
--- of a sound case, so many transformers at least as an outage that is solved counts undecided have a worst current within one width of the threshold, in every two solutions
+-- of a sound case, a given number of transformers at least as an outage that is solved counts undecided have a worst current within one width of the threshold, in every two solutions
 abbrev pub UndecidedAreAtMostNear : Type 0
 UndecidedAreAtMostNear = (inputs : Inputs) (item : Item) (worsts : List Ends) (counts : Counts) → IsSound inputs.case → AreRightWorsts inputs item worsts counts →
     (one other : Solution) → AreSolutionsOf (standing_in_outage inputs item) (northward_volts inputs) (eastward_volts inputs) one other →

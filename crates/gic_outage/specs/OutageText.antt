@@ -4,15 +4,15 @@ use Rattle.std.specs.Fmt.{signed_decimal}
 use Rattle.gic_case.specs.declared.item.Transformer.{Transformer}
 use Rattle.gic_case.specs.Lists.{Lists}
 use Rattle.gic_fixed.specs.Ends.{Ends}
-use Rattle.gic_screen.specs.declared.criterion.Verdict.{Verdict}
-use Rattle.gic_screen.specs.Event.{threshold_of, field_of}
+use Rattle.gic_criteria.specs.declared.criterion.Verdict.{Verdict}
+use Rattle.gic_criteria.specs.Event.{threshold_of, field_of}
 use Rattle.gic_text.specs.Lines.{lines_text}
-use Rattle.gic_screen.specs.declared.asked.Question.{Question}
+use Rattle.gic_criteria.specs.declared.asked.Question.{Question}
 use Rattle.gic_outage.specs.Plan.{plan_of}
 use Rattle.gic_report.specs.Counts.{counts_words}
 use Rattle.gic_report.specs.SharedLines.{Words, word_line}
 use Rattle.gic_report.specs.VerdictText.{verdict_in, verdict_word}
-use Rattle.gic_screening.specs.Setting.{event_setting_line}
+use Rattle.gic_worst.specs.Setting.{event_setting_line}
 use Rattle.gic_winding.specs.ElementList.{item_name}
 use Rattle.gic_outage.specs.declared.outcome.Outcome.{Outcome}
 use Rattle.gic_outage.specs.declared.outcome.Outcome.TheVariants.{Idle, Unearthed, Unresolved, Solved}

@@ -1,4 +1,4 @@
--- What the law says of outages.
+-- What the theorem says of outages.
 use Rattle.std.specs.Prelude.{◌≡◌, ◌++◌, ◌∷◌, ◌&&◌, [], not, false, List, IsFalse}
 use Rattle.gic_model.specs.declared.parts.Item.{Item}
 use Rattle.gic_model.specs.declared.parts.Switching.{Switching}

@@ -4,8 +4,8 @@ use Rattle.std.specs.List.{range_with_len}
 use Rattle.gic_case.specs.Lists.{Lists}
 use Rattle.gic_fixed.specs.Ends.{Ends}
 use Rattle.gic_model.specs.declared.parts.Item.{Item}
-use Rattle.gic_screen.specs.declared.criterion.Verdict.{Verdict}
-use Rattle.gic_screen.specs.Event.{threshold_of, field_of}
+use Rattle.gic_criteria.specs.declared.criterion.Verdict.{Verdict}
+use Rattle.gic_criteria.specs.Event.{threshold_of, field_of}
 use Rattle.gic_outage.specs.Plan.{plan_of}
 use Rattle.gic_outage.specs.Removing.{is_idle}
 use Rattle.gic_report.specs.declared.counts.Counts.{Counts}
@@ -13,7 +13,7 @@ use Rattle.gic_report.specs.Counts.{counts_of}
 use Rattle.gic_inputs.specs.declared.inputs.Inputs.{Inputs}
 use Rattle.gic_stand.specs.Standing.{standing_of, IsSolvable, IsNameOfUnearthed, IsNameOfUnresolved}
 use Rattle.gic_uniform.specs.Uniform.{uniform_volts}
-use Rattle.gic_screening.specs.RightRows.{IsThirdOfRight, worst_verdict_at}
+use Rattle.gic_worst.specs.RightRows.{IsThirdOfRight, worst_verdict_at}
 use Rattle.gic_outage.specs.declared.outcome.Outcome.{Outcome}
 use Rattle.gic_outage.specs.declared.outcome.Outcome.TheVariants.{Idle, Unearthed, Unresolved, Solved}
 use Rattle.gic_outage.specs.Outages.{Outage, standing_in_outage, item_at, outage_at, worst_at, worsts_of, greatest_worst}

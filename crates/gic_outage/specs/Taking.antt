@@ -9,9 +9,9 @@ use Rattle.gic_stand.specs.declared.fault.NetworkRefusal.{NetworkRefusal}
 use Rattle.gic_stand.specs.declared.fault.NetworkRefusal.TheVariants as refusals
 use Rattle.gic_inputs.specs.declared.inputs.Inputs.{Inputs}
 use Rattle.gic_stand.specs.Standing.{standing_of}
-use Rattle.gic_screening.specs.declared.fields.FieldVolts.{FieldVolts}
-use Rattle.gic_screening.specs.Rows.{Row}
-use Rattle.gic_screening.specs.Screening.{AreOfEvent}
+use Rattle.gic_worst.specs.declared.fields.FieldVolts.{FieldVolts}
+use Rattle.gic_worst.specs.Rows.{Row}
+use Rattle.gic_worst.specs.Screening.{AreOfEvent}
 use Rattle.gic_outage.specs.declared.outcome.Outcome.{Outcome}
 use Rattle.gic_outage.specs.declared.outcome.Outcome.TheVariants.{Idle, Unearthed, Unresolved}
 use Rattle.gic_outage.specs.Outages.{Outage, item_at, outage_at, worsts_of, greatest_worst, greatest_at}

@@ -4,7 +4,7 @@ ghost use Rattle.gic_outage.specs.Determines.{TextDeterminesOutage};
 ghost use Rattle.gic_outage.specs.Follows.{GreatestWorstIsEnclosed, GreatestWorstIsNarrow, NoneIsWithoutSolvedOutage, GreatestVerdictIsTrue, WorstVerdictIsTrue, UndecidedAreAtMostNear};
 ghost use Rattle.gic_outage.specs.RemovingLaws.{IdleWhereNotStanding, OthersStandAsBefore, ComesBack, IsLastRow};
 
-use gic_screen::laws::{verdict_law, worst_verdict_law};
+use gic_criteria::laws::{verdict_law, worst_verdict_law};
 
 /// Texts on one case that are equal show the same width, threshold and field, the same outcomes and the same intervals.
 pub fn text_determines_outage_law()

@@ -1,4 +1,5 @@
-//! The mode `outage`: one item of a network out at a time, and what that does to its transformers.
+//! The mode `outage`: N-1 screening of each line and transformer, opened in turn and restored, for the worst
+//! orientation.
 #![tactic(auto)]
 
 mod counting;
@@ -8,10 +9,10 @@ mod outcome;
 mod planning;
 mod raising;
 mod removing;
-mod room;
 mod run;
 mod taking;
 mod text;
+mod workspace;
 
 pub use mode::outage;
-pub use room::{Room, make_room};
+pub use workspace::{Workspace, make_workspace};

@@ -1,6 +1,6 @@
 //! The report of the mode.
 ghost use Rattle.gic_base.specs.Writes.{Writes};
-ghost use Rattle.gic_screen.specs.Ranges.{IsWithinRanges};
+ghost use Rattle.gic_criteria.specs.Ranges.{IsWithinRanges};
 ghost use Rattle.gic_stand.specs.Needs.{Solved};
 ghost use Rattle.gic_stand.specs.Serves.{Serves, shown};
 ghost use Rattle.gic_stand.specs.Standing.{steps_of};
@@ -10,15 +10,15 @@ ghost use Rattle.gic_outage.specs.RightOutage.{IsRightOutage};
 
 use crate::outcome::Outcome;
 use crate::raising::Greatest;
-use crate::room::Room;
 use crate::run::take_items;
 use crate::text::write_outage;
+use crate::workspace::Workspace;
 use gic_base::{Sink, WriteFailed};
 use gic_inputs::Inputs;
-use gic_screening::setting_of;
 use gic_stand::{ReportFault, ended};
 use gic_text::LineBuilder;
 use gic_uniform::expect_solvable;
+use gic_worst::setting_of;
 
 /// Writes the report of these outcomes and greatest intervals.
 fn write_report<S: Sink>(
@@ -45,26 +45,36 @@ fn write_report<S: Sink>(
 /// screens the network without it for the worst orientation of the field of the event that is asked for, and writes how
 /// each outage ends and the greatest worst interval of each transformer over them, where the network with all its items can
 /// be solved. Takes no memory.
-pub fn outage<S: Sink>(inputs: &Inputs, room: &mut Room, out: &mut S) -> Result<(), ReportFault>
+pub fn outage<S: Sink>(
+    inputs: &Inputs,
+    workspace: &mut Workspace,
+    out: &mut S,
+) -> Result<(), ReportFault>
     requires ranges { IsWithinRanges inputs.now.question }
-    requires room { IsMadeFor inputs.now room.old }
+    requires workspace { IsMadeFor inputs.now workspace.old }
     ensures { Serves Solved inputs.now.case (steps_of inputs.now) (IsRightOutage inputs.now)
         (shown S.written S.faults out.old) (shown S.written S.faults out.new) result }
 {
-    let solving = &mut room.screening.solving;
-    expect_solvable(&inputs.case, &room.net, solving)?;
-    room.intact.copy_from(&solving.vector);
-    let outcomes = room.outcomes.as_mut_slice();
+    let solving = &mut workspace.screening.solving;
+    expect_solvable(&inputs.case, &workspace.net, solving)?;
+    workspace.intact.copy_from(&solving.vector);
+    let outcomes = workspace.outcomes.as_mut_slice();
     take_items(
         inputs,
-        &room.plan,
-        &mut room.net,
-        &room.volts,
-        &room.intact,
-        &mut room.screening,
+        &workspace.plan,
+        &mut workspace.net,
+        &workspace.volts,
+        &workspace.intact,
+        &mut workspace.screening,
         outcomes,
-        &mut room.greatest,
+        &mut workspace.greatest,
     );
-    let writing = write_report(inputs, outcomes, &room.greatest, &mut room.line, out);
+    let writing = write_report(
+        inputs,
+        outcomes,
+        &workspace.greatest,
+        &mut workspace.line,
+        out,
+    );
     ended(writing)
 }

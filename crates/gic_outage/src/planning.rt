@@ -7,7 +7,7 @@ use gic_case::Case;
 use gic_model::Item;
 use std::alloc::Global;
 
-/// So many lines, and then so many transformers.
+/// A given number of lines, and then a given number of transformers.
 #[tactic(auto, using(crate::proofs::Planned::line_more, crate::proofs::Planned::lines_done, crate::proofs::Planned::transformer_more))]
 fn in_order(alloc: Global, lines: u16, transformers: u16) -> Result<Vec<Item>, OutOfMemory>
     ensures { IfOk result (λ items. items.items ≡ in_order lines transformers) }

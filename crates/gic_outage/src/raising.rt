@@ -2,14 +2,14 @@
 ghost use Rattle.std.specs.Prelude.{◌≡◌, length, map, Some};
 ghost use Rattle.gic_fixed.specs.Ends.{ends_of};
 ghost use Rattle.gic_view.specs.Peaks.{greater};
-ghost use Rattle.gic_screening.specs.Rows.{screen_row_of};
+ghost use Rattle.gic_worst.specs.Rows.{screen_row_of};
 ghost use Rattle.gic_view.specs.Kept.{optional_ends};
 ghost use Rattle.gic_outage.specs.Taking.{worsts_in, AreRaisedBy};
 
 use gic_base::OutOfMemory;
 use gic_fixed::Interval;
-use gic_screening::ScreenRow;
 use gic_view::peak;
+use gic_worst::ScreenRow;
 use std::alloc::Global;
 use std::marker::Model;
 
@@ -47,7 +47,7 @@ impl Greatest {
     ghost use Rattle.gic_view.specs.Kept.{optional_ends};
     ghost use Rattle.gic_outage.specs.Outages.{greatest_at};
 
-    /// Of so many transformers, before any outage.
+    /// Of a given number of transformers, before any outage.
     pub(crate) fn new(alloc: Global, count: usize) -> Result<Greatest, OutOfMemory>
         ensures { IfOk result (λ greatest. greatest ≡ replicate count None) }
     {

@@ -3,8 +3,8 @@ ghost use Rattle.std.specs.Prelude.{◌≡◌, length};
 ghost use Rattle.gic_case.specs.Lists.{Lists};
 ghost use Rattle.gic_model.specs.declared.parts.Item.{Item};
 ghost use Rattle.gic_net.specs.Net.{standing};
-ghost use Rattle.gic_screen.specs.Ranges.{IsWithinRanges};
-ghost use Rattle.gic_screening.specs.Screening.{AreOfEvent, IsScreenRoomFor};
+ghost use Rattle.gic_criteria.specs.Ranges.{IsWithinRanges};
+ghost use Rattle.gic_worst.specs.Screening.{AreOfEvent, IsScreenWorkspaceFor};
 ghost use Rattle.gic_winding.specs.ElementList.{elements_of};
 ghost use Rattle.gic_outage.specs.Outages.{standing_in_outage};
 ghost use Rattle.gic_outage.specs.RightOutage.{IsTakenOut};
@@ -19,8 +19,8 @@ use gic_bound::BoundVector;
 use gic_inputs::Inputs;
 use gic_model::Item;
 use gic_net::Net;
-use gic_screening::{FieldVolts, ScreenRoom, screen_net};
 use gic_stand::NetworkRefusal;
+use gic_worst::{FieldVolts, ScreenWorkspace, screen_net};
 
 /// How an outage ends whose network is refused.
 fn outcome_of(refusal: &NetworkRefusal) -> Outcome
@@ -38,35 +38,35 @@ fn screen_without(
     inputs: &Inputs,
     net: &Net,
     volts: &FieldVolts,
-    room: &mut ScreenRoom,
+    workspace: &mut ScreenWorkspace,
     greatest: &mut Greatest,
 ) -> Outcome
     requires net { net.now.network ≡ elements_of inputs.now.case }
     requires volts { AreOfEvent inputs.now.case inputs.now.question.event volts.now }
     requires ranges { IsWithinRanges inputs.now.question }
-    requires room { IsScreenRoomFor inputs.now.case room.old }
+    requires workspace { IsScreenWorkspaceFor inputs.now.case workspace.old }
     requires greatest { length greatest.old ≡ length inputs.now.case.transformers }
     ensures ended { (item : Item) → IsTakenOut inputs.now item → standing net.now ≡ standing_in_outage inputs.now item →
         HasEnded inputs.now item result greatest.old greatest.new }
-    ensures room { IsScreenRoomFor inputs.now.case room.new }
+    ensures workspace { IsScreenWorkspaceFor inputs.now.case workspace.new }
 {
     let case = &inputs.case;
     let question = &inputs.question;
-    if let Err(refusal) = screen_net(case, net, volts, question.width, room) {
+    if let Err(refusal) = screen_net(case, net, volts, question.width, workspace) {
         return outcome_of(&refusal);
     }
-    let rows = room.rows.rows();
+    let rows = workspace.rows.rows();
     raise_all(rows, greatest);
     Outcome::Solved(count_verdicts(case, rows, question.event.threshold()))
 }
 
 /// Has the next look at a network begin at this vector.
-fn begin_at(vector: &BoundVector, room: &mut ScreenRoom)
-    requires { length vector.now ≡ length room.old.solving.vector }
-    ensures proposed { room.new.solving.vector ≡ vector.now }
-    ensures room { (case : Lists) → IsScreenRoomFor case room.old → IsScreenRoomFor case room.new }
+fn begin_at(vector: &BoundVector, workspace: &mut ScreenWorkspace)
+    requires { length vector.now ≡ length workspace.old.solving.vector }
+    ensures proposed { workspace.new.solving.vector ≡ vector.now }
+    ensures workspace { (case : Lists) → IsScreenWorkspaceFor case workspace.old → IsScreenWorkspaceFor case workspace.new }
 {
-    room.solving.vector.copy_from(vector);
+    workspace.solving.vector.copy_from(vector);
 }
 
 /// Takes an item out of the network, screens it and brings the item back; one of which no element stands is idle. A look
@@ -77,25 +77,25 @@ pub(crate) fn take_item(
     net: &mut Net,
     volts: &FieldVolts,
     intact: &BoundVector,
-    room: &mut ScreenRoom,
+    workspace: &mut ScreenWorkspace,
     greatest: &mut Greatest,
 ) -> Outcome
     requires given { AreGiven inputs.now net.old volts.now }
     requires ranges { IsWithinRanges inputs.now.question }
     requires intact { length intact.now ≡ (elements_of inputs.now.case).nodes }
-    requires room { IsScreenRoomFor inputs.now.case room.old }
+    requires workspace { IsScreenWorkspaceFor inputs.now.case workspace.old }
     requires greatest { length greatest.old ≡ length inputs.now.case.transformers }
     ensures ended { HasEnded inputs.now item result greatest.old greatest.new }
     ensures net { net.new ≡ net.old }
-    ensures room { IsScreenRoomFor inputs.now.case room.new }
+    ensures workspace { IsScreenWorkspaceFor inputs.now.case workspace.new }
 {
     outage_law();
     if idle(net, item) {
         return Outcome::Idle;
     }
     let removed = take_out(net, item);
-    begin_at(intact, room);
-    let outcome = screen_without(inputs, net, volts, room, greatest);
+    begin_at(intact, workspace);
+    let outcome = screen_without(inputs, net, volts, workspace, greatest);
     restore(net, removed);
     outcome
 }

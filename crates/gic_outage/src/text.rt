@@ -10,14 +10,14 @@ ghost use Rattle.gic_outage.specs.OutageText.{greatest_worst_line, greatest_wors
 use crate::outcome::Outcome;
 use gic_base::{Name, Sink, WriteFailed, write_all};
 use gic_case::{Case, Transformer};
+use gic_criteria::Verdict;
 use gic_fixed::Interval;
 use gic_report::{add_counts, add_ends, add_verdict, verdict_in, write_word};
-use gic_screen::Verdict;
-use gic_screening::{Setting, write_setting};
 use gic_text::LineBuilder;
+use gic_worst::{Setting, write_setting};
 
-/// Adds how an outage ends to the line, which has room for it.
-#[tactic(auto, using(gic_text::proofs::Sizes::line_room))]
+/// Adds how an outage ends to the line, which has space for it.
+#[tactic(auto, using(gic_text::proofs::Sizes::line_space))]
 fn add_outcome(outcome: &Outcome, line: &mut LineBuilder)
     requires { length line.old.bytes ≤ 100 }
     ensures words { line.new ≡ with_words line.old (outcome_words outcome.now) }
@@ -38,7 +38,7 @@ fn add_outcome(outcome: &Outcome, line: &mut LineBuilder)
 }
 
 /// Writes the line of an outage, by the name of its item.
-#[tactic(auto, using(gic_text::proofs::Sizes::line_room), unfolding(crate::specs::OutageText::outcome_line))]
+#[tactic(auto, using(gic_text::proofs::Sizes::line_space), unfolding(crate::specs::OutageText::outcome_line))]
 fn write_outcome<S: Sink>(
     name: &Name,
     outcome: &Outcome,
@@ -89,7 +89,7 @@ fn write_outcomes<S: Sink>(
 }
 
 /// Writes the line of a transformer that no outage shows.
-#[tactic(auto, using(gic_text::proofs::Sizes::line_room))]
+#[tactic(auto, using(gic_text::proofs::Sizes::line_space))]
 fn write_none<S: Sink>(name: &Name, line: &mut LineBuilder, out: &mut S) -> Result<(), WriteFailed>
     ensures { Writes S.written S.faults out.old out.new (line_text (none_line name.now)) result }
 {
@@ -101,7 +101,7 @@ fn write_none<S: Sink>(name: &Name, line: &mut LineBuilder, out: &mut S) -> Resu
 }
 
 /// Writes the line of a greatest worst interval and the verdict on it, by the transformer's name.
-#[tactic(auto, using(gic_text::proofs::Sizes::line_room), unfolding(crate::specs::OutageText::greatest_line))]
+#[tactic(auto, using(gic_text::proofs::Sizes::line_space), unfolding(crate::specs::OutageText::greatest_line))]
 fn write_worst<S: Sink>(
     name: &Name,
     worst: Interval,

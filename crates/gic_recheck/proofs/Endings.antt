@@ -14,7 +14,7 @@ use Rattle.gic_recheck.specs.declared.fault.CertificateRefusal.{CertificateRefus
 use Rattle.gic_recheck.specs.declared.fault.RecheckFault.{RecheckFault}
 use Rattle.gic_recheck.specs.declared.fault.RecheckFault.TheVariants.{Refused}
 
--- a text that is right was written, or a front part of it
+-- a text that is right was written, or a prefix of it
 pub writing_served : {S : Type 0} {seen : S → Option (List ℕ)} {faults : S → ℕ} {before now : S} {text : List ℕ}
     (case : Lists) (standing : List Placed) (bytes : List ℕ) (writing : Result (Unit {0}) WriteFailed) (answer : Result (Unit {0}) RecheckFault)
     → ShowsAccepted case standing bytes text → Writes seen faults before now text writing → answer ≡ shown_so writing

@@ -39,7 +39,7 @@ apart_from_pairs (name ∷ names) h = (
   apart_from_pairs names (λ i j d less within. h (suc i) (suc j) d (omega (arith, less)) (omega (arith, within))),
 )
 
--- what is behind a front
+-- what is behind a prefix
 behind : (xs ys : List (List ℕ)) → AreApart (xs ++ ys) → AreApart ys
 behind [] ys h = h
 behind (x ∷ xs) ys h = behind xs ys h.1
@@ -48,7 +48,7 @@ behind (x ∷ xs) ys h = behind xs ys h.1
 abbrev AreAmong : List (List ℕ) → List (List ℕ) → Type 1
 AreAmong some all = (P : List ℕ → Type 0) → AllByRecursion P all → AllByRecursion P some
 
--- a front before names that are among those before which it stood
+-- a prefix before names that are among those before which it stood
 before : (xs ys some : List (List ℕ)) → AreAmong some ys → AreApart some → AreApart (xs ++ ys) → AreApart (xs ++ some)
 before [] ys some among apart h = apart
 before (x ∷ xs) ys some among apart h =

@@ -11,8 +11,8 @@ use Rattle.gic_recheck.specs.declared.fault.CertificateRefusal.{CertificateRefus
 use Rattle.gic_recheck.specs.declared.fault.CertificateRefusal.TheVariants.{Shape, Number, Node, Row, Residual, Radius}
 use Rattle.gic_recheck.specs.declared.fault.RecheckFault.{RecheckFault}
 use Rattle.gic_recheck.specs.declared.fault.RecheckFault.TheVariants.{Report}
-use Rattle.gic_recheck.specs.declared.fault.RoomFault.{RoomFault}
-use Rattle.gic_recheck.specs.declared.fault.RoomFault.TheVariants.{Refused, Memory}
+use Rattle.gic_recheck.specs.declared.fault.WorkspaceFault.{WorkspaceFault}
+use Rattle.gic_recheck.specs.declared.fault.WorkspaceFault.TheVariants.{Refused, Memory}
 use Rattle.gic_recheck.specs.Accepted.{IsRefused, BreaksOwn, name_at}
 
 -- a refusal with the name of its node
@@ -24,7 +24,7 @@ told_as case (cert.Row node) = Row (name_at case node)
 told_as case (cert.Residual node) = Residual (name_at case node)
 told_as case (cert.Radius node) = Radius (name_at case node)
 
--- the node of a refusal, where it tells one, is one of the first so many
+-- the node of a refusal, where it tells one, is one of the first n
 abbrev pub IsNodeWithin : (nodes : ℕ) → CertRefusal → Type 0
 IsNodeWithin nodes (cert.Row node) = node.0 < nodes
 IsNodeWithin nodes (cert.Residual node) = node.0 < nodes
@@ -37,8 +37,8 @@ pub record IsToldBreak (case : Lists) (standing : List Placed) (c : Certificate)
   pub first : BreaksOwn case standing c refusal
   pub told : named ≡ told_as case refusal
 
--- no room is made since these bytes are refused, or for want of memory
-abbrev pub IsFaultOf : Lists → List Placed → (bytes : List ℕ) → RoomFault → Type 0
+-- no workspace is made since these bytes are refused, or since memory ran out
+abbrev pub IsFaultOf : Lists → List Placed → (bytes : List ℕ) → WorkspaceFault → Type 0
 IsFaultOf case standing bytes (Refused refusal) = IsRefused case standing bytes refusal
 IsFaultOf case standing bytes Memory = ⊤
 

@@ -10,7 +10,7 @@ ghost use Rattle.gic_case.specs.Lists.{node_names};
 ghost use Rattle.gic_uniform.specs.Uniform.{uniform_volts};
 ghost use Rattle.gic_winding.specs.ElementList.{elements_of};
 
-use crate::fault::{CertificateRefusal, RoomFault};
+use crate::fault::{CertificateRefusal, WorkspaceFault};
 use gic_base::{OutOfMemory, ReadFault};
 use gic_case::{Case, node_name};
 use gic_cert::{Cert, CertRefusal, check, read_cert};
@@ -66,7 +66,12 @@ pub(crate) fn expect_passing(
 }
 
 /// Reads a certificate over the network of a case.
-pub(crate) fn read(alloc: Global, case: &Case, net: &Net, bytes: &[u8]) -> Result<Cert, RoomFault>
+pub(crate) fn read(
+    alloc: Global,
+    case: &Case,
+    net: &Net,
+    bytes: &[u8],
+) -> Result<Cert, WorkspaceFault>
     requires { net.now.network ≡ elements_of case.now }
     ensures read { IfOk result (λ cert. cert_of (certificate_nodes case.now (standing net.now)) bytes.now ≡ Ok cert) }
     ensures nodes { IfOk result (HasNodes net.now.network.nodes (standing net.now)) }
@@ -74,8 +79,8 @@ pub(crate) fn read(alloc: Global, case: &Case, net: &Net, bytes: &[u8]) -> Resul
 {
     match read_cert(alloc, bytes, case, net) {
         Ok(cert) => Ok(cert),
-        Err(ReadFault::Refused(refusal)) => Err(RoomFault::Refused(told(case, refusal))),
-        Err(ReadFault::Memory) => Err(RoomFault::Memory),
+        Err(ReadFault::Refused(refusal)) => Err(WorkspaceFault::Refused(told(case, refusal))),
+        Err(ReadFault::Memory) => Err(WorkspaceFault::Memory),
     }
 }
 

@@ -21,34 +21,34 @@ pub enum CertificateRefusal {
     Radius { node: Name },
 }
 
-/// Why no room is made for a certificate.
+/// Why no workspace is made for a certificate.
 #[derive(Clone, Copy, Debug)]
-pub enum RoomFault {
+pub enum WorkspaceFault {
     /// The text is no certificate of the case.
     Refused(CertificateRefusal),
-    /// Want of memory.
+    /// Out of memory.
     Memory,
 }
 
-impl From<AllocError> for RoomFault {
+impl From<AllocError> for WorkspaceFault {
     ghost use Rattle.std.specs.Prelude.{◌≡◌};
-    ghost use Rattle.gic_recheck.specs.declared.fault.RoomFault.TheVariants.{Memory};
+    ghost use Rattle.gic_recheck.specs.declared.fault.WorkspaceFault.TheVariants.{Memory};
 
     ghost from_gives = { λ _ e. e ≡ Memory };
 
-    fn from(_e: AllocError) -> RoomFault {
-        RoomFault::Memory
+    fn from(_e: AllocError) -> WorkspaceFault {
+        WorkspaceFault::Memory
     }
 }
 
-impl From<OutOfMemory> for RoomFault {
+impl From<OutOfMemory> for WorkspaceFault {
     ghost use Rattle.std.specs.Prelude.{◌≡◌};
-    ghost use Rattle.gic_recheck.specs.declared.fault.RoomFault.TheVariants.{Memory};
+    ghost use Rattle.gic_recheck.specs.declared.fault.WorkspaceFault.TheVariants.{Memory};
 
     ghost from_gives = { λ _ e. e ≡ Memory };
 
-    fn from(_e: OutOfMemory) -> RoomFault {
-        RoomFault::Memory
+    fn from(_e: OutOfMemory) -> WorkspaceFault {
+        WorkspaceFault::Memory
     }
 }
 

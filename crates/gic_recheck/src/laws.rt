@@ -1,4 +1,4 @@
-//! Laws over the definitions, each the contract of a function that does nothing.
+//! Theorems over the definitions, each the contract of a function that does nothing.
 ghost use Rattle.gic_recheck.specs.Determines.{TextDeterminesPotentials, AcceptedIsNotRefused, PassingTextIsAccepted};
 
 use gic_cert::laws::text_law;

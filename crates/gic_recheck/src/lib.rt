@@ -1,4 +1,4 @@
-//! The mode `recheck`: the potentials that a certificate shows, whoever made it.
+//! The mode `recheck`: verifies a certificate of potentials, whoever made it.
 #![tactic(auto)]
 
 mod accepting;
@@ -6,9 +6,9 @@ mod fault;
 pub mod laws;
 mod mode;
 mod potentials;
-mod room;
 mod text;
+mod workspace;
 
-pub use fault::{CertificateRefusal, RecheckFault, RoomFault};
+pub use fault::{CertificateRefusal, RecheckFault, WorkspaceFault};
 pub use mode::recheck;
-pub use room::{Room, make_room};
+pub use workspace::{Workspace, make_workspace};

@@ -14,8 +14,8 @@ ghost use Rattle.gic_winding.specs.ElementList.{elements_of};
 
 use crate::accepting::expect_passing;
 use crate::fault::RecheckFault;
-use crate::room::Room;
 use crate::text::write_recheck;
+use crate::workspace::Workspace;
 use gic_base::{Sink, WriteFailed};
 use gic_case::Case;
 use gic_cert::Cert;
@@ -69,20 +69,24 @@ fn show<S: Sink>(
     }
 }
 
-/// Writes the potentials that the certificate in the room shows, where it is accepted over the network of the case, with all
-/// rows of the switchings in force; it may come from anybody. Takes no memory.
-pub fn recheck<S: Sink>(inputs: &Inputs, room: &mut Room, out: &mut S) -> Result<(), RecheckFault>
-    requires { IsMadeFor inputs.now room.old }
-    ensures { (bytes : List ℕ) → IsReadFrom inputs.now bytes room.old → ServesRecheck inputs.now bytes
+/// Writes the potentials that the certificate in the workspace shows, where it is accepted over the network of the
+/// case, with all rows of the switchings in force; it may come from anybody. Takes no memory.
+pub fn recheck<S: Sink>(
+    inputs: &Inputs,
+    workspace: &mut Workspace,
+    out: &mut S,
+) -> Result<(), RecheckFault>
+    requires { IsMadeFor inputs.now workspace.old }
+    ensures { (bytes : List ℕ) → IsReadFrom inputs.now bytes workspace.old → ServesRecheck inputs.now bytes
         (shown S.written S.faults out.old) (shown S.written S.faults out.new) result }
 {
     show(
         &inputs.case,
-        &room.net,
-        &room.volts,
-        &room.cert,
-        &room.intervals,
-        &mut room.line,
+        &workspace.net,
+        &workspace.volts,
+        &workspace.cert,
+        &workspace.intervals,
+        &mut workspace.line,
         out,
     )
 }

@@ -14,7 +14,7 @@ use gic_report::{add_ends, write_field_line, write_word};
 use gic_text::LineBuilder;
 
 /// Writes the line of a node, where it has an interval.
-#[tactic(auto, using(gic_text::proofs::Sizes::line_room))]
+#[tactic(auto, using(gic_text::proofs::Sizes::line_space))]
 fn write_potential<S: Sink>(
     name: &Name,
     interval: Option<Interval>,

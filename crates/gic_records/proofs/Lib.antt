@@ -4,5 +4,5 @@ pub mod Turns
 pub mod ReadRows
 pub mod RowLaws
 pub mod Steps
-pub mod Fronts
+pub mod Prefixes
 pub mod WideRows

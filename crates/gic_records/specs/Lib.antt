@@ -3,5 +3,5 @@ pub mod Records
 pub mod Reading
 pub mod Rows
 pub mod RowPass
-pub mod Front
+pub mod Prefix
 pub mod Wide

@@ -5,7 +5,7 @@ ghost use Rattle.gic_records.specs.Records.{records_of};
 ghost use Rattle.gic_records.specs.Wide.{up_to_wide};
 ghost use Rattle.gic_records.specs.Reading.{with_found};
 
-use crate::front::front;
+use crate::prefix::prefix;
 use csv::{ByteRecord, Error, Reader, ReaderBuilder};
 use std::alloc::{AllocError, Global};
 use std::marker::Model;
@@ -41,7 +41,7 @@ fn found_of(read: Result<bool, Error>) -> Result<bool, AllocError>
 
 impl<'a> Records<'a> {
     /// The records of a text up to the first with more than [`MOST_COLUMNS`] fields; of that one only one field more than
-    /// these, and none behind it, so that no record takes room for millions of fields. Whoever reads rows has to refuse a
+    /// these, and none behind it, so that no record takes space for millions of fields. Whoever reads rows has to refuse a
     /// record with more than [`MOST_COLUMNS`] fields: how many it has, and what follows it, isn't known.
     ///
     /// [`MOST_COLUMNS`]: crate::MOST_COLUMNS
@@ -52,11 +52,11 @@ impl<'a> Records<'a> {
             reader: ReaderBuilder::new()
                 .has_headers(false)
                 .flexible(true)
-                .from_reader(alloc, front(bytes)),
+                .from_reader(alloc, prefix(bytes)),
         }
     }
 
-    /// Reads the next record into `row`, and tells whether there was one. After an error, which is want of memory,
+    /// Reads the next record into `row`, and tells whether there was one. After an error, which is out of memory,
     /// nothing is known of the records that are left.
     pub fn read(&mut self, row: &mut ByteRecord) -> Result<bool, AllocError>
         ensures { IfOk result (λ found. self.old ≡ with_found found (fields_of row.new) self.new) }

@@ -48,8 +48,9 @@ pub trait RowReader {
         ensures { result ≡ late };
 }
 
-/// The rows of the records that are left, at most so many. Their times do not fall. The first record that is no row is
-/// refused, and so is one behind the last that there may be; want of memory may be the answer in place of any other.
+/// The rows of the records that are left, at most a given number. Their times do not fall. The first record that is no
+/// row is refused, and so is one behind the last that there may be; out of memory may be the answer in place of any
+/// other.
 pub fn read_rows<R: RowReader>(
     alloc: Global,
     reader: &R,

@@ -4,8 +4,8 @@ use Rattle.std.proofs.lemmas.Grind.{common_steps}
 use Rattle.std.proofs.lemmas.List.FromFn.{length-map-range_with_len, map-range_with_len_more}
 use Rattle.std.proofs.lemmas.List.Sums.{fold_push, sum_by-cons}
 use Rattle.std.specs.List.{fold, range_with_len}
-use Rattle.gic_screen.specs.declared.criterion.Verdict.{Verdict}
-use Rattle.gic_screen.specs.declared.criterion.Verdict.TheVariants.{Below, Reaches, Undecided, Outside}
+use Rattle.gic_criteria.specs.declared.criterion.Verdict.{Verdict}
+use Rattle.gic_criteria.specs.declared.criterion.Verdict.TheVariants.{Below, Reaches, Undecided, Outside}
 use Rattle.gic_report.specs.declared.counts.Counts.{Counts}
 use Rattle.gic_report.specs.Counts.{no_counts, counted, counts_of, total_of}
 
@@ -28,7 +28,7 @@ total_counted vs = omega (arith, total_from no_counts vs)
 pub counts_push : (vs : List Verdict) (v : Verdict) → counts_of (vs ++ v ∷ []) ≡ counted (counts_of vs) v
 counts_push vs v = fold_push counted no_counts vs v
 
--- the verdicts at the first so many places, and one place more
+-- the verdicts at the first n places, and one place more
 pub total_at : (said : ℕ → Verdict) (n : ℕ) → total_of (counts_of (map said (range_with_len 0 n))) ≡ n
 total_at said n = total_counted (map said (range_with_len 0 n)) ∙ length-map-range_with_len said 0 n
 

@@ -11,7 +11,7 @@ use Rattle.gic_fixed.specs.Ends.{Ends}
 use Rattle.gic_text.specs.Words.{IsWord, IsLine}
 use Rattle.gic_text.proofs.Words.{word_from_test, word_signed}
 use Rattle.gic_case.specs.declared.item.Transformer.{Transformer}
-use Rattle.gic_screen.specs.declared.criterion.Verdict.{Verdict}
+use Rattle.gic_criteria.specs.declared.criterion.Verdict.{Verdict}
 use Rattle.gic_report.specs.SharedLines.{Words}
 use Rattle.gic_report.specs.declared.rows.ItemRow.{ItemRow}
 use Rattle.gic_report.specs.Fits.{AreInRange}

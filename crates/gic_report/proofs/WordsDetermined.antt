@@ -6,8 +6,8 @@ use Rattle.std.specs.Int.{w128}
 use lib.Signed.{mag}
 use Rattle.gic_text.specs.Words.{IsWord, IsLine}
 use Rattle.gic_text.proofs.Words.{word_from_test, word_decimal, word_signed, signed_decimal_injective_wide}
-use Rattle.gic_screen.specs.declared.criterion.Verdict.{Verdict}
-use Rattle.gic_screen.specs.declared.criterion.Verdict.TheVariants.{Below, Reaches, Undecided, Outside}
+use Rattle.gic_criteria.specs.declared.criterion.Verdict.{Verdict}
+use Rattle.gic_criteria.specs.declared.criterion.Verdict.TheVariants.{Below, Reaches, Undecided, Outside}
 use Rattle.gic_report.specs.SharedLines.{Words, field_line}
 use Rattle.gic_report.specs.VerdictText.{verdict_word}
 

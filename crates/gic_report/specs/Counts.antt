@@ -2,8 +2,8 @@
 use Rattle.std.specs.Prelude.{ℕ, ◌+◌, ◌^◌, ◌<◌, Bool, List, [], ◌∷◌, length, count_by, codes, decimal}
 use Rattle.std.specs.List.{fold, range_with_len}
 use Rattle.gic_case.specs.Lists.{Lists}
-use Rattle.gic_screen.specs.declared.criterion.Verdict.{Verdict}
-use Rattle.gic_screen.specs.declared.criterion.Verdict.TheVariants.{Below, Reaches, Undecided, Outside}
+use Rattle.gic_criteria.specs.declared.criterion.Verdict.{Verdict}
+use Rattle.gic_criteria.specs.declared.criterion.Verdict.TheVariants.{Below, Reaches, Undecided, Outside}
 use Rattle.gic_report.specs.declared.counts.Counts.{Counts}
 use Rattle.gic_report.specs.SharedLines.{Words}
 

@@ -7,9 +7,9 @@ use Rattle.gic_fixed.specs.Ends.{Ends}
 use Rattle.gic_case.specs.declared.item.Transformer.{Transformer}
 use Rattle.gic_case.specs.Lists.{Lists, has_effect}
 use Rattle.gic_winding.specs.Weights.{transformer_at}
-use Rattle.gic_screen.specs.declared.criterion.Verdict.{Verdict}
-use Rattle.gic_screen.specs.declared.criterion.Verdict.TheVariants.{Below, Reaches, Undecided, Outside}
-use Rattle.gic_screen.specs.Verdict.{is_assessed, verdict_of}
+use Rattle.gic_criteria.specs.declared.criterion.Verdict.{Verdict}
+use Rattle.gic_criteria.specs.declared.criterion.Verdict.TheVariants.{Below, Reaches, Undecided, Outside}
+use Rattle.gic_criteria.specs.Verdict.{is_assessed, verdict_of}
 use Rattle.gic_report.specs.SharedLines.{Words}
 use Rattle.gic_report.specs.ItemText.{per_transformer}
 

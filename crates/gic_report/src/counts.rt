@@ -3,7 +3,7 @@ ghost use Rattle.std.specs.Prelude.{◌≡◌, ◌+◌, ◌<◌, ◌≤◌, leng
 ghost use Rattle.gic_text.specs.Lines.{with_words};
 ghost use Rattle.gic_report.specs.Counts.{no_counts, counted, total_of, counts_words};
 
-use gic_screen::Verdict;
+use gic_criteria::Verdict;
 use gic_text::LineBuilder;
 
 /// How many transformers have each verdict.
@@ -52,8 +52,8 @@ pub fn counted(counts: Counts, said: Verdict) -> Counts
     }
 }
 
-/// Adds the name and the number of each verdict to the line, which has room for them.
-#[tactic(auto, using(gic_text::proofs::Sizes::line_room), unfolding(crate::specs::Counts::counts_words))]
+/// Adds the name and the number of each verdict to the line, which has space for them.
+#[tactic(auto, using(gic_text::proofs::Sizes::line_space), unfolding(crate::specs::Counts::counts_words))]
 pub fn add_counts(counts: &Counts, line: &mut LineBuilder)
     requires { length line.old.bytes ≤ 300 }
     ensures words { line.new ≡ with_words line.old (counts_words counts.now) }

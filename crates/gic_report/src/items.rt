@@ -19,8 +19,8 @@ use gic_model::Role;
 use gic_text::LineBuilder;
 use gic_view::StepView;
 
-/// Adds the two ends of an interval to the line, which has room for them.
-#[tactic(auto, using(gic_text::proofs::Sizes::line_room))]
+/// Adds the two ends of an interval to the line, which has space for them.
+#[tactic(auto, using(gic_text::proofs::Sizes::line_space))]
 pub fn add_ends(interval: Interval, line: &mut LineBuilder)
     requires { length line.old.bytes ≤ 400 }
     ensures words { line.new ≡ with_words line.old (ends_words (ends_of interval)) }
@@ -31,9 +31,9 @@ pub fn add_ends(interval: Interval, line: &mut LineBuilder)
 }
 
 /// Adds the two ends of an interval to the line, or the word that stands for none.
-#[tactic(auto, using(gic_text::proofs::Sizes::line_room))]
+#[tactic(auto, using(gic_text::proofs::Sizes::line_space))]
 fn add_cell(cell: Option<Interval>, absent: &[u8], line: &mut LineBuilder)
-    requires room { length line.old.bytes ≤ 400 }
+    requires space { length line.old.bytes ≤ 400 }
     requires absent { length absent.now ≤ 20 }
     ensures words { line.new ≡ with_words line.old (cell_words absent.now (optional_ends cell)) }
     ensures size { length line.new.bytes ≤ length line.old.bytes + 82 }
@@ -45,9 +45,9 @@ fn add_cell(cell: Option<Interval>, absent: &[u8], line: &mut LineBuilder)
 }
 
 /// Adds what a row shows to the line, and takes its interval where it isn't blocked.
-#[tactic(auto, using(gic_text::proofs::Sizes::line_room))]
+#[tactic(auto, using(gic_text::proofs::Sizes::line_space))]
 fn add_shown(blocked: bool, cells: &mut Cells<'_>, line: &mut LineBuilder)
-    requires room { length line.old.bytes ≤ 400 }
+    requires space { length line.old.bytes ≤ 400 }
     ensures words { line.new ≡ with_words line.old (shown_words blocked cells.old) }
     ensures left { cells.new ≡ left_behind blocked cells.old }
     ensures size { length line.new.bytes ≤ length line.old.bytes + 82 }
@@ -60,7 +60,7 @@ fn add_shown(blocked: bool, cells: &mut Cells<'_>, line: &mut LineBuilder)
 }
 
 /// Adds the words that name a row to the line.
-#[tactic(auto, using(gic_text::proofs::Sizes::line_room))]
+#[tactic(auto, using(gic_text::proofs::Sizes::line_space))]
 fn add_row_words(row: &ItemRow, line: &mut LineBuilder)
     requires { length line.old.bytes ≤ 400 }
     ensures words { line.new ≡ with_words line.old (item_row_words row.now) }
@@ -89,7 +89,7 @@ fn add_row_words(row: &ItemRow, line: &mut LineBuilder)
 }
 
 /// Writes the line of a row.
-#[tactic(auto, using(gic_text::proofs::Sizes::line_room))]
+#[tactic(auto, using(gic_text::proofs::Sizes::line_space))]
 fn write_row<S: Sink>(
     row: &ItemRow,
     cells: &mut Cells<'_>,
@@ -122,7 +122,7 @@ pub fn write_nodes<S: Sink>(
 }
 
 /// Writes the line of a node.
-#[tactic(auto, using(gic_text::proofs::Sizes::line_room))]
+#[tactic(auto, using(gic_text::proofs::Sizes::line_space))]
 fn write_node<S: Sink>(
     name: &Name,
     cell: Option<Interval>,
@@ -156,7 +156,7 @@ pub fn write_rows<S: Sink>(
 }
 
 /// Writes the line of a transformer's effective current.
-#[tactic(auto, using(gic_text::proofs::Sizes::line_room))]
+#[tactic(auto, using(gic_text::proofs::Sizes::line_space))]
 fn write_effective<S: Sink>(
     name: &Name,
     signed: Interval,

@@ -1,4 +1,4 @@
-//! What the reports of several modes share: their lines, written one by one.
+//! Report writing that modes share: their lines, one by one.
 #![tactic(auto)]
 
 mod cells;

@@ -11,8 +11,8 @@ use crate::cells::EffectiveCells;
 use crate::items::add_ends;
 use gic_base::{Name, Sink, WriteFailed, write_all};
 use gic_case::Transformer;
+use gic_criteria::{Verdict, verdict};
 use gic_fixed::Interval;
-use gic_screen::{Verdict, verdict};
 use gic_text::LineBuilder;
 use gic_view::StepView;
 
@@ -38,8 +38,8 @@ fn verdict_word(verdict: Verdict) -> &'static str
     }
 }
 
-/// Adds a verdict to the line, which has room for it.
-#[tactic(auto, using(gic_text::proofs::Sizes::line_room))]
+/// Adds a verdict to the line, which has space for it.
+#[tactic(auto, using(gic_text::proofs::Sizes::line_space))]
 pub fn add_verdict(said: Verdict, line: &mut LineBuilder)
     requires { length line.old.bytes ≤ 400 }
     ensures word { line.new ≡ with_word line.old (verdict_word said) }
@@ -49,7 +49,7 @@ pub fn add_verdict(said: Verdict, line: &mut LineBuilder)
 }
 
 /// Writes the line of a verdict, by the transformer's name and its absolute effective interval.
-#[tactic(auto, using(gic_text::proofs::Sizes::line_room), unfolding(crate::specs::VerdictText::judged_line))]
+#[tactic(auto, using(gic_text::proofs::Sizes::line_space), unfolding(crate::specs::VerdictText::judged_line))]
 fn write_judged<S: Sink>(
     name: &Name,
     current: Interval,

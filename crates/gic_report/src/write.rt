@@ -22,7 +22,7 @@ pub fn write_word<S: Sink>(
 }
 
 /// Writes the line of a uniform field, in mV/km.
-#[tactic(auto, using(gic_text::proofs::Sizes::line_room))]
+#[tactic(auto, using(gic_text::proofs::Sizes::line_space))]
 pub fn write_field_line<S: Sink>(
     north: i32,
     east: i32,
@@ -40,7 +40,7 @@ pub fn write_field_line<S: Sink>(
 }
 
 /// Writes the line of the numbers of nodes and elements.
-#[tactic(auto, using(gic_text::proofs::Sizes::line_room))]
+#[tactic(auto, using(gic_text::proofs::Sizes::line_space))]
 pub fn write_sizes<S: Sink>(
     nodes: u16,
     elements: usize,

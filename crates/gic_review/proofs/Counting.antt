@@ -5,7 +5,7 @@ use Rattle.std.proofs.lemmas.List.{get_or-set_same, get_or-set_other, get_or_def
 use Rattle.std.proofs.lemmas.List.Sums.{count_by_more_no, count_by_more_yes, count_by-le-length}
 use Rattle.gic_review.specs.PartSizes.{times_first}
 
--- among so many there are at most so many
+-- among n there are at most n
 pub count_most : (firsts : List ℕ) (i k : ℕ) → i < length firsts → times_first (take i firsts) k ≤ i
 count_most firsts i k within =
     let short : length (take i firsts) ≡ i = length-take-le i firsts (omega arith) in

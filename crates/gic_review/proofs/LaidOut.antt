@@ -260,18 +260,18 @@ laid_start count few =
 
 -- ---- no place lies far off in its group
 
-from_nought : (x zero_way : ℤ) (n : ℕ) → zero_way ≡ pos 0 → n ≤ 4096 → IsWithinSteps x zero_way n → IsWithinSteps zero_way x n → unsigned_abs x ≤ 4096000000
-from_nought x zero_way n is few above below = omega (arith, ints, is, few, above, below)
+from_zero : (x zero_way : ℤ) (n : ℕ) → zero_way ≡ pos 0 → n ≤ 4096 → IsWithinSteps x zero_way n → IsWithinSteps zero_way x n → unsigned_abs x ≤ 4096000000
+from_zero x zero_way n is few above below = omega (arith, ints, is, few, above, below)
 
 way_near : (places : List Position) → AreLaidOut places → (way : Position → ℤ) → ((g : ℕ) → way (alone g) ≡ pos 0) → Near way places → (k : ℕ) → k < length places → unsigned_abs (way (at places k)) ≤ 4096000000
-way_near places h way nought near k within =
+way_near places h way zeroed near k within =
     let g_in = h.inside k within in
     let is = h.own k within in
     let group_is : (at places (at places k).group).group ≡ (at places k).group = ap (λ (x : Position). x.group) is in
     let few = count_by-le-length (λ q. q.group == (at places k).group) places in
     let below = near (at places k).group k g_in within group_is in
-    from_nought (way (at places k)) (way (at places (at places k).group)) (size_of places (at places k).group)
-    (ap way is ∙ nought (at places k).group) (omega (arith, few, h.few)) (near k (at places k).group within g_in (sym group_is))
+    from_zero (way (at places k)) (way (at places (at places k).group)) (size_of places (at places k).group)
+    (ap way is ∙ zeroed (at places k).group) (omega (arith, few, h.few)) (near k (at places k).group within g_in (sym group_is))
     (subst (λ (g : ℕ). IsWithinSteps (way (at places (at places k).group)) (way (at places k)) (size_of places g)) group_is below)
 
 pub near_at : (places : List Position) → AreLaidOut places → (k : ℕ) → k < length places → IsNearPosition (at places k)

@@ -52,11 +52,11 @@ closures_of c = closures_from c.buses (start_of (length c.substations)) c.lines
 abbrev pub size_of : List Position → (group : ℕ) → ℕ
 size_of places group = count_by (λ p. p.group == group) places
 
--- x is above y by a million for each of so many but one, or by less
+-- x is above y by a million for each of n but one, or by less
 abbrev pub IsWithinSteps : (x y : ℤ) (steps : ℕ) → Type 0
 IsWithinSteps x y steps = (x +ℤ pos 1000000) ≤ℤ (y +ℤ pos (1000000 * steps))
 
--- what places keep on the way: a group is named by a place in it, which lies at nought, and its places are at most a million metres apart for each of them but one
+-- what places keep on the way: a group is named by a place in it, which lies at zero, and its places are at most a million metres apart for each of them but one
 pub record AreLaidOut (places : List Position) : Type 0 where
   pub few : length places ≤ MOST_SUBSTATIONS
   pub inside : (k : ℕ) → k < length places → (at places k).group < length places

@@ -1,4 +1,4 @@
--- What the laws say of the definitions.
+-- What the theorems say of the definitions.
 use Rattle.std.specs.Prelude.{ℕ, ◌≡◌, List}
 use Rattle.gic_case.specs.Lists.{Lists}
 use Rattle.gic_case.specs.Sound.{IsSound}

@@ -1,4 +1,4 @@
-//! What the text of the mode tells, and laws over what is found, each the contract of a function that does nothing.
+//! What the text of the mode tells, and theorems over what is found, each the contract of a function that does nothing.
 ghost use Rattle.std.specs.Prelude.{◌≡◌};
 ghost use Rattle.gic_review.specs.Determines.{TextDeterminesFindings};
 ghost use Rattle.gic_winding.specs.ElementList.{elements_of};

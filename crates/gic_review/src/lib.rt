@@ -1,12 +1,13 @@
-//! The mode `review`: what a case says that its writer may not have meant.
+//! The mode `review`: plausibility checks of a case: missing grounds, separate parts, loops of spans that don't close,
+//! unusual values.
 #![tactic(auto)]
 
 mod findings;
 pub mod laws;
 mod mode;
-mod room;
 mod text;
 mod words;
+mod workspace;
 
 pub use mode::review;
-pub use room::{Room, make_room};
+pub use workspace::{Workspace, make_workspace};

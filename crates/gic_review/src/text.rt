@@ -12,7 +12,7 @@ use gic_report::write_word;
 use gic_text::LineBuilder;
 
 /// Adds to the line of which row a value is, and which of its values.
-#[tactic(auto, using(gic_text::proofs::Sizes::line_room))]
+#[tactic(auto, using(gic_text::proofs::Sizes::line_space))]
 fn add_value(list: CaseList, name: &Name, measured: Quantity, line: &mut LineBuilder)
     requires { length line.old.bytes ≤ 400 }
     ensures words { line.new ≡ with_words line.old (list_word list ∷ name.now ∷ field_word measured ∷ []) }
@@ -24,7 +24,7 @@ fn add_value(list: CaseList, name: &Name, measured: Quantity, line: &mut LineBui
 }
 
 /// Writes the line of a finding.
-#[tactic(auto, using(gic_text::proofs::Sizes::line_room), unfolding(crate::specs::FindingText::finding_line))]
+#[tactic(auto, using(gic_text::proofs::Sizes::line_space), unfolding(crate::specs::FindingText::finding_line))]
 fn write_finding<S: Sink>(
     finding: &Finding,
     line: &mut LineBuilder,
@@ -94,7 +94,7 @@ fn write_each<S: Sink>(
 }
 
 /// Writes how many findings there are.
-#[tactic(auto, using(gic_text::proofs::Sizes::line_room))]
+#[tactic(auto, using(gic_text::proofs::Sizes::line_space))]
 fn write_count<S: Sink>(
     count: usize,
     line: &mut LineBuilder,

@@ -8,15 +8,15 @@ use Rattle.gic_text.proofs.Injective.{lines_injective}
 use Rattle.gic_text.proofs.Words.{word_from_test}
 use Rattle.gic_case.specs.declared.item.Transformer.{Transformer}
 use Rattle.gic_fixed.specs.Ends.{Ends}
-use Rattle.gic_screen.specs.declared.criterion.Verdict.{Verdict}
+use Rattle.gic_criteria.specs.declared.criterion.Verdict.{Verdict}
 use Rattle.gic_report.specs.SharedLines.{word_line}
 use Rattle.gic_report.proofs.CaseNames.{transformer_names}
 use Rattle.gic_report.proofs.ViewDetermined.{ends_words, same_ends}
 use Rattle.gic_report.proofs.WordsDetermined.{first_of_lines, pair_at, verdict_is_word}
-use Rattle.gic_screening.specs.Rows.{Row}
+use Rattle.gic_worst.specs.Rows.{Row}
 use Rattle.gic_report.specs.VerdictText.{verdict_in}
-use Rattle.gic_screening.specs.Setting.{event_setting_line}
-use Rattle.gic_screening.proofs.SettingDetermined.{same_setting, setting_is_line}
+use Rattle.gic_worst.specs.Setting.{event_setting_line}
+use Rattle.gic_worst.proofs.SettingDetermined.{same_setting, setting_is_line}
 use Rattle.gic_screen_mode.specs.ScreenText.{screened_line, screen_report, screened_transformer_line, screened_transformer_lines}
 use Rattle.gic_screen_mode.specs.Determines.{IsRowInRange, TextDeterminesScreen}
 

@@ -6,10 +6,10 @@ use Rattle.gic_fixed.proofs.Divisions.{positive_product}
 use Rattle.gic_fixed.specs.Ends.{Ends}
 use Rattle.gic_model.specs.Sums.{Placed}
 use Rattle.gic_winding.specs.Weights.{transformer_at}
-use Rattle.gic_screen.specs.Verdict.{verdict_of}
-use Rattle.gic_screen.specs.VerdictLaws.{UndecidedIsAcross, WorstBelowIsUnder, WorstReachesIsAtLeast}
-use Rattle.gic_screen.specs.declared.criterion.Verdict.TheVariants.{Below}
-use Rattle.gic_screening.specs.RightRows.{IsRightWorst, IsTrueVerdict}
+use Rattle.gic_criteria.specs.Verdict.{verdict_of}
+use Rattle.gic_criteria.specs.VerdictLaws.{UndecidedIsAcross, WorstBelowIsUnder, WorstReachesIsAtLeast}
+use Rattle.gic_criteria.specs.declared.criterion.Verdict.TheVariants.{Below}
+use Rattle.gic_worst.specs.RightRows.{IsRightWorst, IsTrueVerdict}
 
 -- a transformer that a verdict calls below is assessed, so its high voltage and its denominators are above 0
 rated : (lo hi : ℤ) (threshold high_volts : ℕ) (earthed : Bool) → verdict_of lo hi threshold high_volts earthed ≡ Below → 0 < high_volts

@@ -4,7 +4,7 @@ use mir.Syntax.{w32}
 use Rattle.gic_case.specs.Lists.{Lists}
 use Rattle.gic_text.specs.Lines.{lines_text}
 use Rattle.gic_report.specs.Fits.{AreInRange, HasNames}
-use Rattle.gic_screening.specs.Rows.{Row}
+use Rattle.gic_worst.specs.Rows.{Row}
 use Rattle.gic_screen_mode.specs.ScreenText.{screen_report}
 
 -- each end of the row is a number of 128 bits

@@ -2,10 +2,10 @@
 use Rattle.std.specs.Prelude.{ℕ, ◌<◌, List, length, ℤ}
 use Rattle.gic_case.specs.Lists.{Lists}
 use Rattle.gic_model.specs.Sums.{Placed}
-use Rattle.gic_screen.specs.declared.asked.Question.{Question}
-use Rattle.gic_screen.specs.Event.{threshold_of}
-use Rattle.gic_screening.specs.RightRows.{IsTrueVerdict}
-use Rattle.gic_screening.specs.Rows.{screen_row_at}
+use Rattle.gic_criteria.specs.declared.asked.Question.{Question}
+use Rattle.gic_criteria.specs.Event.{threshold_of}
+use Rattle.gic_worst.specs.RightRows.{IsTrueVerdict}
+use Rattle.gic_worst.specs.Rows.{screen_row_at}
 use Rattle.gic_screen_mode.specs.RightScreen.{ShowsRightRows}
 
 -- the verdict on the worst interval of each row of a right report is true

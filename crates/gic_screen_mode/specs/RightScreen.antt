@@ -2,14 +2,14 @@
 use Rattle.std.specs.Prelude.{◌≡◌, ℕ, List, ℤ, pos}
 use Rattle.gic_case.specs.Lists.{Lists}
 use Rattle.gic_model.specs.Sums.{Placed}
-use Rattle.gic_screen.specs.Event.{threshold_of, field_of}
+use Rattle.gic_criteria.specs.Event.{threshold_of, field_of}
 use Rattle.gic_text.specs.Lines.{lines_text}
-use Rattle.gic_screen.specs.declared.asked.Question.{Question}
+use Rattle.gic_criteria.specs.declared.asked.Question.{Question}
 use Rattle.gic_inputs.specs.declared.inputs.Inputs.{Inputs}
 use Rattle.gic_stand.specs.Standing.{standing_of}
 use Rattle.gic_uniform.specs.Uniform.{uniform_volts}
-use Rattle.gic_screening.specs.Rows.{Row}
-use Rattle.gic_screening.specs.Screening.{AreScreened}
+use Rattle.gic_worst.specs.Rows.{Row}
+use Rattle.gic_worst.specs.Screening.{AreScreened}
 use Rattle.gic_screen_mode.specs.ScreenText.{screen_report}
 
 -- the text of a report of these rows

@@ -2,11 +2,11 @@
 use Rattle.std.specs.Prelude.{ℕ, ℤ, List, [], ◌∷◌, ◌++◌, codes}
 use Rattle.std.specs.Fmt.{signed_decimal}
 use Rattle.gic_case.specs.declared.item.Transformer.{Transformer}
-use Rattle.gic_screen.specs.declared.criterion.Verdict.{Verdict}
+use Rattle.gic_criteria.specs.declared.criterion.Verdict.{Verdict}
 use Rattle.gic_report.specs.SharedLines.{Words, word_line}
 use Rattle.gic_report.specs.VerdictText.{verdict_in, verdict_word}
-use Rattle.gic_screening.specs.Rows.{Row}
-use Rattle.gic_screening.specs.Setting.{event_setting_line}
+use Rattle.gic_worst.specs.Rows.{Row}
+use Rattle.gic_worst.specs.Setting.{event_setting_line}
 
 -- the line of a row: the transformer's name, the three intervals, and the verdict
 unfoldable pub screened_line : (name : List ℕ) → Row → Verdict → Words

@@ -2,7 +2,7 @@
 ghost use Rattle.gic_screen_mode.specs.Determines.{TextDeterminesScreen};
 ghost use Rattle.gic_screen_mode.specs.Follows.{ScreenVerdictsAreTrue};
 
-use gic_screen::laws::{verdict_law, worst_verdict_law};
+use gic_criteria::laws::{verdict_law, worst_verdict_law};
 
 /// Texts on one case that are equal show the same width, threshold and field and the same intervals.
 pub fn text_determines_screen_law()

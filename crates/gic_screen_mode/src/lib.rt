@@ -1,10 +1,10 @@
-//! The mode `screen`: the transformers of a case, screened for the worst orientation of an event's field.
+//! The mode `screen`: thermal screening of the transformers of a case for the worst orientation of an event's field.
 #![tactic(auto)]
 
 pub mod laws;
 mod mode;
-mod room;
 mod text;
+mod workspace;
 
 pub use mode::screen;
-pub use room::{Room, make_room};
+pub use workspace::{Workspace, make_workspace};

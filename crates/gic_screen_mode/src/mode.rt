@@ -1,21 +1,21 @@
 //! The report of the mode.
 ghost use Rattle.gic_base.specs.Writes.{Writes};
-ghost use Rattle.gic_screen.specs.Ranges.{IsWithinRanges};
+ghost use Rattle.gic_criteria.specs.Ranges.{IsWithinRanges};
 ghost use Rattle.gic_stand.specs.Needs.{Solved};
 ghost use Rattle.gic_stand.specs.Serves.{Serves, shown};
 ghost use Rattle.gic_stand.specs.Standing.{steps_of};
 ghost use Rattle.gic_screen_mode.specs.Made.{IsMadeFor};
 ghost use Rattle.gic_screen_mode.specs.RightScreen.{screen_text, IsRightScreen};
 
-use crate::room::Room;
 use crate::text::write_screen;
+use crate::workspace::Workspace;
 use gic_base::{Sink, WriteFailed};
 use gic_case::Case;
+use gic_criteria::Question;
 use gic_inputs::Inputs;
-use gic_screen::Question;
-use gic_screening::{ScreenRows, screen_net, setting_of};
 use gic_stand::{ReportFault, ended};
 use gic_text::LineBuilder;
+use gic_worst::{ScreenRows, screen_net, setting_of};
 
 /// Writes the report of these rows.
 fn write_rows<S: Sink>(
@@ -33,9 +33,13 @@ fn write_rows<S: Sink>(
 
 /// Writes the current of each transformer of the case for the worst orientation of the field of the event that is asked
 /// for, with all rows of the switchings in force, where its network can be solved. Takes no memory.
-pub fn screen<S: Sink>(inputs: &Inputs, room: &mut Room, out: &mut S) -> Result<(), ReportFault>
+pub fn screen<S: Sink>(
+    inputs: &Inputs,
+    workspace: &mut Workspace,
+    out: &mut S,
+) -> Result<(), ReportFault>
     requires ranges { IsWithinRanges inputs.now.question }
-    requires room { IsMadeFor inputs.now room.old }
+    requires workspace { IsMadeFor inputs.now workspace.old }
     ensures { Serves Solved inputs.now.case (steps_of inputs.now) (IsRightScreen inputs.now)
         (shown S.written S.faults out.old) (shown S.written S.faults out.new) result }
 {
@@ -43,11 +47,17 @@ pub fn screen<S: Sink>(inputs: &Inputs, room: &mut Room, out: &mut S) -> Result<
     let question = &inputs.question;
     screen_net(
         case,
-        &room.net,
-        &room.volts,
+        &workspace.net,
+        &workspace.volts,
         question.width,
-        &mut room.screening,
+        &mut workspace.screening,
     )?;
-    let writing = write_rows(case, question, &room.screening.rows, &mut room.line, out);
+    let writing = write_rows(
+        case,
+        question,
+        &workspace.screening.rows,
+        &mut workspace.line,
+        out,
+    );
     ended(writing)
 }

@@ -4,21 +4,21 @@ ghost use Rattle.gic_base.specs.Writes.{Writes};
 ghost use Rattle.gic_fixed.specs.Ends.{ends_of};
 ghost use Rattle.gic_text.specs.Lines.{with_words, line_text, lines_text};
 ghost use Rattle.gic_report.specs.ItemText.{ends_words};
-ghost use Rattle.gic_screening.specs.Rows.{screen_row_of};
+ghost use Rattle.gic_worst.specs.Rows.{screen_row_of};
 ghost use Rattle.gic_screen_mode.specs.ScreenText.{screened_line, screened_transformer_line, screened_transformer_lines, screen_report};
 
 use gic_base::{Name, Sink, WriteFailed, write_all};
 use gic_case::Transformer;
+use gic_criteria::Verdict;
 use gic_fixed::Interval;
 use gic_report::{add_ends, add_verdict, verdict_in, write_word};
-use gic_screen::Verdict;
-use gic_screening::{ScreenRow, Setting, write_setting};
 use gic_text::LineBuilder;
+use gic_worst::{ScreenRow, Setting, write_setting};
 
 /// Adds what an interval is of, in at most 5 bytes, and its two ends.
-#[tactic(auto, using(gic_text::proofs::Sizes::line_room))]
+#[tactic(auto, using(gic_text::proofs::Sizes::line_space))]
 fn add_current(of: &[u8], interval: Interval, line: &mut LineBuilder)
-    requires room { length line.old.bytes ≤ 300 }
+    requires space { length line.old.bytes ≤ 300 }
     requires short { length of.now ≤ 5 }
     ensures words { line.new ≡ with_words line.old (of.now ∷ ends_words (ends_of interval)) }
     ensures size { length line.new.bytes ≤ length line.old.bytes + 88 }
@@ -28,7 +28,7 @@ fn add_current(of: &[u8], interval: Interval, line: &mut LineBuilder)
 }
 
 /// Writes the line of a row and its verdict, by the transformer's name.
-#[tactic(auto, using(gic_text::proofs::Sizes::line_room), unfolding(crate::specs::ScreenText::screened_line))]
+#[tactic(auto, using(gic_text::proofs::Sizes::line_space), unfolding(crate::specs::ScreenText::screened_line))]
 fn write_row<S: Sink>(
     name: &Name,
     row: &ScreenRow,

@@ -4,10 +4,10 @@ use Rattle.gic_storm.specs.Steps.{steps_in}
 use Rattle.gic_effective.specs.ViewLengths.{HasViewLengths}
 use Rattle.gic_inputs.specs.declared.inputs.StormInputs.{StormInputs}
 use Rattle.gic_course.specs.CourseOf.{IsCourseOf}
-use Rattle.gic_series.specs.declared.room.Room.{Room}
+use Rattle.gic_series.specs.declared.workspace.Workspace.{Workspace}
 
 -- the course is that of the storm, the view has a place for each node, element and transformer of the case, and there is a row for each step
-pub record IsMadeFor (inputs : StormInputs) (room : Room) : Type 0 where
-  pub course : IsCourseOf inputs room.course
-  pub view : HasViewLengths inputs.case room.view
-  pub one_each : length room.rows ≡ length (steps_in inputs.storm.rows)
+pub record IsMadeFor (inputs : StormInputs) (workspace : Workspace) : Type 0 where
+  pub course : IsCourseOf inputs workspace.course
+  pub view : HasViewLengths inputs.case workspace.view
+  pub one_each : length workspace.rows ≡ length (steps_in inputs.storm.rows)

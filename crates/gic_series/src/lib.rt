@@ -1,12 +1,12 @@
-//! The mode `series`: the signed effective current of one transformer at each step of a storm.
+//! The mode `series`: the signed effective GIC of one transformer at each step of a storm.
 #![tactic(auto)]
 
 pub mod laws;
 mod mode;
-mod room;
 mod rows;
 mod steps;
 mod text;
+mod workspace;
 
 pub use mode::series;
-pub use room::{Room, make_room};
+pub use workspace::{Workspace, make_workspace};

@@ -1,7 +1,7 @@
 //! The report of the mode.
 ghost use Rattle.std.specs.Prelude.{◌≡◌, ◌<◌, length};
 ghost use Rattle.gic_base.specs.Writes.{Writes};
-ghost use Rattle.gic_screen.specs.Ranges.{IsWithinRanges};
+ghost use Rattle.gic_criteria.specs.Ranges.{IsWithinRanges};
 ghost use Rattle.gic_stand.specs.Needs.{Solved};
 ghost use Rattle.gic_stand.specs.Serves.{Serves, shown};
 ghost use Rattle.gic_storm.specs.Steps.{steps_in};
@@ -9,10 +9,10 @@ ghost use Rattle.gic_course.specs.Steps.{storm_steps};
 ghost use Rattle.gic_series.specs.Made.{IsMadeFor};
 ghost use Rattle.gic_series.specs.RightSeries.{series_text, IsRightSeries};
 
-use crate::room::Room;
 use crate::rows::SeriesRows;
 use crate::steps::fill_rows;
 use crate::text::write_series;
+use crate::workspace::Workspace;
 use gic_base::{Sink, WriteFailed};
 use gic_inputs::StormInputs;
 use gic_stand::{ReportFault, ended};
@@ -42,24 +42,30 @@ fn write_rows<S: Sink>(
 pub fn series<S: Sink>(
     inputs: &StormInputs,
     transformer: u16,
-    room: &mut Room,
+    workspace: &mut Workspace,
     out: &mut S,
 ) -> Result<(), ReportFault>
     requires ranges { IsWithinRanges inputs.now.question }
     requires transformer { transformer < length inputs.now.case.transformers }
-    requires room { IsMadeFor inputs.now room.old }
+    requires workspace { IsMadeFor inputs.now workspace.old }
     ensures { Serves Solved inputs.now.case (storm_steps inputs.now)
         (IsRightSeries inputs.now transformer)
         (shown S.written S.faults out.old) (shown S.written S.faults out.new) result }
 {
-    room.course.expect_solvable(inputs)?;
+    workspace.course.expect_solvable(inputs)?;
     fill_rows(
         inputs,
         transformer,
-        &mut room.course,
-        &mut room.view,
-        &mut room.rows,
+        &mut workspace.course,
+        &mut workspace.view,
+        &mut workspace.rows,
     );
-    let writing = write_rows(inputs, transformer, &room.rows, &mut room.line, out);
+    let writing = write_rows(
+        inputs,
+        transformer,
+        &workspace.rows,
+        &mut workspace.line,
+        out,
+    );
     ended(writing)
 }

@@ -48,7 +48,7 @@ impl SeriesRows {
     ghost use Rattle.std.specs.Prelude.{◌≡◌, ◌<◌, length, map, replicate, slice_set, IfOk};
     ghost use Rattle.gic_series.specs.Rows.{series_row_of, no_series_row};
 
-    /// So many rows, of number and time 0 and of an interval that holds 0 alone.
+    /// A given number of rows, of number and time 0 and of an interval that holds 0 alone.
     pub(crate) fn new(alloc: Global, count: u32) -> Result<SeriesRows, OutOfMemory>
         ensures { IfOk result (λ rows. rows ≡ replicate count no_series_row) }
     {

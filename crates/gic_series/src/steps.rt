@@ -1,7 +1,7 @@
 //! The rows of the steps of a storm, one after another.
 ghost use Rattle.std.specs.Prelude.{◌≡◌, ◌<◌, length};
 ghost use Rattle.gic_effective.specs.ViewLengths.{HasViewLengths};
-ghost use Rattle.gic_screen.specs.Ranges.{IsWithinRanges};
+ghost use Rattle.gic_criteria.specs.Ranges.{IsWithinRanges};
 ghost use Rattle.gic_storm.specs.Steps.{steps_in};
 ghost use Rattle.gic_course.specs.CourseOf.{CanShow};
 ghost use Rattle.gic_course.specs.Steps.{IsStepOf};

@@ -12,7 +12,7 @@ use gic_report::{add_ends, write_word};
 use gic_text::LineBuilder;
 
 /// Writes the line of what is asked: the width of intervals in mA, the transformer's name, and how many steps there are.
-#[tactic(auto, using(gic_text::proofs::Sizes::line_room))]
+#[tactic(auto, using(gic_text::proofs::Sizes::line_space))]
 fn write_setting<S: Sink>(
     width: u32,
     name: &Name,
@@ -33,7 +33,7 @@ fn write_setting<S: Sink>(
 }
 
 /// Writes the line of a step.
-#[tactic(auto, using(gic_text::proofs::Sizes::line_room))]
+#[tactic(auto, using(gic_text::proofs::Sizes::line_space))]
 fn write_step<S: Sink>(
     row: &SeriesRow,
     line: &mut LineBuilder,

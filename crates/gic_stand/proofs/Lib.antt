@@ -1,3 +1,3 @@
-pub mod Rooms
+pub mod Repeated
 pub mod Served
 pub mod StandingOf

@@ -33,7 +33,7 @@ unmet_once need case standing refusal h = record {
   fails = h;
 }
 
--- a text that is right was written, or a front part of it
+-- a text that is right was written, or a prefix of it
 pub served : (need : Need) (case : Lists) (steps : List (List Placed)) (IsRight : List ℕ → Type 0) (text : List ℕ) (before now : Shown)
     (writing : Result (Unit {0}) WriteFailed) (answer : Result (Unit {0}) ReportFault)
     → IsMet need steps → IsRight text

@@ -1,4 +1,4 @@
--- What a mode's call promises that runs in its room. Want of memory is no answer.
+-- What a mode's call promises that runs in its workspace. Out of memory is no answer.
 use Rattle.std.specs.Prelude.{ℕ, List, Ok, Err, Result}
 use Rattle.std.specs.declared.option.Option.{Option}
 use Rattle.std.specs.Io.KnownBytes.{Appends, Keeps}
@@ -26,7 +26,7 @@ pub record Reports (need : Need) (steps : List (List Placed)) (IsRight : List �
   pub right : IsRight text
   pub written : Appends before.bytes now.bytes text
 
--- a front part of it was, and the count of failed writes rose, or stood at its end
+-- a prefix of it was, and the count of failed writes rose, or stood at its end
 pub record ReportsPart (need : Need) (steps : List (List Placed)) (IsRight : List ℕ → Type 0) (before now : Shown) : Type 0 where
   pub met : IsMet need steps
   pub text : List ℕ

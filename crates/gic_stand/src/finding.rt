@@ -27,10 +27,10 @@ pub fn find_bound(net: &Net, out: &mut BoundVector, start: &mut Start) -> Result
     ensures full { IfErr result (λ refusal. slice_index out.new refusal.node.0 ≡ FULL_WALK) }
     ensures first { IfErr result (λ refusal. (k : ℕ) → k < refusal.node.0 → slice_index out.new k ≤ MOST_WALK) }
 
-    ensures room { IsStartForNodes net.now.network.nodes out.new start.new }
+    ensures workspace { IsStartForNodes net.now.network.nodes out.new start.new }
 {
     if out.walk() <= NOTHING_KNOWN {
         propose(net, out, start);
     }
-    some_bound(net, out, &mut start.room)
+    some_bound(net, out, &mut start.workspace)
 }

@@ -7,8 +7,8 @@ use gic_base::NodeId;
 use gic_base::limits::{FULL_WALK, MOST_WALK};
 use gic_bound::BoundVector;
 use gic_net::Net;
+use gic_precondition::RoughSolver;
 use gic_sweep::conductance;
-use gic_thin::Thinning;
 
 /// To how many bits the real vector is found.
 const REAL_BITS: u32 = 10;
@@ -30,12 +30,12 @@ pub(crate) fn propose(net: &Net, out: &mut BoundVector, start: &mut Start)
     requires { IsStartForNodes net.now.network.nodes out.old start.old }
     ensures { IsStartForNodes net.now.network.nodes out.new start.new }
 {
-    start.thinning.arrange(net);
+    start.rough_solver.arrange(net);
     put_conductances(net, start.conductances.as_mut_slice());
     start
-        .thinning
+        .rough_solver
         .balance(start.conductances.as_slice(), REAL_BITS);
-    put_entries(net.nodes(), &start.thinning, out);
+    put_entries(net.nodes(), &start.rough_solver, out);
 }
 
 /// Puts the conductance of each node, in units of 2^-20 siemens.
@@ -48,37 +48,37 @@ fn put_conductances(net: &Net, conductances: &mut [i128])
 }
 
 /// Puts the multiple of the real entries whose greatest one is aimed at, each rounded up.
-fn put_entries(nodes: u16, thinning: &Thinning, out: &mut BoundVector)
-    requires potentials { thinning.now ≡ nodes }
+fn put_entries(nodes: u16, rough_solver: &RoughSolver, out: &mut BoundVector)
+    requires potentials { rough_solver.now ≡ nodes }
     requires entries { length out.old ≡ nodes }
     ensures { length out.new ≡ length out.old }
 {
-    let most = most_parts(nodes, thinning);
+    let most = most_parts(nodes, rough_solver);
     let aim = aim_for(most);
     for node in 0..nodes {
-        let parts = parts_at(thinning, NodeId(node));
+        let parts = parts_at(rough_solver, NodeId(node));
         out.set(NodeId(node), entry_of(parts, aim, most));
     }
 }
 
 /// The greatest real entry, in parts.
-fn most_parts(nodes: u16, thinning: &Thinning) -> u32
-    requires { thinning.now ≡ nodes }
+fn most_parts(nodes: u16, rough_solver: &RoughSolver) -> u32
+    requires { rough_solver.now ≡ nodes }
     ensures { result ≤ MOST_PARTS }
 {
     let mut most = 0;
     for node in 0..nodes {
-        most = most.max(parts_at(thinning, NodeId(node)));
+        most = most.max(parts_at(rough_solver, NodeId(node)));
     }
     most
 }
 
 /// The real entry at a node, in parts.
-fn parts_at(thinning: &Thinning, node: NodeId) -> u32
-    requires { node.0 < thinning.now }
+fn parts_at(rough_solver: &RoughSolver, node: NodeId) -> u32
+    requires { node.0 < rough_solver.now }
     ensures { result ≤ MOST_PARTS }
 {
-    let parts = thinning.potential(node, UNIT_BITS + POINT_BITS);
+    let parts = rough_solver.potential(node, UNIT_BITS + POINT_BITS);
     parts.max(0).min(MOST_PARTS as i128) as u32
 }
 
@@ -90,7 +90,7 @@ fn aim_for(most: u32) -> u32
     (2 * most).min((most + 3 * MOST_WALK as u32 * PARTS) / 4)
 }
 
-/// The entry for a real one of so many parts.
+/// The entry for a real one of a given number of parts.
 fn entry_of(parts: u32, aim: u32, most: u32) -> u16
     ensures { result ≤ FULL_WALK }
 {

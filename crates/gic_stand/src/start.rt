@@ -1,18 +1,18 @@
 //! What a search for a bound vector writes to.
 use gic_base::OutOfMemory;
-use gic_bound::Room;
+use gic_bound::Workspace;
+use gic_precondition::RoughSolver;
 use gic_sweep::zeros;
-use gic_thin::Thinning;
 use std::alloc::Global;
 use std::marker::Model;
 
 /// What a search for a bound vector writes to besides the vector. It is seen as the number of nodes; no
 /// promise rests on what stands in it between calls.
 pub struct Start {
-    pub(crate) thinning: Thinning,
+    pub(crate) rough_solver: RoughSolver,
     /// The conductances of nodes.
     pub(crate) conductances: Vec<i128>,
-    pub(crate) room: Room,
+    pub(crate) workspace: Workspace,
 }
 
 impl Model for Start {
@@ -20,9 +20,9 @@ impl Model for Start {
 
     ghost Value = { ℕ };
 
-    ghost view = { λ s. s.room };
+    ghost view = { λ s. s.workspace };
 
-    ghost invariant = { λ s. (s.thinning ≡ s.room) × (length s.conductances.items ≡ s.room) };
+    ghost invariant = { λ s. (s.rough_solver ≡ s.workspace) × (length s.conductances.items ≡ s.workspace) };
 }
 
 ghost use Rattle.std.specs.Prelude.{◌≡◌, IfOk};
@@ -31,9 +31,9 @@ impl Drop for Start {
     /// Lets go of everything. Whoever drops a start has this one step, and not one for each part.
     fn drop(self) {
         let Start {
-            thinning: _thinning,
+            rough_solver: _rough_solver,
             conductances: _conductances,
-            room: _room,
+            workspace: _workspace,
         } = self;
     }
 }
@@ -43,13 +43,13 @@ impl Start {
     pub fn new(alloc: Global, nodes: u16, elements: u16) -> Result<Start, OutOfMemory>
         ensures { IfOk result (λ start. start ≡ nodes) }
     {
-        let thinning = Thinning::new(alloc, nodes, elements)?;
+        let rough_solver = RoughSolver::new(alloc, nodes, elements)?;
         let conductances = zeros(alloc, nodes)?;
-        let room = Room::new(alloc, nodes)?;
+        let workspace = Workspace::new(alloc, nodes)?;
         Ok(Start {
-            thinning,
+            rough_solver,
             conductances,
-            room,
+            workspace,
         })
     }
 }

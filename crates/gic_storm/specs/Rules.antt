@@ -43,7 +43,7 @@ abbrev pub broken : (zones : List (List ℕ)) → List (List (List ℕ)) → Lis
 broken zones [] = refusals.Shape 0 ∷ []
 broken zones (first ∷ records) = broken_after (form_of first) zones records
 
--- the row that a record is, each field that breaks its rule taken as nought
+-- the row that a record is, each field that breaks its rule taken as zero
 unfoldable pub row_of : Form → (zones : List (List ℕ)) → List (List ℕ) → Row
 row_of form zones columns = record {
   time = time_of columns;
@@ -57,7 +57,7 @@ abbrev pub rows_after : Option Form → (zones : List (List ℕ)) → List (List
 rows_after None zones records = []
 rows_after (Some form) zones records = map (row_of form zones) records
 
--- so many zones, and these rows
+-- a given number of zones, and these rows
 abbrev pub storm_with : (zones : List (List ℕ)) → List Row → StormView
 storm_with zones rows = record { zones = length zones; rows = rows }
 

@@ -11,7 +11,7 @@ pub record StormView : Type 0 where
   pub zones : ℕ
   pub rows : List Row
 
--- what every row keeps: a zone among so many, if it names one, and a field within its range
+-- what every row keeps: a zone among this many, if it names one, and a field within its range
 pub record IsRow (zones : ℕ) (r : Row) : Type 0 where
   pub zone : IfSome r.zone (λ n. n < zones)
   pub north : IsFieldWithin r.north

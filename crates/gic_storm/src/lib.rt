@@ -1,5 +1,4 @@
-//! The reader of storms: from the bytes of comma-separated records to rows that keep all rules, or to the first rule that
-//! is broken; the steps of a storm, and the fields of the zones at each.
+//! The parser of storms: time series of geoelectric fields by zone, or the first rule that is broken.
 #![tactic(auto)]
 
 mod column;

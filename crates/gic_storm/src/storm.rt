@@ -104,7 +104,7 @@ fn storm_from(
 
 /// Reads a storm over the zones of a case: records whose first is `time,north,east` or `time,zone,north,east`. It is
 /// accepted exactly where it breaks no rule, and its rows are then the records', with places in place of the names of
-/// zones. The first broken rule answers otherwise. Want of memory may come in place of any answer.
+/// zones. The first broken rule answers otherwise. Out of memory may come in place of any answer.
 #[tactic(auto, using(crate::proofs::PassLaws::storm_of_law))]
 pub fn read_storm(
     alloc: Global,

@@ -17,7 +17,7 @@ use Rattle.gic_ask.specs.declared.fault.File.TheVariants as file
 use Rattle.gic_ask.specs.declared.fault.InputRefusal.TheVariants as refusals
 use Rattle.gic_inputs.specs.declared.inputs.Inputs.{Inputs}
 use Rattle.gic_inputs.specs.declared.inputs.StormInputs.{StormInputs}
-use Rattle.gic_screen.specs.declared.asked.Question.{Question}
+use Rattle.gic_criteria.specs.declared.asked.Question.{Question}
 use Rattle.gic_ask.specs.declared.request.Asked.{Asked}
 use Rattle.gic_ask.specs.declared.request.Asked.TheVariants.{Volts, List as ListAsked, Check, Field, Screen, Certify, Outage, Study, Make, Recheck, Series, Review}
 use Rattle.gic_study.specs.Laws.{case_asked, AskedCasesAreSound}

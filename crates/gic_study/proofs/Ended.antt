@@ -19,7 +19,7 @@ use Rattle.gic_study.specs.Answers.{Call, AsksFor, Unasked, Served, Explains, st
 use Rattle.gic_study.specs.Concluding.{Answer}
 use Rattle.gic_study.specs.Faults.{status_of_fault}
 use Rattle.gic_study.specs.Modes.{RefusesCertificate}
-use Rattle.gic_study.specs.Laws.{need_of, case_asked, steps_asked, AcceptsCertificate, Finds, RefusalsAreAnswered, LackedFilesAreWantOfMemory, AcceptedIsReported, UnmetNeedsAreAnswered, RefusedCertificatesAreAnswered}
+use Rattle.gic_study.specs.Laws.{need_of, case_asked, steps_asked, AcceptsCertificate, Finds, RefusalsAreAnswered, LackedFilesAreOutOfMemory, AcceptedIsReported, UnmetNeedsAreAnswered, RefusedCertificatesAreAnswered}
 use Rattle.gic_study.specs.declared.fault.Fault.TheVariants.{Input, Report, Certificate, Memory}
 use Rattle.gic_study.proofs.MetNeeds.{unmet_or_met, same_kind}
 use Rattle.gic_study.proofs.EachMode.{refused_or_accepted, right_accepts, refused_needs_nothing}
@@ -81,8 +81,8 @@ lacked_by law call (Err (Input (input.Refused r))) e file finds = absurd (grind 
 lacked_by law call (Err (Input (input.CannotRead other))) e file finds = absurd (finds.read other (e.asks.failed other refl))
 lacked_by law call (Err (Input input.Memory)) e file finds = refl
 
-pub lacked_files_are_want_of_memory : AnswersOfFiles → LackedFilesAreWantOfMemory
-lacked_files_are_want_of_memory law call status e file finds = e.status_is ∙ lacked_by law call e.answer e.explained file finds
+pub lacked_files_are_out_of_memory : AnswersOfFiles → LackedFilesAreOutOfMemory
+lacked_files_are_out_of_memory law call status e file finds = e.status_is ∙ lacked_by law call e.answer e.explained file finds
 
 -- ---- what is accepted is not refused
 

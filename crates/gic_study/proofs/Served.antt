@@ -16,8 +16,8 @@ use Rattle.gic_view.specs.View.{View}
 use Rattle.gic_recheck.specs.RightRecheck.{ServesRecheck}
 use Rattle.gic_recheck.specs.declared.fault.RecheckFault.{RecheckFault}
 use Rattle.gic_recheck.specs.declared.fault.RecheckFault.TheVariants as recheck
-use Rattle.gic_recheck.specs.declared.fault.RoomFault.{RoomFault}
-use Rattle.gic_recheck.specs.declared.fault.RoomFault.TheVariants as room
+use Rattle.gic_recheck.specs.declared.fault.WorkspaceFault.{WorkspaceFault}
+use Rattle.gic_recheck.specs.declared.fault.WorkspaceFault.TheVariants as workspace
 use Rattle.gic_recheck.specs.Told.{IsFaultOf}
 use Rattle.gic_study_mode.specs.RightStudy.{IsRightStudy}
 use Rattle.gic_study_mode.specs.Roster.{roster_of}
@@ -26,9 +26,9 @@ use Rattle.gic_study_mode.specs.declared.fault.StudyFault.{StudyFault}
 use Rattle.gic_study_mode.specs.declared.fault.StudyFault.TheVariants as study
 use Rattle.gic_study_mode.proofs.RightStudies.{by_plans}
 use Rattle.gic_study.specs.Concluding.{Answer, ServesMeaning, Concludes}
-use Rattle.gic_study.specs.ModeCalls.{reported, studied, rechecked, without_room}
+use Rattle.gic_study.specs.ModeCalls.{reported, studied, rechecked, without_workspace}
 use Rattle.gic_study.specs.declared.fault.Fault.TheVariants.{Memory}
-use Rattle.gic_study.specs.declared.fault.Wanting.TheVariants.{Room}
+use Rattle.gic_study.specs.declared.fault.Wanting.TheVariants.{Workspace}
 use Rattle.gic_study.specs.Modes.{Plans, meaning_of}
 
 -- what is asked for ended so
@@ -83,18 +83,18 @@ pub over_certificate : (plans : Plans) (asked : Asked) (inputs : Inputs) (certif
 over_certificate plans asked inputs certificate before now answer whole is served ends =
     subst (ConcludesSo plans before now whole) (sym is) (subst (Concludes plans (Recheck inputs certificate) before now) (sym ends) (concludes_rechecked plans inputs certificate before now answer served))
 
--- nothing was written, for want of memory for a room
-pub lacking_room : (plans : Plans) (asked : Asked) (s : Shown) (whole : Answer) → IsErrAnd whole (λ e. e ≡ Memory Room) → Concludes plans asked s s whole
-lacking_room plans asked s whole h = subst (Concludes plans asked s s) (sym (answered whole (Memory Room) h)) (tt, keeps-refl s.bytes)
+-- nothing was written, since memory ran out for a workspace
+pub lacking_workspace : (plans : Plans) (asked : Asked) (s : Shown) (whole : Answer) → IsErrAnd whole (λ e. e ≡ Memory Workspace) → Concludes plans asked s s whole
+lacking_workspace plans asked s whole h = subst (Concludes plans asked s s) (sym (answered whole (Memory Workspace) h)) (tt, keeps-refl s.bytes)
 
 -- or since a certificate could not be read
-concludes_without : (plans : Plans) (inputs : Inputs) (certificate : List ℕ) (s : Shown) (fault : RoomFault) → IsFaultOf inputs.case (standing_of inputs.case inputs.switchings) certificate fault
-    → Concludes plans (Recheck inputs certificate) s s (Err (without_room fault))
-concludes_without plans inputs certificate s (room.Refused refusal) h = (h, keeps-refl s.bytes)
-concludes_without plans inputs certificate s room.Memory h = (tt, keeps-refl s.bytes)
+concludes_without : (plans : Plans) (inputs : Inputs) (certificate : List ℕ) (s : Shown) (fault : WorkspaceFault) → IsFaultOf inputs.case (standing_of inputs.case inputs.switchings) certificate fault
+    → Concludes plans (Recheck inputs certificate) s s (Err (without_workspace fault))
+concludes_without plans inputs certificate s (workspace.Refused refusal) h = (h, keeps-refl s.bytes)
+concludes_without plans inputs certificate s workspace.Memory h = (tt, keeps-refl s.bytes)
 
-pub without_certificate : (plans : Plans) (asked : Asked) (inputs : Inputs) (certificate : List ℕ) (s : Shown) (fault : RoomFault) (whole : Answer) → asked ≡ Recheck inputs certificate
-    → IsFaultOf inputs.case (standing_of inputs.case inputs.switchings) certificate fault → IsErrAnd whole (λ e. e ≡ without_room fault)
+pub without_certificate : (plans : Plans) (asked : Asked) (inputs : Inputs) (certificate : List ℕ) (s : Shown) (fault : WorkspaceFault) (whole : Answer) → asked ≡ Recheck inputs certificate
+    → IsFaultOf inputs.case (standing_of inputs.case inputs.switchings) certificate fault → IsErrAnd whole (λ e. e ≡ without_workspace fault)
     → Concludes plans asked s s whole
 without_certificate plans asked inputs certificate s fault whole is h ends =
-    subst (ConcludesSo plans s s whole) (sym is) (subst (Concludes plans (Recheck inputs certificate) s s) (sym (answered whole (without_room fault) ends)) (concludes_without plans inputs certificate s fault h))
+    subst (ConcludesSo plans s s whole) (sym is) (subst (Concludes plans (Recheck inputs certificate) s s) (sym (answered whole (without_workspace fault) ends)) (concludes_without plans inputs certificate s fault h))

@@ -56,7 +56,7 @@ abbrev pub status_of : Answer → ℕ
 status_of (Ok done) = 0
 status_of (Err fault) = status_of_fault fault
 
--- the line was written, or a front part of it where a write failed
+-- the line was written, or a prefix of it where a write failed
 pub record TellsLine (before now : Shown) (line : List ℕ) : Type 0 where
   pub part : AppendsPart before.bytes now.bytes line
   pub whole : Appends before.bytes now.bytes line ⊎ Rose before.faults now.faults

@@ -13,7 +13,7 @@ use Rattle.gic_study.specs.Modes.{Plans, Meaning, meaning_of, RefusesCertificate
 use Rattle.gic_study.specs.declared.fault.Fault.{Fault}
 use Rattle.gic_study.specs.declared.fault.Fault.TheVariants.{Input, Report, Certificate, Memory}
 use Rattle.gic_study.specs.declared.fault.Wanting.{Wanting}
-use Rattle.gic_study.specs.declared.fault.Wanting.TheVariants.{Room, Texts}
+use Rattle.gic_study.specs.declared.fault.Wanting.TheVariants.{Workspace, Texts}
 
 -- all of a report, or the fault that ended the call
 abbrev pub Answer : Type 0
@@ -27,16 +27,16 @@ ServesMeaning meaning plans = Serves meaning.need meaning.case meaning.steps (me
 abbrev pub HasMonitors : Plans → Type 0
 HasMonitors plans = (roster : RosterView) (views : List View) → 0 < length (plans roster views)
 
--- where memory may be wanting: for the room of any mode, always; for texts in a study alone, which has monitors, and whose network meets its need at each step
-abbrev pub MayWant : Plans → Wanting → Asked → Type 0
-MayWant plans Room asked = ⊤
-MayWant plans Texts (Study inputs detail) = HasMonitors plans × IsMet Solved (storm_steps inputs)
-MayWant plans Texts _ = ⊥
+-- where memory may be wanting: for the workspace of any mode, always; for texts in a study alone, which has monitors, and whose network meets its need at each step
+abbrev pub MayLackMemory : Plans → Wanting → Asked → Type 0
+MayLackMemory plans Workspace asked = ⊤
+MayLackMemory plans Texts (Study inputs detail) = HasMonitors plans × IsMet Solved (storm_steps inputs)
+MayLackMemory plans Texts _ = ⊥
 
 -- how the call for what is asked for ends: by its report, or without a byte
 abbrev pub Concludes : Plans → Asked → (before now : Shown) → Answer → Type 0
 Concludes plans asked before now (Ok done) = ServesMeaning (meaning_of asked) plans before now (Ok done)
 Concludes plans asked before now (Err (Report fault)) = ServesMeaning (meaning_of asked) plans before now (Err fault)
 Concludes plans asked before now (Err (Certificate refusal)) = RefusesCertificate asked refusal × Keeps before.bytes now.bytes
-Concludes plans asked before now (Err (Memory wanting)) = MayWant plans wanting asked × Keeps before.bytes now.bytes
+Concludes plans asked before now (Err (Memory wanting)) = MayLackMemory plans wanting asked × Keeps before.bytes now.bytes
 Concludes plans asked before now (Err (Input fault)) = ⊥

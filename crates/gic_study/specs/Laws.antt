@@ -93,27 +93,27 @@ pub record Finds (call : Call) (found : Outcome Asked) : Type 0 where
   pub read : (file : File) → ¬ CouldNotRead call.words file call.before.fetches.failures call.now.fetches.failures
   pub found_is : outcome call.words (held_for files (request_of call.words)) ≡ found
 
--- a refusal by the words and the files is answered, want of memory aside
+-- a refusal by the words and the files is answered, except out of memory
 abbrev pub RefusalsAreAnswered : Type 0
 RefusalsAreAnswered = (call : Call) (status : ℕ) → CallEnds call status → (refusal : InputRefusal) → Finds call (Refuses refusal) →
     (status ≡ status_of_fault (Input (Refused refusal))) ⊎ (status ≡ 11)
 
--- a file that is named and isn't there, though no fetch of it failed, is told as want of memory
-abbrev pub LackedFilesAreWantOfMemory : Type 0
-LackedFilesAreWantOfMemory = (call : Call) (status : ℕ) → CallEnds call status → (file : File) → Finds call (Lacks file) → status ≡ 11
+-- a file that is named and isn't there, though no fetch of it failed, is told as out of memory
+abbrev pub LackedFilesAreOutOfMemory : Type 0
+LackedFilesAreOutOfMemory = (call : Call) (status : ℕ) → CallEnds call status → (file : File) → Finds call (Lacks file) → status ≡ 11
 
--- a refusal of the network of what is accepted is answered, want of memory aside
+-- a refusal of the network of what is accepted is answered, except out of memory
 abbrev pub UnmetNeedsAreAnswered : Type 0
 UnmetNeedsAreAnswered = (call : Call) (status : ℕ) → CallEnds call status → (asked : Asked) → Finds call (Accepts asked) →
     (refusal : NetworkRefusal) → IsUnmet (need_of asked) (case_asked asked) (steps_asked asked) refusal →
     (status ≡ status_of_fault (Report (report.Refused refusal))) ⊎ (status ≡ 11)
 
--- a refusal of the certificate that is asked to be checked is answered, want of memory aside
+-- a refusal of the certificate that is asked to be checked is answered, except out of memory
 abbrev pub RefusedCertificatesAreAnswered : Type 0
 RefusedCertificatesAreAnswered = (call : Call) (status : ℕ) → CallEnds call status → (asked : Asked) → Finds call (Accepts asked) →
     (refusal : CertificateRefusal) → RefusesCertificate asked refusal → (status ≡ 13) ⊎ (status ≡ 11)
 
--- what is accepted is reported where its need is met, a certificate that it is given is accepted too, and no write failed, want of memory aside
+-- what is accepted is reported where its need is met, a certificate that it is given is accepted too, and no write failed, except out of memory
 abbrev pub AcceptedIsReported : Type 0
 AcceptedIsReported = (call : Call) (status : ℕ) → CallEnds call status → (asked : Asked) → Finds call (Accepts asked) →
     IsMet (need_of asked) (steps_asked asked) → AcceptsCertificate asked → ¬ Rose call.before.out.faults call.now.out.faults →

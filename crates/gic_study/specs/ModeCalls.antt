@@ -2,15 +2,15 @@
 use Rattle.std.specs.Prelude.{Ok, Err, Result}
 use Rattle.gic_recheck.specs.declared.fault.RecheckFault.{RecheckFault}
 use Rattle.gic_recheck.specs.declared.fault.RecheckFault.TheVariants as recheck
-use Rattle.gic_recheck.specs.declared.fault.RoomFault.{RoomFault}
-use Rattle.gic_recheck.specs.declared.fault.RoomFault.TheVariants as room
+use Rattle.gic_recheck.specs.declared.fault.WorkspaceFault.{WorkspaceFault}
+use Rattle.gic_recheck.specs.declared.fault.WorkspaceFault.TheVariants as workspace
 use Rattle.gic_stand.specs.declared.fault.ReportFault.{ReportFault}
 use Rattle.gic_study_mode.specs.declared.fault.StudyFault.{StudyFault}
 use Rattle.gic_study_mode.specs.declared.fault.StudyFault.TheVariants as study
 use Rattle.gic_study.specs.Concluding.{Answer}
 use Rattle.gic_study.specs.declared.fault.Fault.{Fault}
 use Rattle.gic_study.specs.declared.fault.Fault.TheVariants.{Report, Certificate, Memory}
-use Rattle.gic_study.specs.declared.fault.Wanting.TheVariants.{Room, Texts}
+use Rattle.gic_study.specs.declared.fault.Wanting.TheVariants.{Workspace, Texts}
 
 -- ---- the answer of the whole, by that of a mode
 
@@ -25,10 +25,10 @@ studied (Ok done) = Ok done
 studied (Err (study.Report fault)) = Err (Report fault)
 studied (Err study.Memory) = Err (Memory Texts)
 
--- of `recheck` without its room
-abbrev pub without_room : RoomFault → Fault
-without_room (room.Refused refusal) = Certificate refusal
-without_room room.Memory = Memory Room
+-- of `recheck` without its workspace
+abbrev pub without_workspace : WorkspaceFault → Fault
+without_workspace (workspace.Refused refusal) = Certificate refusal
+without_workspace workspace.Memory = Memory Workspace
 
 -- of `recheck`
 abbrev pub rechecked : Result (Unit {0}) RecheckFault → Answer

@@ -17,7 +17,7 @@ abbrev pub ProgramEnds : (words : List (List ℕ)) (files : Option Files) (befor
 ProgramEnds words files before now status =
     CallEnds (record { words = words; files = files; plans = program_plans; before = before; now = now }) status ⊎ EndsAtOnce 11 before now status
 
--- the status where the words can't be had: want of memory is told apart
+-- the status where the words can't be had: out of memory is told apart
 abbrev pub status_without_words : ErrorKind → ℕ
 status_without_words OutOfMemory = 11
 status_without_words _ = 2

@@ -283,7 +283,7 @@ fn write_certificate<E: Sink>(refusal: CertificateRefusal, err: &mut E) -> Resul
     }
 }
 
-/// Writes the line of want of memory.
+/// Writes the line of out of memory.
 fn write_memory<E: Sink>(err: &mut E) -> Result<(), WriteFailed>
     ensures { Writes E.written E.faults err.old err.new (told_line memory_words) result }
 {

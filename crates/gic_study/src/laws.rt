@@ -1,5 +1,5 @@
 //! What holds of what is asked for, of how a call ended and of right texts.
-ghost use Rattle.gic_study.specs.Laws.{AskedCasesAreSound, AskedStormsHaveSteps, RefusalsAreAnswered, LackedFilesAreWantOfMemory, UnmetNeedsAreAnswered, RefusedCertificatesAreAnswered, AcceptedIsReported, StatusesSay, TextsTellModes, CertifiedIsAccepted};
+ghost use Rattle.gic_study.specs.Laws.{AskedCasesAreSound, AskedStormsHaveSteps, RefusalsAreAnswered, LackedFilesAreOutOfMemory, UnmetNeedsAreAnswered, RefusedCertificatesAreAnswered, AcceptedIsReported, StatusesSay, TextsTellModes, CertifiedIsAccepted};
 
 use gic_ask::laws::answers_of_files_law;
 use gic_case_reader::laws::accepted_law;
@@ -24,21 +24,21 @@ pub fn asked_storms_have_steps_law()
     accepted_storms_have_steps_law();
 }
 
-/// Where no fetch of a named file failed, a refusal by the words and the files is answered, want of memory aside.
+/// Where no fetch of a named file failed, a refusal by the words and the files is answered, except out of memory.
 pub fn refusals_are_answered_law()
     ensures { RefusalsAreAnswered }
 {
     answers_of_files_law();
 }
 
-/// A file that isn't there, of which no fetch failed, is told as want of memory.
+/// A file that isn't there, of which no fetch failed, is told as out of memory.
 pub fn lacked_files_law()
-    ensures { LackedFilesAreWantOfMemory }
+    ensures { LackedFilesAreOutOfMemory }
 {
     answers_of_files_law();
 }
 
-/// Where no fetch of a named file failed, a network that doesn't meet the need of its mode is refused, want of memory
+/// Where no fetch of a named file failed, a network that doesn't meet the need of its mode is refused, out of memory
 /// aside.
 pub fn unmet_needs_are_answered_law()
     ensures { UnmetNeedsAreAnswered }
@@ -46,7 +46,7 @@ pub fn unmet_needs_are_answered_law()
     answers_of_files_law();
 }
 
-/// Where no fetch of a named file failed, a certificate that is refused is told as refused, want of memory aside.
+/// Where no fetch of a named file failed, a certificate that is refused is told as refused, except out of memory.
 pub fn refused_certificates_are_answered_law()
     ensures { RefusedCertificatesAreAnswered }
 {
@@ -55,7 +55,7 @@ pub fn refused_certificates_are_answered_law()
 }
 
 /// Where no fetch of a named file and no write failed, what is accepted is reported if its need is met and a
-/// certificate that it is given is accepted too, want of memory aside.
+/// certificate that it is given is accepted too, except out of memory.
 pub fn accepted_is_reported_law()
     ensures { AcceptedIsReported }
 {

@@ -1,6 +1,6 @@
 //! The modes.
 ghost use Rattle.std.specs.Prelude.{◌<◌, ◌≤◌, length, map};
-ghost use Rattle.gic_screen.specs.Ranges.{IsWithinRanges};
+ghost use Rattle.gic_criteria.specs.Ranges.{IsWithinRanges};
 ghost use Rattle.gic_inputs.specs.Inputs.{IsStormOf};
 ghost use Rattle.gic_stand.specs.Serves.{shown};
 ghost use Rattle.gic_ask.specs.Within.{IsAskedWithinRanges};
@@ -27,84 +27,84 @@ use gic_study_mode::study;
 use gic_volts::volts;
 use std::alloc::Global;
 
-/// Makes the room of `volts`, and writes its report.
+/// Makes the workspace of `volts`, and writes its report.
 fn serve_volts<S: Sink>(alloc: Global, inputs: &Inputs, out: &mut S) -> Result<(), Fault>
     requires { IsWithinRanges inputs.now.question }
     ensures { (plans : Plans) → Concludes plans (Volts inputs.now)
         (shown S.written S.faults out.old) (shown S.written S.faults out.new) result }
 {
-    let mut room = gic_volts::make_room(alloc, inputs)?;
-    reported(volts(inputs, &mut room, out))
+    let mut workspace = gic_volts::make_workspace(alloc, inputs)?;
+    reported(volts(inputs, &mut workspace, out))
 }
 
-/// Makes the room of `list`, and writes its report.
+/// Makes the workspace of `list`, and writes its report.
 fn serve_list<S: Sink>(alloc: Global, inputs: &Inputs, out: &mut S) -> Result<(), Fault>
     ensures { (plans : Plans) → Concludes plans (List inputs.now)
         (shown S.written S.faults out.old) (shown S.written S.faults out.new) result }
 {
-    let mut room = gic_list::make_room(alloc, inputs)?;
-    reported(list(inputs, &mut room, out))
+    let mut workspace = gic_list::make_workspace(alloc, inputs)?;
+    reported(list(inputs, &mut workspace, out))
 }
 
-/// Makes the room of `check`, and writes its report.
+/// Makes the workspace of `check`, and writes its report.
 fn serve_check<S: Sink>(alloc: Global, inputs: &Inputs, out: &mut S) -> Result<(), Fault>
     ensures { (plans : Plans) → Concludes plans (Check inputs.now)
         (shown S.written S.faults out.old) (shown S.written S.faults out.new) result }
 {
-    let mut room = gic_check::make_room(alloc, inputs)?;
-    reported(check(inputs, &mut room, out))
+    let mut workspace = gic_check::make_workspace(alloc, inputs)?;
+    reported(check(inputs, &mut workspace, out))
 }
 
-/// Makes the room of `field`, and writes its report.
+/// Makes the workspace of `field`, and writes its report.
 fn serve_field<S: Sink>(alloc: Global, inputs: &Inputs, out: &mut S) -> Result<(), Fault>
     requires { IsWithinRanges inputs.now.question }
     ensures { (plans : Plans) → Concludes plans (Field inputs.now)
         (shown S.written S.faults out.old) (shown S.written S.faults out.new) result }
 {
-    let mut room = gic_field::make_room(alloc, inputs)?;
-    reported(field(inputs, &mut room, out))
+    let mut workspace = gic_field::make_workspace(alloc, inputs)?;
+    reported(field(inputs, &mut workspace, out))
 }
 
-/// Makes the room of `screen`, and writes its report.
+/// Makes the workspace of `screen`, and writes its report.
 fn serve_screen<S: Sink>(alloc: Global, inputs: &Inputs, out: &mut S) -> Result<(), Fault>
     requires { IsWithinRanges inputs.now.question }
     ensures { (plans : Plans) → Concludes plans (Screen inputs.now)
         (shown S.written S.faults out.old) (shown S.written S.faults out.new) result }
 {
-    let mut room = gic_screen_mode::make_room(alloc, inputs)?;
-    reported(screen(inputs, &mut room, out))
+    let mut workspace = gic_screen_mode::make_workspace(alloc, inputs)?;
+    reported(screen(inputs, &mut workspace, out))
 }
 
-/// Makes the room of `certify`, and writes its report.
+/// Makes the workspace of `certify`, and writes its report.
 fn serve_certify<S: Sink>(alloc: Global, inputs: &Inputs, out: &mut S) -> Result<(), Fault>
     requires { IsWithinRanges inputs.now.question }
     ensures { (plans : Plans) → Concludes plans (Certify inputs.now)
         (shown S.written S.faults out.old) (shown S.written S.faults out.new) result }
 {
-    let room = gic_certify::make_room(alloc, inputs)?;
-    reported(certify(inputs, room, out))
+    let workspace = gic_certify::make_workspace(alloc, inputs)?;
+    reported(certify(inputs, workspace, out))
 }
 
-/// Makes the room of `outage`, and writes its report.
+/// Makes the workspace of `outage`, and writes its report.
 fn serve_outage<S: Sink>(alloc: Global, inputs: &Inputs, out: &mut S) -> Result<(), Fault>
     requires { IsWithinRanges inputs.now.question }
     ensures { (plans : Plans) → Concludes plans (Outage inputs.now)
         (shown S.written S.faults out.old) (shown S.written S.faults out.new) result }
 {
-    let mut room = gic_outage::make_room(alloc, inputs)?;
-    reported(outage(inputs, &mut room, out))
+    let mut workspace = gic_outage::make_workspace(alloc, inputs)?;
+    reported(outage(inputs, &mut workspace, out))
 }
 
-/// Makes the room of `review`, and writes its report.
+/// Makes the workspace of `review`, and writes its report.
 fn serve_review<S: Sink>(alloc: Global, inputs: &Inputs, out: &mut S) -> Result<(), Fault>
     ensures { (plans : Plans) → Concludes plans (Review inputs.now)
         (shown S.written S.faults out.old) (shown S.written S.faults out.new) result }
 {
-    let mut room = gic_review::make_room(alloc, inputs)?;
-    reported(review(inputs, &mut room, out))
+    let mut workspace = gic_review::make_workspace(alloc, inputs)?;
+    reported(review(inputs, &mut workspace, out))
 }
 
-/// Makes the room of a study, and writes its report. The monitors see the steps.
+/// Makes the workspace of a study, and writes its report. The monitors see the steps.
 fn serve_study<S: Sink>(
     alloc: Global,
     inputs: &StormInputs,
@@ -117,22 +117,22 @@ fn serve_study<S: Sink>(
     ensures { Concludes (λ roster views. map (λ m. plan m roster views) monitors.items) (Study inputs.now detail)
         (shown S.written S.faults out.old) (shown S.written S.faults out.new) result }
 {
-    let mut room = gic_study_mode::make_room(alloc, inputs, detail, monitors)?;
-    studied(study(alloc, inputs, detail, &mut room, out))
+    let mut workspace = gic_study_mode::make_workspace(alloc, inputs, detail, monitors)?;
+    studied(study(alloc, inputs, detail, &mut workspace, out))
 }
 
-/// Makes the room of a made case, and writes its report.
+/// Makes the workspace of a made case, and writes its report.
 fn serve_make<S: Sink>(alloc: Global, seed: u32, size: u16, out: &mut S) -> Result<(), Fault>
     requires least { LEAST_SIZE ≤ size }
     requires most { size ≤ MOST_SIZE }
     ensures { (plans : Plans) → Concludes plans (Make seed size)
         (shown S.written S.faults out.old) (shown S.written S.faults out.new) result }
 {
-    let mut room = gic_make::make_room(alloc, seed, size)?;
-    reported(make(seed, size, &mut room, out))
+    let mut workspace = gic_make::make_workspace(alloc, seed, size)?;
+    reported(make(seed, size, &mut workspace, out))
 }
 
-/// Makes the room of a certificate's check, and writes its report.
+/// Makes the workspace of a certificate's check, and writes its report.
 fn serve_recheck<S: Sink>(
     alloc: Global,
     inputs: &Inputs,
@@ -142,11 +142,11 @@ fn serve_recheck<S: Sink>(
     ensures { (plans : Plans) → Concludes plans (Recheck inputs.now certificate.now)
         (shown S.written S.faults out.old) (shown S.written S.faults out.new) result }
 {
-    let mut room = gic_recheck::make_room(alloc, inputs, certificate)?;
-    rechecked(recheck(inputs, &mut room, out))
+    let mut workspace = gic_recheck::make_workspace(alloc, inputs, certificate)?;
+    rechecked(recheck(inputs, &mut workspace, out))
 }
 
-/// Makes the room of a transformer's course, and writes its report.
+/// Makes the workspace of a transformer's course, and writes its report.
 fn serve_series<S: Sink>(
     alloc: Global,
     inputs: &StormInputs,
@@ -159,11 +159,11 @@ fn serve_series<S: Sink>(
     ensures { (plans : Plans) → Concludes plans (Series inputs.now transformer)
         (shown S.written S.faults out.old) (shown S.written S.faults out.new) result }
 {
-    let mut room = gic_series::make_room(alloc, inputs)?;
-    reported(series(inputs, transformer, &mut room, out))
+    let mut workspace = gic_series::make_workspace(alloc, inputs)?;
+    reported(series(inputs, transformer, &mut workspace, out))
 }
 
-/// Makes the room of what is asked for, and writes the report. The monitors see the steps of a study.
+/// Makes the workspace of what is asked for, and writes the report. The monitors see the steps of a study.
 pub(crate) fn serve<S: Sink>(
     alloc: Global,
     asked: &Asked,

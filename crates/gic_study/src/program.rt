@@ -18,7 +18,7 @@ const NO_MEMORY: u8 = 11;
 /// The status where a word is no text.
 const NO_TEXT: u8 = 2;
 
-/// The status where the words can't be had: 11 for want of memory, and 2 for a word that is no text.
+/// The status where the words can't be had: 11 where memory runs out, and 2 for a word that is no text.
 pub fn status_without_words(error: &io::Error) -> u8
     ensures { result ≡ status_without_words (error_kind error.now) }
 {
@@ -29,7 +29,7 @@ pub fn status_without_words(error: &io::Error) -> u8
 }
 
 /// The top call with the program's monitors.
-fn study<L: Library, S: Sink, E: Sink>(
+fn call_with_monitors<L: Library, S: Sink, E: Sink>(
     alloc: Global,
     words: &[String],
     library: &mut L,
@@ -79,7 +79,7 @@ pub fn run<L: Library, S: Sink, E: Sink>(
         (moment L.fetched L.failures S.written S.faults E.written E.faults library.new out.new err.new) result) }
 {
     match words {
-        Ok(words) => study(alloc, &words, library, out, err),
+        Ok(words) => call_with_monitors(alloc, &words, library, out, err),
         Err(error) => status_without_words(&error),
     }
 }

@@ -6,8 +6,8 @@ use Rattle.gic_view.specs.View.{View}
 use Rattle.gic_view.specs.Kept.{blank_view}
 use Rattle.gic_effective.specs.Narrow.{IsNarrowView}
 use Rattle.gic_effective.specs.ViewLengths.{HasViewLengths}
-use Rattle.gic_screen.specs.Event.{threshold_of}
-use Rattle.gic_screen.specs.VerdictLaws.{BelowIsUnder, ReachesIsAtLeast, UndecidedIsAcross}
+use Rattle.gic_criteria.specs.Event.{threshold_of}
+use Rattle.gic_criteria.specs.VerdictLaws.{BelowIsUnder, ReachesIsAtLeast, UndecidedIsAcross}
 use Rattle.gic_view.specs.Peaks.{HasLengthsOf, IsPeaksOf}
 use Rattle.gic_view.specs.PeakLaws.{PeakEnclosesGreatest, TransformerPeakIsPeak, PeakIsNoWider}
 use Rattle.gic_course.specs.Views.{AreNarrowViews}

@@ -6,7 +6,7 @@ use Rattle.gic_base.specs.declared.sink.WriteFailed.{WriteFailed}
 use Rattle.gic_base.proofs.Parts.{keeps-refl}
 use Rattle.gic_storm.specs.Steps.{steps_in, step_at}
 use Rattle.gic_view.specs.View.{View}
-use Rattle.gic_screen.specs.Event.{threshold_of}
+use Rattle.gic_criteria.specs.Event.{threshold_of}
 use Rattle.gic_stand.specs.Needs.{Solved, IsMet, IsUnmet}
 use Rattle.gic_stand.specs.Serves.{Shown, shown}
 use Rattle.gic_inputs.specs.Inputs.{IsStormOf}
@@ -82,7 +82,7 @@ by_plans inputs detail outlooks plans same text right = record {
   text_is = right.text_is ∙ ap (study_text inputs.case inputs.question.width (threshold_of inputs.question.event) (length (steps_in inputs.storm.rows)) (option_map (detail_at inputs right.views) (asked_step inputs detail)) right.peaks) (same right.views);
 }
 
--- a text that is right was written, or a front part of it
+-- a text that is right was written, or a prefix of it
 pub writing_served : {S : Type 0} {bytes : S → Option (List ℕ)} {faults : S → ℕ} {before now : S} {text : List ℕ}
     (inputs : StormInputs) (monitors : ℕ) (IsRight : List ℕ → Type 0) (writing : Result (Unit {0}) WriteFailed) (answer : Result (Unit {0}) StudyFault)
     → IsMet Solved (storm_steps inputs) → IsRight text → Writes bytes faults before now text writing → answer ≡ written_so writing
@@ -98,7 +98,7 @@ pub unserved_steps : (inputs : StormInputs) (monitors : ℕ) (IsRight : List ℕ
 unserved_steps inputs monitors IsRight s refusal answer h unmet =
     subst (ServesStudy inputs monitors IsRight s s) (sym (answered answer (Report (Refused refusal)) h)) (unmet, keeps-refl s.bytes)
 
--- nor for want of memory
+-- nor out of memory
 pub lacking_texts : (inputs : StormInputs) (monitors : ℕ) (IsRight : List ℕ → Type 0) (s : Shown) (answer : Result (Unit {0}) StudyFault)
     → IsErrAnd answer (λ e. e ≡ Memory) → 0 < monitors → IsMet Solved (storm_steps inputs) → ServesStudy inputs monitors IsRight s s answer
 lacking_texts inputs monitors IsRight s answer h some met =

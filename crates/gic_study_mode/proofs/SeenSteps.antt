@@ -14,11 +14,11 @@ use Rattle.gic_course.specs.Views.{IsRightStep, view_at}
 use Rattle.gic_uniform.specs.Solving.{IsSmallView}
 use Rattle.gic_course.proofs.RightSoFar.{right_step, none_so_far, one_more_right, one_more_narrow, one_more_small}
 use Rattle.gic_study_mode.specs.declared.views.Views.{Views}
-use Rattle.gic_study_mode.specs.Seen.{IsRoomForViews, is_asked, HasShown, HasSeen}
+use Rattle.gic_study_mode.specs.Seen.{IsSpaceForViews, is_asked, HasShown, HasSeen}
 
 -- nothing was seen
-pub none_seen : (inputs : StormInputs) (asked : Option ℕ) (texts : List View → List (List ℕ)) (views : Views) → IsPeaksOf [] views.peaks → IsRoomForViews inputs.case views → HasSeen inputs asked 0 texts texts views
-none_seen inputs asked texts views none room = record {
+pub none_seen : (inputs : StormInputs) (asked : Option ℕ) (texts : List View → List (List ℕ)) (views : Views) → IsPeaksOf [] views.peaks → IsSpaceForViews inputs.case views → HasSeen inputs asked 0 texts texts views
+none_seen inputs asked texts views none space = record {
   views = [];
   one_each = refl;
   right = none_so_far inputs;
@@ -27,7 +27,7 @@ none_seen inputs asked texts views none room = record {
   peaks_are = none;
   asked_is = λ number is least most. absurd (omega (arith, least, most));
   texts = λ rest. refl;
-  room = room;
+  space = space;
 }
 
 -- the asked view, after one view more
@@ -64,5 +64,5 @@ next_seen inputs asked count before mid now old new seen shown =
           (subst (λ (a : Option ℕ). new.asked ≡ (if is_asked a (count + 1) then view else old.asked)) is shown.stays)
           (λ within. seen.asked_is number is least within);
       texts = λ rest. shown.texts rest ∙ seen.texts (view ∷ rest) ∙ ap before (sym (append_assoc views (view ∷ []) rest));
-      room = shown.room;
+      space = shown.space;
     }

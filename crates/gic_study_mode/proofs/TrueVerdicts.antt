@@ -6,7 +6,7 @@ use Rattle.gic_model.specs.Solution.{Solution}
 use Rattle.gic_view.specs.View.{View, effective_at}
 use Rattle.gic_winding.specs.Weights.{transformer_at}
 use Rattle.gic_effective.specs.Weighted.{effective_numerator, effective_denominator}
-use Rattle.gic_screen.specs.VerdictLaws.{BelowIsUnder, ReachesIsAtLeast, UndecidedIsAcross}
+use Rattle.gic_criteria.specs.VerdictLaws.{BelowIsUnder, ReachesIsAtLeast, UndecidedIsAcross}
 use Rattle.gic_case.specs.Lists.{has_effect}
 use Rattle.gic_uniform.proofs.Denominators.{some_denominator}
 use Rattle.gic_inputs.specs.declared.inputs.StormInputs.{StormInputs}

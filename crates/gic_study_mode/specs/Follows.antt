@@ -6,7 +6,7 @@ use Rattle.gic_storm.specs.Steps.{steps_in}
 use Rattle.gic_storm.specs.StormView.{StormView}
 use Rattle.gic_view.specs.View.{View}
 use Rattle.gic_effective.specs.Narrow.{IsNarrowView}
-use Rattle.gic_screen.specs.Event.{threshold_of}
+use Rattle.gic_criteria.specs.Event.{threshold_of}
 use Rattle.gic_model.specs.Solution.{Solution}
 use Rattle.gic_monitor.specs.RosterView.{RosterView}
 use Rattle.gic_inputs.specs.declared.inputs.StormInputs.{StormInputs}

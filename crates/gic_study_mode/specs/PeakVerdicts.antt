@@ -4,8 +4,8 @@ use Rattle.gic_case.specs.Lists.{Lists}
 use Rattle.gic_model.specs.Solution.{Solution}
 use Rattle.gic_view.specs.View.{View, effective_at}
 use Rattle.gic_winding.specs.Weights.{transformer_at}
-use Rattle.gic_screen.specs.declared.criterion.Verdict.{Verdict}
-use Rattle.gic_screen.specs.declared.criterion.Verdict.TheVariants.{Below, Reaches, Undecided}
+use Rattle.gic_criteria.specs.declared.criterion.Verdict.{Verdict}
+use Rattle.gic_criteria.specs.declared.criterion.Verdict.TheVariants.{Below, Reaches, Undecided}
 use Rattle.gic_effective.specs.Threshold.{IsAtLeast, IsUnder}
 use Rattle.gic_report.specs.VerdictText.{IsAcross, verdict_in}
 use Rattle.gic_inputs.specs.declared.inputs.StormInputs.{StormInputs}

@@ -2,7 +2,7 @@
 use Rattle.std.specs.Prelude.{◌≡◌, ℕ, ◌-◌, List, length, Option, option_map}
 use Rattle.gic_storm.specs.Steps.{steps_in}
 use Rattle.gic_view.specs.View.{View}
-use Rattle.gic_screen.specs.Event.{threshold_of}
+use Rattle.gic_criteria.specs.Event.{threshold_of}
 use Rattle.gic_view.specs.Peaks.{IsPeaksOf}
 use Rattle.gic_monitor.specs.RosterView.{RosterView}
 use Rattle.gic_inputs.specs.declared.inputs.StormInputs.{StormInputs}

@@ -5,8 +5,8 @@ use Rattle.gic_case.specs.Lists.{Lists}
 use Rattle.gic_case.specs.declared.item.Transformer.{Transformer}
 use Rattle.gic_model.specs.declared.parts.Element.{Element}
 use Rattle.gic_winding.specs.ElementList.{earthings_of, item_name}
-use Rattle.gic_screen.specs.declared.event.Event.{Event}
-use Rattle.gic_screen.specs.Event.{threshold_of}
+use Rattle.gic_criteria.specs.declared.event.Event.{Event}
+use Rattle.gic_criteria.specs.Event.{threshold_of}
 use Rattle.gic_monitor.specs.declared.roster.Seat.{Seat}
 use Rattle.gic_monitor.specs.declared.roster.Rated.{Rated}
 use Rattle.gic_monitor.specs.RosterView.{RosterView}

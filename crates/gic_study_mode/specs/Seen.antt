@@ -13,8 +13,8 @@ use Rattle.gic_study_mode.specs.declared.views.Views.{Views}
 abbrev pub with_view : View → (fields : List (ℤ × ℤ)) → DetailView
 with_view view fields = record { fields = fields; view = view }
 
--- there is room for each node, element and transformer of the case
-pub record IsRoomForViews (case : Lists) (views : Views) : Type 0 where
+-- there is space for each node, element and transformer of the case
+pub record IsSpaceForViews (case : Lists) (views : Views) : Type 0 where
   pub peaks : HasViewLengths case views.peaks
   pub asked : HasViewLengths case views.asked
   pub other : HasViewLengths case views.other
@@ -43,7 +43,7 @@ pub record HasShown (inputs : StormInputs) (asked : Option ℕ) (number : ℕ) (
   pub raised : AreRaisedBy view old.peaks new.peaks
   pub stays : new.asked ≡ (if is_asked asked number then view else old.asked)
   pub texts : AreShown view before now
-  pub room : IsRoomForViews inputs.case new
+  pub space : IsSpaceForViews inputs.case new
 
 -- one list of views is behind the peaks, the asked view and the texts: right for the first steps, this many, narrow and small
 pub record HasSeen (inputs : StormInputs) (asked : Option ℕ) (count : ℕ) (before now : List View → List (List ℕ)) (seen : Views) : Type 0 where
@@ -55,4 +55,4 @@ pub record HasSeen (inputs : StormInputs) (asked : Option ℕ) (count : ℕ) (be
   pub peaks_are : IsPeaksOf views seen.peaks
   pub asked_is : (number : ℕ) → asked ≡ Some number → 1 ≤ number → number ≤ count → seen.asked ≡ view_at views (number - 1)
   pub texts : (rest : List View) → now rest ≡ before (views ++ rest)
-  pub room : IsRoomForViews inputs.case seen
+  pub space : IsSpaceForViews inputs.case seen

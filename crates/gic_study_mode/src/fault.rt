@@ -7,7 +7,7 @@ use gic_stand::{NetworkRefusal, ReportFault};
 pub enum StudyFault {
     /// As in every mode.
     Report(ReportFault),
-    /// Want of memory for the texts of monitors.
+    /// Out of memory for the texts of monitors.
     Memory,
 }
 

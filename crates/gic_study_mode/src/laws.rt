@@ -1,7 +1,7 @@
-//! Laws of studies, each the contract of a function that does nothing but bring the laws that it joins.
+//! Theorems of studies, each the contract of a function that does nothing but bring the theorems that it joins.
 ghost use Rattle.gic_study_mode.specs.Follows.{AcceptedStormsHaveSteps, PeaksAreNarrow, PeaksEnclose, PeakVerdictsAreTrue};
 
-use gic_screen::laws::verdict_law;
+use gic_criteria::laws::verdict_law;
 use gic_view::laws::{peak_is_narrow_law, peaks_enclose_law};
 
 /// Every storm that is accepted has a step.

@@ -1,17 +1,17 @@
-//! The mode `study`: the peaks over all steps of a storm, one step in detail, and the texts of monitors.
+//! The mode `study`: peak envelopes over a storm, one step in detail, and the texts of monitors.
 #![tactic(auto)]
 
 mod asked;
 mod fault;
 pub mod laws;
 mod mode;
-mod room;
 mod roster;
 mod steps;
 mod texts;
 mod views;
+mod workspace;
 mod writing;
 
 pub use fault::StudyFault;
 pub use mode::study;
-pub use room::{Room, StepsRoom, make_room};
+pub use workspace::{StepsWorkspace, Workspace, make_workspace};

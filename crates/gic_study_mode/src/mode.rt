@@ -1,6 +1,6 @@
 //! The report of the mode.
 ghost use Rattle.std.specs.Prelude.{◌≡◌, length, map};
-ghost use Rattle.gic_screen.specs.Ranges.{IsWithinRanges};
+ghost use Rattle.gic_criteria.specs.Ranges.{IsWithinRanges};
 ghost use Rattle.gic_stand.specs.Serves.{shown};
 ghost use Rattle.gic_monitor.specs.OnBoard.{monitors_of};
 ghost use Rattle.gic_study_mode.specs.Made.{IsMadeFor};
@@ -9,9 +9,9 @@ ghost use Rattle.gic_study_mode.specs.ServesStudy.{ServesStudy, written_so};
 
 use crate::asked::asked_step;
 use crate::fault::StudyFault;
-use crate::room::{Room, StepsRoom};
 use crate::steps::see_steps;
 use crate::texts::texts_of;
+use crate::workspace::{StepsWorkspace, Workspace};
 use crate::writing::write_seen;
 use gic_base::{Sink, WriteFailed};
 use gic_inputs::StormInputs;
@@ -35,26 +35,32 @@ fn study_steps<S: Sink>(
     alloc: Global,
     inputs: &StormInputs,
     detail: Option<u32>,
-    room: &mut StepsRoom,
+    workspace: &mut StepsWorkspace,
     board: &mut Board,
     out: &mut S,
 ) -> Result<(), StudyFault>
     requires ranges { IsWithinRanges inputs.now.question }
-    requires room { IsMadeFor inputs.now detail room.old }
+    requires workspace { IsMadeFor inputs.now detail workspace.old }
     ensures { ServesStudy inputs.now (length (monitors_of board.old))
         (IsRightStudy inputs.now detail (λ roster views. map (λ m. (⟦<dyn Monitor as Monitor>⟧ m.vtable).outlook m.value views) (monitors_of board.old)))
         (shown S.written S.faults out.old) (shown S.written S.faults out.new) result }
 {
     let asked = asked_step(inputs, detail);
-    room.course.expect_solvable(inputs)?;
-    see_steps(inputs, asked, &mut room.course, &mut room.views, board);
+    workspace.course.expect_solvable(inputs)?;
+    see_steps(
+        inputs,
+        asked,
+        &mut workspace.course,
+        &mut workspace.views,
+        board,
+    );
     let texts = texts_of(alloc, board)?;
     let writing = write_seen(
         inputs,
-        &room.fields,
-        &room.views,
+        &workspace.fields,
+        &workspace.views,
         texts.as_slice(),
-        &mut room.line,
+        &mut workspace.line,
         out,
     );
     written_so(writing)
@@ -68,14 +74,21 @@ pub fn study<S: Sink>(
     alloc: Global,
     inputs: &StormInputs,
     detail: Option<u32>,
-    room: &mut Room,
+    workspace: &mut Workspace,
     out: &mut S,
 ) -> Result<(), StudyFault>
     requires ranges { IsWithinRanges inputs.now.question }
-    requires room { IsMadeFor inputs.now detail room.old.steps }
-    ensures { ServesStudy inputs.now (length (monitors_of room.old.board))
-        (IsRightStudy inputs.now detail (λ roster views. map (λ m. (⟦<dyn Monitor as Monitor>⟧ m.vtable).outlook m.value views) (monitors_of room.old.board)))
+    requires workspace { IsMadeFor inputs.now detail workspace.old.steps }
+    ensures { ServesStudy inputs.now (length (monitors_of workspace.old.board))
+        (IsRightStudy inputs.now detail (λ roster views. map (λ m. (⟦<dyn Monitor as Monitor>⟧ m.vtable).outlook m.value views) (monitors_of workspace.old.board)))
         (shown S.written S.faults out.old) (shown S.written S.faults out.new) result }
 {
-    study_steps(alloc, inputs, detail, &mut room.steps, &mut room.board, out)
+    study_steps(
+        alloc,
+        inputs,
+        detail,
+        &mut workspace.steps,
+        &mut workspace.board,
+        out,
+    )
 }

@@ -6,8 +6,8 @@ ghost use Rattle.gic_study_mode.specs.Seats.{seats_from};
 
 use gic_base::{ElementId, OutOfMemory};
 use gic_case::{Case, Substation};
+use gic_criteria::Event;
 use gic_monitor::{Rated, Roster, Seat};
-use gic_screen::Event;
 use std::alloc::Global;
 
 /// Adds the earthing of a substation, if it has one: the next element.

@@ -2,12 +2,12 @@
 ghost use Rattle.std.specs.Prelude.{◌≡◌, [], map, length};
 ghost use Rattle.gic_effective.specs.ViewLengths.{HasViewLengths};
 ghost use Rattle.gic_view.specs.Peaks.{IsPeaksOf};
-ghost use Rattle.gic_screen.specs.Ranges.{IsWithinRanges};
+ghost use Rattle.gic_criteria.specs.Ranges.{IsWithinRanges};
 ghost use Rattle.gic_storm.specs.Steps.{steps_in};
 ghost use Rattle.gic_course.specs.CourseOf.{CanShow};
 ghost use Rattle.gic_course.specs.Steps.{IsStepOf};
 ghost use Rattle.gic_monitor.specs.OnBoard.{monitors_of};
-ghost use Rattle.gic_study_mode.specs.Seen.{IsRoomForViews, IsViewOf, AreRaisedBy, AreShown, HasShown, HasSeen, is_asked};
+ghost use Rattle.gic_study_mode.specs.Seen.{IsSpaceForViews, IsViewOf, AreRaisedBy, AreShown, HasShown, HasSeen, is_asked};
 
 use crate::views::Views;
 use gic_course::Course;
@@ -63,7 +63,7 @@ fn see_next(
     requires ranges { IsWithinRanges inputs.now.question }
     requires shows { CanShow inputs.now course.old }
     requires step { IsStepOf inputs.now number }
-    requires room { IsRoomForViews inputs.now.case views.old }
+    requires space { IsSpaceForViews inputs.now.case views.old }
     ensures shows { CanShow inputs.now course.new }
     ensures shown { HasShown inputs.now asked number (λ rest. map (λ m. (⟦<dyn Monitor as Monitor>⟧ m.vtable).outlook m.value rest) (monitors_of board.old)) (λ rest. map (λ m. (⟦<dyn Monitor as Monitor>⟧ m.vtable).outlook m.value rest) (monitors_of board.new)) views.old views.new }
 {
@@ -99,7 +99,7 @@ pub(crate) fn see_steps(
 )
     requires ranges { IsWithinRanges inputs.now.question }
     requires shows { CanShow inputs.now course.old }
-    requires room { IsRoomForViews inputs.now.case views.old }
+    requires space { IsSpaceForViews inputs.now.case views.old }
     requires of_none { IsPeaksOf [] views.old.peaks }
     ensures seen { HasSeen inputs.now asked (length (steps_in inputs.now.storm.rows)) (λ rest. map (λ m. (⟦<dyn Monitor as Monitor>⟧ m.vtable).outlook m.value rest) (monitors_of board.old)) (λ rest. map (λ m. (⟦<dyn Monitor as Monitor>⟧ m.vtable).outlook m.value rest) (monitors_of board.new)) views.new }
 {

@@ -2,7 +2,7 @@
 ghost use Rattle.std.specs.Prelude.{[], IfOk};
 ghost use Rattle.gic_view.specs.Peaks.{IsPeaksOf};
 ghost use Rattle.gic_course.specs.CourseOf.{IsCourseOf};
-ghost use Rattle.gic_study_mode.specs.Seen.{IsRoomForViews};
+ghost use Rattle.gic_study_mode.specs.Seen.{IsSpaceForViews};
 
 use gic_base::OutOfMemory;
 use gic_course::Course;
@@ -31,15 +31,15 @@ impl Drop for Views {
     }
 }
 
-/// Room for the views of a storm. There are no peaks yet.
-#[tactic(auto, using(gic_stand::proofs::Rooms::room_for))]
+/// The workspace for the views of a storm. There are no peaks yet.
+#[tactic(auto, using(gic_stand::proofs::Repeated::repeated_length))]
 pub(crate) fn make_views(
     alloc: Global,
     inputs: &StormInputs,
     course: &Course,
 ) -> Result<Views, OutOfMemory>
     requires { IsCourseOf inputs.now course.now }
-    ensures room { IfOk result (IsRoomForViews inputs.now.case) }
+    ensures space { IfOk result (IsSpaceForViews inputs.now.case) }
     ensures of_none { IfOk result (λ views. IsPeaksOf [] views.peaks) }
 {
     let asked = course.blank_view(alloc, inputs)?;

@@ -2,7 +2,7 @@
 ghost use Rattle.std.specs.Prelude.{◌≡◌, length, map, option_map, IfSome};
 ghost use Rattle.gic_base.specs.Writes.{Writes};
 ghost use Rattle.gic_storm.specs.Steps.{steps_in};
-ghost use Rattle.gic_screen.specs.Event.{threshold_of};
+ghost use Rattle.gic_criteria.specs.Event.{threshold_of};
 ghost use Rattle.gic_study_text.specs.Given.{lent_detail};
 ghost use Rattle.gic_study_text.specs.StudyText.{study_text};
 ghost use Rattle.gic_study_mode.specs.Seen.{with_view};

@@ -1,5 +1,5 @@
 pub mod Left
-pub mod Fronts
+pub mod Prefixes
 pub mod MonitorsDetermined
 pub mod PartsDetermined
 pub mod StudyDetermined

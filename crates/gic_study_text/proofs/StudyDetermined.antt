@@ -24,7 +24,7 @@ use Rattle.gic_report.proofs.ViewDetermined.{are_absolutes, are_effectives, same
 use Rattle.gic_report.proofs.WordsDetermined.{first_of_lines, same_natural, word_at}
 use Rattle.gic_study_text.specs.StudyText.{DetailView, monitor_texts, study_setting_line, detail_step_line, study_lines, zone_lines}
 use Rattle.gic_study_text.specs.Determines.{AreShownOf, IsDetailOf, IsFieldInRange, TextDeterminesStudy}
-use Rattle.gic_study_text.proofs.Fronts.{first_lines, front_lines, split_front}
+use Rattle.gic_study_text.proofs.Prefixes.{first_lines, prefix_lines, split_prefix}
 use Rattle.gic_study_text.proofs.MonitorsDetermined.{last_line, monitors_determined}
 use Rattle.gic_study_text.proofs.PartsDetermined.{are_zones, node_count, same_peaks, same_zones, transformer_count, zone_count}
 
@@ -137,7 +137,7 @@ module _ (zones : List ZoneView) (names : List (List ℕ)) (rows : List ItemRow)
   same_detailed d e h k same =
       let step : detail_step_line d.view.number d.view.time ≡ detail_step_line e.view.number e.view.time = ap (λ ls. first_of_lines ls) same in
       let later : zone_lines zones d.fields ++ signed d.view ≡ zone_lines zones e.fields ++ signed e.view = ap (drop 1) same in
-      let apart = split_front (zone_lines zones d.fields) (zone_lines zones e.fields) (signed d.view) (signed e.view) (zone_count zones d.fields h.zone_count ∙ sym (zone_count zones e.fields k.zone_count)) later in
+      let apart = split_prefix (zone_lines zones d.fields) (zone_lines zones e.fields) (signed d.view) (signed e.view) (zone_count zones d.fields h.zone_count ∙ sym (zone_count zones e.fields k.zone_count)) later in
       let items = same_signed d.view e.view h.shown k.shown apart.1 in
       same_detail d e (same_zones zones d.fields e.fields h.zone_count k.zone_count h.fields_fit k.fields_fit apart.0)
       (same_natural d.view.number e.view.number h.number_fits k.number_fits (ap (λ ws. word_at ws 1) step))
@@ -213,7 +213,7 @@ module _ (zones : List ZoneView) (names : List (List ℕ)) (rows : List ItemRow)
       (heads_are width threshold steps s.width_fits s.threshold_fits s.steps_fit) (heads_are width' threshold' steps' s'.width_fits s'.threshold_fits s'.steps_fit) e in
       let setting : study_setting_line width threshold steps ≡ study_setting_line width' threshold' steps' = ap (λ ls. first_of_lines ls) (ap (drop 1) heads.0) in
       let inner = same_block detail detail' (peaked threshold peaks) (peaked threshold' peaks') r r' n s.detail_shown s'.detail_shown heads.1 in
-      let last = front_lines (mark ∷ peaked threshold peaks) (mark ∷ peaked threshold' peaks') r r' (omega (arith, peaked_count threshold peaks, peaked_count threshold' peaks'))
+      let last = prefix_lines (mark ∷ peaked threshold peaks) (mark ∷ peaked threshold' peaks') r r' (omega (arith, peaked_count threshold peaks, peaked_count threshold' peaks'))
       (is_mark, peaked_are threshold peaks n.items s.peaks_shown) (is_mark, peaked_are threshold' peaks' n.items s'.peaks_shown) inner.1 in
       let shown : peaked threshold peaks ≡ peaked threshold' peaks' = ap (drop 1) last.0 in
       record {

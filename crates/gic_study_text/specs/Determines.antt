@@ -22,7 +22,7 @@ pub record IsDetailOf (case : Lists) (d : DetailView) : Type 0 where
   pub fields_fit : All IsFieldInRange d.fields
   pub ends_fit : IsViewInRange d.view
 
--- texts of so many bytes, and so many texts, as memory has room for
+-- texts of a given number of bytes, and a given number of texts, as memory has space for
 pub record AreTexts (texts : List (List ℕ)) : Type 0 where
   pub few : length texts < 2 ^ 64
   pub short : All (λ text. length text < 2 ^ 64) texts

@@ -1,4 +1,4 @@
-//! The text of the report of a study: the setting, a step in detail, the peaks, and the texts of monitors.
+//! The report of a study: its setting, a step in detail, the peaks, and the texts of monitors.
 #![tactic(auto)]
 
 pub mod laws;

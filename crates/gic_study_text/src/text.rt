@@ -29,7 +29,7 @@ pub struct Detail<'a> {
 }
 
 /// Writes the line of what is asked.
-#[tactic(auto, using(gic_text::proofs::Sizes::line_room))]
+#[tactic(auto, using(gic_text::proofs::Sizes::line_space))]
 fn write_setting<S: Sink>(
     setting: &Setting,
     line: &mut LineBuilder,
@@ -49,7 +49,7 @@ fn write_setting<S: Sink>(
 }
 
 /// Writes the line of a step.
-#[tactic(auto, using(gic_text::proofs::Sizes::line_room))]
+#[tactic(auto, using(gic_text::proofs::Sizes::line_space))]
 fn write_step<S: Sink>(
     view: &StepView,
     line: &mut LineBuilder,
@@ -66,7 +66,7 @@ fn write_step<S: Sink>(
 }
 
 /// Writes the line of a zone, by its name and its place.
-#[tactic(auto, using(gic_text::proofs::Sizes::line_room))]
+#[tactic(auto, using(gic_text::proofs::Sizes::line_space))]
 fn write_zone<S: Sink>(
     name: &Name,
     fields: &Fields,
@@ -172,7 +172,7 @@ fn write_lines<S: Sink>(
 }
 
 /// Writes the line in front of a monitor's text.
-#[tactic(auto, using(gic_text::proofs::Sizes::line_room))]
+#[tactic(auto, using(gic_text::proofs::Sizes::line_space))]
 fn write_monitor_line<S: Sink>(
     number: u64,
     size: u64,

@@ -23,7 +23,7 @@ use Rattle.gic_superpose.specs.Sums.{sum_below}
 use Rattle.gic_superpose.specs.Superposed.{ZoneEnds, zone_at, low_part, high_part, zone_low, zone_high, sum_low, sum_high, sums_in_milli, superposed}
 use Rattle.gic_superpose.specs.Quantities.{IsLinear, HoldsInZone, AreMadeOf}
 
--- a fraction that equals one in an interval, both over so many times their denominators
+-- a fraction that equals one in an interval, both over n times their denominators
 equal_held : (lo hi a b : ℤ) (over d e : ℕ) → 0 < e → Encloses lo hi b (over * e) → a *ℤ pos e ≡ b *ℤ pos d → Encloses lo hi a (over * d)
 equal_held lo hi a b over d e some held same =
     let more = Encloses-common lo hi b (over * e) d held in
@@ -57,12 +57,12 @@ none_each x y = ap₂ (λ a b. a +ℤ b) (none_times x) (none_times y)
 out : (c e q : ℤ) → c *ℤ (e *ℤ q) ≡ e *ℤ (q *ℤ c)
 out c e q = *ℤ_left_comm c e q ∙ ap (λ z. e *ℤ z) (*ℤ_comm c q)
 
--- so many times as much and nothing else
+-- n times as much and nothing else
 times_only : (c x y : ℤ) → c *ℤ x +ℤ pos 0 *ℤ y ≡ c *ℤ x
 times_only c x y = let none = none_times y in omega (arith, linear)
 
-nought_from : (q m : ℤ) (d e : ℕ) → 0 < e → q *ℤ pos e ≡ m *ℤ pos d → m ≡ pos 0 → q ≡ pos 0
-nought_from q m d e some same none =
+zero_from : (q m : ℤ) (d e : ℕ) → 0 < e → q *ℤ pos e ≡ m *ℤ pos d → m ≡ pos 0 → q ≡ pos 0
+zero_from q m d e some same none =
     nothing_from e q some (*ℤ_comm (pos e) q ∙ same ∙ ap (λ z. z *ℤ pos d) none ∙ none_times (pos d))
 
 module _ (network : Network) (stands : Item → Bool) (quantity : Solution → ℤ) (over : ℕ) (fields : List (ℤ × ℤ)) (north east : ℕ → ℕ → ℤ) (row : List ZoneEnds)
@@ -134,11 +134,11 @@ module _ (network : Network) (stands : Item → Bool) (quantity : Solution → �
 
   so_far : (n : ℕ) → n ≤ length fields → (s : Solution) → IsSolution standing (first_volts n) s → Encloses (sum_below low n) (sum_below high n) (quantity s) (over * s.denominator)
   so_far zero within s solves =
-      let nought = combined (pos 0) s (pos 0) s in
-      let nought_solves : IsSolution standing (first_volts zero) nought = superposition standing (first_volts zero) (first_volts zero) s s (pos 0) (pos 0) solves solves in
-      let nought_is = is_linear.combines (pos 0) (pos 0) s s ∙ none_each (pos s.denominator *ℤ quantity s) (pos s.denominator *ℤ quantity s) in
-      let is = nought_from (quantity s) (quantity nought) s.denominator (s.denominator * s.denominator) (positive_product s.denominator s.denominator solves.denominator_above_0 solves.denominator_above_0)
-      (agree (first_volts zero) s nought solves nought_solves) nought_is in
+      let zeroed = combined (pos 0) s (pos 0) s in
+      let zero_solves : IsSolution standing (first_volts zero) zeroed = superposition standing (first_volts zero) (first_volts zero) s s (pos 0) (pos 0) solves solves in
+      let zero_is = is_linear.combines (pos 0) (pos 0) s s ∙ none_each (pos s.denominator *ℤ quantity s) (pos s.denominator *ℤ quantity s) in
+      let is = zero_from (quantity s) (quantity zeroed) s.denominator (s.denominator * s.denominator) (positive_product s.denominator s.denominator solves.denominator_above_0 solves.denominator_above_0)
+      (agree (first_volts zero) s zeroed solves zero_solves) zero_is in
       subst (λ (z : ℤ). Encloses (pos 0) (pos 0) z (over * s.denominator)) (none_times (pos (over * s.denominator)) ∙ sym is) (Encloses-point (pos 0) (over * s.denominator))
   so_far (suc n) within s solves =
       let less : n < length fields = omega (arith, within) in

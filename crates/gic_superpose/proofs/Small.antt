@@ -62,7 +62,7 @@ module _ (fields : List (ℤ × ℤ)) (row : List ZoneEnds) (few : length fields
     high = ceil_small (sum_high fields row) sums_in_milli (2 ^ 113) (omega arith) high;
   }
 
--- the row at a place, of rows of so many zones
+-- the row at a place, of rows of a given number of zones
 pub row_small : (fields : List (ℤ × ℤ)) (pairs : List ZonePair) (places zones place : ℕ) → length fields ≡ zones → zones ≤ MOST_ZONES → All IsField fields → length pairs ≡ places * zones
     → place < places → All IsSmallPair pairs
     → IsWithin (2 ^ 113) (superposed fields (take zones (drop (place * zones) (row_of pairs)))).low (superposed fields (take zones (drop (place * zones) (row_of pairs)))).high

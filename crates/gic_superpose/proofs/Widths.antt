@@ -11,7 +11,7 @@ use Rattle.gic_induce.specs.Fields.{IsField, field_at}
 use Rattle.gic_superpose.specs.Superposed.{ZoneEnds, zone_at, low_part, high_part, zone_low, zone_high, sum_low, sum_high, sums_in_milli, superposed, IsNarrowBase, IsNarrowZone}
 use Rattle.gic_superpose.proofs.Sums.{sum_below-apart}
 
--- so many times an interval that is at most 1000 wide
+-- n times an interval that is at most 1000 wide
 times_wide : (lo hi : ℤ) (c : ℕ) → c ≤ 20000 → lo ≤ℤ hi → (hi -ℤ lo) ≤ℤ pos 1000 → ((pos c *ℤ hi) -ℤ (pos c *ℤ lo)) ≤ℤ pos 20000000
 times_wide lo hi c few ordered wide =
     let parts = *ℤ--ℤ (pos c) hi lo in

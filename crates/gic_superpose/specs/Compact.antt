@@ -5,7 +5,7 @@ use Rattle.gic_fixed.specs.Ends.{Ends}
 use Rattle.gic_fixed.specs.Encloses.{IsWithin}
 use Rattle.gic_superpose.specs.declared.pairs.ZonePair.{ZonePair}
 
--- the most that an end may be, either way, so that the products with the parts of the fields of so many zones, added up, are below 2^63
+-- the most that an end may be, either way, so that the products with the parts of the fields of a given number of zones, added up, are below 2^63
 abbrev pub most_compact : (zones : ℕ) → ℕ
 most_compact zones = (2 ^ 63 - 1) / (2 * MOST_FIELD * zones)
 

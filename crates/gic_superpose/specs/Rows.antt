@@ -16,12 +16,12 @@ pub record FlatRows : Type 0 where
 abbrev pub row_at : FlatRows → (place : ℕ) → List ZoneEnds
 row_at rows place = take rows.zones (drop (place * rows.zones) rows.pairs)
 
--- so many rows of so many zones
+-- a given number of rows of a given number of zones
 pub record AreRowsOf (places zones : ℕ) (rows : FlatRows) : Type 0 where
   pub place_count : rows.places ≡ places
   pub zone_count : rows.zones ≡ zones
 
--- the pairs of so many rows of so many zones, each small, for all of which 64 bits serve where these are chosen
+-- the pairs of a given number of rows of a given number of zones, each small, for all of which 64 bits serve where these are chosen
 pub record ArePairsOf (places zones : ℕ) (pairs : List ZonePair) (in_64_bits : Bool) : Type 0 where
   pub count : length pairs ≡ places * zones
   pub few : zones ≤ MOST_ZONES

@@ -23,7 +23,7 @@ struct CompactEnds {
     high: i64,
 }
 
-/// The most that an end may be, either way, for so many zones, that 64 bits serve.
+/// The most that an end may be, either way, for a given number of zones, that 64 bits serve.
 fn most_compact(zones: u16) -> i64
     requires { 0 < zones }
     ensures { result ≡ pos (most_compact zones) }
@@ -40,7 +40,7 @@ fn is_within(interval: Interval, most: i64) -> bool
     interval.lo >= -(most as i128) && interval.hi <= most as i128
 }
 
-/// Whether 64 bits serve for the two intervals of a zone, where there are so many zones.
+/// Whether 64 bits serve for the two intervals of a zone, where there are a given number of zones.
 pub(crate) fn is_compact(pair: ZonePair, zones: u16) -> bool
     requires { 0 < zones }
     ensures yes { IsTrue result → IsCompact zones pair }

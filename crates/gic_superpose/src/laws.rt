@@ -1,5 +1,5 @@
-//! Laws over the definitions, each the contract of a function that does nothing: a function whose proof rests on a
-//! law calls it.
+//! Theorems over the definitions, each the contract of a function that does nothing: a function whose proof rests on a
+//! theorem calls it.
 ghost use Rattle.gic_superpose.specs.Quantities.{ViewsAreLinear, SuperposedIntervalsHold, SuperposedIntervalsAreNarrow};
 ghost use Rattle.gic_superpose.specs.Worked.{WorkedStep};
 

@@ -1,4 +1,4 @@
-//! Intervals of a quantity in base fields, superposed for any fields.
+//! Superposition of enclosures: intervals in base fields, combined linearly for any fields.
 #![tactic(auto)]
 
 mod compact;

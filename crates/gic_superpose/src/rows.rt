@@ -75,7 +75,7 @@ impl PairRows {
     ghost use Rattle.gic_superpose.specs.Pairs.{zone_of, IsSmallPair};
     ghost use Rattle.gic_superpose.specs.Rows.{row_at, AreRowsOf};
 
-    /// So many rows of so many zones, at most 256.
+    /// A given number of rows of a given number of zones, at most 256.
     pub fn new(alloc: Global, places: u16, zones: u16) -> Result<PairRows, OutOfMemory>
         requires { zones ≤ MOST_ZONES }
         ensures { IfOk result (AreRowsOf places zones) }

@@ -6,9 +6,9 @@ use Rattle.gic_model.specs.Guess.{most_guess}
 abbrev pub AreCut : (ℕ → ℤ) → Type 0
 AreCut x = (k : ℕ) → unsigned_abs (x k) ≤ most_guess
 
--- a solver has as much room again for the guesses before a writing and for residuals, and a thinning for as many nodes
-pub record IsRoomForGuesses (guesses before low high : List ℤ) (thinned : ℕ) : Type 0 where
-  pub room : length before ≡ length guesses
-  pub low_room : length low ≡ length guesses
-  pub high_room : length high ≡ length guesses
-  pub thinning : thinned ≡ length guesses
+-- a solver has as much space again for the guesses before a writing and for residuals, and a rough solver for as many nodes
+pub record IsSpaceForGuesses (guesses before low high : List ℤ) (rough : ℕ) : Type 0 where
+  pub space : length before ≡ length guesses
+  pub low_space : length low ≡ length guesses
+  pub high_space : length high ≡ length guesses
+  pub rough_solver : rough ≡ length guesses

@@ -31,7 +31,7 @@ impl Guesses {
     ghost use Rattle.gic_model.specs.Voltages.{number_at};
     ghost use Rattle.gic_sweep.specs.Guesses.{AreCut};
 
-    /// For so many nodes; all guesses are 0.
+    /// For a given number of nodes; all guesses are 0.
     pub fn new(alloc: Global, nodes: u16) -> Result<Guesses, OutOfMemory>
         ensures { IfOk result (λ guesses. guesses ≡ replicate nodes (pos 0)) }
     {

@@ -7,44 +7,44 @@ ghost use Rattle.gic_sweep.specs.Guesses.{AreCut};
 use crate::guesses::Guesses;
 use crate::steps::Steps;
 use gic_base::NodeId;
-use gic_thin::Thinning;
+use gic_precondition::RoughSolver;
 use std::sync::ledger::Ledger;
 
-/// Makes of each old guess the one that a thinning proposes.
+/// Makes of each old guess the one that a rough solver proposes.
 fn propose<L: Ledger>(
-    thinning: &Thinning,
+    rough_solver: &RoughSolver,
     old: &[i128],
     guesses: &mut Guesses,
     steps: &mut Steps<L>,
 )
-    requires nodes { thinning.now ≡ length guesses.old }
-    requires room { length old.now ≡ length guesses.old }
+    requires nodes { rough_solver.now ≡ length guesses.old }
+    requires space { length old.now ≡ length guesses.old }
     requires cut { AreCut (number_at old.now) }
     ensures same_length { length guesses.new ≡ length guesses.old }
     ensures tick { steps.new ≡ steps.old + 1 }
 {
     let proposed = |node: NodeId| -> i128
-        requires nodes { node.0 < thinning.now }
-        requires room { node.0 < length old.now }
+        requires nodes { node.0 < rough_solver.now }
+        requires space { node.0 < length old.now }
         requires cut { AreCut (number_at old.now) }
         ensures { unsigned_abs result ≤ most_guess }
-    { thinning.proposed(node, old[node.0 as usize]) };
+    { rough_solver.proposed(node, old[node.0 as usize]) };
     guesses.fill(&proposed, steps);
 }
 
-/// Puts in the guesses that a thinning proposes, and ticks once. `old` is room for the guesses as they were.
+/// Puts in the guesses that a rough solver proposes, and ticks once. `old` is space for the guesses as they were.
 pub fn propose_all<L: Ledger>(
-    thinning: &Thinning,
+    rough_solver: &RoughSolver,
     guesses: &mut Guesses,
     old: &mut [i128],
     steps: &mut Steps<L>,
 )
-    requires nodes { thinning.now ≡ length guesses.old }
-    requires room { length old.old ≡ length guesses.old }
+    requires nodes { rough_solver.now ≡ length guesses.old }
+    requires space { length old.old ≡ length guesses.old }
     ensures same_length { length guesses.new ≡ length guesses.old }
-    ensures room { length old.new ≡ length old.old }
+    ensures space { length old.new ≡ length old.old }
     ensures tick { steps.new ≡ steps.old + 1 }
 {
     old.copy_from_slice(guesses.as_slice());
-    propose(thinning, old, guesses, steps);
+    propose(rough_solver, old, guesses, steps);
 }

@@ -1,4 +1,4 @@
-//! Guesses of the potentials, how far Kirchhoff's law is missed over them, and sweeps that bring them closer to it.
+//! Jacobi iteration with certified residuals: potentials in fixed point, sweeps, and how far Kirchhoff's law is missed.
 #![tactic(auto)]
 
 mod current;

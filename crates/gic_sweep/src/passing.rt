@@ -68,7 +68,7 @@ fn add_at(sums: &mut [i128], node: NodeId, part: i128)
 #[inline(always)]
 fn add_ends(sums: &mut [i128], element: &Element, share: &Share)
     requires within { IsElementWithin (length sums.old) element.now }
-    requires room { (k : ℕ) → k < length sums.old → unsigned_abs (number_at sums.old k) ≤ 2 ^ 126 }
+    requires space { (k : ℕ) → k < length sums.old → unsigned_abs (number_at sums.old k) ≤ 2 ^ 126 }
     requires out { unsigned_abs share.now.out ≤ 2 ^ 118 }
     requires back { unsigned_abs share.now.back ≤ 2 ^ 118 }
     ensures same_length { length sums.new ≡ length sums.old }
@@ -106,8 +106,8 @@ fn add_element(
     requires guesses { AreCut (number_at guesses.now) }
     requires low_count { length low.old ≡ net.now.network.nodes }
     requires high_count { length high.old ≡ net.now.network.nodes }
-    requires low_room { (k : ℕ) → k < length low.old → unsigned_abs (number_at low.old k) ≤ 2 ^ 126 }
-    requires high_room { (k : ℕ) → k < length high.old → unsigned_abs (number_at high.old k) ≤ 2 ^ 126 }
+    requires low_space { (k : ℕ) → k < length low.old → unsigned_abs (number_at low.old k) ≤ 2 ^ 126 }
+    requires high_space { (k : ℕ) → k < length high.old → unsigned_abs (number_at high.old k) ≤ 2 ^ 126 }
     ensures low { IsCarriedOn net.now (part_down (number_at volts.now) (number_at guesses.now)) place.0 low.old low.new }
     ensures high { IsCarriedOn net.now (part_up (number_at volts.now) (number_at guesses.now)) place.0 high.old high.new }
 {

@@ -11,11 +11,11 @@ use gic_model::Volts;
 use gic_model::laws::rounded_residual_law;
 use gic_net::Net;
 
-/// Guesses are settled within so many grains: 2^18.
+/// Guesses are settled within this many grains: 2^18.
 const SETTLED: u128 = 1 << 18;
 
 /// Whether the residuals show that the guesses are settled, as they do where the guesses are settled within half of the
-/// grains. `low` and `high` are room for the residuals.
+/// grains. `low` and `high` are space for the residuals.
 pub fn are_settled(
     net: &Net,
     volts: &Volts,

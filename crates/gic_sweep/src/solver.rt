@@ -12,7 +12,7 @@ use gic_fixed::Interval;
 use gic_model::Volts;
 use gic_model::laws::rounded_residual_law;
 use gic_net::Net;
-use gic_thin::Thinning;
+use gic_precondition::RoughSolver;
 use std::alloc::Global;
 use std::marker::Model;
 use std::sync::ledger::Ledger;
@@ -20,23 +20,23 @@ use std::sync::ledger::Ledger;
 /// One guess for each node, in grains of 2^-36 nanovolt, each from -2^96 to 2^96.
 pub struct Solver {
     guesses: Guesses,
-    /// Room for the guesses as they were before they are written.
+    /// The workspace for the guesses as they were before they are written.
     before: Vec<i128>,
-    /// Room for the residuals, rounded down and up.
+    /// The workspace for the residuals, rounded down and up.
     low: Vec<i128>,
     high: Vec<i128>,
-    thinning: Thinning,
+    rough_solver: RoughSolver,
 }
 
 impl Model for Solver {
     ghost use Rattle.std.specs.Prelude.{List, ℤ};
-    ghost use Rattle.gic_sweep.specs.Guesses.{IsRoomForGuesses};
+    ghost use Rattle.gic_sweep.specs.Guesses.{IsSpaceForGuesses};
 
     ghost Value = { List ℤ };
 
     ghost view = { λ s. s.guesses };
 
-    ghost invariant = { λ s. IsRoomForGuesses s.guesses s.before.items s.low.items s.high.items s.thinning };
+    ghost invariant = { λ s. IsSpaceForGuesses s.guesses s.before.items s.low.items s.high.items s.rough_solver };
 }
 
 impl Drop for Solver {
@@ -47,7 +47,7 @@ impl Drop for Solver {
             before: _before,
             low: _low,
             high: _high,
-            thinning: _thinning,
+            rough_solver: _rough_solver,
         } = self;
     }
 }
@@ -62,7 +62,7 @@ ghost use Rattle.gic_net.specs.Net.{standing, row_at};
 ghost use Rattle.gic_sweep.specs.Guesses.{AreCut};
 ghost use Rattle.gic_sweep.specs.Residuals.{HoldResiduals, most_reach};
 ghost use Rattle.gic_sweep.specs.Sweep.{IsSweep};
-ghost use Rattle.gic_thin.specs.declared.gradients.TheConstants.{MOST_PASSES};
+ghost use Rattle.gic_precondition.specs.declared.gradients.TheConstants.{MOST_PASSES};
 
 impl Solver {
     /// For a network of this many nodes and elements; all guesses are 0.
@@ -73,13 +73,13 @@ impl Solver {
         let before = zeros(alloc, nodes)?;
         let low = zeros(alloc, nodes)?;
         let high = zeros(alloc, nodes)?;
-        let thinning = Thinning::new(alloc, nodes, elements)?;
+        let rough_solver = RoughSolver::new(alloc, nodes, elements)?;
         Ok(Solver {
             guesses,
             before,
             low,
             high,
-            thinning,
+            rough_solver,
         })
     }
 
@@ -143,16 +143,16 @@ impl Solver {
         );
     }
 
-    /// Makes the thinning ready for a net.
+    /// Makes the rough solver ready for a net.
     fn arrange(&mut self, net: &Net)
         requires { length self.old ≡ net.now.network.nodes }
         ensures { self.new ≡ self.old }
     {
-        self.thinning.arrange(net);
+        self.rough_solver.arrange(net);
     }
 
-    /// Puts guesses in that the thinning proposes, which ticks once, and hands on how many passes it tells of. Where it
-    /// proposes none, no guess is changed and nothing ticks.
+    /// Puts guesses in that the rough solver proposes, which ticks once, and hands on how many passes it tells of.
+    /// Where it proposes none, no guess is changed and nothing ticks.
     fn approach<L: Ledger>(&mut self, net: &Net, volts: &Volts, steps: &mut Steps<L>) -> Option<u32>
         requires volts { length volts.now ≡ length net.now.network.list }
         requires nodes { length self.old ≡ net.now.network.nodes }
@@ -169,8 +169,13 @@ impl Solver {
             &mut self.low,
             &mut self.high,
         );
-        let passes = self.thinning.correct(self.low.as_slice())?;
-        propose_all(&self.thinning, &mut self.guesses, &mut self.before, steps);
+        let passes = self.rough_solver.correct(self.low.as_slice())?;
+        propose_all(
+            &self.rough_solver,
+            &mut self.guesses,
+            &mut self.before,
+            steps,
+        );
         Some(passes)
     }
 
@@ -192,7 +197,7 @@ impl Solver {
     }
 }
 
-/// A zero for each of so many nodes.
+/// A zero for each of a given number of nodes.
 pub fn zeros(alloc: Global, nodes: u16) -> Result<Vec<i128>, OutOfMemory>
     ensures { IfOk result (λ list. list.items ≡ replicate nodes (pos 0)) }
 {
@@ -222,7 +227,7 @@ pub const MOST_ROUNDS: u8 = 4;
 pub struct Improvement {
     /// How many corrections were made, each with one tick.
     pub rounds: u8,
-    /// The passes of conjugate gradients that the thinning tells of, for all of them: only the most is promised.
+    /// The passes of conjugate gradients that the rough solver tells of, for all of them: only the most is promised.
     pub passes: u32,
 }
 
@@ -291,7 +296,7 @@ pub fn residual(net: &Net, volts: &Volts, solver: &Solver, node: NodeId) -> Inte
 }
 
 /// The ends of an interval as `residual` gives it at each node, the low ends in `low` and the high ends in `high`. The
-/// voltages and the guesses are those of the net's elements and nodes, and there is room for as many.
+/// voltages and the guesses are those of the net's elements and nodes, and there is space for as many.
 pub fn residuals(net: &Net, volts: &Volts, solver: &Solver, low: &mut [i128], high: &mut [i128])
     requires volts { length volts.now ≡ length net.now.network.list }
     requires nodes { length solver.now ≡ net.now.network.nodes }
@@ -310,7 +315,7 @@ pub fn residuals(net: &Net, volts: &Volts, solver: &Solver, low: &mut [i128], hi
 
 /// The grains within which the guesses are settled, as their residuals show: for each unit of a bound vector no
 /// solution is further from the guess at a node. They are hardly more than those within which the guesses are settled
-/// indeed. `low` and `high` are room for the residuals.
+/// indeed. `low` and `high` are space for the residuals.
 pub fn reach(net: &Net, volts: &Volts, solver: &Solver, low: &mut [i128], high: &mut [i128]) -> u128
     requires volts { length volts.now ≡ length net.now.network.list }
     requires nodes { length solver.now ≡ net.now.network.nodes }

@@ -72,8 +72,8 @@ fn sweep_from<L: Ledger>(
     guesses.fill(&moved, steps);
 }
 
-/// One sweep over the guesses, which ticks once. `old` is room for the guesses as they were, and `low` and `high` for their
-/// residuals.
+/// One sweep over the guesses, which ticks once. `old` is space for the guesses as they were, and `low` and `high` for
+/// their residuals.
 pub fn sweep_over<L: Ledger>(
     net: &Net,
     volts: &Volts,
@@ -85,12 +85,12 @@ pub fn sweep_over<L: Ledger>(
 )
     requires volts { length volts.now ≡ length net.now.network.list }
     requires nodes { length guesses.old ≡ net.now.network.nodes }
-    requires room { length old.old ≡ net.now.network.nodes }
+    requires space { length old.old ≡ net.now.network.nodes }
     requires low_count { length low.old ≡ net.now.network.nodes }
     requires high_count { length high.old ≡ net.now.network.nodes }
     ensures sweep { IsSweep (standing net.now) (number_at volts.now) (number_at guesses.old) (number_at guesses.new) }
     ensures same_length { length guesses.new ≡ length guesses.old }
-    ensures room { length old.new ≡ length old.old }
+    ensures space { length old.new ≡ length old.old }
     ensures low_count { length low.new ≡ length low.old }
     ensures high_count { length high.new ≡ length high.old }
     ensures tick { steps.new ≡ steps.old + 1 }

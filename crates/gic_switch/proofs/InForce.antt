@@ -55,7 +55,7 @@ first_rows time (s ∷ rows) h =
       | inr later ↦ rw (later, none_after time s rows h (is_later s.time time later)) refl
     ]
 
--- so many are in force, the first ones
+-- this many are in force, the first ones
 pub in_force_law : (time : ℕ) (rows : List Switching) (through : ℕ) → AreOrdered rows → through ≡ length (rows_in_force time rows) → AreInForce rows time through
 in_force_law time rows through h count =
     rw count (record { within = within_rows time rows; first_rows = first_rows time rows h })

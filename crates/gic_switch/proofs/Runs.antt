@@ -60,7 +60,7 @@ longest_law first last through (c ∷ cs) =
       | inr other ↦ rw other (differ_law through (last + 1) (last + 1) c cs (other_count c through other))
     ]
 
--- P says of a step that so many switchings are in force there
+-- P says of a step that a given number of switchings are in force there
 module _ (P : ℕ → ℕ → Type 0) where
   one_more : (first last through c : ℕ) → c ≡ through → ((k : ℕ) → first ≤ k → k ≤ last → P k through) → P (last + 1) c → (k : ℕ) → first ≤ k → k ≤ last + 1 → P k through
   one_more first last through c same before here k low high =
@@ -150,11 +150,11 @@ next_run storm rows first last through count within own other =
     rw (counts_next storm rows last within, ← own, unequal_counts count through other) refl
 
 -- behind the last step the runs are done
-pub last_run : (storm : List Row) (rows : List Switching) (front : List Epoch) (e : Epoch) → AreOrdered rows → e.last ≡ length (steps_in storm)
-    → front ++ runs_after e.first e.last e.through (drop e.last (counts_of storm rows)) ≡ all_runs (counts_of storm rows) → AreEpochs storm rows (front ++ e ∷ [])
-last_run storm rows front e ordered end all =
+pub last_run : (storm : List Row) (rows : List Switching) (prefix : List Epoch) (e : Epoch) → AreOrdered rows → e.last ≡ length (steps_in storm)
+    → prefix ++ runs_after e.first e.last e.through (drop e.last (counts_of storm rows)) ≡ all_runs (counts_of storm rows) → AreEpochs storm rows (prefix ++ e ∷ [])
+last_run storm rows prefix e ordered end all =
     let none : drop e.last (counts_of storm rows) ≡ [] = drop_all e.last (counts_of storm rows) (omega (arith, counts-length storm rows)) in
-    subst (AreEpochs storm rows) (sym all ∙ ap (λ cs. front ++ runs_after e.first e.last e.through cs) none) (epochs_law storm rows ordered)
+    subst (AreEpochs storm rows) (sym all ∙ ap (λ cs. prefix ++ runs_after e.first e.last e.through cs) none) (epochs_law storm rows ordered)
 
 -- no fewer are in force at the next step
 pub next_no_fewer : (storm : List Row) (rows : List Switching) (last : ℕ) → IsNonDecreasingBy (λ (r : Row). r.time) storm → 1 ≤ last → last < length (steps_in storm)

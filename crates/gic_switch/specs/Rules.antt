@@ -34,7 +34,7 @@ abbrev pub broken : Lists → List (List (List ℕ)) → List SwitchRefusal
 broken case [] = refusals.Shape 0 ∷ []
 broken case (first ∷ records) = unless (is_head first) (refusals.Shape 0) ++ breaks_records (breaks_record case) 1 None records
 
--- the switching that a record is, a field that breaks its rule taken as nought
+-- the switching that a record is, a field that breaks its rule taken as zero
 unfoldable pub switching_of : Lists → List (List ℕ) → Switching
 switching_of case columns = record {
   time = time_of columns;

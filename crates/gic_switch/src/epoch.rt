@@ -18,11 +18,11 @@ pub struct Epoch {
     pub first: u32,
     /// The last step.
     pub last: u32,
-    /// How many switchings are in force: the first so many rows.
+    /// How many switchings are in force: the first n rows.
     pub through: u32,
 }
 
-/// How many switchings are in force at a time, where so many are at least.
+/// How many switchings are in force at a time, where this many are at least.
 fn through_at(rows: &[Switching], least: u32, time: u32) -> u32
     requires sound { AreSwitchings rows.now }
     requires least { least ≤ length (rows_in_force time rows.now) }

@@ -1,5 +1,5 @@
-//! The reader of switchings: from the bytes of comma-separated records to rows that keep all rules, or to the first rule
-//! that is broken; and the epochs of a storm under them, the longest runs of steps at which the same rows are in force.
+//! The parser of switchings: timed switching operations, or the first rule that is broken; and the epochs of a storm
+//! under them, maximal runs of steps with one switching state.
 #![tactic(auto)]
 
 mod action;

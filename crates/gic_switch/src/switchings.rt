@@ -60,7 +60,7 @@ fn switchings_from(
 
 /// Reads switchings over a case: records whose first is `time,item,action`. They are accepted exactly where they break no
 /// rule, and the rows are then the records', with the items of the case in place of names. The first broken rule answers
-/// otherwise. Want of memory may come in place of any answer.
+/// otherwise. Out of memory may come in place of any answer.
 #[tactic(auto, using(crate::proofs::PassLaws::switchings_of_law))]
 pub fn read_switchings(
     alloc: Global,

@@ -53,7 +53,7 @@ impl Opener for SystemFiles {
 }
 
 /// The files that an opener opens. It keeps the names that are fetched, each before its file is opened, and those whose
-/// fetch failed; where no memory is found for one, the answer is want of memory.
+/// fetch failed; where no memory is found for one, the answer is out of memory.
 #[derive(Drop)]
 pub struct FileLibrary<O> {
     alloc: Global,
@@ -88,7 +88,7 @@ fn read_to_end<R: Read>(
     ensures limit { OnOk result (length into.new.items ≤ limit) }
     ensures whole { OnOk result (IfSome (R.remaining reader.old) (λ bytes. bytes ≡ into.new.items)) }
     ensures too_long { IsErrOf result FetchRefusal.TooLong → limit < length into.new.items }
-    ensures front { IsErrOf result FetchRefusal.TooLong → IfSome (R.remaining reader.old) (λ bytes.
+    ensures prefix { IsErrOf result FetchRefusal.TooLong → IfSome (R.remaining reader.old) (λ bytes.
         StartsWith bytes into.new.items) }
 {
     let mut buffer = [0u8; 4096];
@@ -144,10 +144,10 @@ mod tests {
         fs::write(&rt, "fetched", kept.as_slice())?;
         let mut library = FileLibrary::new(alloc, SystemFiles::new(rt));
         let mut whole = Vec::new(alloc);
-        let mut front = Vec::new(alloc);
+        let mut prefix = Vec::new(alloc);
         let mut none = Vec::new(alloc);
         let found = library.fetch("fetched", 10000, &mut whole);
-        let longer = library.fetch("fetched", 9999, &mut front);
+        let longer = library.fetch("fetched", 9999, &mut prefix);
         let empty = library.fetch("/dev/null", 0, &mut none);
         let endless = library.fetch("/dev/zero", 10, &mut Vec::new(alloc));
         let missing = library.fetch("no/such/file", 100, &mut Vec::new(alloc));
@@ -156,7 +156,7 @@ mod tests {
         if found != Ok(()) || whole != kept {
             return Err(Fail::new("a whole file"));
         }
-        if longer != Err(FetchRefusal::TooLong) || !kept.starts_with(&front) {
+        if longer != Err(FetchRefusal::TooLong) || !kept.starts_with(&prefix) {
             return Err(Fail::new("a file of one byte too many"));
         }
         if empty != Ok(()) || !none.is_empty() {

@@ -1,4 +1,4 @@
-//! The files and the streams of the system, as the traits of `gic_files` and `gic_base` have them.
+//! Files and streams of the operating system, behind the traits of `gic_files` and `gic_base`.
 #![tactic(auto)]
 
 mod files;

@@ -31,7 +31,7 @@ pub fn read_some<R: Read>(reader: &mut R, buffer: &mut [u8]) -> Result<usize>
     Err(Error::from(ErrorKind::TimedOut))
 }
 
-/// One write of a front of the bytes, which is made again where a signal interrupts it, [`MOST_TRIES`] times in all;
+/// One write of a prefix of the bytes, which is made again where a signal interrupts it, [`MOST_TRIES`] times in all;
 /// then the error is of the kind `TimedOut`. No clause counts the tries, since a writer tells of none: the tests below do.
 pub fn write_some<W: Write>(writer: &mut W, bytes: &[u8]) -> Result<usize>
     ensures count { WritesAtMost result bytes.now }
@@ -56,7 +56,7 @@ pub fn write_some<W: Write>(writer: &mut W, bytes: &[u8]) -> Result<usize>
 mod tests {
     use super::*;
 
-    /// A stream whose next calls are interrupted, so many of them; then each call gives or takes one byte.
+    /// A stream whose next calls are interrupted, this many of them; then each call gives or takes one byte.
     #[derive(Drop)]
     struct Signalled {
         left: u32,

@@ -19,7 +19,7 @@ all_digits (b ∷ bs) h =
     let parts = and_parts (is_digit b) (list_all is_digit bs) h in
     (one_digit b parts.0, all_digits bs parts.1)
 
--- so many digits write less than this
+-- n digits write less than this
 pub whole_small : (digits : ℕ) (text : List ℕ) → AllDigits 10 text → length text ≤ digits → digits_value 10 text < 10 ^ digits
 whole_small digits text all few = digits_value_short (numerals_by_value (AllDigits 10) tells_digits) text digits all few
 

@@ -22,11 +22,11 @@ pub length-signed_decimal : (z : ℤ) → mag z < 2 ^ 128 → length (signed_dec
 length-signed_decimal (pos n) h = let few = length-decimal-le_wide 39 n (omega arith) (omega arith) (omega arith) in omega arith
 length-signed_decimal (negsuc n) h = let few = length-decimal-le_wide 39 (suc n) (omega arith) (omega arith) (omega arith) in omega arith
 
--- a word fits where there is room for it and a space
+-- a word fits where there is space for it and a space
 pub fits_word : (line : Line) (word : List ℕ) → length line.bytes + length word + 1 ≤ 512 → FitsLine (with_word line word)
 fits_word line word h = let size = length-with_word line word in omega arith
 
--- a number fits where there is room for 41 bytes
+-- a number fits where there is space for 41 bytes
 pub fits_number : (line : Line) (z : ℤ) → mag z < 2 ^ 128 → length line.bytes + 41 ≤ 512 → FitsLine (with_word line (signed_decimal z))
 fits_number line z small h =
     let size = length-with_word line (signed_decimal z) in
@@ -34,4 +34,4 @@ fits_number line z small h =
     omega arith
 
 -- for the proofs of functions that write a line
-pub ruleset line_room = (fits_word, fits_number)
+pub ruleset line_space = (fits_word, fits_number)

@@ -1,4 +1,4 @@
-//! Numbers read as decimal text, and lines written word by word.
+//! Decimal numbers in text, and lines built word by word.
 #![tactic(auto)]
 
 mod decimal;

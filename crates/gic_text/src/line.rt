@@ -1,4 +1,4 @@
-//! A line that is joined word by word, in room that is taken once.
+//! A line that is joined word by word, in memory that is taken once.
 use gic_base::OutOfMemory;
 use std::alloc::Global;
 use std::marker::Model;
@@ -72,7 +72,7 @@ impl LineBuilder {
 
     /// The whole line, ended by LF. The next line begins with `start`.
     pub fn finish(&mut self) -> &[u8]
-        // The end has room too.
+        // The end has space too.
         requires { length self.old.bytes < 512 }
         ensures { result.now ≡ self.old.bytes ++ 10 ∷ [] }
     {

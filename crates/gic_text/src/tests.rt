@@ -41,7 +41,7 @@ fn reads_wide_decimals(rt: HostRuntime) {
 }
 
 #[test]
-#[tactic(auto, using(crate::proofs::Sizes::line_room))]
+#[tactic(auto, using(crate::proofs::Sizes::line_space))]
 fn joins_a_line(rt: HostRuntime) -> Result<(), Fail> {
     let mut line = LineBuilder::new(rt.alloc())?;
     for (number, text) in [

@@ -23,7 +23,7 @@ use Rattle.gic_model.proofs.Ends.{IsLiveEnd, end_own, from_own, ends_live}
 use Rattle.gic_model.proofs.Members.{both, by_any}
 use Rattle.gic_winding.specs.ElementList.{elements_of}
 use Rattle.gic_winding.specs.Weights.{transformer_at, no_transformer, weight_of, weighed_by, weighted_windings, windings_at}
-use Rattle.gic_winding.proofs.Around.{front_of}
+use Rattle.gic_winding.proofs.Around.{prefix_of}
 use Rattle.gic_winding.proofs.Weighted.{weighted_there, length-weighted_from}
 use Rattle.gic_effective.specs.Weighted.{effective_numerator}
 use Rattle.gic_effective.proofs.Weighings.{AreAtMost}
@@ -107,6 +107,6 @@ numerator_few case t s m inside order few =
     let row = transformer_at case t in
     let sum = unsigned_abs-sum_of (λ (w : ElementId × ℕ). pos w.1 *ℤ s.current w.0.0) (row.high_volts * m) (weighted_windings case t) (each_weight (weight_of row) row.high_volts m s few (windings_at (elements_of case) t) (windings_of row) order) in
     let there = ap length (weighted_there case t row inside (get_or_default case.transformers t no_transformer row inside)) in
-    let count : length (weighted_windings case t) ≤ 3 = omega (arith, there, length-weighted_from row (length (front_of case t)), few_windings row.high_volts row.kind) in
+    let count : length (weighted_windings case t) ≤ 3 = omega (arith, there, length-weighted_from row (length (prefix_of case t)), few_windings row.high_volts row.kind) in
     let most : row.high_volts * m * length (weighted_windings case t) ≤ row.high_volts * m * 3 = mul-le-mul_left (row.high_volts * m) count in
     omega (arith, sum, most)

@@ -6,22 +6,22 @@ use Rattle.gic_case.specs.Lists.{Lists}
 use Rattle.gic_model.specs.Sums.{Placed}
 use Rattle.gic_stand.specs.Standing.{IsSolvable}
 use Rattle.gic_winding.specs.ElementList.{elements_of}
-use Rattle.gic_uniform.specs.declared.workspace.Workspace.{Workspace}
+use Rattle.gic_uniform.specs.declared.solve_workspace.SolveWorkspace.{SolveWorkspace}
 
 -- the workspace is one for networks of this many nodes
-pub record IsWorkspaceFor (nodes : ℕ) (workspace : Workspace) : Type 0 where
-  pub scratch : workspace.scratch.nodes ≡ nodes
-  pub vector : length workspace.vector ≡ nodes
-  pub start : workspace.start ≡ nodes
-  pub solver : length workspace.solver ≡ nodes
-  pub potentials : length workspace.potentials ≡ nodes
+pub record IsSolveWorkspaceFor (nodes : ℕ) (solve_workspace : SolveWorkspace) : Type 0 where
+  pub scratch : solve_workspace.scratch.nodes ≡ nodes
+  pub vector : length solve_workspace.vector ≡ nodes
+  pub start : solve_workspace.start ≡ nodes
+  pub solver : length solve_workspace.solver ≡ nodes
+  pub potentials : length solve_workspace.potentials ≡ nodes
 
--- there is room for each node of the case
-abbrev pub IsRoomForCase : Lists → Workspace → Type 0
-IsRoomForCase case workspace = IsWorkspaceFor (elements_of case).nodes workspace
+-- there is space for each node of the case
+abbrev pub IsWorkspaceForCase : Lists → SolveWorkspace → Type 0
+IsWorkspaceForCase case solve_workspace = IsSolveWorkspaceFor (elements_of case).nodes solve_workspace
 
 -- these standing elements can be solved, and the workspace has a bound vector of theirs
-pub record IsReadyFor (case : Lists) (standing : List Placed) (workspace : Workspace) : Type 0 where
-  pub has_room : IsRoomForCase case workspace
+pub record IsReadyFor (case : Lists) (standing : List Placed) (solve_workspace : SolveWorkspace) : Type 0 where
+  pub has_workspace : IsWorkspaceForCase case solve_workspace
   pub solvable : IsSolvable standing
-  pub bound : IsBoundWithin standing MOST_WALK (slice_index workspace.vector)
+  pub bound : IsBoundWithin standing MOST_WALK (slice_index solve_workspace.vector)

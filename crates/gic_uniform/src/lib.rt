@@ -1,10 +1,10 @@
-//! One network of a case: the workspace that it is looked at and solved in, and what it shows in uniform fields.
+//! Solution of one network in uniform fields: a feasibility check, and then potentials with their enclosures.
 #![tactic(auto)]
 
+mod solve_workspace;
 mod solving;
 mod uniform;
-mod workspace;
 
+pub use solve_workspace::{SolveWorkspace, solve_workspace_for};
 pub use solving::{expect_solvable, settle_guesses, solve_view};
 pub use uniform::uniform_volts;
-pub use workspace::{Workspace, workspace_for};

@@ -8,9 +8,9 @@ ghost use Rattle.gic_winding.specs.ElementList.{elements_of};
 ghost use Rattle.gic_effective.specs.ViewLengths.{HasViewLengths};
 ghost use Rattle.gic_stand.specs.Needs.{Solved, Fails};
 ghost use Rattle.gic_uniform.specs.Solving.{IsSolvedView};
-ghost use Rattle.gic_uniform.specs.Ready.{IsRoomForCase, IsReadyFor};
+ghost use Rattle.gic_uniform.specs.Ready.{IsWorkspaceForCase, IsReadyFor};
 
-use crate::workspace::Workspace;
+use crate::solve_workspace::SolveWorkspace;
 use gic_case::Case;
 use gic_effective::fill_view;
 use gic_exists::laws::existence_law;
@@ -20,27 +20,31 @@ use gic_net::Net;
 use gic_stand::NetworkRefusal;
 use gic_view::StepView;
 
-/// Whether the network of a case can be solved; a refusal names the step 1. A bound vector of it is left in the room, for
-/// every solve, found from the entries there. Takes no memory.
-pub fn expect_solvable(case: &Case, net: &Net, room: &mut Workspace) -> Result<(), NetworkRefusal>
+/// Whether the network of a case can be solved; a refusal names the step 1. A bound vector of it is left in the
+/// workspace, for every solve, found from the entries there. Takes no memory.
+pub fn expect_solvable(
+    case: &Case,
+    net: &Net,
+    workspace: &mut SolveWorkspace,
+) -> Result<(), NetworkRefusal>
     requires net { net.now.network ≡ elements_of case.now }
-    requires room { IsRoomForCase case.now room.old }
-    ensures ready { OnOk result (IsReadyFor case.now (standing net.now) room.new) }
+    requires workspace { IsWorkspaceForCase case.now workspace.old }
+    ensures ready { OnOk result (IsReadyFor case.now (standing net.now) workspace.new) }
     ensures err { IfErr result (Fails Solved case.now 1 (standing net.now)) }
-    ensures room { IsRoomForCase case.now room.new }
+    ensures workspace { IsWorkspaceForCase case.now workspace.new }
 {
-    room.look(case, net, 1)
+    workspace.look(case, net, 1)
 }
 
-/// Settles the guesses in the room in these voltages, whatever they were. Takes no memory.
-pub fn settle_guesses(case: &Case, net: &Net, volts: &Volts, room: &mut Workspace)
+/// Settles the guesses in the workspace in these voltages, whatever they were. Takes no memory.
+pub fn settle_guesses(case: &Case, net: &Net, volts: &Volts, workspace: &mut SolveWorkspace)
     requires net { net.now.network ≡ elements_of case.now }
     requires volts { length volts.now ≡ length net.now.network.list }
-    requires ready { IsReadyFor case.now (standing net.now) room.old }
-    ensures settled { IsSettled (standing net.now) (number_at volts.now) (number_at room.new.solver) }
-    ensures ready { IsReadyFor case.now (standing net.now) room.new }
+    requires ready { IsReadyFor case.now (standing net.now) workspace.old }
+    ensures settled { IsSettled (standing net.now) (number_at volts.now) (number_at workspace.new.solver) }
+    ensures ready { IsReadyFor case.now (standing net.now) workspace.new }
 {
-    room.settle(net, volts);
+    workspace.settle(net, volts);
 }
 
 /// Fills a view of the network of a case in these voltages, in intervals no wider than `width` mV or mA. Takes no memory.
@@ -49,16 +53,16 @@ pub fn solve_view(
     net: &Net,
     volts: &Volts,
     width: u32,
-    room: &mut Workspace,
+    workspace: &mut SolveWorkspace,
     view: &mut StepView,
 )
     requires net { net.now.network ≡ elements_of case.now }
     requires volts { length volts.now ≡ length net.now.network.list }
     requires width { IsWidth width }
-    requires ready { IsReadyFor case.now (standing net.now) room.old }
+    requires ready { IsReadyFor case.now (standing net.now) workspace.old }
     requires view { HasViewLengths case.now view.old }
     ensures solved { IsSolvedView case.now (standing net.now) (number_at volts.now) width view.new }
-    ensures ready { IsReadyFor case.now (standing net.now) room.new }
+    ensures ready { IsReadyFor case.now (standing net.now) workspace.new }
 {
     existence_law();
     potential_law();
@@ -66,6 +70,6 @@ pub fn solve_view(
     net.within_limits();
     volts.within_limit();
     // Effective currents are rounded outward once more.
-    room.solve(net, volts, width - 1);
-    fill_view(case, net, volts, &room.potentials, view);
+    workspace.solve(net, volts, width - 1);
+    fill_view(case, net, volts, &workspace.potentials, view);
 }

@@ -22,7 +22,8 @@ fn improved<L: Ledger>(net: &Net, volts: &Volts, solver: &mut Solver, blank: Bla
     improve(net, volts, solver, &mut steps)
 }
 
-/// How far rough corrections leave the guess at the bus b from so many nanovolts, in grains; or none, where none was made.
+/// How far rough corrections leave the guess at the bus b from this many nanovolts, in grains; or none, where none was
+/// made.
 fn missed_at_the_bus(net: &Net, volts: &Volts, solver: &mut Solver, nanovolts: i64) -> Option<i128>
     requires volts { length volts.now ≡ length net.now.network.list }
     requires nodes { length solver.old ≡ net.now.network.nodes }

@@ -1,8 +1,8 @@
 //! Effective currents and a worst current, worked by hand.
 use gic_base::ElementId;
+use gic_criteria::worst;
 use gic_effective::signed_effective;
 use gic_fixed::Interval;
-use gic_screen::worst;
 use gic_winding::Weights;
 
 /// 30 A in the high winding and -60 A in the low one of a wye-wye unit of 345/138 kV.

@@ -1,6 +1,5 @@
-//! Unit tests: worked examples of calls whose answers no run of the program shows by itself, and the program over files
-//! and streams in memory. A test stands for what a contract leaves open or what was worked out by hand. They stand here
-//! and not beside what they test, since a crate with tests is proved twice.
+//! Unit tests: calls whose answers no run of the program shows by itself, and the program over files and streams in
+//! memory.
 #![tactic(auto)]
 
 mod memory;

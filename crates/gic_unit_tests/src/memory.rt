@@ -23,7 +23,7 @@ pub fn run_in_memory(alloc: Global, words: Vec<String>, files: Vec<(String, Vec<
     ensures right { result.status ≡ 0 → IsReport (map string_bytes words.items)
         (files_of (map (λ f. (string_bytes f.0, f.1.items)) files.items)) result.out.items }
     ensures untold { result.status ≡ 0 → result.err.items ≡ [] }
-    // A failed write, status 4, may leave a front of a report.
+    // A failed write, status 4, may leave a prefix of a report.
     ensures nothing { result.status ≢ 0 → result.status ≢ 4 → result.out.items ≡ [] }
 {
     answers_of_files_law();

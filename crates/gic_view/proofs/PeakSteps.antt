@@ -37,12 +37,12 @@ peak-push (c ∷ cells) cell =
 pub peak-push_shown : (shown : View → Option Ends) (views : List View) (view : View) → peak_of (map shown (views ++ view ∷ [])) ≡ greater (peak_of (map shown views)) (option_map absolute_ends (shown view))
 peak-push_shown shown views view = ap peak_of (map-append shown views (view ∷ [])) ∙ peak-push (map shown views) (shown view)
 
-above_nought : (a : ℤ) → pos 0 ≤ℤ a → a ≡ int_max (pos 0) a
-above_nought a h = omega (arith, ints, clamps)
+above_zero : (a : ℤ) → pos 0 ≤ℤ a → a ≡ int_max (pos 0) a
+above_zero a h = omega (arith, ints, clamps)
 
 -- 0 to 0 in place of no peak takes nothing from an absolute interval
 pub unwrapped : (peak : Option Ends) (e : Ends) → e.low ≤ℤ e.high → greater_ends (unwrap_or peak zero_ends) (absolute_ends e) ≡ unwrap_or (greater peak (Some (absolute_ends e))) zero_ends
 unwrapped None e ordered = sym (same_ends _ _ _ _
-    (above_nought (least_abs e.low e.high) (omega (arith, ints, clamps)))
-    (above_nought (greatest_abs e.low e.high) (omega (arith, ints, clamps, ordered))))
+    (above_zero (least_abs e.low e.high) (omega (arith, ints, clamps)))
+    (above_zero (greatest_abs e.low e.high) (omega (arith, ints, clamps, ordered))))
 unwrapped (Some peak) e ordered = refl

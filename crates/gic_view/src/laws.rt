@@ -1,5 +1,5 @@
-//! Laws over the definitions, each the contract of a function that does nothing: a function whose proof rests on a law
-//! calls it.
+//! Theorems over the definitions, each the contract of a function that does nothing: a function whose proof rests on a
+//! theorem calls it.
 ghost use Rattle.gic_view.specs.PeakLaws.{PeakEnclosesGreatest, TransformerPeakIsPeak, BelowIsUnderThroughout, ReachesIsAtLeastOnce, PeakIsNotNegative, NotNegativeIsAbsolute, AbsoluteIsNoWider, PeakIsNoWider};
 
 /// Where each interval that a view shows encloses that view's number, the peak encloses the greatest of their absolute

@@ -1,4 +1,5 @@
-//! What each step of a study shows, and the peaks of a storm, from the views of its steps.
+//! What is shown of one step: potentials, branch currents and effective GIC, as intervals; and their peak envelopes
+//! over steps.
 #![tactic(auto)]
 
 mod greater;

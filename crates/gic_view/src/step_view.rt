@@ -61,7 +61,7 @@ fn absent(alloc: Global, count: u16) -> Result<Vec<Option<Interval>>, OutOfMemor
 /// Intervals that hold 0 alone.
 fn points(alloc: Global, count: u16) -> Result<Vec<Interval>, OutOfMemory>
     ensures count { IfOk result (λ list. length list.items ≡ count) }
-    ensures noughts { IfOk result (λ list. map ends_of list.items ≡ replicate count zero_ends) }
+    ensures zeros { IfOk result (λ list. map ends_of list.items ≡ replicate count zero_ends) }
 {
     let list = vec![in alloc; Interval::point(0); count as usize]?;
     Ok(list)

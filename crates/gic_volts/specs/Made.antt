@@ -2,8 +2,8 @@
 use Rattle.std.specs.Prelude.{◌≡◌}
 use Rattle.gic_inputs.specs.declared.inputs.Inputs.{Inputs}
 use Rattle.gic_volts.specs.RightVolts.{line_volts}
-use Rattle.gic_volts.specs.declared.room.Room.{Room}
+use Rattle.gic_volts.specs.declared.workspace.Workspace.{Workspace}
 
 -- it has the voltage of each line in the field that is asked for
-abbrev pub IsMadeFor : Inputs → Room → Type 0
-IsMadeFor inputs room = room.nanovolts.items ≡ line_volts inputs.case inputs.question.north inputs.question.east
+abbrev pub IsMadeFor : Inputs → Workspace → Type 0
+IsMadeFor inputs workspace = workspace.nanovolts.items ≡ line_volts inputs.case inputs.question.north inputs.question.east

@@ -4,7 +4,7 @@ use Rattle.gic_case.specs.Lists.{Lists}
 use Rattle.gic_induce.specs.LineVolts.{all_line_volts, uniform_field}
 use Rattle.gic_text.specs.Lines.{lines_text}
 use Rattle.gic_volts.specs.VoltsText.{volts_report}
-use Rattle.gic_screen.specs.declared.asked.Question.{Question}
+use Rattle.gic_criteria.specs.declared.asked.Question.{Question}
 use Rattle.gic_inputs.specs.declared.inputs.Inputs.{Inputs}
 
 -- the voltage of each line in nanovolts, blocked ones too, in one field for all zones

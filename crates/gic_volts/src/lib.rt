@@ -1,11 +1,11 @@
-//! The mode `volts`: the voltages of the lines of a case in one field.
+//! The mode `volts`: the induced voltages of the lines of a case in one field.
 #![tactic(auto)]
 
 pub mod laws;
 mod lines;
 mod mode;
-mod room;
 mod text;
+mod workspace;
 
 pub use mode::volts;
-pub use room::{Room, make_room};
+pub use workspace::{Workspace, make_workspace};

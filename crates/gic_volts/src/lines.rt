@@ -1,13 +1,13 @@
 //! The voltages of the lines of a case.
 ghost use Rattle.std.specs.Prelude.{◌≡◌, length, IfOk};
 ghost use Rattle.gic_induce.specs.LineVolts.{all_line_volts};
-ghost use Rattle.gic_screen.specs.Ranges.{IsWithinRanges};
+ghost use Rattle.gic_criteria.specs.Ranges.{IsWithinRanges};
 ghost use Rattle.gic_volts.specs.RightVolts.{line_volts};
 
 use gic_base::OutOfMemory;
 use gic_case::Case;
+use gic_criteria::Question;
 use gic_induce::Fields;
-use gic_screen::Question;
 use std::alloc::{AllocError, Global};
 
 /// The voltage of each line in these fields of the zones, in nanovolts.

@@ -8,12 +8,12 @@ ghost use Rattle.gic_stand.specs.Standing.{steps_of};
 ghost use Rattle.gic_volts.specs.Made.{IsMadeFor};
 ghost use Rattle.gic_volts.specs.RightVolts.{IsRightVolts};
 
-use crate::room::Room;
 use crate::text::write_volts;
+use crate::workspace::Workspace;
 use gic_base::{Sink, WriteFailed};
 use gic_case::Case;
+use gic_criteria::Question;
 use gic_inputs::Inputs;
-use gic_screen::Question;
 use gic_stand::{ReportFault, ended};
 use gic_text::LineBuilder;
 
@@ -39,16 +39,20 @@ fn write_lines<S: Sink>(
 }
 
 /// Writes the voltage of each line in nanovolts, in the field that is asked for. Takes no memory.
-pub fn volts<S: Sink>(inputs: &Inputs, room: &mut Room, out: &mut S) -> Result<(), ReportFault>
-    requires { IsMadeFor inputs.now room.old }
+pub fn volts<S: Sink>(
+    inputs: &Inputs,
+    workspace: &mut Workspace,
+    out: &mut S,
+) -> Result<(), ReportFault>
+    requires { IsMadeFor inputs.now workspace.old }
     ensures { Serves Nothing inputs.now.case (steps_of inputs.now) (IsRightVolts inputs.now)
         (shown S.written S.faults out.old) (shown S.written S.faults out.new) result }
 {
     let writing = write_lines(
         &inputs.case,
         &inputs.question,
-        &room.nanovolts,
-        &mut room.line,
+        &workspace.nanovolts,
+        &mut workspace.line,
         out,
     );
     ended(writing)

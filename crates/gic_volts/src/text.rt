@@ -9,7 +9,7 @@ use gic_report::{write_field_line, write_word};
 use gic_text::LineBuilder;
 
 /// Writes the line of a voltage.
-#[tactic(auto, using(gic_text::proofs::Sizes::line_room))]
+#[tactic(auto, using(gic_text::proofs::Sizes::line_space))]
 fn write_volts_line<S: Sink>(
     name: &Name,
     nanovolts: i64,

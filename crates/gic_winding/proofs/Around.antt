@@ -80,25 +80,25 @@ of_windings P first_bus place neutral (w ∷ ws) h = (h (role_of w.role) (first_
 
 -- places before and after
 all_taken : {X : Type 0} (n i bound : ℕ) (xs : List X) → i + n ≤ bound → AllByRecursion (λ p. p.0 < bound) (take n (enumerate_from i xs))
-all_taken zero i bound xs room = tt
-all_taken (suc n) i bound [] room = tt
-all_taken (suc n) i bound (x ∷ xs) room = (omega arith, all_taken n (i + 1) bound xs (omega arith))
+all_taken zero i bound xs space = tt
+all_taken (suc n) i bound [] space = tt
+all_taken (suc n) i bound (x ∷ xs) space = (omega arith, all_taken n (i + 1) bound xs (omega arith))
 
 all_dropped : {X : Type 0} (n i bound : ℕ) (xs : List X) → bound ≤ i + n → AllByRecursion (λ p. bound ≤ p.0) (drop n (enumerate_from i xs))
-all_dropped zero i bound [] room = tt
-all_dropped (suc n) i bound [] room = tt
-all_dropped zero i bound (x ∷ xs) room = (omega arith, all_dropped zero (i + 1) bound xs (omega arith))
-all_dropped (suc n) i bound (x ∷ xs) room = all_dropped n (i + 1) bound xs (omega arith)
+all_dropped zero i bound [] space = tt
+all_dropped (suc n) i bound [] space = tt
+all_dropped zero i bound (x ∷ xs) space = (omega arith, all_dropped zero (i + 1) bound xs (omega arith))
+all_dropped (suc n) i bound (x ∷ xs) space = all_dropped n (i + 1) bound xs (omega arith)
 
 -- the elements before the windings of the transformer at the place t, and those after them
-abbrev pub front_of : Lists → ℕ → List Element
-front_of c t = earthings_of c ++ (lines_of c ++ flat_map (winding_part c) (take t (enumerate_from 0 (neutrals_of c))))
+abbrev pub prefix_of : Lists → ℕ → List Element
+prefix_of c t = earthings_of c ++ (lines_of c ++ flat_map (winding_part c) (take t (enumerate_from 0 (neutrals_of c))))
 
-abbrev pub back_of : Lists → ℕ → List Element
-back_of c t = flat_map (winding_part c) (drop (suc t) (enumerate_from 0 (neutrals_of c))) ++ resistors_of c
+abbrev pub suffix_of : Lists → ℕ → List Element
+suffix_of c t = flat_map (winding_part c) (drop (suc t) (enumerate_from 0 (neutrals_of c))) ++ resistors_of c
 
-pub front_before : (c : Lists) (t : ℕ) → AllByRecursion (IsBefore t) (front_of c t)
-front_before c t =
+pub prefix_before : (c : Lists) (t : ℕ) → AllByRecursion (IsBefore t) (prefix_of c t)
+prefix_before c t =
     let first_bus = length c.substations in
     let earthings = all_of_parts (λ p. Unit {0}) (IsBefore t) earthing_part (λ p h. earthing_before t p.0 p.1.ground) (enumerate_from 0 c.substations) (anything _) in
     let lines = all_of_parts (λ p. Unit {0}) (IsBefore t) (line_part c) (λ p h. line_before t first_bus p.0 p.1) (enumerate_from 0 c.lines) (anything _) in
@@ -106,8 +106,8 @@ front_before c t =
     (λ p h. of_windings (IsBefore t) first_bus p.0 p.1.0 (windings_of p.1.1) (λ r from to ohm. winding_before t p.0 r from to ohm h)) (take t (enumerate_from 0 (neutrals_of c))) (all_taken t 0 t (neutrals_of c) (omega arith)) in
     all_joined (IsBefore t) _ _ earthings (all_joined (IsBefore t) _ _ lines windings)
 
-pub back_after : (c : Lists) (t : ℕ) → AllByRecursion (IsAfter t) (back_of c t)
-back_after c t =
+pub suffix_after : (c : Lists) (t : ℕ) → AllByRecursion (IsAfter t) (suffix_of c t)
+suffix_after c t =
     let first_bus = length c.substations in
     let windings = all_of_parts (λ (p : ℕ × (ℕ × Transformer)). suc t ≤ p.0) (IsAfter t) (winding_part c)
     (λ p h. of_windings (IsAfter t) first_bus p.0 p.1.0 (windings_of p.1.1) (λ r from to ohm. winding_after t p.0 r from to ohm h)) (drop (suc t) (enumerate_from 0 (neutrals_of c))) (all_dropped (suc t) 0 (suc t) (neutrals_of c) (omega arith)) in
@@ -121,7 +121,7 @@ regrouped : (e l f w b r whole : List Element) → whole ≡ f ++ (w ++ b) → e
 regrouped e l f w b r whole h = ap (λ z. e ++ (l ++ (z ++ r))) h ∙ simp append_assoc
 
 pub around : (c : Lists) (t : ℕ) (d : ℕ × Transformer) → t < length c.transformers
-    → element_list c ≡ front_of c t ++ (winding_part c (t, get_or (neutrals_of c) t d) ++ back_of c t)
+    → element_list c ≡ prefix_of c t ++ (winding_part c (t, get_or (neutrals_of c) t d) ++ suffix_of c t)
 around c t d inside =
     let ns = enumerate_from 0 (neutrals_of c) in
     let within : t < length (neutrals_of c) = omega (arith, length-neutrals_of c) in

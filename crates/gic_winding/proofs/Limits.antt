@@ -40,7 +40,7 @@ length-node_names c =
 few_devices : (ts : List Transformer) → length (with_device ts) ≤ length ts
 few_devices ts = omega (arith, length-filter (λ (t : Transformer). is_some t.neutral) ts, count_by-le-length (λ (t : Transformer). is_some t.neutral) ts)
 
--- at most so many elements a part
+-- at most a given number of elements a part
 length_of_parts : {X : Type 0} (most : ℕ) (part : ℕ × X → List Element) → ((i : ℕ) (x : X) → length (part (i, x)) ≤ most) → (i : ℕ) (xs : List X) → length (flat_map part (enumerate_from i xs)) ≤ most * length xs
 length_of_parts most part each i [] = omega arith
 length_of_parts most part each i (x ∷ xs) =

@@ -22,33 +22,33 @@ use Rattle.gic_winding.specs.Order.{comes_before, weighted_from}
 use Rattle.gic_winding.proofs.Neutrals.{transformer_of}
 use Rattle.gic_winding.proofs.Parts.{winding_part}
 use Rattle.gic_winding.proofs.Parted.{middle_kept}
-use Rattle.gic_winding.proofs.Around.{is_its, IsBefore, IsAfter, IsIts, front_of, back_of, front_before, back_after, windings_its, around}
+use Rattle.gic_winding.proofs.Around.{is_its, IsBefore, IsAfter, IsIts, prefix_of, suffix_of, prefix_before, suffix_after, windings_its, around}
 
 -- the place that parts what comes before from the rest
 pub first_place : (c : Lists) (t : ℕ) (list : List Element) (result : ℕ) → t < length c.transformers → list ≡ (elements_of c).list
-    → ((front back : List Element) → list ≡ front ++ back → AllByRecursion (λ e. comes_before e.item t ≡ true) front → AllByRecursion (λ e. comes_before e.item t ≡ false) back → result ≡ length front)
-    → result ≡ length (front_of c t)
+    → ((prefix suffix : List Element) → list ≡ prefix ++ suffix → AllByRecursion (λ e. comes_before e.item t ≡ true) prefix → AllByRecursion (λ e. comes_before e.item t ≡ false) suffix → result ≡ length prefix)
+    → result ≡ length (prefix_of c t)
 unfolding elements_of
 first_place c t list result inside is found =
     let d : ℕ × Transformer = (0, no_transformer) in
     let its = winding_part c (t, get_or (neutrals_of c) t d) in
     let later = λ (e : Element). comes_before e.item t ≡ false in
-    found (front_of c t) (its ++ back_of c t) (is ∙ around c t d inside)
-    (weaker (IsBefore t) (λ e. comes_before e.item t ≡ true) (λ e h. h.first) (front_of c t) (front_before c t))
-    (all_joined later its (back_of c t)
+    found (prefix_of c t) (its ++ suffix_of c t) (is ∙ around c t d inside)
+    (weaker (IsBefore t) (λ e. comes_before e.item t ≡ true) (λ e h. h.first) (prefix_of c t) (prefix_before c t))
+    (all_joined later its (suffix_of c t)
     (weaker (IsIts t) later (λ e h. h.later) its (windings_its (length c.substations) t (get_or (neutrals_of c) t d).0 (windings_of (get_or (neutrals_of c) t d).1)))
-    (weaker (IsAfter t) later (λ e h. h.later) (back_of c t) (back_after c t)))
+    (weaker (IsAfter t) later (λ e h. h.later) (suffix_of c t) (suffix_after c t)))
 
 windings_there : (c : Lists) (t : ℕ) (d : ℕ × Transformer) → t < length c.transformers
-    → windings_at (elements_of c) t ≡ enumerate_from (length (front_of c t)) (winding_part c (t, get_or (neutrals_of c) t d))
+    → windings_at (elements_of c) t ≡ enumerate_from (length (prefix_of c t)) (winding_part c (t, get_or (neutrals_of c) t d))
 unfolding elements_of
 windings_there c t d inside =
     let its = winding_part c (t, get_or (neutrals_of c) t d) in
     ap (λ es. filter (λ p. is_its t p.1) (enumerate_from 0 es)) (around c t d inside)
-    ∙ middle_kept (is_its t) 0 (front_of c t) its (back_of c t)
-    (weaker (IsBefore t) (λ e. is_its t e ≡ false) (λ e h. h.other) (front_of c t) (front_before c t))
+    ∙ middle_kept (is_its t) 0 (prefix_of c t) its (suffix_of c t)
+    (weaker (IsBefore t) (λ e. is_its t e ≡ false) (λ e h. h.other) (prefix_of c t) (prefix_before c t))
     (weaker (IsIts t) (λ e. is_its t e ≡ true) (λ e h. h.its) its (windings_its (length c.substations) t (get_or (neutrals_of c) t d).0 (windings_of (get_or (neutrals_of c) t d).1)))
-    (weaker (IsAfter t) (λ e. is_its t e ≡ false) (λ e h. h.other) (back_of c t) (back_after c t))
+    (weaker (IsAfter t) (λ e. is_its t e ≡ false) (λ e h. h.other) (suffix_of c t) (suffix_after c t))
     ∙ ap (λ n. enumerate_from n its) (omega arith)
 
 -- a winding's place with its weight
@@ -91,11 +91,11 @@ turn_inside t first turn = subst (λ o. IfSome o (λ w. w.0.0 < first + length (
     by None h = tt
     by (Some w) h = omega (arith, h w refl)
 
-pub weighted_there : (c : Lists) (t : ℕ) (row : Transformer) → t < length c.transformers → row ≡ get_or c.transformers t row → weighted_windings c t ≡ weighted_from row (length (front_of c t))
+pub weighted_there : (c : Lists) (t : ℕ) (row : Transformer) → t < length c.transformers → row ≡ get_or c.transformers t row → weighted_windings c t ≡ weighted_from row (length (prefix_of c t))
 weighted_there c t row inside at =
     let d : ℕ × Transformer = (0, row) in
     let first_bus = length c.substations in
-    let n = length (front_of c t) in
+    let n = length (prefix_of c t) in
     let neutral = (get_or (neutrals_of c) t d).0 in
     let it : (get_or (neutrals_of c) t d).1 ≡ row = transformer_of c t 0 row inside at in
     let same : transformer_at c t ≡ row = get_or_default c.transformers t no_transformer row inside ∙ sym at in
@@ -104,7 +104,7 @@ weighted_there c t row inside at =
     ∙ ap (λ (w : Transformer). weighed_by (weight_of row) (enumerate_from n (winding_elements first_bus t neutral (windings_of w))) (windings_of row)) it
     ∙ in_turn (weight_of row) (winding_element first_bus t neutral) n (windings_of row)
 
-pub windings_fit : (c : Lists) (t : ℕ) (row : Transformer) → t < length c.transformers → row ≡ get_or c.transformers t row → length (front_of c t) + length (windings_of row) ≤ length (elements_of c).list
+pub windings_fit : (c : Lists) (t : ℕ) (row : Transformer) → t < length c.transformers → row ≡ get_or c.transformers t row → length (prefix_of c t) + length (windings_of row) ≤ length (elements_of c).list
 unfolding elements_of
 windings_fit c t row inside at =
     let d : ℕ × Transformer = (0, row) in
@@ -114,8 +114,8 @@ windings_fit c t row inside at =
     let count : length its ≡ length (windings_of row) =
     length-map (windings_of (get_or (neutrals_of c) t d).1) (winding_element (length c.substations) t neutral) ∙ ap (λ (w : Transformer). length (windings_of w)) it in
     let whole = ap length (around c t d inside) in
-    let outer = length-append (front_of c t) (its ++ back_of c t) in
-    let inner = length-append its (back_of c t) in
+    let outer = length-append (prefix_of c t) (its ++ suffix_of c t) in
+    let inner = length-append its (suffix_of c t) in
     omega (arith, count, whole, outer, inner)
 
 -- where the windings of a transformer are, and what they weigh
@@ -125,7 +125,7 @@ pub record IsThere (c : Lists) (network : Network) (t first : ℕ) (row : Transf
   pub row_at : transformer_at c t ≡ row
 
 pub is_there : (c : Lists) (network : Network) (t first : ℕ) (row : Transformer) → t < length c.transformers → network ≡ elements_of c
-    → ((front back : List Element) → network.list ≡ front ++ back → AllByRecursion (λ e. comes_before e.item t ≡ true) front → AllByRecursion (λ e. comes_before e.item t ≡ false) back → first ≡ length front)
+    → ((prefix suffix : List Element) → network.list ≡ prefix ++ suffix → AllByRecursion (λ e. comes_before e.item t ≡ true) prefix → AllByRecursion (λ e. comes_before e.item t ≡ false) suffix → first ≡ length prefix)
     → row ≡ get_or c.transformers t row → IsThere c network t first row
 is_there c network t first row inside is found at =
     let place = first_place c t network.list first inside (ap (λ n. n.list) is) found in

@@ -29,8 +29,8 @@ pub record IsPlaced {X : Type 0} (bound : ℕ) (P : X → Type 0) (p : ℕ × X)
   pub fact : P p.1
 
 pub all_placed : {X : Type 0} (bound : ℕ) (P : X → Type 0) (i : ℕ) (xs : List X) → i + length xs ≤ bound → AllByRecursion P xs → AllByRecursion (IsPlaced bound P) (enumerate_from i xs)
-all_placed bound P i [] room h = tt
-all_placed bound P i (x ∷ xs) room h = (record { below = omega arith; fact = h.0 }, all_placed bound P (i + 1) xs (omega arith) h.1)
+all_placed bound P i [] space h = tt
+all_placed bound P i (x ∷ xs) space h = (record { below = omega arith; fact = h.0 }, all_placed bound P (i + 1) xs (omega arith) h.1)
 
 other_number : (a b : ℕ) → a ≢ b → (a == b) ≡ false
 other_number a b apart = grind (arith, nat_tests, apart)
@@ -109,9 +109,9 @@ pub resistor_within : (nodes place neutral grid : ℕ) (device : Option Neutral)
 resistor_within nodes place neutral grid None apart inside h = tt
 resistor_within nodes place neutral grid (Some (devices.Resistor ohm)) apart inside h =
     let below : grid < neutral = apart refl in
-    let room : neutral < nodes = inside refl in (
+    let space : neutral < nodes = inside refl in (
       record {
-        from_node = room;
+        from_node = space;
         to_end = omega arith;
         ends_differ = other_number _ _ (λ same. omega arith);
         one_or_three = inl refl;

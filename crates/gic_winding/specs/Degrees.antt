@@ -1,4 +1,4 @@
--- What the laws say of the elements of sound cases: how many end at a node, and that they are within the limits.
+-- What the theorems say of the elements of sound cases: how many end at a node, and that they are within the limits.
 use Rattle.std.specs.Prelude.{◌≡◌, ℕ, count_by}
 use Rattle.gic_case.specs.Lists.{Lists, element_ends, degree_of}
 use Rattle.gic_case.specs.Sound.{IsSound}

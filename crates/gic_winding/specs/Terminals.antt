@@ -1,4 +1,4 @@
--- What the law says of the currents at an autotransformer's terminals.
+-- What the theorem says of the currents at an autotransformer's terminals.
 use Rattle.std.specs.Prelude.{◌≡◌, ◌≤◌, true, ℤ, pos, ◌+ℤ◌, ◌-ℤ◌, ◌*ℤ◌}
 use Rattle.gic_case.specs.declared.item.Transformer.{Transformer}
 use Rattle.gic_case.specs.declared.winding.WindingEnd.TheVariants as ends

@@ -57,7 +57,7 @@ fn weighed(
     turn: u16,
 ) -> Option<(ElementId, u32)>
     requires all { windings.now ≡ windings_of transformer.now }
-    requires room { first + turn < 2 ^ 16 }
+    requires space { first + turn < 2 ^ 16 }
     ensures { result ≡ slice_get (weighted_from transformer.now first) turn }
 {
     match windings.get(turn as usize) {

@@ -1,4 +1,4 @@
-//! The elements of a case, and the weights of a transformer's windings in its effective current.
+//! The direct-current network of a case: branches of lines and windings, and the weights of effective GIC.
 #![tactic(auto)]
 
 mod effective;

@@ -12,9 +12,9 @@ use gic_model::{Element, Item};
 pub fn first_winding(list: &[Element], transformer: u16) -> u16
     requires { length list.now ≤ MOST_ELEMENTS }
     ensures inside { result ≤ length list.now }
-    ensures parted { (front back : List Element) → list.now ≡ front ++ back →
-        AllByRecursion (λ e. comes_before e.item transformer ≡ true) front →
-        AllByRecursion (λ e. comes_before e.item transformer ≡ false) back → result ≡ length front }
+    ensures parted { (prefix suffix : List Element) → list.now ≡ prefix ++ suffix →
+        AllByRecursion (λ e. comes_before e.item transformer ≡ true) prefix →
+        AllByRecursion (λ e. comes_before e.item transformer ≡ false) suffix → result ≡ length prefix }
 {
     list.partition_point(|element| comes_before(element.item, transformer)) as u16
 }

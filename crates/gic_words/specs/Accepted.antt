@@ -1,7 +1,7 @@
 -- What accepted words give: what their mode requires, with numbers in their ranges.
 use Rattle.std.specs.Prelude.{ℕ, ◌≤◌, ◌≡◌, List, IsSome, IsOk, IfOk, IfSome, None, ⊤}
 use Rattle.clap.specs.Words.{Row}
-use Rattle.gic_screen.specs.Ranges.{IsWidth, IsWithinCriteria, IsWithinField}
+use Rattle.gic_criteria.specs.Ranges.{IsWidth, IsWithinCriteria, IsWithinField}
 use Rattle.gic_words.specs.Command.{given}
 use Rattle.gic_words.specs.Requests.{first_fault, mode_in, number_given, request_by, request_of}
 use Rattle.gic_words.specs.Table.{all_options}

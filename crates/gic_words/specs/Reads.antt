@@ -7,7 +7,7 @@ use Rattle.gic_words.specs.declared.fault.Usage.TheVariants as usage
 use Rattle.gic_words.specs.declared.fault.WordsRefusal.{WordsRefusal}
 use Rattle.gic_words.specs.declared.fault.WordsRefusal.TheVariants as refusal
 
--- the answer is that of the words, want of memory aside
+-- the answer is that of the words, except out of memory
 abbrev pub ReadsWords : Result Request Usage → Result Request WordsRefusal → Type 0
 ReadsWords right (Ok r) = right ≡ Ok r
 ReadsWords right (Err (refusal.Usage u)) = right ≡ Err u

@@ -5,7 +5,7 @@ use Rattle.clap.specs.Words.{Kinds, Row}
 use Rattle.gic_base.specs.Passes.{◌>>=◌}
 use Rattle.gic_words.specs.Table.{ModeRow, all_options, form_of, row_named, use_of}
 use Rattle.gic_words.specs.Command.{given, given_mode, faults_of, matches_of_words}
-use Rattle.gic_screen.specs.declared.event.Event.{Event as NamedEvent}
+use Rattle.gic_criteria.specs.declared.event.Event.{Event as NamedEvent}
 use Rattle.gic_words.specs.Values.{event_of, number_in}
 use Rattle.gic_words.specs.declared.option.Opt.{Opt}
 use Rattle.gic_words.specs.declared.option.Opt.TheVariants.{Case, Storm, Switch, North, East, Width, Detail, Seed, Size, Event, Cert, Transformer}
@@ -15,9 +15,9 @@ use Rattle.gic_words.specs.declared.mode.Mode.{Mode}
 use Rattle.gic_words.specs.declared.mode.Mode.TheVariants as mode
 use Rattle.gic_words.specs.declared.request.Request.{Request}
 use Rattle.gic_words.specs.declared.request.Request.TheVariants as request
-use Rattle.gic_screen.specs.Questions.{no_field, usual_criteria}
-use Rattle.gic_screen.specs.declared.asked.Criteria.{Criteria}
-use Rattle.gic_screen.specs.declared.asked.UniformField.{UniformField}
+use Rattle.gic_criteria.specs.Questions.{no_field, usual_criteria}
+use Rattle.gic_criteria.specs.declared.asked.Criteria.{Criteria}
+use Rattle.gic_criteria.specs.declared.asked.UniformField.{UniformField}
 use Rattle.gic_words.specs.declared.mode.Use.{Use}
 use Rattle.gic_words.specs.declared.mode.Use.TheVariants.{Required, Allowed, Unused}
 use Rattle.gic_words.specs.declared.fault.Usage.{Usage}

@@ -1,11 +1,11 @@
-//! Laws over the definitions, each the contract of a function that does nothing.
+//! Theorems over the definitions, each the contract of a function that does nothing.
 ghost use Rattle.std.specs.Prelude.{◌≡◌, IsSome, List, [], ◌∷◌, codes, pos, negsuc, Some, None, Ok, Err};
 ghost use Rattle.clap.specs.Words.{Row};
 ghost use Rattle.gic_words.specs.declared.mode.Use.TheVariants.{Required};
 ghost use Rattle.gic_words.specs.declared.option.Opt.{Opt};
 ghost use Rattle.gic_words.specs.declared.option.Opt.TheVariants.{Case, Switch, North, Event};
-ghost use Rattle.gic_screen.specs.declared.event.Event.TheVariants.{Supplemental};
-ghost use Rattle.gic_screen.specs.Questions.{usual_criteria};
+ghost use Rattle.gic_criteria.specs.declared.event.Event.TheVariants.{Supplemental};
+ghost use Rattle.gic_criteria.specs.Questions.{usual_criteria};
 ghost use Rattle.gic_words.specs.declared.fault.Usage.TheVariants as usage;
 ghost use Rattle.gic_words.specs.Command.{given};
 ghost use Rattle.gic_words.specs.Table.{ModeRow, all_options, use_of};

@@ -2,7 +2,7 @@
 ghost use Rattle.std.specs.Prelude.{◌≡◌, ◌≤◌, IfOk, IfSome, IsSome, Ok, Some, map, option_map, string_bytes, unsigned_abs};
 ghost use Rattle.clap.specs.Words.{rows_of, found_of};
 ghost use Rattle.gic_base.specs.declared.limits.TheConstants.{MOST_FIELD};
-ghost use Rattle.gic_screen.specs.Ranges.{IsWidth, IsWithinCriteria, IsWithinField};
+ghost use Rattle.gic_criteria.specs.Ranges.{IsWidth, IsWithinCriteria, IsWithinField};
 ghost use Rattle.gic_words.specs.Accepted.{AreWithinRanges, HasRequiredOf, IsSize};
 ghost use Rattle.gic_words.specs.Command.{given};
 ghost use Rattle.gic_words.specs.Within.{IsWithinOption};
@@ -18,7 +18,7 @@ use crate::name::{FileName, Text};
 use crate::option::Opt;
 use crate::value::{read_event, read_number};
 use clap::ArgMatches;
-use gic_screen::{Criteria, Event, UniformField};
+use gic_criteria::{Criteria, Event, UniformField};
 use std::alloc::{AllocError, Global};
 
 /// What words ask for: a mode, and what that mode is given. `case`, `storm`, `switch` and `cert` are the names of the files
@@ -328,7 +328,7 @@ fn read_matches(alloc: Global, matches: &ArgMatches<'_>) -> Result<Request, Word
 }
 
 /// What the words ask for, or their first fault: `Words`, then `Mode`, then those of the options in the order of their
-/// table. `Memory` comes for want of memory alone.
+/// table. `Memory` comes where memory runs out, and only there.
 pub fn read_words(alloc: Global, words: &[String]) -> Result<Request, WordsRefusal>
     ensures right { ReadsWords (request_of (map string_bytes words.now)) result }
     ensures taken { KeepsTaken (map string_bytes words.now) result }

@@ -1,4 +1,4 @@
-//! The program `gicstudy`: analyses geomagnetically induced currents in a transmission network.
+//! The program `gicstudy`: geomagnetically induced currents in a transmission network, with proved bounds.
 #![tactic(auto)]
 
 use gic_study::run;
@@ -7,7 +7,7 @@ use std::alloc::Global;
 use std::process::ExitCode;
 use std::{env, io};
 
-/// The words after the program's name. An error is want of memory for them, or a word that is no text in UTF-8.
+/// The words after the program's name. An error is that memory ran out for them, or a word that is no text in UTF-8.
 fn words(rt: &HostRuntime, alloc: Global) -> io::Result<Vec<String>> {
     Ok(env::args(rt)?.skip(1).collect(alloc)?)
 }

@@ -34,7 +34,7 @@ fn greatest(so_far: Option<SeenTotal>, next: SeenTotal) -> SeenTotal
 }
 
 /// Adds the line that begins with this word and tells of these totals.
-#[tactic(auto, using(gic_text::proofs::Sizes::line_room))]
+#[tactic(auto, using(gic_text::proofs::Sizes::line_space))]
 fn print_greatest(
     alloc: Global,
     word: &[u8],

@@ -1,5 +1,5 @@
 use Rattle.std.proofs.Common.{rules, None, Ok, Err}
-use Rattle.gic_screen.specs.Questions.{no_field, question_of, usual_criteria}
+use Rattle.gic_criteria.specs.Questions.{no_field, question_of, usual_criteria}
 use Rattle.gic_words.specs.declared.request.Request.TheVariants as request
 use Rattle.gic_ask.specs.Contents.{names_in}
 use Rattle.gic_ask.specs.Outcome.{reading_network}

@@ -6,7 +6,7 @@ use Rattle.gic_ask.specs.declared.fault.File.TheVariants as file
 use Rattle.gic_ask.specs.declared.request.Asked.TheVariants.{Recheck}
 use Rattle.gic_ask.proofs.InTurn.{reads_by, among, first_fails, then_reads, last_step, last_fails}
 use Rattle.gic_ask.proofs.AllNamed.{up_to_certificate, in_question}
-use Rattle.gic_screen.specs.Questions.{no_field, question_of, usual_criteria}
+use Rattle.gic_criteria.specs.Questions.{no_field, question_of, usual_criteria}
 use Rattle.gic_ask.proofs.gathering.recheck.Goals as goal
 
 pub returns-in_err-inputs-clause-reads : goal.returns-in_err-inputs-clause-reads

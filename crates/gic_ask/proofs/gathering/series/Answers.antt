@@ -5,7 +5,7 @@ use Rattle.gic_ask.specs.declared.fault.File.TheVariants as file
 use Rattle.gic_ask.specs.declared.request.Asked.TheVariants.{Series}
 use Rattle.gic_ask.proofs.InTurn.{reads_by, file_fails, file_read, last_step, last_fails}
 use Rattle.gic_ask.proofs.AllNamed.{up_to_case, in_question, found, unfound}
-use Rattle.gic_screen.specs.Questions.{no_field, question_of, usual_criteria}
+use Rattle.gic_criteria.specs.Questions.{no_field, question_of, usual_criteria}
 use Rattle.gic_ask.proofs.gathering.series.Goals as goal
 
 pub returns-in_err-case-clause-reads : goal.returns-in_err-case-clause-reads

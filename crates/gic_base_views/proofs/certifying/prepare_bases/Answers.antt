@@ -13,15 +13,15 @@ loop-zone-preserved g c =
     let case = c.args.case.now in
     let i = c.loop-zone.invariant in
     let zone = c.loop-zone.zone in
-    let old = c.loop-zone.room.table in
-    let new = c.prepare_zone.new.room.table in
+    let old = c.loop-zone.workspace.table in
+    let new = c.prepare_zone.new.workspace.table in
     record {
       certified = λ z less. ⊎_elim
           (λ e. subst (λ (n : ℕ). IsCertifiedIn case s (base_rows_of new) n) (sym e) c.prepare_zone.ensures.certified)
-          (λ d. certified_elsewhere case s zone z old new i.room.table (omega (arith, less, c.loop-zone-test.true, c.loop-zone.auto.zone-end, c.zones-zone-end.ensures, c.requires.can.zone_count)) d c.prepare_zone.ensures.others (i.certified z (omega (arith, less, d))))
+          (λ d. certified_elsewhere case s zone z old new i.workspace.table (omega (arith, less, c.loop-zone-test.true, c.loop-zone.auto.zone-end, c.zones-zone-end.ensures, c.requires.can.zone_count)) d c.prepare_zone.ensures.others (i.certified z (omega (arith, less, d))))
           (cases_eq z zone);
       can = c.prepare_zone.ensures.can;
-      room = c.prepare_zone.ensures.room;
+      workspace = c.prepare_zone.ensures.workspace;
       ticks = omega (arith, c.prepare_zone.ensures.ticks, i.ticks);
     }
 
@@ -30,7 +30,7 @@ returns-clause-certified g c =
     subst (λ (t : BaseTable). AreCertifiedRows c.args.case.now (standing c.args.net.now) (base_rows_of t)) (sym c.choose_numbers.ensures)
     (λ zone less. c.loop-zone.invariant.certified zone (omega (arith, less, c.loop-zone-test.false, c.loop-zone.auto.zone-end, c.zones-zone-end.ensures, c.requires.can.zone_count)))
 
-pub returns-clause-room : goal.returns-clause-room
-returns-clause-room g c =
-    let room = c.loop-zone.invariant.room in
-    record { north = room.north; east = room.east; table = subst (IsTableOf c.args.case.now) (sym c.choose_numbers.ensures) room.table }
+pub returns-clause-workspace : goal.returns-clause-workspace
+returns-clause-workspace g c =
+    let workspace = c.loop-zone.invariant.workspace in
+    record { north = workspace.north; east = workspace.east; table = subst (IsTableOf c.args.case.now) (sym c.choose_numbers.ensures) workspace.table }

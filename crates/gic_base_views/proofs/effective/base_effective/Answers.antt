@@ -13,7 +13,7 @@ use Rattle.gic_winding.specs.declared.weights.Weights.{Weights}
 use Rattle.gic_winding.specs.Weights.{transformer_at, no_transformer, windings_at, weighted_windings}
 use Rattle.gic_effective.specs.WeightedSum.{weighted_sum, total_weight}
 use Rattle.gic_effective.specs.Weighted.{effective_numerator}
-use Rattle.gic_effective.proofs.Weighings.{AreAtMost, current_in, all_summed, winding_holds, weights_at_most, weights_most, sums_nought, quotients_nought}
+use Rattle.gic_effective.proofs.Weighings.{AreAtMost, current_in, all_summed, winding_holds, weights_at_most, weights_most, sums_zero, quotients_zero}
 use Rattle.gic_base_views.proofs.Bases.{narrow_from, base_within}
 use Rattle.gic_base_views.proofs.effective.base_effective.Goals as goal
 
@@ -54,9 +54,9 @@ returns-clause-holds c holds s solves =
     let volts = number_at c.args.volts.now in
     let xs = c.args.potentials.now in
     let w = c.effective_weights-weights.result in
-    let one = c.winding_or_nought-first in
-    let other = c.winding_or_nought-second in
-    let last = c.winding_or_nought-third in
+    let one = c.winding_or_zero-first in
+    let other = c.winding_or_zero-second in
+    let last = c.winding_or_zero-third in
     let result = c.effective_na.result in
     let first = winding_holds stand volts xs w.first one.result.lo one.result.hi s one.ensures.shown solves (holds s solves) in
     let second = winding_holds stand volts xs w.second other.result.lo other.result.hi s other.ensures.shown solves (holds s solves) in
@@ -64,22 +64,22 @@ returns-clause-holds c holds s solves =
     let exact = c.effective_na.ensures.holds (current_in s w.first) (current_in s w.second) (current_in s w.third) s.denominator first second third in
     subst₂ (λ (n : ℤ) (v : ℕ). Encloses result.lo result.hi n (3 * v * s.denominator)) (sum_is c s) (volts_are c) exact
 
-pub returns-clause-nought : goal.returns-clause-nought
-returns-clause-nought c none =
+pub returns-clause-zeroed : goal.returns-clause-zeroed
+returns-clause-zeroed c none =
     let w = c.effective_weights-weights.result in
-    let one = c.winding_or_nought-first in
-    let other = c.winding_or_nought-second in
-    let last = c.winding_or_nought-third in
+    let one = c.winding_or_zero-first in
+    let other = c.winding_or_zero-second in
+    let last = c.winding_or_zero-third in
     let result = c.effective_na.result in
     let some : 0 < 3 * w.high_volts = omega (arith, rated c) in
-    let sums = sums_nought (standing c.args.net.now) (number_at c.args.volts.now) c.args.potentials.now (weighted_windings c.args.case.now c.args.transformer) w
+    let sums = sums_zero (standing c.args.net.now) (number_at c.args.volts.now) c.args.potentials.now (weighted_windings c.args.case.now c.args.transformer) w
     one.result.lo one.result.hi other.result.lo other.result.hi last.result.lo last.result.hi c.effective_weights-weights.ensures.all one.ensures.shown other.ensures.shown last.ensures.shown none in
-    quotients_nought _ _ result.lo result.hi (3 * w.high_volts) some c.effective_na.ensures.low c.effective_na.ensures.high sums.0 sums.1
+    quotients_zero _ _ result.lo result.hi (3 * w.high_volts) some c.effective_na.ensures.low c.effective_na.ensures.high sums.0 sums.1
 
 pub returns-clause-narrow : goal.returns-clause-narrow
 returns-clause-narrow c tight =
     narrow_from (ends_of c.effective_na.result) 401 (omega arith) c.effective_na.result.ordered
-    (c.effective_na.ensures.tight (most c) (c.winding_or_nought-first.ensures.tight tight) (c.winding_or_nought-second.ensures.tight tight) (c.winding_or_nought-third.ensures.tight tight))
+    (c.effective_na.ensures.tight (most c) (c.winding_or_zero-first.ensures.tight tight) (c.winding_or_zero-second.ensures.tight tight) (c.winding_or_zero-third.ensures.tight tight))
 
 pub returns-clause-small : goal.returns-clause-small
 returns-clause-small c = base_within c.effective_na.result.lo c.effective_na.result.hi (c.effective_na.ensures.small (most c))

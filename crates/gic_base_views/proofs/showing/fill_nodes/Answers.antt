@@ -21,7 +21,7 @@ loop-node-preserved c =
     let x = optional_ends c.node_interval.result in
     let new = c.set_node.new.self in
     let lists : new.nodes ≡ slice_set xs at x = ap (λ (v : View). v.nodes) c.set_node.ensures in
-    let inside : at < length xs = omega (arith, c.loop-node-test.true, c.nodes-node-end.ensures.value, c.requires.room, i.count) in
+    let inside : at < length xs = omega (arith, c.loop-node-test.true, c.nodes-node-end.ensures.value, c.requires.space, i.count) in
     record {
       shown = λ k below. subst (λ ys. P k (slice_index_or ys k None)) (sym lists) (filled P xs None x at inside i.shown c.node_interval.ensures k below);
       rest = nodes_alone c.args.out.now c.loop-node.out new (slice_set xs at x) i.rest c.set_node.ensures;

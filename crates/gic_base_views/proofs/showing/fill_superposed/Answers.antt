@@ -13,8 +13,8 @@ fill_nodes-requires-clause-rows c = record {
   zone_count = c.requires.table.nodes.zone_count ∙ sym c.requires.zones;
 }
 
-pub fill_nodes-requires-clause-room : goal.fill_nodes-requires-clause-room
-fill_nodes-requires-clause-room c = c.requires.room.nodes ∙ sym (nodes_named c.args.case.now) ∙ sym (ap (λ (n : Network). n.nodes) c.requires.net)
+pub fill_nodes-requires-clause-space : goal.fill_nodes-requires-clause-space
+fill_nodes-requires-clause-space c = c.requires.space.nodes ∙ sym (nodes_named c.args.case.now) ∙ sym (ap (λ (n : Network). n.nodes) c.requires.net)
 
 pub fill_elements-requires-clause-rows : goal.fill_elements-requires-clause-rows
 fill_elements-requires-clause-rows c = record {
@@ -22,14 +22,14 @@ fill_elements-requires-clause-rows c = record {
   zone_count = c.requires.table.elements.zone_count ∙ sym c.requires.zones;
 }
 
-pub fill_elements-requires-clause-room : goal.fill_elements-requires-clause-room
-fill_elements-requires-clause-room c = ap (λ (v : View). length v.elements) c.fill_nodes.ensures.rest ∙ c.requires.room.elements ∙ sym (ap (λ (n : Network). length n.list) c.requires.net)
+pub fill_elements-requires-clause-space : goal.fill_elements-requires-clause-space
+fill_elements-requires-clause-space c = ap (λ (v : View). length v.elements) c.fill_nodes.ensures.rest ∙ c.requires.space.elements ∙ sym (ap (λ (n : Network). length n.list) c.requires.net)
 
 pub fill_effective-requires : goal.fill_effective-requires
 fill_effective-requires c = record {
   rows = record {
     place_count =
-        c.requires.table.effective.place_count ∙ sym c.requires.room.transformers
+        c.requires.table.effective.place_count ∙ sym c.requires.space.transformers
         ∙ sym (ap (λ (v : View). length v.effective) c.fill_nodes.ensures.rest) ∙ sym (ap (λ (v : View). length v.effective) c.fill_elements.ensures.rest);
     zone_count = c.requires.table.effective.zone_count ∙ sym c.requires.zones;
   };
@@ -42,10 +42,10 @@ elements_are : (c : goal.After-fill_effective) → c.fill_effective.new.out.elem
 elements_are c = ap (λ (v : View). v.elements) c.fill_effective.ensures.rest
 
 node_count : (c : goal.After-fill_effective) → length c.fill_nodes.new.out.nodes ≡ length (node_names c.args.case.now)
-node_count c = c.fill_nodes.ensures.count ∙ c.requires.room.nodes
+node_count c = c.fill_nodes.ensures.count ∙ c.requires.space.nodes
 
 element_count : (c : goal.After-fill_effective) → length c.fill_elements.new.out.elements ≡ length (elements_of c.args.case.now).list
-element_count c = c.fill_elements.ensures.count ∙ ap (λ (v : View). length v.elements) c.fill_nodes.ensures.rest ∙ c.requires.room.elements
+element_count c = c.fill_elements.ensures.count ∙ ap (λ (v : View). length v.elements) c.fill_nodes.ensures.rest ∙ c.requires.space.elements
 
 lengths_are : (c : goal.After-fill_effective) → HasViewLengths c.args.case.now c.fill_effective.new.out
 lengths_are c = record {
@@ -53,7 +53,7 @@ lengths_are c = record {
   elements = ap length (elements_are c) ∙ element_count c;
   transformers =
       c.fill_effective.ensures.count ∙ ap (λ (v : View). length v.effective) c.fill_elements.ensures.rest
-      ∙ ap (λ (v : View). length v.effective) c.fill_nodes.ensures.rest ∙ c.requires.room.transformers;
+      ∙ ap (λ (v : View). length v.effective) c.fill_nodes.ensures.rest ∙ c.requires.space.transformers;
 }
 
 pub returns-clause-view : goal.returns-clause-view

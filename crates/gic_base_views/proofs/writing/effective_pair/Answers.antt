@@ -8,5 +8,5 @@ returns-clause-certified c = record {
     holds = record { to_north = c.base_effective.ensures.holds c.requires.north.holds; to_east = c.base_effective-2.ensures.holds c.requires.east.holds };
     narrow = record { north = c.base_effective.ensures.narrow c.requires.north.tight; east = c.base_effective-2.ensures.narrow c.requires.east.tight };
   };
-  nought = λ none. ap₂ (λ (n e : Ends). record { north = n; east = e }) (c.base_effective.ensures.nought none) (c.base_effective-2.ensures.nought none);
+  zeroed = λ none. ap₂ (λ (n e : Ends). record { north = n; east = e }) (c.base_effective.ensures.zeroed none) (c.base_effective-2.ensures.zeroed none);
 }

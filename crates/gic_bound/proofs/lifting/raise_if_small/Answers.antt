@@ -16,9 +16,9 @@ returns-clause-under c =
     let raised = up_held net.network.nodes all (standing_within net.network (stands net) c.within_limits.ensures) low cap c.args.out.now c.requires.nodes (starts_held all cap low c.requires.below) c.args.node.0 small in
     subst (λ (vs : List ℕ). IsUnderHeld all low cap (slice_index vs)) (sym c.raise.ensures) raised
 
-pub raise-requires-clause-room : goal.raise-requires-clause-room
-raise-requires-clause-room c =
+pub raise-requires-clause-space : goal.raise-requires-clause-space
+raise-requires-clause-space c =
     let small = c.is_too_small.ensures.0 c.if-not-is_too_small.false in
-    let room = small.room in
+    let space = small.space in
     let most = c.keeps_full.ensures c.args.node.0 in
-    omega (arith, room, most)
+    omega (arith, space, most)

@@ -1,5 +1,5 @@
 use Rattle.std.proofs.Common.{ℕ, ℤ, List, [], ◌∷◌, ap, sym, subst}
-use Rattle.gic_cert.specs.CertRoomFor.{IsCertRoomFor}
+use Rattle.gic_cert.specs.CertWorkspaceFor.{IsCertWorkspaceFor}
 use Rattle.gic_model.specs.Network.{Network}
 use Rattle.gic_model.specs.Sums.{Placed}
 use Rattle.gic_net.specs.Net.{standing}
@@ -11,15 +11,15 @@ use Rattle.gic_certify.proofs.mode.certify.Goals as goal
 
 pub certify_net-requires-clause-places : goal.certify_net-requires-clause-places
 certify_net-requires-clause-places g c =
-    subst (λ n. IsCertRoomFor n c.args.room.certificate) (sym (ap (λ (n : Network). n.nodes) c.requires.room.network)) c.requires.room.certificate
+    subst (λ n. IsCertWorkspaceFor n c.args.workspace.certificate) (sym (ap (λ (n : Network). n.nodes) c.requires.workspace.network)) c.requires.workspace.certificate
 
 pub returns : goal.returns
 returns g c =
     let inputs = c.args.inputs.now in
     let case = inputs.case in
     let question = inputs.question in
-    let room = c.args.room in
-    in_field case inputs.switchings question.north question.east (standing room.net) room.volts
+    let workspace = c.args.workspace in
+    in_field case inputs.switchings question.north question.east (standing workspace.net) workspace.volts
     (λ (s : List Placed) (v : ℕ → ℤ). Serves Solved case (s ∷ []) (ShowsPassing case s v question.north question.east)
     (shown g.S.Sink.written g.S.Sink.faults c.args.out.now) (shown g.S.Sink.written g.S.Sink.faults c.certify_net.new.out) c.certify_net.result)
-    c.requires.room.stands c.requires.room.volts c.certify_net.ensures
+    c.requires.workspace.stands c.requires.workspace.volts c.certify_net.ensures

@@ -9,19 +9,19 @@ pub from_solver-certificate-requires-clause-certifiable : goal.from_solver-certi
 from_solver-certificate-requires-clause-certifiable c =
     let net = c.args.net.now in
     let volts = c.args.volts.now in
-    let room = c.settle_guesses.new.room in
+    let workspace = c.settle_guesses.new.workspace in
     let ready = c.settle_guesses.ensures.ready in
     let settled = c.settle_guesses.ensures.settled in
     let nodes : (elements_of c.args.case.now).nodes ≡ net.network.nodes = sym (ap (λ (n : Network). n.nodes) c.requires.net) in
     record {
       volt_count = c.requires.volts;
-      guess_count = ready.has_room.solver ∙ nodes;
-      entry_count = ready.has_room.vector ∙ nodes;
+      guess_count = ready.has_workspace.solver ∙ nodes;
+      entry_count = ready.has_workspace.vector ∙ nodes;
       bound = ready.bound;
       settled = settled;
       written = λ k live.
-          let below : unsigned_abs (number_at room.solver k) < 2 ^ 94 =
-          c.potential_bound_law.ensures.guesses net.network (stands net) (number_at volts) (number_at room.solver) k
+          let below : unsigned_abs (number_at workspace.solver k) < 2 ^ 94 =
+          c.potential_bound_law.ensures.guesses net.network (stands net) (number_at volts) (number_at workspace.solver) k
           c.within_limits.ensures ready.solvable.within c.within_limit.ensures settled live in
           omega (arith, below);
     }

@@ -15,7 +15,7 @@ returns g c =
     let stands = standing_of inputs.case inputs.switchings in
     served Earthed inputs.case (steps_of inputs) (IsRightCheck inputs) _ _ _ c.write_live-writing.result c.ended.result
     (met_once Earthed stands (subst AreEarthed c.requires.stands c.in_ok-expect_earthed.ensures.earthed))
-    (subst (λ (s : List Placed). check_text inputs.case (standing c.args.room.now.net) ≡ check_text inputs.case s) c.requires.stands refl)
+    (subst (λ (s : List Placed). check_text inputs.case (standing c.args.workspace.now.net) ≡ check_text inputs.case s) c.requires.stands refl)
     c.write_live-writing.ensures.all c.write_live-writing.ensures.part c.write_live-writing.ensures.cause c.ended.ensures
 
 pub returns-in_err-expect_earthed : goal.returns-in_err-expect_earthed

@@ -14,12 +14,12 @@ pub returns-clause-shown : goal.returns-clause-shown
 returns-clause-shown c =
     let case = c.args.case.now in
     let stand = standing c.args.net.now in
-    let room = c.solve_fields.new.room in
+    let workspace = c.solve_fields.new.workspace in
     let view = c.fill_view.new.out in
     let done = c.solve_fields.ensures in
-    let induced : room.volts ≡ volts_of case c.args.room.now.fields (elements_of case).list = done.induced ∙ ap (λ (n : Network). volts_of case c.args.room.now.fields n.list) c.requires.network in
+    let induced : workspace.volts ≡ volts_of case c.args.workspace.now.fields (elements_of case).list = done.induced ∙ ap (λ (n : Network). volts_of case c.args.workspace.now.fields n.list) c.requires.network in
     record {
-      right = subst (λ (v : List ℤ). IsRightView case stand (number_at v) view) induced (c.fill_view.ensures.right (certain_holds stand (number_at room.volts) room.workspace.potentials done.solved.certain));
+      right = subst (λ (v : List ℤ). IsRightView case stand (number_at v) view) induced (c.fill_view.ensures.right (certain_holds stand (number_at workspace.volts) workspace.solve_workspace.potentials done.solved.certain));
       narrow = c.fill_view.ensures.narrow _ c.args.width (omega (arith, c.requires.width.least)) done.solved.sharp;
       absolutes = have_absolutes view c.fill_view.ensures.small;
       driven = subst (λ (v : List ℤ). AreVolts (number_at v)) induced c.within_limit.ensures;

@@ -19,9 +19,9 @@ show_fields-requires-clause-can c =
         volts = ready.space.volts;
         zones = ap length c.fill_fields.ensures ∙ fields-count _ _ ∙ ready.storm;
         superposes = ready.space.superposes;
-        base_room = ready.space.base_room;
+        base_workspace = ready.space.base_workspace;
       };
-      settled = settled_with_fields c.args.way c.args.inputs.now.case c.args.net.now c.args.room.now _ ready.settled;
+      settled = settled_with_fields c.args.way c.args.inputs.now.case c.args.net.now c.args.workspace.now _ ready.settled;
     }
 
 both_told : (view numbered timed : View) (number time : ℕ) → numbered ≡ record view { number = number } → timed ≡ record numbered { time = time } → timed ≡ record view { number = number; time = time }

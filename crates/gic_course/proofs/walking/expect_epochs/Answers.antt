@@ -29,7 +29,7 @@ loop-place-preserved c =
           (walked_at inputs c.args.epochs.now i _ c.loop-place-test.true c.loop-place.invariant.walked) c.in_ok-expect_epoch.ensures.solvable;
       seen = λ some. c.in_ok-expect_epoch.ensures.net;
       switched = c.expect_epoch.ensures.switched;
-      space = c.expect_epoch.ensures.room;
+      space = c.expect_epoch.ensures.workspace;
     }
 
 pub returns-clause-met : goal.returns-clause-met

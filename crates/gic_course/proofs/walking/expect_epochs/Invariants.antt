@@ -2,7 +2,7 @@ use Rattle.std.proofs.Common.{◌<◌, drop}
 use Rattle.gic_net.specs.Net.{standing}
 use Rattle.gic_stand.specs.Standing.{IsSolvable}
 use Rattle.gic_course.specs.Ready.{IsSwitchedFor}
-use Rattle.gic_course.specs.RoomFor.{IsRoomForCourse}
+use Rattle.gic_course.specs.WorkspaceFor.{IsWorkspaceForCourse}
 use Rattle.gic_course.proofs.Walked.{Walked}
 use Rattle.gic_course.proofs.walking.expect_epochs.Given as goal
 
@@ -12,5 +12,5 @@ invariant-loop-place l = record {
   walked : Walked l.inputs (drop l.place l.epochs);
   seen : 0 < l.place → IsSolvable (standing l.switched.net);
   switched : IsSwitchedFor l.inputs l.switched;
-  space : IsRoomForCourse l.inputs.case l.room;
+  space : IsWorkspaceForCourse l.inputs.case l.workspace;
 }

@@ -12,7 +12,7 @@ use Rattle.gic_winding.specs.declared.weights.Weights.{Weights}
 use Rattle.gic_winding.specs.Weights.{transformer_at, no_transformer, windings_at, weighted_windings}
 use Rattle.gic_effective.specs.WeightedSum.{weighted_sum}
 use Rattle.gic_effective.specs.Weighted.{effective_numerator}
-use Rattle.gic_effective.proofs.Weighings.{AreAtMost, current_in, all_summed, winding_holds, winding_narrow, weights_at_most, weights_most, sums_nought, quotients_nought}
+use Rattle.gic_effective.proofs.Weighings.{AreAtMost, current_in, all_summed, winding_holds, winding_narrow, weights_at_most, weights_most, sums_zero, quotients_zero}
 use Rattle.gic_effective.proofs.view.effective_interval.Goals as goal
 
 row_is : (c : goal.After-signed_effective) → transformer_at c.args.case.now c.args.transformer ≡ c.index-transformers-transformer.result
@@ -59,10 +59,10 @@ returns c =
             let third = winding_holds stand volts xs w.third last.result.lo last.result.hi s last.ensures.shown solves (holds s solves) in
             let exact = c.signed_effective.ensures.holds (current_in s w.first) (current_in s w.second) (current_in s w.third) s.denominator first second third in
             subst₂ (λ (n : ℤ) (v : ℕ). Encloses result.lo result.hi n (3000000 * v * s.denominator)) (sum_is c s) (volts_are c) exact;
-        nought = λ none.
-            let sums = sums_nought stand volts xs (weighted_windings c.args.case.now c.args.transformer) w one.result.lo one.result.hi other.result.lo other.result.hi last.result.lo last.result.hi
+        zeroed = λ none.
+            let sums = sums_zero stand volts xs (weighted_windings c.args.case.now c.args.transformer) w one.result.lo one.result.hi other.result.lo other.result.hi last.result.lo last.result.hi
             c.effective_weights-weights.ensures.all one.ensures.shown other.ensures.shown last.ensures.shown none in
-            quotients_nought _ _ result.lo result.hi (3000000 * w.high_volts) some c.signed_effective.ensures.low c.signed_effective.ensures.high sums.0 sums.1;
+            quotients_zero _ _ result.lo result.hi (3000000 * w.high_volts) some c.signed_effective.ensures.low c.signed_effective.ensures.high sums.0 sums.1;
       };
       narrow = λ width sharp.
           let most = weights_most (transformer_at c.args.case.now c.args.transformer) (windings_at (elements_of c.args.case.now) c.args.transformer) w (order c) c.effective_weights-weights.ensures.all in

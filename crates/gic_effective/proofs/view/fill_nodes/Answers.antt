@@ -16,7 +16,7 @@ loop-node-preserved c =
     let x = optional_ends c.node_interval.result in
     let new = c.set_node.new.self in
     let lists : new.nodes ≡ slice_set xs at x = ap (λ (v : View). v.nodes) c.set_node.ensures in
-    let inside : at < length xs = omega (arith, c.loop-node-test.true, c.nodes-node-end.ensures.value, c.requires.room, i.count) in
+    let inside : at < length xs = omega (arith, c.loop-node-test.true, c.nodes-node-end.ensures.value, c.requires.space, i.count) in
     record {
       shown = λ volts k below. subst (λ ys. IsShownNode (standing c.args.net.now) volts c.args.potentials.now k (slice_index_or ys k None)) (sym lists)
           (filled (IsShownNode (standing c.args.net.now) volts c.args.potentials.now) xs None x at inside (i.shown volts) (c.node_interval.ensures volts) k below);

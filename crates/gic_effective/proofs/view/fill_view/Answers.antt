@@ -13,11 +13,11 @@ use Rattle.gic_effective.specs.ViewLengths.{HasViewLengths}
 use Rattle.gic_winding.proofs.Limits.{nodes_named}
 use Rattle.gic_effective.proofs.view.fill_view.Goals as goal
 
-pub fill_nodes-requires-clause-room : goal.fill_nodes-requires-clause-room
-fill_nodes-requires-clause-room c = c.requires.room.nodes ∙ sym (nodes_named c.args.case.now) ∙ sym (ap (λ (n : Network). n.nodes) c.requires.net)
+pub fill_nodes-requires-clause-space : goal.fill_nodes-requires-clause-space
+fill_nodes-requires-clause-space c = c.requires.space.nodes ∙ sym (nodes_named c.args.case.now) ∙ sym (ap (λ (n : Network). n.nodes) c.requires.net)
 
-pub fill_elements-requires-clause-room : goal.fill_elements-requires-clause-room
-fill_elements-requires-clause-room c = ap (λ (v : View). length v.elements) c.fill_nodes.ensures.rest ∙ c.requires.room.elements ∙ sym (ap (λ (n : Network). length n.list) c.requires.net)
+pub fill_elements-requires-clause-space : goal.fill_elements-requires-clause-space
+fill_elements-requires-clause-space c = ap (λ (v : View). length v.elements) c.fill_nodes.ensures.rest ∙ c.requires.space.elements ∙ sym (ap (λ (n : Network). length n.list) c.requires.net)
 
 nodes_are : (c : goal.After-fill_effective) → c.fill_effective.new.out.nodes ≡ c.fill_nodes.new.out.nodes
 nodes_are c = ap (λ (v : View). v.nodes) c.fill_effective.ensures.rest ∙ ap (λ (v : View). v.nodes) c.fill_elements.ensures.rest
@@ -26,10 +26,10 @@ elements_are : (c : goal.After-fill_effective) → c.fill_effective.new.out.elem
 elements_are c = ap (λ (v : View). v.elements) c.fill_effective.ensures.rest
 
 node_count : (c : goal.After-fill_effective) → length c.fill_nodes.new.out.nodes ≡ length (node_names c.args.case.now)
-node_count c = c.fill_nodes.ensures.count ∙ c.requires.room.nodes
+node_count c = c.fill_nodes.ensures.count ∙ c.requires.space.nodes
 
 element_count : (c : goal.After-fill_effective) → length c.fill_elements.new.out.elements ≡ length (elements_of c.args.case.now).list
-element_count c = c.fill_elements.ensures.count ∙ ap (λ (v : View). length v.elements) c.fill_nodes.ensures.rest ∙ c.requires.room.elements
+element_count c = c.fill_elements.ensures.count ∙ ap (λ (v : View). length v.elements) c.fill_nodes.ensures.rest ∙ c.requires.space.elements
 
 lengths_are : (c : goal.After-fill_effective) → HasViewLengths c.args.case.now c.fill_effective.new.out
 lengths_are c = record {
@@ -37,7 +37,7 @@ lengths_are c = record {
   elements = ap length (elements_are c) ∙ element_count c;
   transformers =
       c.fill_effective.ensures.count ∙ ap (λ (v : View). length v.effective) c.fill_elements.ensures.rest
-      ∙ ap (λ (v : View). length v.effective) c.fill_nodes.ensures.rest ∙ c.requires.room.transformers;
+      ∙ ap (λ (v : View). length v.effective) c.fill_nodes.ensures.rest ∙ c.requires.space.transformers;
 }
 
 pub returns-clause-lengths : goal.returns-clause-lengths

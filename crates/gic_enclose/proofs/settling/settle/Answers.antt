@@ -4,7 +4,7 @@ use Rattle.gic_model.specs.Voltages.{number_at}
 use Rattle.gic_model.specs.Guess.{IsSettled}
 use Rattle.gic_net.specs.Net.{standing, stands}
 use Rattle.gic_enclose.specs.Near.{AreNearGuesses}
-use Rattle.gic_enclose.proofs.Turns.{left, room, less, phase_done}
+use Rattle.gic_enclose.proofs.Turns.{left, space, less, phase_done}
 use Rattle.gic_enclose.proofs.settling.settle.Goals as goal
 
 pub loop-phase-init : goal.loop-phase-init
@@ -29,7 +29,7 @@ loop-turn-preserved g c =
     let i = c.loop-turn.invariant in
     let swept : IsSweep (standing net) volts y z = subst (λ (g : List ℤ). IsSweep (standing net) volts (number_at g) z) c.is_seen_settled.ensures.same c.sweep-in-loop-turn.ensures.sweep in
     let next = c.sweeps_converge_law.ensures.next net.network (stands net) volts i.near.0 y z v (left phase turn) (2 ^ (97 - phase)) c.within_limits.ensures c.requires.bound c.within_limit.ensures
-    (room phase turn c.loop-phase-test.true c.loop-turn-test.true) i.near.1 swept in
+    (space phase turn c.loop-phase-test.true c.loop-turn-test.true) i.near.1 swept in
     record {
       near = (y, subst (λ (n : ℕ). AreNearGuesses (standing net) volts v n y z) (less phase turn c.loop-phase-test.true c.loop-turn-test.true) next);
       same_length = omega (arith, c.sweep-in-loop-turn.ensures.same_length, ap length c.is_seen_settled.ensures.same, i.same_length);

@@ -1,4 +1,4 @@
-use Rattle.gic_screen.specs.Event.{threshold_of}
+use Rattle.gic_criteria.specs.Event.{threshold_of}
 use Rattle.gic_field.proofs.TrueVerdicts.{right_absolutes, true_verdicts}
 use Rattle.gic_field.proofs.laws.field_verdicts_law.Goals as goal
 

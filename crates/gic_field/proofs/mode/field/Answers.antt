@@ -22,14 +22,14 @@ returns g c =
     let inputs = c.args.inputs.now in
     let case = inputs.case in
     let question = inputs.question in
-    let room = c.args.room.now in
-    let stands = standing room.net in
-    let volts : ℕ → ℤ = number_at room.volts in
+    let workspace = c.args.workspace.now in
+    let stands = standing workspace.net in
+    let volts : ℕ → ℤ = number_at workspace.volts in
     let before = shown g.S.Sink.written g.S.Sink.faults c.args.out.now in
     let now = shown g.S.Sink.written g.S.Sink.faults c.write_view-writing.new.out in
-    in_field case inputs.switchings question.north question.east stands room.volts
+    in_field case inputs.switchings question.north question.east stands workspace.volts
     (λ (s : List Placed) (v : ℕ → ℤ). Serves Solved case (s ∷ []) (ShowsRightView case s v question) before now c.ended.result)
-    c.requires.room.stands c.requires.room.volts
+    c.requires.workspace.stands c.requires.workspace.volts
     (served Solved case _ (ShowsRightView case stands volts question) _ _ _ c.write_view-writing.result c.ended.result
     (met_once Solved stands c.in_ok-expect_solvable.ensures.ready.solvable)
     (record { view = c.solve_view.new.view; right = c.solve_view.ensures.solved.right; narrow = c.solve_view.ensures.solved.narrow; text_is = refl })
@@ -41,4 +41,4 @@ returns-in_err-expect_solvable g c =
     let refusal = c.in_err-expect_solvable.field-0.0 in
     unserved_network Solved inputs.case (standing_of inputs.case inputs.switchings) (IsRightField inputs) (shown g.S.Sink.written g.S.Sink.faults c.args.out.now) refusal
     c.from_residual.result c.from_residual.ensures.1
-    (subst (λ (s : List Placed). Fails Solved inputs.case 1 s refusal) c.requires.room.stands c.in_err-expect_solvable.ensures.err)
+    (subst (λ (s : List Placed). Fails Solved inputs.case 1 s refusal) c.requires.workspace.stands c.in_err-expect_solvable.ensures.err)

@@ -1,7 +1,7 @@
 use Rattle.std.proofs.Common.{arith, ap, ◌∙◌, pos, ◌+ℤ◌, to_z, of_z}
 use Rattle.std.specs.Int.{w128}
 use Rattle.std.proofs.lemmas.Int.{to_z-of_z}
-use Rattle.gic_fixed.proofs.Ceilings.{is_divided, for_multiple, for_others, for_room}
+use Rattle.gic_fixed.proofs.Ceilings.{is_divided, for_multiple, for_others, for_space}
 use Rattle.gic_fixed.proofs.long.ends_of.Goals as goal
 
 pub returns-then-parts-rest_of_a_multiple-clause-high : goal.returns-then-parts-rest_of_a_multiple-clause-high
@@ -22,5 +22,5 @@ returns-else-parts-rest_of_a_multiple-clause-high c =
     let is = is_divided c.args.number (to_z-of_z w128 c.args.number c.ranges.number) (omega arith) (parts.whole, parts.rest) (deep.above, deep.below) (over.above, over.below) (low.above, low.below) in
     let no = c.if-parts-rest_of_a_multiple.false in
     let kept = to_z-of_z w128 c.on_side_of-low.result (record { sfits = c.on_side_of-low.type_inv }) in
-    let sum = to_z-of_z w128 _ (for_room _ _ _ _ _ _ is no c.ranges.number) in
+    let sum = to_z-of_z w128 _ (for_space _ _ _ _ _ _ is no c.ranges.number) in
     for_others _ _ _ _ _ _ _ is no (ap (λ k. to_z w128 (of_z w128 (k +ℤ pos 1))) kept ∙ sum)

@@ -16,16 +16,16 @@ use Rattle.gic_make.proofs.mode.make.Goals as goal
 pub summarise-summary-requires-clause-some : goal.summarise-summary-requires-clause-some
 summarise-summary-requires-clause-some g c =
     let sized = c.made_cases_law.ensures.size c.args.seed c.args.size (omega (arith, c.ranges.seed.fits)) c.requires.least c.requires.most in
-    let room = c.args.room.now in
-    let nodes : room.net.network.nodes ≡ 2 * c.args.size =
-    ap (λ (n : Network). n.nodes) c.requires.room.network ∙ ap (λ (case : Lists). (elements_of case).nodes) c.requires.room.case_is ∙ sized.nodes in
+    let workspace = c.args.workspace.now in
+    let nodes : workspace.net.network.nodes ≡ 2 * c.args.size =
+    ap (λ (n : Network). n.nodes) c.requires.workspace.network ∙ ap (λ (case : Lists). (elements_of case).nodes) c.requires.workspace.case_is ∙ sized.nodes in
     omega (arith, nodes, c.requires.least)
 
 pub summarise-summary-requires-clause-solvable : goal.summarise-summary-requires-clause-solvable
 summarise-summary-requires-clause-solvable g c =
-    let room = c.args.room.now in
-    let made : standing_of room.case None ≡ standing_of (made_case c.args.seed c.args.size) None = ap (λ (case : Lists). standing_of case None) c.requires.room.case_is in
-    subst (λ (s : List Placed). IsSolvable s) (sym (c.requires.room.stands ∙ made))
+    let workspace = c.args.workspace.now in
+    let made : standing_of workspace.case None ≡ standing_of (made_case c.args.seed c.args.size) None = ap (λ (case : Lists). standing_of case None) c.requires.workspace.case_is in
+    subst (λ (s : List Placed). IsSolvable s) (sym (c.requires.workspace.stands ∙ made))
     (made_solvable c.limits_law.ensures c.made_cases_law.ensures.sound c.made_cases_law.ensures.earthed c.made_cases_law.ensures.near
     c.args.seed c.args.size (omega (arith, c.ranges.seed.fits)) c.requires.least c.requires.most)
 
@@ -33,13 +33,13 @@ pub returns : goal.returns
 returns g c =
     let seed = c.args.seed in
     let size = c.args.size in
-    let room = c.args.room.now in
-    let case = room.case in
+    let workspace = c.args.workspace.now in
+    let case = workspace.case in
     let summary = c.summarise-summary.result in
     let answer : IsRightSummary (made_case seed size) (standing_of (made_case seed size) None) (benchmark_volts (made_case seed size)) summary =
-    subst (λ (made : Lists). IsRightSummary made (standing_of made None) (benchmark_volts made) summary) c.requires.room.case_is
-    (subst (λ (v : ℕ → ℤ). IsRightSummary case (standing_of case None) v summary) c.requires.room.volts
-    (subst (λ (s : List Placed). IsRightSummary case s (number_at room.volts) summary) c.requires.room.stands c.summarise-summary.ensures)) in
+    subst (λ (made : Lists). IsRightSummary made (standing_of made None) (benchmark_volts made) summary) c.requires.workspace.case_is
+    (subst (λ (v : ℕ → ℤ). IsRightSummary case (standing_of case None) v summary) c.requires.workspace.volts
+    (subst (λ (s : List Placed). IsRightSummary case s (number_at workspace.volts) summary) c.requires.workspace.stands c.summarise-summary.ensures)) in
     let right : IsRightMake seed size _ = record { shown = summary; answer = answer; text_is = refl } in
     served Nothing (made_case seed size) _ (IsRightMake seed size) _ _ _ c.write_make-writing.result c.ended.result
     (met_nothing (standing_of (made_case seed size) None ∷ [])) right

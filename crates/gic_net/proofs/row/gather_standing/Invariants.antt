@@ -5,7 +5,7 @@ use Rattle.gic_net.proofs.row.gather_standing.Given as goal
 
 abbrev pub invariant-loop-place : goal.invariant-loop-place
 invariant-loop-place l = record {
-  room : length l.all ≤ length l.front;
+  space : length l.all ≤ length l.standing_first;
   behind : l.degree ≤ l.place-index;
-  front : take l.degree l.front ≡ filter (stands_by l.list l.opened) (take l.place-index l.all);
+  standing_first : take l.degree l.standing_first ≡ filter (stands_by l.list l.opened) (take l.place-index l.all);
 }

@@ -6,11 +6,11 @@ use Rattle.gic_fixed.specs.Ends.{ends_of, zero_ends}
 use Rattle.gic_report.specs.declared.counts.Counts.{Counts}
 use Rattle.gic_report.specs.Counts.{counted, total_of}
 use Rattle.gic_report.proofs.CountedVerdicts.{total_at, counts_next}
-use Rattle.gic_screen.specs.declared.criterion.Verdict.{Verdict}
-use Rattle.gic_screening.specs.declared.rows.ScreenRow.{ScreenRow}
+use Rattle.gic_criteria.specs.declared.criterion.Verdict.{Verdict}
+use Rattle.gic_worst.specs.declared.rows.ScreenRow.{ScreenRow}
 use Rattle.gic_report.specs.VerdictText.{verdict_in}
-use Rattle.gic_screening.specs.RightRows.{worst_verdict_at}
-use Rattle.gic_screening.specs.Rows.{screen_row_of}
+use Rattle.gic_worst.specs.RightRows.{worst_verdict_at}
+use Rattle.gic_worst.specs.Rows.{screen_row_of}
 use Rattle.gic_winding.specs.Weights.{transformer_at, no_transformer}
 use Rattle.gic_outage.specs.Outages.{worst_at}
 use Rattle.gic_outage.specs.Taking.{worsts_in}

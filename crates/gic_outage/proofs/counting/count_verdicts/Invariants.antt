@@ -1,8 +1,8 @@
 use Rattle.std.proofs.Common.{◌≡◌, map}
 use Rattle.std.specs.List.{range_with_len}
 use Rattle.gic_report.specs.Counts.{counts_of}
-use Rattle.gic_screening.specs.RightRows.{worst_verdict_at}
-use Rattle.gic_screening.specs.Rows.{screen_row_of}
+use Rattle.gic_worst.specs.RightRows.{worst_verdict_at}
+use Rattle.gic_worst.specs.Rows.{screen_row_of}
 use Rattle.gic_outage.specs.Outages.{worst_at}
 use Rattle.gic_outage.specs.Taking.{worsts_in}
 use Rattle.gic_outage.proofs.counting.count_verdicts.Given as goal

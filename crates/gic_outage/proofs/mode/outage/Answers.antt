@@ -14,9 +14,9 @@ returns g c =
     let inputs = c.args.inputs.now in
     let planned = length (plan_of inputs.case) in
     let outcomes = c.take_items.new.outcomes in
-    let count : length outcomes ≡ planned = c.take_items.auto.outcomes ∙ ap length c.as_mut_slice-outcomes.ensures.value ∙ c.requires.room.outcomes in
+    let count : length outcomes ≡ planned = c.take_items.auto.outcomes ∙ ap length c.as_mut_slice-outcomes.ensures.value ∙ c.requires.workspace.outcomes in
     served Solved inputs.case (steps_of inputs) (IsRightOutage inputs) _ _ _ c.write_report-writing.result c.ended.result
-    (met_once Solved (standing_of inputs.case inputs.switchings) (subst (λ (s : List Placed). IsSolvable s) c.requires.room.given.stands c.in_ok-expect_solvable.ensures.ready.solvable))
+    (met_once Solved (standing_of inputs.case inputs.switchings) (subst (λ (s : List Placed). IsSolvable s) c.requires.workspace.given.stands c.in_ok-expect_solvable.ensures.ready.solvable))
     (right_outages inputs outcomes c.take_items.new.greatest count c.take_items.ensures.taken)
     c.write_report-writing.ensures.all c.write_report-writing.ensures.part c.write_report-writing.ensures.cause c.ended.ensures
 
@@ -26,4 +26,4 @@ returns-in_err-expect_solvable g c =
     let refusal = c.in_err-expect_solvable.field-0.0 in
     unserved_network Solved inputs.case (standing_of inputs.case inputs.switchings) (IsRightOutage inputs) (shown g.S.Sink.written g.S.Sink.faults c.args.out.now) refusal
     c.from_residual.result c.from_residual.ensures.1
-    (subst (λ (s : List Placed). Fails Solved inputs.case 1 s refusal) c.requires.room.given.stands c.in_err-expect_solvable.ensures.err)
+    (subst (λ (s : List Placed). Fails Solved inputs.case 1 s refusal) c.requires.workspace.given.stands c.in_err-expect_solvable.ensures.err)

@@ -1,6 +1,6 @@
 use Rattle.std.proofs.Common.{◌+◌, ◌<◌, List, Option, length, map, arith, sym, subst}
 use Rattle.gic_fixed.specs.Ends.{Ends, ends_of}
-use Rattle.gic_screening.specs.Rows.{screen_row_of}
+use Rattle.gic_worst.specs.Rows.{screen_row_of}
 use Rattle.gic_outage.specs.Taking.{worsts_in}
 use Rattle.gic_outage.proofs.Raised.{AreRaisedBelow, none_raised, one_raised, row_shown}
 use Rattle.gic_outage.proofs.raising.raise_all.Goals as goal

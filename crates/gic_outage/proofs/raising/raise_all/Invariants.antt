@@ -1,5 +1,5 @@
 use Rattle.std.proofs.Common.{map}
-use Rattle.gic_screening.specs.Rows.{screen_row_of}
+use Rattle.gic_worst.specs.Rows.{screen_row_of}
 use Rattle.gic_outage.specs.Taking.{worsts_in}
 use Rattle.gic_outage.proofs.Raised.{AreRaisedBelow}
 use Rattle.gic_outage.proofs.raising.raise_all.Given as goal

@@ -16,5 +16,5 @@ loop-place-preserved c =
     record {
       taken = next_taken inputs l.place _ c.take_item.result l.outcomes l.greatest c.take_item.new.greatest within own c.take_item.ensures.ended l.invariant.taken;
       net = c.take_item.ensures.net ∙ l.invariant.net;
-      room = c.take_item.ensures.room;
+      workspace = c.take_item.ensures.workspace;
     }

@@ -1,5 +1,5 @@
 use Rattle.std.proofs.Common.{◌≡◌}
-use Rattle.gic_screening.specs.Screening.{IsScreenRoomFor}
+use Rattle.gic_worst.specs.Screening.{IsScreenWorkspaceFor}
 use Rattle.gic_outage.specs.Taking.{HasTaken}
 use Rattle.gic_outage.proofs.run.take_items.Given as goal
 
@@ -8,5 +8,5 @@ abbrev pub invariant-loop-place : goal.invariant-loop-place
 invariant-loop-place l = record {
   taken : HasTaken l.inputs l.place l.outcomes l.greatest;
   net : l.net ≡ l.fn.net;
-  room : IsScreenRoomFor l.inputs.case l.room;
+  workspace : IsScreenWorkspaceFor l.inputs.case l.workspace;
 }

@@ -1,8 +1,8 @@
 use Rattle.std.proofs.Common.{◌∙◌, length, ap}
 use Rattle.gic_outage.proofs.taking.begin_at.Goals as goal
 
-pub returns-clause-room : goal.returns-clause-room
-returns-clause-room c = λ case fit. record {
+pub returns-clause-workspace : goal.returns-clause-workspace
+returns-clause-workspace c = λ case fit. record {
   solving = record {
     scratch = fit.solving.scratch;
     vector = ap length c.copy_from.ensures ∙ c.requires ∙ fit.solving.vector;

@@ -2,7 +2,7 @@ use Rattle.std.proofs.Common.{◌≡◌, List, map, ap, subst, ◌∙◌}
 use Rattle.gic_model.specs.Voltages.{number_at}
 use Rattle.gic_net.specs.Net.{standing}
 use Rattle.gic_report.specs.Counts.{counts_of}
-use Rattle.gic_screening.specs.Rows.{Row, screen_row_of}
+use Rattle.gic_worst.specs.Rows.{Row, screen_row_of}
 use Rattle.gic_outage.specs.RightOutage.{northward_volts, eastward_volts, threshold_asked, worst_verdicts}
 use Rattle.gic_outage.specs.Taking.{worsts_in, AreRaisedBy}
 use Rattle.gic_outage.proofs.Ended.{refused_ended, solved_ended}
@@ -16,7 +16,7 @@ pub returns-clause-ended : goal.returns-clause-ended
 returns-clause-ended c = λ item taken_out without.
     let inputs = c.args.inputs.now in
     let case = inputs.case in
-    let rows = c.screen_net.new.room.rows in
+    let rows = c.screen_net.new.workspace.rows in
     let list = c.rows-rows.result.now in
     let north : number_at c.args.volts.now.north ≡ northward_volts inputs = ap number_at c.requires.volts.in_north in
     let east : number_at c.args.volts.now.east ≡ eastward_volts inputs = ap number_at c.requires.volts.in_east in

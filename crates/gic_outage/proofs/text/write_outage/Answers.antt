@@ -6,8 +6,8 @@ use Rattle.gic_view.specs.Kept.{optional_ends}
 use Rattle.gic_text.specs.Lines.{line_text, lines_text}
 use Rattle.gic_report.specs.SharedLines.{Words, word_line}
 use Rattle.gic_report.proofs.Chained.{writes_as, writes_then, writes_stop}
-use Rattle.gic_screening.specs.declared.setting.Setting.{Setting}
-use Rattle.gic_screening.specs.Setting.{event_setting_line}
+use Rattle.gic_worst.specs.declared.setting.Setting.{Setting}
+use Rattle.gic_worst.specs.Setting.{event_setting_line}
 use Rattle.gic_outage.specs.declared.outcome.Outcome.{Outcome}
 use Rattle.gic_outage.specs.OutageText.{outcome_lines, outage_report, plan_names, greatest_worst_lines}
 use Rattle.gic_outage.proofs.OutageWritten.{framed_blocks}

@@ -9,8 +9,8 @@ use Rattle.gic_recheck.proofs.mode.recheck.Goals as goal
 pub returns : goal.returns
 returns g c = λ bytes read.
     let case = c.args.inputs.now.case in
-    let room = c.args.room.now in
+    let workspace = c.args.workspace.now in
     let before = shown g.S.Sink.written g.S.Sink.faults c.args.out.now in
     let now = shown g.S.Sink.written g.S.Sink.faults c.show.new.out in
     subst (λ (s : List Placed). ServesCertificate case s bytes before now c.show.result) c.requires.stands
-    (c.show.ensures bytes (subst (λ (s : List Placed). cert_of (certificate_nodes case s) bytes ≡ Ok room.cert) (sym c.requires.stands) read))
+    (c.show.ensures bytes (subst (λ (s : List Placed). cert_of (certificate_nodes case s) bytes ≡ Ok workspace.cert) (sym c.requires.stands) read))

@@ -1,5 +1,5 @@
-use Rattle.gic_screen.specs.Event.{threshold_of}
-use Rattle.gic_screening.specs.Rows.{screen_row_at}
+use Rattle.gic_criteria.specs.Event.{threshold_of}
+use Rattle.gic_worst.specs.Rows.{screen_row_at}
 use Rattle.gic_screen_mode.proofs.TrueVerdicts.{verdict_true}
 use Rattle.gic_screen_mode.proofs.laws.screen_verdicts_law.Goals as goal
 

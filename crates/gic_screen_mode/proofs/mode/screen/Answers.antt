@@ -2,7 +2,7 @@ use Rattle.std.proofs.Common.{ℕ, ℤ, List, [], ◌∷◌, pos, refl, subst}
 use Rattle.gic_model.specs.Sums.{Placed}
 use Rattle.gic_model.specs.Voltages.{number_at}
 use Rattle.gic_net.specs.Net.{standing}
-use Rattle.gic_screen.specs.Event.{field_of}
+use Rattle.gic_criteria.specs.Event.{field_of}
 use Rattle.gic_stand.specs.Needs.{Solved, Fails}
 use Rattle.gic_stand.specs.Serves.{Serves, shown}
 use Rattle.gic_stand.specs.Standing.{standing_of}
@@ -17,22 +17,22 @@ returns g c =
     let inputs = c.args.inputs.now in
     let case = inputs.case in
     let question = inputs.question in
-    let room = c.args.room.now in
-    let stands = standing room.net in
-    let north : ℕ → ℤ = number_at room.volts.north in
-    let east : ℕ → ℤ = number_at room.volts.east in
+    let workspace = c.args.workspace.now in
+    let stands = standing workspace.net in
+    let north : ℕ → ℤ = number_at workspace.volts.north in
+    let east : ℕ → ℤ = number_at workspace.volts.east in
     let before = shown g.S.Sink.written g.S.Sink.faults c.args.out.now in
     let now = shown g.S.Sink.written g.S.Sink.faults c.write_rows-writing.new.out in
     let to_east : ℕ → ℤ = uniform_volts case (pos 0) (field_of question.event) in
-    in_field case inputs.switchings (field_of question.event) (pos 0) stands room.volts.north
+    in_field case inputs.switchings (field_of question.event) (pos 0) stands workspace.volts.north
     (λ (s : List Placed) (v : ℕ → ℤ). Serves Solved case (s ∷ []) (ShowsRightRows case s v to_east question) before now c.ended.result)
-    c.requires.room.stands c.requires.room.volts.in_north
-    (in_volts case (pos 0) (field_of question.event) room.volts.east
+    c.requires.workspace.stands c.requires.workspace.volts.in_north
+    (in_volts case (pos 0) (field_of question.event) workspace.volts.east
     (λ (v : ℕ → ℤ). Serves Solved case (stands ∷ []) (ShowsRightRows case stands north v question) before now c.ended.result)
-    c.requires.room.volts.in_east
+    c.requires.workspace.volts.in_east
     (served Solved case _ (ShowsRightRows case stands north east question) _ _ _ c.write_rows-writing.result c.ended.result
     (met_once Solved stands c.in_ok-screen_net.ensures.solvable)
-    (record { rows = c.screen_net.new.room.rows; right = c.in_ok-screen_net.ensures.right; text_is = refl })
+    (record { rows = c.screen_net.new.workspace.rows; right = c.in_ok-screen_net.ensures.right; text_is = refl })
     c.write_rows-writing.ensures.all c.write_rows-writing.ensures.part c.write_rows-writing.ensures.cause c.ended.ensures))
 
 pub returns-in_err-screen_net : goal.returns-in_err-screen_net
@@ -41,4 +41,4 @@ returns-in_err-screen_net g c =
     let refusal = c.in_err-screen_net.field-0.0 in
     unserved_network Solved inputs.case (standing_of inputs.case inputs.switchings) (IsRightScreen inputs) (shown g.S.Sink.written g.S.Sink.faults c.args.out.now) refusal
     c.from_residual.result c.from_residual.ensures.1
-    (subst (λ (s : List Placed). Fails Solved inputs.case 1 s refusal) c.requires.room.stands c.in_err-screen_net.ensures.err)
+    (subst (λ (s : List Placed). Fails Solved inputs.case 1 s refusal) c.requires.workspace.stands c.in_err-screen_net.ensures.err)

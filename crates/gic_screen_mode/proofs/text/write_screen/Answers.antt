@@ -5,10 +5,10 @@ use Rattle.gic_text.specs.Lines.{line_text, lines_text}
 use Rattle.gic_report.specs.SharedLines.{Words, word_line}
 use Rattle.gic_report.proofs.Chained.{writes_as, writes_then, writes_stop}
 use Rattle.gic_report.proofs.Framed.{framed}
-use Rattle.gic_screening.specs.declared.rows.ScreenRow.{ScreenRow}
-use Rattle.gic_screening.specs.declared.setting.Setting.{Setting}
-use Rattle.gic_screening.specs.Rows.{screen_row_of}
-use Rattle.gic_screening.specs.Setting.{event_setting_line}
+use Rattle.gic_worst.specs.declared.rows.ScreenRow.{ScreenRow}
+use Rattle.gic_worst.specs.declared.setting.Setting.{Setting}
+use Rattle.gic_worst.specs.Rows.{screen_row_of}
+use Rattle.gic_worst.specs.Setting.{event_setting_line}
 use Rattle.gic_screen_mode.specs.ScreenText.{screened_transformer_lines, screen_report}
 use Rattle.gic_screen_mode.proofs.text.write_screen.Goals as goal
 

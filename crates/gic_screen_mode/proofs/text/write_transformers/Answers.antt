@@ -5,8 +5,8 @@ use Rattle.std.proofs.lemmas.Slice.Zip.{Zip-more, either_empty_from_Zip}
 use Rattle.gic_text.specs.Lines.{line_text, lines_text}
 use Rattle.gic_case.specs.declared.item.Transformer.{Transformer}
 use Rattle.gic_report.proofs.Written.{begins, goes_on, stops, ends}
-use Rattle.gic_screening.specs.declared.rows.ScreenRow.{ScreenRow}
-use Rattle.gic_screening.specs.Rows.{screen_row_of}
+use Rattle.gic_worst.specs.declared.rows.ScreenRow.{ScreenRow}
+use Rattle.gic_worst.specs.Rows.{screen_row_of}
 use Rattle.gic_screen_mode.specs.ScreenText.{screened_transformer_line, screened_transformer_lines}
 use Rattle.gic_screen_mode.proofs.text.write_transformers.Goals as goal
 

@@ -3,7 +3,7 @@ use Rattle.std.specs.Iterator.Adapters.{zip_first, zip_second}
 use Rattle.std.specs.Slice.Iter.{iter_rest}
 use Rattle.gic_text.specs.Lines.{lines_text}
 use Rattle.gic_report.proofs.Written.{Written}
-use Rattle.gic_screening.specs.Rows.{screen_row_of}
+use Rattle.gic_worst.specs.Rows.{screen_row_of}
 use Rattle.gic_screen_mode.specs.ScreenText.{screened_transformer_lines}
 use Rattle.gic_screen_mode.proofs.text.write_transformers.Given as goal
 

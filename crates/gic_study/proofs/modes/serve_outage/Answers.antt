@@ -1,11 +1,11 @@
 use Rattle.gic_ask.specs.declared.request.Asked.TheVariants.{Outage}
 use Rattle.gic_stand.specs.Serves.{shown}
-use Rattle.gic_study.proofs.Served.{by_report, lacking_room}
+use Rattle.gic_study.proofs.Served.{by_report, lacking_workspace}
 use Rattle.gic_study.proofs.modes.serve_outage.Goals as goal
 
-pub returns-in_err-room : goal.returns-in_err-room
-returns-in_err-room g c = λ plans.
-    lacking_room plans (Outage c.args.inputs.now) (shown g.S.Sink.written g.S.Sink.faults c.args.out.now) c.from_residual.result c.from_residual.ensures.1
+pub returns-in_err-workspace : goal.returns-in_err-workspace
+returns-in_err-workspace g c = λ plans.
+    lacking_workspace plans (Outage c.args.inputs.now) (shown g.S.Sink.written g.S.Sink.faults c.args.out.now) c.from_residual.result c.from_residual.ensures.1
 
 pub returns : goal.returns
 returns g c = λ plans.

@@ -10,7 +10,7 @@ use Rattle.gic_study_mode.proofs.mode.study_steps.Goals as goal
 
 pub write_seen-writing-requires : goal.write_seen-writing-requires
 write_seen-writing-requires g c =
-    zones_of c.args.inputs.now (asked_step c.args.inputs.now c.args.detail) c.args.room.now.fields c.requires.room.course.storm c.requires.room.fields
+    zones_of c.args.inputs.now (asked_step c.args.inputs.now c.args.detail) c.args.workspace.now.fields c.requires.workspace.course.storm c.requires.workspace.fields
 
 pub returns : goal.returns
 returns g c =
@@ -18,8 +18,8 @@ returns g c =
     let before : List View → List (List ℕ) = λ views. map (λ m. (goal.Monitor-dyn g (m.vtable, m.value)).outlook m.value views) (monitors_of c.args.board.now) in
     writing_served inputs _ (IsRightStudy inputs c.args.detail (λ roster views. before views))
     c.write_seen-writing.result c.written_so.result c.in_ok-expect_solvable.ensures.met.solvable
-    (right_study inputs c.args.detail c.asked_step-asked.result before _ c.see_steps.new.views c.args.room.now.fields (map (λ text. text.items) c.as_slice.result.now)
-    c.see_steps.ensures.seen c.asked_step-asked.ensures.value c.asked_step-asked.ensures.step c.requires.room.fields (ap (map (λ text. text.items)) c.as_slice.ensures.value ∙ c.in_ok-texts.ensures.texts))
+    (right_study inputs c.args.detail c.asked_step-asked.result before _ c.see_steps.new.views c.args.workspace.now.fields (map (λ text. text.items) c.as_slice.result.now)
+    c.see_steps.ensures.seen c.asked_step-asked.ensures.value c.asked_step-asked.ensures.step c.requires.workspace.fields (ap (map (λ text. text.items)) c.as_slice.ensures.value ∙ c.in_ok-texts.ensures.texts))
     c.write_seen-writing.ensures c.written_so.ensures
 
 pub returns-in_err-expect_solvable : goal.returns-in_err-expect_solvable

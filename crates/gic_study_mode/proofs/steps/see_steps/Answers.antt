@@ -4,7 +4,7 @@ use Rattle.gic_study_mode.proofs.steps.see_steps.Goals as goal
 pub loop-place-init : goal.loop-place-init
 loop-place-init g c = record {
   shows = c.requires.shows;
-  seen = none_seen c.args.inputs.now c.args.asked _ c.args.views.now c.requires.of_none c.requires.room;
+  seen = none_seen c.args.inputs.now c.args.asked _ c.args.views.now c.requires.of_none c.requires.space;
 }
 
 pub loop-place-preserved : goal.loop-place-preserved

@@ -10,8 +10,8 @@ use Rattle.gic_study_text.specs.Given.{lent_detail}
 use Rattle.gic_study_text.specs.declared.text.Setting.{Setting}
 use Rattle.gic_study_text.proofs.text.write_study.Goals as goal
 
-front : Lists → Setting → Option DetailView → View → List ℕ
-front case s detail peaks = lines_text (study_lines case s.width s.threshold s.steps detail peaks)
+prefix : Lists → Setting → Option DetailView → View → List ℕ
+prefix case s detail peaks = lines_text (study_lines case s.width s.threshold s.steps detail peaks)
 
 monitors : List (List ℕ) → List ℕ
 monitors texts = monitor_texts 1 texts
@@ -21,24 +21,24 @@ close = line_text (word_line (codes "end"))
 
 -- the text in the pieces in which it is written
 pieces : (case : Lists) (s : Setting) (detail : Option DetailView) (peaks : View) (texts : List (List ℕ))
-    → front case s detail peaks ++ (monitors texts ++ close) ≡ study_text case s.width s.threshold s.steps detail peaks texts
-unfolding front monitors close
+    → prefix case s detail peaks ++ (monitors texts ++ close) ≡ study_text case s.width s.threshold s.steps detail peaks texts
+unfolding prefix monitors close
 pieces case s detail peaks texts = refl
 
 pub returns-in_err-write_lines : goal.returns-in_err-write_lines
-unfolding front monitors close
+unfolding prefix monitors close
 returns-in_err-write_lines g c =
     writes_as (pieces c.args.case.now c.args.setting.now (lent_detail c.args.detail) c.args.peaks.now (map (λ t. t.items) c.args.texts.now))
     (writes_stop _ c.in_err-write_lines.ensures c.from_residual.ensures.1)
 
 pub returns-in_err-write_monitors : goal.returns-in_err-write_monitors
-unfolding front monitors close
+unfolding prefix monitors close
 returns-in_err-write_monitors g c =
     writes_as (pieces c.args.case.now c.args.setting.now (lent_detail c.args.detail) c.args.peaks.now (map (λ t. t.items) c.args.texts.now))
     (writes_then c.in_ok-write_lines.ensures (writes_stop _ c.in_err-write_monitors.ensures c.from_residual-in_err-write_monitors.ensures.1))
 
 pub returns : goal.returns
-unfolding front monitors close
+unfolding prefix monitors close
 returns g c =
     writes_as (pieces c.args.case.now c.args.setting.now (lent_detail c.args.detail) c.args.peaks.now (map (λ t. t.items) c.args.texts.now))
     (writes_then c.in_ok-write_lines.ensures (writes_then c.in_ok-write_monitors.ensures c.write_word.ensures))

@@ -15,7 +15,7 @@ add_at-requires-in-Node-clause-small c =
     let old = number_at c.args.sums.now m in
     let inside : m < length c.args.sums.now = subst (λ (w : End). IsEndWithin (length c.args.sums.now) w) c.in-Node.is c.requires.within.to_end in
     let part : unsigned_abs (to_z w128 (of_z w128 c.args.share.now.out)) ≤ 2 ^ 118 = omega (arith, ints, c.requires.out) in
-    subst (λ (z : ℤ). unsigned_abs z ≤ 2 ^ 126 + 2 ^ 118) (sym (c.add_at.ensures.sums m)) (one_more_small (e.from.0 == m) (to_z w128 (of_z w128 c.args.share.now.out)) old part (c.requires.room m inside))
+    subst (λ (z : ℤ). unsigned_abs z ≤ 2 ^ 126 + 2 ^ 118) (sym (c.add_at.ensures.sums m)) (one_more_small (e.from.0 == m) (to_z w128 (of_z w128 c.args.share.now.out)) old part (c.requires.space m inside))
 
 pub returns-in-Node-clause-sums : goal.returns-in-Node-clause-sums
 returns-in-Node-clause-sums c = λ k.

@@ -21,14 +21,14 @@ loop-place-init c =
       high_small = λ k. begun_small (number_at c.clear-2.new.sums k) (diagonal (standing net) k) (c.clear-2.ensures.sums k);
     }
 
-pub add_element-requires-clause-low_room : goal.add_element-requires-clause-low_room
-add_element-requires-clause-low_room c = λ k h.
+pub add_element-requires-clause-low_space : goal.add_element-requires-clause-low_space
+add_element-requires-clause-low_space c = λ k h.
     let most = diagonal_most c.args.net.now k c.within_limits.ensures (omega (arith, h, c.loop-place.invariant.low_count)) in
     let small = c.loop-place.invariant.low_small k in
     omega (arith, most, small)
 
-pub add_element-requires-clause-high_room : goal.add_element-requires-clause-high_room
-add_element-requires-clause-high_room c = λ k h.
+pub add_element-requires-clause-high_space : goal.add_element-requires-clause-high_space
+add_element-requires-clause-high_space c = λ k h.
     let most = diagonal_most c.args.net.now k c.within_limits.ensures (omega (arith, h, c.loop-place.invariant.high_count)) in
     let small = c.loop-place.invariant.high_small k in
     omega (arith, most, small)

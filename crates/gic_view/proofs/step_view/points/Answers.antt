@@ -3,8 +3,8 @@ use Rattle.gic_fixed.specs.Ends.{ends_of, zero_ends}
 use Rattle.gic_base.proofs.Each.{map-replicate}
 use Rattle.gic_view.proofs.step_view.points.Goals as goal
 
-pub returns-clause-noughts : goal.returns-clause-noughts
-returns-clause-noughts c =
+pub returns-clause-zeros : goal.returns-clause-zeros
+returns-clause-zeros c =
     let low : c.point.result.lo ≡ pos 0 = search (rules, c.point.ensures.low) in
     let high : c.point.result.hi ≡ pos 0 = search (rules, c.point.ensures.high) in
     let zero : ends_of c.point.result ≡ zero_ends = cc in

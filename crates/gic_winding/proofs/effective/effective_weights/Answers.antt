@@ -21,7 +21,7 @@ weights_from-requires c =
 -- what is known of the place and the row
 there : (c : goal.After-weights_from) → IsThere c.args.case.now (elements_of c.args.case.now) c.args.transformer c.first_winding.result c.index-transformers-transformer.result
 there c = is_there c.args.case.now (elements_of c.args.case.now) c.args.transformer c.first_winding.result c.index-transformers-transformer.result c.requires.place refl
-    (λ front back whole. c.first_winding.ensures.parted front back (c.requires.elements ∙ whole))
+    (λ prefix suffix whole. c.first_winding.ensures.parted prefix suffix (c.requires.elements ∙ whole))
     (c.index-transformers-transformer.is ∙ ap (λ ts. get_or ts c.args.transformer c.index-transformers-transformer.result) c.transformers.ensures.value)
 
 pub returns-clause-value : goal.returns-clause-value

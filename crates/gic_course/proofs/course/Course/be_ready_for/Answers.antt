@@ -11,7 +11,7 @@ use Rattle.gic_course.proofs.course.Course.be_ready_for.Goals as goal
 pub returns-in-Some-clause-ready : goal.returns-in-Some-clause-ready
 returns-in-Some-clause-ready c =
     let own = c.requires.shows.own in
-    ready_for c.args.inputs.now c.args.self.now.ready c.args.self.now.switched.net c.args.self.now.room c.args.number c.in-Some.way own.storm own.switched.network own.space own.ready
+    ready_for c.args.inputs.now c.args.self.now.ready c.args.self.now.switched.net c.args.self.now.workspace c.args.number c.in-Some.way own.storm own.switched.network own.space own.ready
     c.in-Some.ensures.ready
 
 pub epoch_with-epoch-requires : goal.epoch_with-epoch-requires
@@ -41,7 +41,7 @@ returns-clause-ready c = record {
   step = c.requires.step;
   network = c.put_in_force-changed.ensures.switched.network;
   stands = c.put_in_force-changed.ensures.stands c.args.number c.epoch_with-epoch.ensures.step;
-  space = c.prepare_epoch-way.ensures.room;
+  space = c.prepare_epoch-way.ensures.workspace;
   settled = c.prepare_epoch-way.ensures.settled;
 }
 
@@ -55,7 +55,7 @@ returns-clause-shows c =
         storm = c.requires.shows.own.storm;
         epochs = c.requires.shows.own.epochs;
         switched = c.put_in_force-changed.ensures.switched;
-        space = c.prepare_epoch-way.ensures.room;
+        space = c.prepare_epoch-way.ensures.workspace;
         ready = record {
           steps = λ number has. (step_in inputs e number epoch has, c.put_in_force-changed.ensures.stands number has);
           settled = c.prepare_epoch-way.ensures.settled;

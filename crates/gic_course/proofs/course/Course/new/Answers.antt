@@ -10,6 +10,6 @@ returns c = record {
     network = c.in_ok-switched.ensures.network ∙ c.in_ok-elements.ensures;
     stands = c.in_ok-switched.ensures.stands (rows_in c.args.inputs.now.switchings);
   };
-  space = c.in_ok-room.ensures;
+  space = c.in_ok-workspace.ensures;
   ready = tt;
 }

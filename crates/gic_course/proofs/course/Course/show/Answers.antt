@@ -25,7 +25,7 @@ returns-clause-shows c =
         epochs = was.own.epochs;
         switched = was.own.switched;
         space = c.show_step.ensures.stays.space;
-        ready = still_ready c.args.inputs.now now.ready now.switched.net now.room c.show_step.new.room c.args.number c.be_ready_for-way.result c.be_ready_for-way.ensures.way c.show_step.ensures.stays was.own.ready;
+        ready = still_ready c.args.inputs.now now.ready now.switched.net now.workspace c.show_step.new.workspace c.args.number c.be_ready_for-way.result c.be_ready_for-way.ensures.way c.show_step.ensures.stays was.own.ready;
       };
       solvable = was.solvable;
     }

@@ -26,11 +26,11 @@ pub returns-in-Some-clause-whole : goal.returns-in-Some-clause-whole
 returns-in-Some-clause-whole c =
     on_ok_weaker c.hand_out.result (λ p. found (goal.at.returns-in-Some-clause-whole c).In-Some ∙ ap Some (sym c.deref-in-Some.ensures.value ∙ sym p.0)) c.hand_out.ensures.whole
 
-pub returns-in-Some-clause-front : goal.returns-in-Some-clause-front
-returns-in-Some-clause-front c = λ e.
+pub returns-in-Some-clause-prefix : goal.returns-in-Some-clause-prefix
+returns-in-Some-clause-prefix c = λ e.
     let into = c.hand_out.new.into.items in
-    let Front : List ℕ → Type 0 = λ bytes. StartsWith bytes into in
-    subst (λ o. IsSomeAnd o Front) (sym (found (goal.at.returns-in-Some-clause-front c).In-Some)) (subst Front c.deref-in-Some.ensures.value (c.hand_out.ensures.too_long e).1)
+    let Prefix : List ℕ → Type 0 = λ bytes. StartsWith bytes into in
+    subst (λ o. IsSomeAnd o Prefix) (sym (found (goal.at.returns-in-Some-clause-prefix c).In-Some)) (subst Prefix c.deref-in-Some.ensures.value (c.hand_out.ensures.too_long e).1)
 
 -- the test says whether the call is one that fails
 tested : (c : After-contains) → is_failing c.args.self.now.failing c.args.self.now.calls ≡ c.contains.result

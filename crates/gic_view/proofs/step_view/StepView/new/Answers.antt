@@ -7,5 +7,5 @@ pub returns : goal.returns
 returns c =
     let nodes : map optional_ends c.in_ok-nodes.nodes.items ≡ replicate c.args.nodes None = ap (map optional_ends) c.in_ok-nodes.ensures ∙ map-replicate optional_ends c.args.nodes None in
     let elements : map optional_ends c.in_ok-elements.elements.items ≡ replicate c.args.elements None = ap (map optional_ends) c.in_ok-elements.ensures ∙ map-replicate optional_ends c.args.elements None in
-    let effective = c.in_ok-effective.ensures.noughts in
+    let effective = c.in_ok-effective.ensures.zeros in
     cc

@@ -1,0 +1,18 @@
+-- Questions of fields and criteria.
+use Rattle.std.specs.Prelude.{pos}
+use Rattle.gic_criteria.specs.declared.event.Event.TheVariants.{Benchmark}
+use Rattle.gic_criteria.specs.declared.asked.Criteria.{Criteria}
+use Rattle.gic_criteria.specs.declared.asked.Question.{Question}
+use Rattle.gic_criteria.specs.declared.asked.UniformField.{UniformField}
+
+-- where no field is given
+abbrev pub no_field : UniformField
+no_field = record { north = pos 0; east = pos 0 }
+
+-- where no criteria are given: 100 mV or mA, and the benchmark event
+abbrev pub usual_criteria : Criteria
+usual_criteria = record { width = 100; event = Benchmark }
+
+-- what is asked in a field by these criteria
+abbrev pub question_of : UniformField → Criteria → Question
+question_of field criteria = record { north = field.north; east = field.east; width = criteria.width; event = criteria.event }

@@ -1,0 +1,27 @@
+-- The ranges of what is asked.
+use Rattle.std.specs.Prelude.{ℕ, ◌≤◌, unsigned_abs}
+use Rattle.gic_base.specs.declared.limits.TheConstants.{MOST_FIELD}
+use Rattle.gic_criteria.specs.declared.asked.Criteria.{Criteria}
+use Rattle.gic_criteria.specs.declared.asked.Question.{Question}
+use Rattle.gic_criteria.specs.declared.asked.UniformField.{UniformField}
+
+-- each part of the field lies within `MOST_FIELD`, 20000 mV/km
+pub record IsWithinField (f : UniformField) : Type 0 where
+  pub north : unsigned_abs f.north ≤ MOST_FIELD
+  pub east : unsigned_abs f.east ≤ MOST_FIELD
+
+-- the width is from 10 to 10000 mV or mA
+pub record IsWidth (width : ℕ) : Type 0 where
+  pub least : 10 ≤ width
+  pub most : width ≤ 10000
+
+-- so is that of criteria
+abbrev pub IsWithinCriteria : Criteria → Type 0
+IsWithinCriteria c = IsWidth c.width
+
+-- each part of the field lies within `MOST_FIELD`, 20000 mV/km, and the width is from 10 to 10000 mV or mA
+pub record IsWithinRanges (q : Question) : Type 0 where
+  pub north : unsigned_abs q.north ≤ MOST_FIELD
+  pub east : unsigned_abs q.east ≤ MOST_FIELD
+  pub width_least : 10 ≤ q.width
+  pub width_most : q.width ≤ 10000

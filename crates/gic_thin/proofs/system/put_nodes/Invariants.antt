@@ -1,6 +1,0 @@
-use Rattle.std.proofs.Common.{length}
-use Rattle.gic_thin.specs.Inside.{AreNodes}
-use Rattle.gic_thin.proofs.system.put_nodes.Given as goal
-
-abbrev pub invariant-loop-place : goal.invariant-loop-place
-invariant-loop-place l = AreNodes (length l.list) l.list
