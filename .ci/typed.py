@@ -19,13 +19,13 @@ FOLDERS = {
     ".ci": (".ci", ".ci/tests", "build"),
     "bench": ("bench", "bench/tests", "", "trials", "build", "independent"),
     "build": ("build", "build/tests"),
+    "desk": ("desk/lib", "desk/tests"),
     "docs": ("docs", "docs/tests"),
     "examples": ("examples",),
     "generators": ("", "generators/tests", "trials"),
     "independent": ("independent", "independent/tests"),
     "trials": ("trials", "trials/tests", "", "build", "independent"),
 }
-LEFT_OUT = ("desk",)  # it isn't typed as a whole yet
 
 
 def check(top: Path, folder: str, cache: str) -> bool:

@@ -38,9 +38,9 @@ class Typed(unittest.TestCase):
             status = typed.main([], self.top)
         return status, told.getvalue().splitlines()
 
-    def test_each_folder_with_python_is_looked_at_or_left_out(self) -> None:
+    def test_each_folder_with_python_is_looked_at(self) -> None:
         found = {path.relative_to(typed.TOP).parts[0] for path in typed.TOP.glob("*/**/*.py")}
-        self.assertEqual(found - {"crates"}, {*typed.FOLDERS, *typed.LEFT_OUT})
+        self.assertEqual(found - {"crates"}, set(typed.FOLDERS))
 
     def test_without_mypy_nothing_is_counted(self) -> None:
         status, lines = self.checked()
