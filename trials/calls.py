@@ -7,7 +7,7 @@ The runs are over the sample network with its outage, and over a made network of
 over files that are refused, whose line goes to the error stream. What has to come of the call with each number:
 
 - opened or read with an error: status 3, the line of one of the run's files, and nothing on the output;
-- written with an error: status 4, its line, and a front of the report on the output;
+- written with an error: status 4, its line, and a prefix of the report on the output;
 - told on the error stream with an error: the status of the refusal, and nothing on the output;
 - short (one byte at that call, or at each call from it on), stalled, or interrupted once or 9999 times in a row:
   the same bytes and the same status as of a run that nothing happens to;
@@ -74,9 +74,9 @@ def is_failed(job: Job, call: str, answer: shared.Answer) -> bool:
     if call in ("open", "read"):
         return answer.status == 3 and not answer.output and answer.told in read_lines(job.words)
     if call == "write":
-        front = job.whole.output[: len(answer.output)]
-        is_front = answer.output == front and len(front) < len(job.whole.output)
-        return answer.status == 4 and answer.told == WRITE_LINE and is_front
+        prefix = job.whole.output[: len(answer.output)]
+        is_prefix = answer.output == prefix and len(prefix) < len(job.whole.output)
+        return answer.status == 4 and answer.told == WRITE_LINE and is_prefix
     return answer.status == job.whole.status and not answer.output and job.whole.told.startswith(answer.told)
 
 

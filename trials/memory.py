@@ -72,7 +72,7 @@ def refuse(library: str, folder: str, command: Sequence[str], whole: shared.Answ
 
 
 def kind_of(ending: Ending) -> Optional[str]:
-    """What kind of end for want of memory it was, or None."""
+    """What kind of end it was where memory ran out, or None where it was another."""
     if ending.status == 11 and ending.output == 0 and ending.line[: ending.told] in (LINE, b""):
         return "out of memory" if ending.told else "out of memory, no line"
     return None
@@ -82,7 +82,7 @@ def attempt(
     library: str, folder: str, command: Sequence[str], whole: shared.Answer, first: int
 ) -> tuple[set[int], list[Tried]]:
     """What came of each growth of a stretch where it was refused: alone; with the next, where that was absorbed; and
-    with all behind it, where there are any. Any other end than for want of memory is looked at in a run of its own."""
+    with all behind it, where there are any. Any end but those where memory ran out is looked at in a run of its own."""
     runs = [refuse(library, folder, command, whole, Refusal("growth", first, length)) for length in (1, ALL)]
     endings = preload.endings(library, command, folder, first, STRETCH)
     for ending in endings:

@@ -66,7 +66,7 @@ class Definitions(unittest.TestCase):
             [f"| gic_low | 1 {low} 3 {far} |", f"| gic_study | 2 {near} |"],
         )
         index = definitions.index_of(self.found, [["gic_study/Near"], ["gic_low/Law", "gic_low/Far"], []])
-        self.assertIn(f"| gic_study | 1 {near} |\n\n## What laws", index)
+        self.assertIn(f"| gic_study | 1 {near} |\n\n## What theorems", index)
         self.assertIn(f"\n| gic_low | {far} {low} |\n\n## What other", index)
 
     def test_crates_of_which_the_same_is_told_have_one_row(self) -> None:

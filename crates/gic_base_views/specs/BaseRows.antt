@@ -18,7 +18,7 @@ pub record BaseRows : Type 0 where
   pub elements : ℕ → List ZoneEnds
   pub effective : ℕ → List ZoneEnds
 
--- two intervals, one to the north and one to the east, are narrow and hold the quantity, over n times the denominator, in every solution for these voltages
+-- two intervals, one to the north and one to the east, are narrow and hold the quantity, over `over` times the denominator, in every solution for these voltages
 pub record IsCertifiedPair (standing : List Placed) (north east : ℕ → ℤ) (quantity : Solution → ℤ) (over : ℕ) (pair : ZoneEnds) : Type 0 where
   pub holds : HoldsInZone standing north east quantity over pair
   pub narrow : IsNarrowZone pair

@@ -1,4 +1,5 @@
-//! Superposition of base fields: certified responses to unit fields, combined for each step of a storm.
+//! Superposition of base fields: certified intervals in a field of 20000 mV/km in one zone alone, combined for each step
+//! of a storm.
 #![tactic(auto)]
 
 mod certifying;

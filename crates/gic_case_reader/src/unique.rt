@@ -25,7 +25,7 @@ fn names_of(alloc: Global, rows: &Rows) -> Result<Vec<Name>, AllocError>
     Ok(names)
 }
 
-/// The refusal for a place in the names, where the first lists have a given number of rows.
+/// The refusal for a place in the names, where the lists before the last have these lengths.
 fn duplicate_at(
     zones: usize,
     substations: usize,

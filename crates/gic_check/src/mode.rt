@@ -19,7 +19,7 @@ use gic_net::Net;
 use gic_stand::{ReportFault, ended, expect_earthed};
 use gic_text::LineBuilder;
 
-/// Writes which nodes of a network are live, by way of space for an answer for each.
+/// Writes which nodes of a network are live; `live` is workspace for an answer for each.
 fn write_live<S: Sink>(
     case: &Case,
     net: &Net,

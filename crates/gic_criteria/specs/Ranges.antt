@@ -15,7 +15,7 @@ pub record IsWidth (width : ℕ) : Type 0 where
   pub least : 10 ≤ width
   pub most : width ≤ 10000
 
--- so is that of criteria
+-- the width of criteria is one
 abbrev pub IsWithinCriteria : Criteria → Type 0
 IsWithinCriteria c = IsWidth c.width
 

@@ -1,4 +1,4 @@
-//! Existence and uniqueness: each network whose live nodes are all earthed has a solution, and any two of its solutions
+//! Existence, and agreement at live nodes: each network whose live nodes are all earthed has a solution, and any two of its solutions
 //! agree.
 #![tactic(auto)]
 

@@ -86,14 +86,14 @@ fn last_digit(number: u64, by: Reciprocal) -> Digit
     }
 }
 
-/// A multiple of the product of estimate and divisor, and what is left.
+/// How many times the product of estimate and divisor is taken, and what is left.
 #[derive(Clone, Copy)]
 struct Taken {
     times: u64,
     rest: u64,
 }
 
-/// A multiple of 2^64 and a number of 64 bits, as this many products of estimate and divisor and what is left: one product
+/// `times` times 2^64 and a number of 64 bits, as a number of products of estimate and divisor, and what is left: one product
 /// for each 2^64, and for resistances of a case the slacks hardly ever make up one more.
 #[inline(always)]
 fn take_products(times: u64, low: u64, by: Reciprocal) -> Taken

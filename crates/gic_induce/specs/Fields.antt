@@ -14,6 +14,6 @@ no_field = (pos 0, pos 0)
 abbrev pub field_at : List (ℤ × ℤ) → ℕ → ℤ × ℤ
 field_at fields zone = slice_index_or fields zone no_field
 
--- the fields of a given number of zones where this zone alone has one
+-- the fields of this many zones where this zone alone has one
 unfoldable pub lone_field : ℕ → ℕ → ℤ × ℤ → List (ℤ × ℤ)
 lone_field zones zone field = slice_set (replicate zones no_field) zone field

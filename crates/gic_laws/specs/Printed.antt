@@ -14,7 +14,7 @@ use Rattle.gic_study_mode.specs.Roster.{roster_of}
 abbrev pub width_asked : StormInputs → ℕ
 width_asked inputs = inputs.question.width
 
--- the text has a given number of lines, and each of them is true of its place
+-- the text has this many lines, and each of them is true of its place
 pub record HasTrueLines (count : ℕ) (IsTrueOf : ℕ → List (List ℕ) → Type 0) (text : List ℕ) : Type 0 where
   pub lines : List (List (List ℕ))
   pub text_is : text ≡ lines_text lines

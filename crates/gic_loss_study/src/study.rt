@@ -23,7 +23,7 @@ const NO_COUNT: u8 = 2;
 /// The status where memory is wanting for the monitors.
 const NO_MEMORY: u8 = 11;
 
-/// The top call with the first n of the four monitors.
+/// The top call with the first `count` of the four monitors.
 fn call_with_monitors<L: Library, S: Sink, E: Sink>(
     alloc: Global,
     count: usize,

@@ -6,7 +6,7 @@ use Rattle.gic_report.specs.VerdictText.{verdict_at}
 use Rattle.gic_criteria.specs.declared.criterion.Verdict.{Verdict}
 use Rattle.gic_view.specs.View.{View}
 
--- the verdicts on the first n transformers of a case, and on all of them
+-- the verdicts on the first `count` transformers of a case, and on all of them
 abbrev pub first_verdicts : Lists → (threshold : ℕ) → View → (count : ℕ) → List Verdict
 first_verdicts case threshold view count = map (verdict_at case threshold view) (range_with_len 0 count)
 

@@ -34,7 +34,7 @@ surely_reached = benchmark_threshold + WIDTH
 abbrev pub benchmark_volts : Lists → ℕ → ℤ
 benchmark_volts case = uniform_volts case (field_of Benchmark) (pos 0)
 
--- the greatest entry, over a given number of nodes, of the least capped vector
+-- the greatest entry, over this many nodes, of the least capped vector
 pub record IsWalk (standing : List Placed) (nodes walk : ℕ) : Type 0 where
   pub entries : List ℕ
   pub an_entry_each : length entries ≡ nodes

@@ -12,7 +12,7 @@ small_case = made_case 7 2
 abbrev pub grounds_of : Lists → List ℕ
 grounds_of case = map (λ s. unwrap_or s.ground 0) case.substations
 
--- the resistance of the first transformer's first winding
+-- the resistance of the first winding of a case
 abbrev pub first_resistance_of : Lists → ℕ
 first_resistance_of case = slice_index (map (λ w. w.resistance) (flat_map windings_of case.transformers)) 0
 

@@ -38,7 +38,7 @@ impl Drop for Workspace {
     }
 }
 
-/// Makes the case of a seed, of `size` sites from `LEAST_SIZE` to `MOST_SIZE`, and space for its network.
+/// Makes the case of a seed, of `size` sites from `LEAST_SIZE` to `MOST_SIZE`, and the workspace for its network.
 pub fn make_workspace(alloc: Global, seed: u32, size: u16) -> Result<Workspace, OutOfMemory>
     requires least { LEAST_SIZE ≤ size }
     requires most { size ≤ MOST_SIZE }

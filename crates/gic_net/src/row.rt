@@ -87,7 +87,7 @@ impl Row {
         self.standing_first[place]
     }
 
-    /// Puts the elements whose items aren't marked open first, in their order.
+    /// Puts first the elements whose items aren't marked open, in their order.
     pub fn gather(&mut self, list: &[Element], opened: &[bool])
         requires { AreMarked list.now opened.now self.old.all }
         ensures { self.new ≡ gathered list.now opened.now self.old }

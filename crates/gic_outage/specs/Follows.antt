@@ -93,7 +93,7 @@ WorstVerdictIsTrue = (inputs : Inputs) (item : Item) (worsts : List Ends) (count
     (t : ℕ) → t < length inputs.case.transformers →
     IsTrueVerdict inputs.case (standing_in_outage inputs item) (northward_volts inputs) (eastward_volts inputs) (threshold_asked inputs) t (worst_at worsts t)
 
--- of a sound case, a given number of transformers at least as an outage that is solved counts undecided have a worst current within one width of the threshold, in every two solutions
+-- of a sound case, at least as many transformers as an outage that is solved counts undecided have a worst current within one width of the threshold, in every two solutions
 abbrev pub UndecidedAreAtMostNear : Type 0
 UndecidedAreAtMostNear = (inputs : Inputs) (item : Item) (worsts : List Ends) (counts : Counts) → IsSound inputs.case → AreRightWorsts inputs item worsts counts →
     (one other : Solution) → AreSolutionsOf (standing_in_outage inputs item) (northward_volts inputs) (eastward_volts inputs) one other →

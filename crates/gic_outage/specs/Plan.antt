@@ -5,7 +5,7 @@ use Rattle.gic_case.specs.Lists.{Lists}
 use Rattle.gic_model.specs.declared.parts.Item.{Item}
 use Rattle.gic_model.specs.declared.parts.Item.TheVariants.{Line, Transformer}
 
--- the first n lines of a case, and then its first n transformers
+-- this many first lines of a case, and then this many of its first transformers
 abbrev pub in_order : (lines transformers : ℕ) → List Item
 in_order lines transformers = map Line (range_with_len 0 lines) ++ map Transformer (range_with_len 0 transformers)
 

@@ -11,6 +11,6 @@ pub(crate) enum Outcome {
     Unearthed(Name),
     /// Without it each live node is earthed, and this node is the first with the entry 4097 in the least capped vector.
     Unresolved(Name),
-    /// Without it the network is solved, and a given number of transformers have each verdict.
+    /// Without it the network is solved, and this many transformers have each verdict.
     Solved(Counts),
 }

@@ -24,7 +24,7 @@ told_as case (cert.Row node) = Row (name_at case node)
 told_as case (cert.Residual node) = Residual (name_at case node)
 told_as case (cert.Radius node) = Radius (name_at case node)
 
--- the node of a refusal, where it tells one, is one of the first n
+-- the node of a refusal, where it tells one, is one of the first `nodes`
 abbrev pub IsNodeWithin : (nodes : ℕ) → CertRefusal → Type 0
 IsNodeWithin nodes (cert.Row node) = node.0 < nodes
 IsNodeWithin nodes (cert.Residual node) = node.0 < nodes

@@ -52,7 +52,7 @@ closures_of c = closures_from c.buses (start_of (length c.substations)) c.lines
 abbrev pub size_of : List Position → (group : ℕ) → ℕ
 size_of places group = count_by (λ p. p.group == group) places
 
--- x is above y by a million for each of n but one, or by less
+-- x is above y by a million for each of `steps` but one, or by less
 abbrev pub IsWithinSteps : (x y : ℤ) (steps : ℕ) → Type 0
 IsWithinSteps x y steps = (x +ℤ pos 1000000) ≤ℤ (y +ℤ pos (1000000 * steps))
 

@@ -13,7 +13,7 @@ pub record IsFirstOfPart (network : Network) (k : ℕ) : Type 0 where
   pub together : AreTogether network.list k node
   pub element : HasElement network.list node
 
--- a given number of nodes belong to the node k
+-- this many nodes belong to the node k
 pub record IsPartSize (network : Network) (k size : ℕ) : Type 0 where
   pub belongs : ℕ → Bool
   pub together : (m : ℕ) → m < network.nodes → IsTrue (belongs m) ↔ AreTogether network.list k m

@@ -57,7 +57,7 @@ abbrev pub rows_after : Option Form → (zones : List (List ℕ)) → List (List
 rows_after None zones records = []
 rows_after (Some form) zones records = map (row_of form zones) records
 
--- a given number of zones, and these rows
+-- this many zones, and these rows
 abbrev pub storm_with : (zones : List (List ℕ)) → List Row → StormView
 storm_with zones rows = record { zones = length zones; rows = rows }
 

@@ -26,6 +26,6 @@ field_or_none (Some r) = field_in_row r
 abbrev pub field_at_step : List Row → ℕ → ℤ × ℤ
 field_at_step rows zone = field_or_none (last_for rows zone)
 
--- the field of each of a given number of zones at a step
+-- the field of each of this many zones at a step
 abbrev pub fields_at_step : (zones : ℕ) → List Row → List (ℤ × ℤ)
 fields_at_step zones rows = map (field_at_step rows) (range_with_len 0 zones)

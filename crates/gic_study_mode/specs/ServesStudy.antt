@@ -10,7 +10,7 @@ use Rattle.gic_stand.specs.declared.fault.ReportFault.TheVariants.{CannotWrite}
 use Rattle.gic_study_mode.specs.declared.fault.StudyFault.{StudyFault}
 use Rattle.gic_study_mode.specs.declared.fault.StudyFault.TheVariants.{Report, Memory}
 
--- with a given number of monitors: as every mode that solves each step, or out of memory, where the network can be solved at each step and there is a monitor
+-- with this many monitors: as every mode that solves each step, or out of memory, where the network can be solved at each step and there is a monitor
 abbrev pub ServesStudy : StormInputs → (monitors : ℕ) → (IsRight : List ℕ → Type 0) → (before now : Shown) → Result (Unit {0}) StudyFault → Type 0
 ServesStudy inputs monitors IsRight before now (Ok done) = Serves Solved inputs.case (storm_steps inputs) IsRight before now (Ok done)
 ServesStudy inputs monitors IsRight before now (Err (Report fault)) = Serves Solved inputs.case (storm_steps inputs) IsRight before now (Err fault)

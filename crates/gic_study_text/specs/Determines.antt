@@ -22,7 +22,7 @@ pub record IsDetailOf (case : Lists) (d : DetailView) : Type 0 where
   pub fields_fit : All IsFieldInRange d.fields
   pub ends_fit : IsViewInRange d.view
 
--- texts of a given number of bytes, and a given number of texts, as memory has space for
+-- fewer than 2^64 texts, each of fewer than 2^64 bytes, as any memory holds
 pub record AreTexts (texts : List (List ℕ)) : Type 0 where
   pub few : length texts < 2 ^ 64
   pub short : All (λ text. length text < 2 ^ 64) texts

@@ -23,7 +23,7 @@ pub record IsLinear (standing : List Placed) (quantity : Solution → ℤ) : Typ
       quantity (combined c one d other) ≡ c *ℤ (pos other.denominator *ℤ quantity one) +ℤ d *ℤ (pos one.denominator *ℤ quantity other)
   pub agrees : (one other : Solution) → Agree standing one other → quantity one *ℤ pos other.denominator ≡ quantity other *ℤ pos one.denominator
 
--- the sum of the currents of windings, each a number of times
+-- the sum of the currents of windings, each times its own number
 abbrev pub weighted_current : List (ElementId × ℕ) → Solution → ℤ
 weighted_current windings s = sum_of (λ w. pos w.1 *ℤ s.current w.0.0) windings
 
@@ -33,7 +33,7 @@ pub record ViewsAreLinear : Type 0 where
   pub currents : (standing : List Placed) (place : ℕ) → IsLinear standing (λ s. s.current place)
   pub weighted : (standing : List Placed) (windings : List (ElementId × ℕ)) → IsLinear standing (weighted_current windings)
 
--- the interval holds the quantity in every solution, where it is over n times the denominator
+-- the interval holds the quantity in every solution, where it is over `over` times the denominator
 abbrev pub HoldsQuantity : List Placed → (volts : ℕ → ℤ) → (Solution → ℤ) → (over : ℕ) → Ends → Type 0
 HoldsQuantity standing volts quantity over ends = (s : Solution) → IsSolution standing volts s → Encloses ends.low ends.high (quantity s) (over * s.denominator)
 

@@ -20,7 +20,7 @@ no_zone_ends = record { north = zero_ends; east = zero_ends }
 abbrev pub zone_at : List ZoneEnds → ℕ → ZoneEnds
 zone_at row zone = slice_index_or row zone no_zone_ends
 
--- the ends of n times an interval: a number below 0 swaps them
+-- the ends of `part` times an interval: a part below 0 swaps them
 abbrev pub low_part : Ends → ℤ → ℤ
 low_part ends part = int_min (ends.low *ℤ part) (ends.high *ℤ part)
 

@@ -40,7 +40,7 @@ fn is_within(interval: Interval, most: i64) -> bool
     interval.lo >= -(most as i128) && interval.hi <= most as i128
 }
 
-/// Whether 64 bits serve for the two intervals of a zone, where there are a given number of zones.
+/// Whether 64 bits serve for the two intervals of a zone, among this many zones.
 pub(crate) fn is_compact(pair: ZonePair, zones: u16) -> bool
     requires { 0 < zones }
     ensures yes { IsTrue result → IsCompact zones pair }

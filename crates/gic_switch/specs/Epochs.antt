@@ -12,7 +12,7 @@ abbrev pub Cover : (from last : ℕ) → List Epoch → Type 0
 Cover from last [] = last + 1 ≡ from
 Cover from last (e ∷ es) = (e.first ≡ from) × (from ≤ e.last) × Cover (e.last + 1) last es
 
--- the rows in force at a time are the first n, and no others
+-- the rows in force at a time are the first `through`, and no others
 pub record AreInForce (rows : List Switching) (time through : ℕ) : Type 0 where
   pub within : through ≤ length rows
   pub first_rows : rows_in_force time rows ≡ take through rows

@@ -18,7 +18,7 @@ pub struct Epoch {
     pub first: u32,
     /// The last step.
     pub last: u32,
-    /// How many switchings are in force: the first n rows.
+    /// How many switchings are in force: the first `through` rows.
     pub through: u32,
 }
 

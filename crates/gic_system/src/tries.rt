@@ -56,7 +56,7 @@ pub fn write_some<W: Write>(writer: &mut W, bytes: &[u8]) -> Result<usize>
 mod tests {
     use super::*;
 
-    /// A stream whose next calls are interrupted, this many of them; then each call gives or takes one byte.
+    /// A stream whose next calls, this many, are interrupted; then each call gives or takes one byte.
     #[derive(Drop)]
     struct Signalled {
         left: u32,

@@ -7,15 +7,15 @@ use Rattle.std.specs.Str.Parse.{digits_value, without_leading_sign, signed_digit
 abbrev pub is_digit : ℕ → Bool
 is_digit byte = nat_le 48 byte && nat_le byte 57
 
--- 1 to n digits, and nothing else
+-- 1 to `most` digits, and nothing else
 abbrev pub is_numeral : ℕ → List ℕ → Bool
 is_numeral most text = (nat_le 1 (length text) && nat_le (length text) most) && list_all is_digit text
 
--- the number that 1 to n digits write
+-- the number that 1 to `most` digits write
 unfoldable pub natural_of : ℕ → List ℕ → Option ℕ
 natural_of most text = if is_numeral most text then Some (digits_value 10 text) else None
 
--- the number that a sign or none and 1 to n digits write
+-- the number that a sign or none and 1 to `most` digits write
 unfoldable pub whole_of : ℕ → List ℕ → Option ℤ
 whole_of most text = if is_numeral most (without_leading_sign text) then Some (signed_digits_value 10 text) else None
 
@@ -23,7 +23,7 @@ whole_of most text = if is_numeral most (without_leading_sign text) then Some (s
 abbrev pub within : ℤ → ℤ → ℤ → Option ℤ
 within least most number = if int_le least number && int_le number most then Some number else None
 
--- the number of at most n digits that a text writes, where it lies within its bounds
+-- the number of at most `most` digits that a text writes, where it lies within its bounds
 abbrev pub decimal_in : ℕ → List ℕ → ℤ → ℤ → Option ℤ
 decimal_in digits text least most = option_and_then (within least most) (whole_of digits text)
 

@@ -3,7 +3,7 @@ use Rattle.std.specs.Prelude.{ℕ, ◌≤◌, List, [], ◌∷◌, ◌++◌, ◌
 use Rattle.std.specs.List.{AllByRecursion}
 use Rattle.gic_text.specs.Lines.{Line}
 
--- the line has space in the 512 bytes
+-- the line fits in the 512 bytes
 abbrev pub FitsLine : Line → Type 0
 FitsLine line = length line.bytes ≤ 512
 

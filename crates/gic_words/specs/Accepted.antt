@@ -40,11 +40,12 @@ pub record AreOfMade (seed size : ℕ) : Type 0 where
   pub seed_fits : seed ≤ 4294967295
   pub size_fits : IsSize size
 
+-- a request for a made case has them in their ranges
 abbrev pub CanBeMade : Request → Type 0
 CanBeMade (request.Make seed size) = AreOfMade seed size
 CanBeMade _ = ⊤
 
--- those of accepted words are
+-- accepted words ask for none out of them
 abbrev pub MadeInRange : Type 0
 MadeInRange = (words : List (List ℕ)) → IfOk (request_of words) CanBeMade
 

@@ -19,7 +19,7 @@ pub record AreOfEvent (case : Lists) (event : Event) (volts : FieldVolts) : Type
   pub in_north : volts.north ≡ volts_of case (uniform_field case (field_of event) (pos 0)) (elements_of case).list
   pub in_east : volts.east ≡ volts_of case (uniform_field case (pos 0) (field_of event)) (elements_of case).list
 
--- a voltage for each of a given number of elements
+-- a voltage for each of this many elements
 pub record AreVoltsFor (count : ℕ) (volts : FieldVolts) : Type 0 where
   pub north_count : length volts.north ≡ count
   pub east_count : length volts.east ≡ count

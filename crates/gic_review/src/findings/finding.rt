@@ -26,7 +26,7 @@ pub enum Finding {
     Ungrounded {
         name: Name,
     },
-    /// The network has this part among others: a given number of nodes, and the first of them.
+    /// The network has this part among others: how many nodes it has, and the first of them.
     Part {
         nodes: u16,
         first: Name,

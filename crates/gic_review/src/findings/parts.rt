@@ -26,7 +26,7 @@ fn counts(alloc: Global, firsts: &[u16]) -> Result<Vec<u16>, OutOfMemory>
     Ok(counts)
 }
 
-/// How many nodes the part has whose first node a given number of nodes have: a node that nothing is joined to is no part.
+/// The size of the part whose first node is that of this many nodes: a node that nothing is joined to is no part.
 fn part_size(count: u16) -> u16
     ensures { result ≡ part_size count }
 {
