@@ -5,6 +5,7 @@ import random
 import subprocess
 import unittest
 from collections.abc import Callable
+from pathlib import Path
 from typing import Any
 
 from plain import solved
@@ -143,6 +144,24 @@ class Back(DeskTest):
         other = self.written(EXAMPLES / "valley.toml")[0]
         (self.folder / "east.json").write_text(json.dumps(north))
         self.assertIn("its branches aren't those of", self.refused("from-powermodels", other, files[1], out)[0])
+
+    def test_what_is_out_of_service_is_refused(self) -> None:
+        """In either file; without a status a row is in service."""
+        files = self.written(EXAMPLES / "valley.toml")
+        out = f"--out={self.folder / 'case.toml'}"
+        for file in files:
+            text = Path(file).read_text()
+            for table, key in (("gmd_bus", "status"), ("gmd_branch", "br_status"), ("branch_gmd", "br_status")):
+                data = json.loads(text)
+                data[table]["1"][key] = 0
+                Path(file).write_text(json.dumps(data))
+                (line,) = self.refused("from-powermodels", *files, out, "--force")
+                words = f"{key} is not 1: it is out of service, which a case has no key for; leave it out of the data"
+                self.assertEqual(line, f"{file}: {table} 1: {words}")
+                data[table]["1"].pop(key)
+                Path(file).write_text(json.dumps(data))
+                self.done("from-powermodels", *files, out, "--force")
+            Path(file).write_text(text)
 
     def test_nothing_ends_in_a_traceback(self) -> None:
         files = self.written(EXAMPLES / "valley.toml")

@@ -14,7 +14,7 @@ from .cases import Case, Field, Names, Row, short_enough
 from .files import read_text
 from .findings import Finding, Refused, refuse
 
-TABLES = ("gmd_bus", "gmd_branch", "branch_gmd")
+STATUS = {"gmd_bus": "status", "gmd_branch": "br_status", "branch_gmd": "br_status"}  # of the tables that are read
 KINDS = {"gwye-delta": "delta-wye", "gwye-gwye": "wye-wye", "gwye-gwye-auto": "auto", "delta-delta": "delta-delta"}
 WINDINGS: dict[str, dict[str, str]] = {
     "delta-wye": {"high": "gmd_br_hi"},
@@ -66,11 +66,14 @@ def read_data(file: str, findings: list[Finding]) -> dict[str, Table]:
     except (json.JSONDecodeError, RecursionError) as error:
         raise refuse(file, f"it is no JSON ({error}); write the data as JSON") from None
     tables: dict[str, Table] = {}
-    for name in TABLES:
+    for name in STATUS:
         rows = data.get(name) if isinstance(data, dict) else None
         if not isinstance(rows, dict) or not all(isinstance(row, dict) for row in rows.values()):
             raise refuse(file, f"it has no table {name} of rows by their indices; write one")
         tables[name] = {index: Entry(file, name, index, row, findings) for index, row in rows.items()}
+        for entry in tables[name].values():
+            if entry.number(STATUS[name], 1.0) != 1:
+                entry.wrong(f"{STATUS[name]} is not 1: it is out of service, which a case has no key for; leave it out of the data")
     return tables
 
 
@@ -97,7 +100,7 @@ class Making:
     """A case in the making, of the tables of the field to the north and the branches of that to the east."""
 
     def __init__(self, tables: dict[str, Table], east: Table) -> None:
-        self.nodes, self.branches, units = (tables[name] for name in TABLES)
+        self.nodes, self.branches, units = (tables[name] for name in STATUS)
         self.east = east
         self.case, self.names = Case(), Names()
         self.lines = dict(self.branches)  # those that are no winding and no resistor of a neutral
