@@ -738,6 +738,17 @@ class Sections(PsseTest):
             f"net.raw line 44: there is no branch between the buses 11 and 4, {words}",
         )
 
+    TAP = "7,11,'1 ',0.0025,0.03,0.1,0,0,0,0,0,0,0,1,1,0\n"
+
+    def test_a_branch_at_a_bus_between_sections(self) -> None:
+        raw = self.RAW.replace("4,-12,'1 '", f"{self.TAP}4,-12,'1 '")
+        self.told(
+            [*self.words(raw, self.GIC), "--beyond=leave"],
+            "net.raw line 22: it ends at a bus between two sections of a line; give that bus a substation",
+        )
+        raw = self.RAW.replace("4,-12,'1 '", f"{self.TAP.replace(',1,1,0', ',0,1,0')}4,-12,'1 '")
+        self.assertIn("M1-4-1", self.case([*self.words(raw, self.GIC), "--beyond=leave"])["line"])
+
     def test_a_branch_of_a_resistance_within_a_station_is_a_line(self) -> None:
         # 3.84 ohm on 100 MVA at 345 kV are 0.00322621 per unit.
         raw = RAW.replace("4,5,'1 ',0.00008", "4,5,'1 ',0.00322621")

@@ -55,6 +55,7 @@ def whole_lines(
     all of them are in substations, each section stays a branch, and its span follows their places."""
     wholes: list[Branch] = []
     between_sections: set[int] = set()
+    left_out: set[int] = set()  # of lines that are whole
     for grouping in groupings:
         if all(bus in stations for bus in grouping.between):
             continue
@@ -62,8 +63,14 @@ def whole_lines(
         whole = whole_line(grouping, branches, buses)
         if whole is not None:
             wholes.append(whole)
+            left_out.update(grouping.between)
             words = f"the line {'-'.join(map(str, grouping.ends))} '{grouping.circuit}' has {len(whole.sections)} sections"
             between = ", ".join(map(str, grouping.between))
             told = f"it is one line, and the buses {between} between them are left out"
             notes.append(Finding(grouping.record.file, f"{words}: {told}", grouping.record.line))
+    sections = {id(section) for whole in wholes for section in whole.sections}
+    for branch in branches:
+        is_live = branch.in_service and not any(bus in buses and buses[bus].isolated for bus in branch.ends)
+        if is_live and id(branch) not in sections and left_out.intersection(branch.ends):
+            branch.record.wrong(None, "it ends at a bus between two sections of a line; give that bus a substation")
     return [*(branch for branch in branches if not between_sections.intersection(branch.ends)), *wholes]
