@@ -749,6 +749,17 @@ class Sections(PsseTest):
         raw = self.RAW.replace("4,-12,'1 '", f"{self.TAP.replace(',1,1,0', ',0,1,0')}4,-12,'1 '")
         self.assertIn("M1-4-1", self.case([*self.words(raw, self.GIC), "--beyond=leave"])["line"])
 
+    def test_resistances_of_a_whole_line(self) -> None:
+        """They are in its sections; a record of nothing but zeros says nothing."""
+        words = "this record is of a line of several sections, and isn't used; write one for each section"
+        for numbers in ("3.25,0.0,0.0,0.0,0.0", "0.0,0.0,0.0,1.5,0.0"):
+            gic = self.GIC.replace("11,12,'1 ',1.5,", f"1,4,'&1',{numbers}\n11,12,'1 ',1.5,")
+            for stations in (gic, gic.replace("8,3\n", "8,3\n11,3\n12,3\n")):
+                line = 21 + stations.count("\n") - gic.count("\n")
+                self.told([*self.words(self.RAW, stations), "--beyond=leave"], f"net.gic line {line}: {words}")
+        gic = self.GIC.replace("11,12,'1 ',1.5,", "1,4,'&1',0.0,0.0,0.0,0.0,0.0\n11,12,'1 ',1.5,")
+        self.assertIn("M1-4-1", self.case([*self.words(self.RAW, gic), "--beyond=leave"])["line"])
+
     def test_a_branch_of_a_resistance_within_a_station_is_a_line(self) -> None:
         # 3.84 ohm on 100 MVA at 345 kV are 0.00322621 per unit.
         raw = RAW.replace("4,5,'1 ',0.00008", "4,5,'1 ',0.00322621")
