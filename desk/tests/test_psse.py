@@ -749,6 +749,12 @@ class Sections(PsseTest):
         raw = self.RAW.replace("4,-12,'1 '", f"{self.TAP.replace(',1,1,0', ',0,1,0')}4,-12,'1 '")
         self.assertIn("M1-4-1", self.case([*self.words(raw, self.GIC), "--beyond=leave"])["line"])
 
+    def test_a_bus_between_sections_without_a_record(self) -> None:
+        for buses, missing in (("11,'DUM A',345.0,1\n", "11"), ("12,'DUM B',345.0,1\n", "12")):
+            raw = self.RAW.replace(buses, "")
+            told = f"net.raw line 43: there is no bus {missing} in net.raw; write its record"
+            self.told([*self.words(raw, self.GIC), "--beyond=leave"], told)
+
     def test_resistances_of_a_whole_line(self) -> None:
         """They are in its sections; a record of nothing but zeros says nothing."""
         words = "this record is of a line of several sections, and isn't used; write one for each section"

@@ -21,9 +21,12 @@ def branch_between(grouping: Grouping, pair: tuple[int, int], branches: Iterable
 def whole_line(grouping: Grouping, branches: Sequence[Branch], buses: dict[int, Bus]) -> Branch | None:
     """The line of a grouping as one branch from its first bus to its last; None where it can't be one, a finding."""
     chain = (grouping.ends[0], *grouping.between, grouping.ends[1])
+    unknown = [bus for bus in grouping.between if bus not in buses]
+    for bus in unknown:
+        grouping.record.wrong(None, f"there is no bus {bus} in {grouping.record.file}; write its record")
     sections = [branch_between(grouping, pair, branches) for pair in zip(chain, chain[1:])]
     known = [section for section in sections if section is not None]
-    if len(known) < len(sections):
+    if unknown or len(known) < len(sections):
         return None
     kilovolts = {buses[bus].kilovolts for bus in chain if bus in buses}
     if len(kilovolts) > 1:
@@ -31,7 +34,7 @@ def whole_line(grouping: Grouping, branches: Sequence[Branch], buses: dict[int, 
         grouping.record.wrong(None, f"its buses are of {told} kV; look at BASKV of each")
         return None
     blocked = any(section.reactance < 0 for section in known)
-    isolated = any(buses[bus].isolated for bus in grouping.between if bus in buses)
+    isolated = any(buses[bus].isolated for bus in grouping.between)
     return Branch(
         grouping.ends,
         grouping.circuit,
