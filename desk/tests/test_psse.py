@@ -20,7 +20,8 @@ from gicdesk.findings import Finding
 from gicdesk.network import read_degrees
 from gicdesk.places import Point
 from gicdesk.polygons import Polygon
-from gicdesk.psse_text import fields_of
+from gicdesk.psse_stations import is_node, read_stations
+from gicdesk.psse_text import SectionLine, fields_of
 from gicdesk.vectors import letters_of
 
 PAIR = TESTS / "pair"
@@ -939,6 +940,18 @@ class Meant(PsseTest):
         told = self.told_of([*self.words(raw, apart), "--beyond=model"])
         where = "it lies at 50.2, -100.0, and in the power flow at 50.0, -100.0; look at both"
         self.assertIn(f"net.gic line 2: {where}", told)
+
+
+class Nodes(unittest.TestCase):
+    def test_a_substation_at_whole_degrees_is_no_node(self) -> None:
+        """Its latitude may be the number of a bus."""
+        rows = [["1", "NORTH", "50", "-100", "0.2"], ["1", "N1", "50", "1"], ["2", "SOUTH", "50", "2", "0.3"], ["1", "S1", "51", "0"]]
+        findings: list[Finding] = []
+        found = read_stations("net.raw", [SectionLine(place, row, []) for place, row in enumerate(rows, 1)], {50, 51}, findings)
+        self.assertEqual((findings, found.station_of), ([], {50: 1, 51: 2}))
+        self.assertEqual({number: station.name for number, station in found.stations.items()}, {1: "NORTH", 2: "SOUTH"})
+        for row in (["1", "N1", "52", "1"], ["1", "N1", "x", "1"], ["1", "N1", "50", "9"], ["1", "N1", "50"]):
+            self.assertFalse(is_node(row, {50}), row)
 
 
 class Polygons(unittest.TestCase):
