@@ -14,6 +14,12 @@ from shared import BUILT, EXAMPLES, TESTS, DeskTest, desk
 from gicdesk.powermodels_read import scale_of
 
 NORTH, EAST = 6000, -5000
+LONG = "a number of 5000 digits"
+
+
+def with_long(data: object) -> str:
+    """Data as JSON, with the number in the place of its words."""
+    return json.dumps(data).replace(f'"{LONG}"', "9" * 5000)
 
 
 def potentials(data: dict[str, Any]) -> dict[int, float]:
@@ -144,6 +150,31 @@ class Back(DeskTest):
         other = self.written(EXAMPLES / "valley.toml")[0]
         (self.folder / "east.json").write_text(json.dumps(north))
         self.assertIn("its branches aren't those of", self.refused("from-powermodels", other, files[1], out)[0])
+
+    def changed(self, files: list[str], change: Callable[[Any], object], write: Callable[[Any], str] = json.dumps) -> list[str]:
+        """The refusal of the data with a change in both files."""
+        texts = [Path(file).read_text() for file in files]
+        for file, text in zip(files, texts):
+            data = json.loads(text)
+            change(data)
+            Path(file).write_text(write(data))
+        try:
+            return self.refused("from-powermodels", *files, f"--out={self.folder / 'case.toml'}")
+        finally:
+            for file, text in zip(files, texts):
+                Path(file).write_text(text)
+
+    def test_grounds_that_a_case_does_not_have(self) -> None:
+        files = self.written(EXAMPLES / "valley.toml")
+        for siemens in (-5.0, 1e-310, 0.00099, 1001):
+            lines = self.changed(files, lambda data: data["gmd_bus"]["1"].update(g_gnd=siemens))
+            words = f"g_gnd is {siemens:g}, and a ground of a case has 0.001 to 1000 ohm"
+            self.assertIn(f"{files[0]}: gmd_bus 1: {words}; write 1 over its ohm, or 0 where there is none", lines)
+
+    def test_a_number_of_5000_digits(self) -> None:
+        files = self.written(EXAMPLES / "valley.toml")
+        (line,) = self.changed(files, lambda data: data["gmd_bus"]["1"].update(g_gnd=LONG), with_long)
+        self.assertIn(f"{files[0]}: it is no JSON (", line)
 
     def test_what_is_out_of_service_is_refused(self) -> None:
         """In either file; without a status a row is in service."""

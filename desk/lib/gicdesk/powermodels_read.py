@@ -63,7 +63,7 @@ def read_data(file: str, findings: list[Finding]) -> dict[str, Table]:
     """The tables of a file by the indices of their rows."""
     try:
         data = json.loads(read_text(file))
-    except (json.JSONDecodeError, RecursionError) as error:
+    except (ValueError, RecursionError) as error:  # (a number of more than 4300 digits is a ValueError alone)
         raise refuse(file, f"it is no JSON ({error}); write the data as JSON") from None
     tables: dict[str, Table] = {}
     for name in STATUS:
@@ -103,11 +103,19 @@ class Making:
         self.nodes, self.branches, units = (tables[name] for name in STATUS)
         self.east = east
         self.case, self.names = Case(), Names()
+        self.siemens = {node: self.ground(at) for node, at in self.nodes.items()}
         self.lines = dict(self.branches)  # those that are no winding and no resistor of a neutral
         self.units = [unit for at in units.values() if (unit := self.read_unit(at)) is not None]
         self.first: dict[str, str] = {}  # of nodes of one substation, one that stands for them
         self.stations: dict[str, str] = {}  # the names of substations by the nodes of their grounds
         self.neutrals: dict[str, list[Field]] = {}  # by the nodes of neutrals
+
+    def ground(self, at: Entry) -> float:
+        """What leads from a node to the earth, in siemens."""
+        siemens = at.number("g_gnd", 0.0)
+        if siemens != 0 and not 0.001 <= siemens <= 1000:
+            at.wrong(f"g_gnd is {siemens:g}, and a ground of a case has 0.001 to 1000 ohm; write 1 over its ohm, or 0 where there is none")
+        return siemens
 
     def ends(self, at: Entry) -> tuple[str, str]:
         start, end = at.index_in("f_bus", self.nodes), at.index_in("t_bus", self.nodes)
@@ -142,14 +150,14 @@ class Making:
         """Which nodes are grounds of substations, and what of a neutral lies between it and its ground."""
         for unit in self.units:
             node, station = unit.earthed, unit.earthed
-            if node and self.nodes[node].number("g_gnd", 0.0) == 0 and self.nodes[node].name == unit.at.name:
+            if node and self.siemens[node] == 0 and self.nodes[node].name == unit.at.name:
                 station = self.find_neutral(node)
             if station:
                 self.stations.setdefault(station, "")
             for bus in (*unit.buses, *([station] if station else [])):
                 self.first[self.of(bus)] = self.of(unit.buses[0])
         for node, at in self.nodes.items():
-            if node in self.stations or at.number("g_gnd", 0.0) > 0:
+            if node in self.stations or self.siemens[node] > 0:
                 self.stations[node] = self.names.give(at.name, f"S{node}")
 
     def find_neutral(self, node: str) -> str:
@@ -168,7 +176,7 @@ class Making:
         units = [(unit, self.names.give(unit.at.name, f"T{unit.at.index}")) for unit in self.units]
         in_station = {self.of(node): name for node, name in self.stations.items()}
         for node, name in self.stations.items():
-            siemens = self.nodes[node].number("g_gnd", 0.0)
+            siemens = self.siemens[node]
             ground = [Field("ground", round(MICRO / siemens), "1 over g_gnd")] if siemens > 0 else []
             self.case.lists["substation"].append(Row(name, ground))
         buses: dict[str, str] = {}
