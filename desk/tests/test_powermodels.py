@@ -171,6 +171,21 @@ class Back(DeskTest):
             words = f"g_gnd is {siemens:g}, and a ground of a case has 0.001 to 1000 ohm"
             self.assertIn(f"{files[0]}: gmd_bus 1: {words}; write 1 over its ohm, or 0 where there is none", lines)
 
+    def test_windings_that_do_not_fit_each_other(self) -> None:
+        files = self.written(EXAMPLES / "region.toml")
+        data = json.loads(Path(files[0]).read_text())
+        units = {row["config"]: (index, row) for index, row in data["branch_gmd"].items()}
+        for config, key, end, words in (
+            ("gwye-gwye", "gmd_br_lo", "t_bus", "its windings end at two nodes; both end (t_bus) at its neutral, or at the ground of"),
+            ("gwye-gwye-auto", "gmd_br_series", "t_bus", "its series winding ends (t_bus) at another bus than its common one begins"),
+            ("gwye-gwye-auto", "gmd_br_common", "f_bus", "its series winding ends (t_bus) at another bus than its common one begins"),
+        ):
+            unit, row = units[config]
+            winding = str(row[key])
+            other = next(row["index"] for row in data["gmd_bus"].values() if row["index"] != data["gmd_branch"][winding][end])
+            lines = self.changed(files, lambda data: data["gmd_branch"][winding].update({end: other}))
+            self.assertIn(f"{files[0]}: branch_gmd {unit}: {words}", "\n".join(lines))
+
     def test_a_number_of_5000_digits(self) -> None:
         files = self.written(EXAMPLES / "valley.toml")
         (line,) = self.changed(files, lambda data: data["gmd_bus"]["1"].update(g_gnd=LONG), with_long)

@@ -138,6 +138,10 @@ class Making:
         pairs = [self.ends(self.branches[index]) for index in windings.values()]
         for index in windings.values():
             self.lines.pop(index, None)
+        if kind == "wye-wye" and pairs[0][1] != pairs[1][1]:
+            at.wrong("its windings end at two nodes; both end (t_bus) at its neutral, or at the ground of its substation")
+        if kind == "auto" and pairs[0][1] != pairs[1][0]:
+            at.wrong("its series winding ends (t_bus) at another bus than its common one begins (f_bus); make them one")
         buses = [start for start, _ in pairs]
         return Unit(at, kind, windings, buses, pairs[-1][1] if pairs else "")
 
