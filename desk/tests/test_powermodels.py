@@ -14,6 +14,7 @@ from shared import BUILT, EXAMPLES, TESTS, DeskTest, desk
 from gicdesk.powermodels_read import scale_of
 
 NORTH, EAST = 6000, -5000
+ROLES = ("line", "high", "series", "neutral")
 LONG = "a number of 5000 digits"
 
 
@@ -141,10 +142,7 @@ class Back(DeskTest):
             (lambda data: data.pop("gmd_bus"), "it has no table gmd_bus of rows by their indices; write one"),
         ]
         for change, words in changes:
-            data = json.loads(json.dumps(north))
-            change(data)
-            (self.folder / "north.json").write_text(json.dumps(data))
-            self.assertIn(words, "\n".join(self.refused("from-powermodels", *files, out)))
+            self.assertIn(words, "\n".join(self.changed(files, change)))
         (self.folder / "north.json").write_text("{")
         self.assertIn("it is no JSON", self.refused("from-powermodels", *files, out)[0])
         other = self.written(EXAMPLES / "valley.toml")[0]
@@ -185,6 +183,23 @@ class Back(DeskTest):
             other = next(row["index"] for row in data["gmd_bus"].values() if row["index"] != data["gmd_branch"][winding][end])
             lines = self.changed(files, lambda data: data["gmd_branch"][winding].update({end: other}))
             self.assertIn(f"{files[0]}: branch_gmd {unit}: {words}", "\n".join(lines))
+
+    def test_files_of_two_networks(self) -> None:
+        """They have the same branches, but for the voltages of lines; windings and resistors of neutrals have none."""
+        files = self.written(EXAMPLES / "region.toml")
+        east = json.loads(Path(files[1]).read_text())
+        at = {name: next(index for index, row in east["gmd_branch"].items() if row["name"].endswith(name)) for name in ROLES}
+        for key, value in (("name", "x"), ("f_bus", 3), ("t_bus", 4), ("br_r", 0.5)):
+            data = json.loads(json.dumps(east))
+            data["gmd_branch"][at["line"]][key] = value
+            (self.folder / "other.json").write_text(json.dumps(data))
+            (line,) = self.refused("from-powermodels", files[0], self.folder / "other.json", f"--out={self.folder / 'case.toml'}")
+            words = f"its branches aren't those of {files[0]}, as gmd_branch {at['line']}; write both of one network"
+            self.assertEqual(line, f"{self.folder / 'other.json'}: {words}")
+        for role in ROLES[1:]:
+            lines = self.changed(files, lambda data: data["gmd_branch"][at[role]].update(br_v=0.5))
+            words = "br_v isn't 0, and in a case lines alone have a voltage; make it 0, as it is of windings"
+            self.assertEqual(lines, [f"{file}: gmd_branch {at[role]}: {words}" for file in files])
 
     def test_a_number_of_5000_digits(self) -> None:
         files = self.written(EXAMPLES / "valley.toml")

@@ -15,6 +15,7 @@ from .files import read_text
 from .findings import Finding, Refused, refuse
 
 STATUS = {"gmd_bus": "status", "gmd_branch": "br_status", "branch_gmd": "br_status"}  # of the tables that are read
+SAME = ("name", "f_bus", "t_bus", "br_r")  # of a branch in both files
 KINDS = {"gwye-delta": "delta-wye", "gwye-gwye": "wye-wye", "gwye-gwye-auto": "auto", "delta-delta": "delta-delta"}
 WINDINGS: dict[str, dict[str, str]] = {
     "delta-wye": {"high": "gmd_br_hi"},
@@ -138,12 +139,19 @@ class Making:
         pairs = [self.ends(self.branches[index]) for index in windings.values()]
         for index in windings.values():
             self.lines.pop(index, None)
+            self.look_for_volts(index)
         if kind == "wye-wye" and pairs[0][1] != pairs[1][1]:
             at.wrong("its windings end at two nodes; both end (t_bus) at its neutral, or at the ground of its substation")
         if kind == "auto" and pairs[0][1] != pairs[1][0]:
             at.wrong("its series winding ends (t_bus) at another bus than its common one begins (f_bus); make them one")
         buses = [start for start, _ in pairs]
         return Unit(at, kind, windings, buses, pairs[-1][1] if pairs else "")
+
+    def look_for_volts(self, index: str) -> None:
+        """A finding at a branch that is no line and has a voltage, in either file."""
+        for at in (self.branches[index], self.east[index]):
+            if at.number("br_v", 0.0) != 0:
+                at.wrong("br_v isn't 0, and in a case lines alone have a voltage; make it 0, as it is of windings")
 
     def of(self, node: str) -> str:
         while self.first.get(node, node) != node:
@@ -171,6 +179,7 @@ class Making:
             ends = self.ends(at)
             if node in ends:
                 del self.lines[index]
+                self.look_for_volts(index)
                 self.neutrals[node] = [Field("neutral", round(MICRO * at.number("br_r")), "br_r: ohm to the ground grid")]
                 return ends[1] if ends[0] == node else ends[0]
         return ""
@@ -229,13 +238,19 @@ class Making:
         return Row(name, [*fields, *self.neutrals.get(unit.earthed, [])])
 
 
+def differing(north: Table, east: Table) -> list[str]:
+    """The indices of branches that aren't the same in both files, but for their voltages."""
+    one, other = ({index: [row.values.get(key) for key in SAME] for index, row in table.items()} for table in (north, east))
+    return [index for index in {**one, **other} if one.get(index) != other.get(index)]
+
+
 def make_case(north_file: str, east_file: str) -> str:
     """The case of two files; all that is wrong with any of them is told at once."""
     findings: list[Finding] = []
     north, east = read_data(north_file, findings), read_data(east_file, findings)
-    same = {index: row.name for index, row in north["gmd_branch"].items()}
-    if same != {index: row.name for index, row in east["gmd_branch"].items()}:
-        raise refuse(east_file, f"its branches aren't those of {north_file}; write both of one network")
+    odd = differing(north["gmd_branch"], east["gmd_branch"])
+    if odd:
+        raise refuse(east_file, f"its branches aren't those of {north_file}, as gmd_branch {odd[0]}; write both of one network")
     making = Making(north, east["gmd_branch"])
     if not findings:
         making.make()
