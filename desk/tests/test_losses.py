@@ -86,6 +86,7 @@ class Losses(DeskTest):
             self.assertTrue(expected)
             self.assertEqual([(load[0], load[8]) for load in loads], [(row["number"], row["high_Mvar"]) for row in expected])
             self.assertEqual({(load[1], load[2], float(load[6])) for load in loads}, {("GI", "1", 0.0)})
+            self.assertEqual({(load[3], load[4], load[11], len(load)) for load in loads}, {("", "", "", 13)})
         sums = {row["number"]: 0.0 for row in tables["losses"]}
         for row in tables["losses"]:
             if row["bearing_degrees"] == "90":

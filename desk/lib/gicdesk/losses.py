@@ -164,11 +164,12 @@ def bus_table(losses: Losses) -> Table:
 
 
 def load_block(losses: Sequence[Loss]) -> str:
-    """Records of loads for a file `.raw`, one for each bus: the high end of its sum as a load of constant current."""
+    """Records of loads for a file `.raw`, one for each bus: the high end of its sum as a load of constant current. Area, zone
+    and owner are empty, which means those of the bus."""
     lines = []
     for place, (_, high) in bus_sums(losses).items():
         if high > 0:
-            lines.append(f"{place.number},'{LOAD_ID}',1,1,1,0.0,0.0,0.0,{high:f},0.0,0.0,1,0 / {place.bus}")
+            lines.append(f"{place.number},'{LOAD_ID}',1,,,0.0,0.0,0.0,{high:f},0.0,0.0,,0 / {place.bus}")
     return "".join(f"{line}\n" for line in lines)
 
 
