@@ -1,4 +1,4 @@
-#!/bin/sh
+#!/usr/bin/env bash
 # Builds the program of bench/solver over the crates of this repository, in a scratch copy, runs it on fourteen cases, and
 # prints a table, and below it how much memory the two proposers take. Beside them it runs the solvers of bench/baselines
 # for which the tools are installed.

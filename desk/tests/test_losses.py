@@ -6,6 +6,8 @@ import math
 import subprocess
 import tomllib
 import unittest
+from typing import Any
+from unittest import mock
 
 import plain
 from shared import BUILT, EXAMPLES, TESTS, DeskTest
@@ -14,6 +16,7 @@ from gicdesk.findings import Finding
 from gicdesk.forms import Interval
 from gicdesk.losses import magnitude
 from gicdesk.psse_text import Layout, read_sections
+from gicdesk.study import Runs
 
 FACTORS = "transformer,mvar_per_ampere,at_kv\nKS-A2,1.18,\nEM-T1,0.29,345\n"
 
@@ -83,6 +86,7 @@ class Losses(DeskTest):
             self.assertTrue(expected)
             self.assertEqual([(load[0], load[8]) for load in loads], [(row["number"], row["high_Mvar"]) for row in expected])
             self.assertEqual({(load[1], load[2], float(load[6])) for load in loads}, {("GI", "1", 0.0)})
+            self.assertEqual({(load[3], load[4], load[11], len(load)) for load in loads}, {("", "", "", 13)})
         sums = {row["number"]: 0.0 for row in tables["losses"]}
         for row in tables["losses"]:
             if row["bearing_degrees"] == "90":
@@ -105,3 +109,21 @@ class Losses(DeskTest):
                 f"{names}: it has no bus Elmstead-345; is it the table of another case?",
             ],
         )
+
+    def test_tables_are_read_in_front_of_the_screen(self) -> None:
+        """Those of a case without transformers too."""
+        text = (EXAMPLES / "region.toml").read_text()
+        bare = self.file("bare.toml", text[: text.index("[[transformer]]")])
+        asked = []
+
+        def report(runs: Runs, kind: type[Any], name: str, mode: str, *words: str) -> Any:
+            asked.append(mode)
+            return given(runs, kind, name, mode, *words)
+
+        given, words = Runs.report, [f"--program={BUILT}", f"--out={self.folder / 'none'}"]
+        with mock.patch.object(Runs, "report", report):
+            for case, name in ((bare, "KS-A2"), (EXAMPLES / "region.toml", "KS-A9")):
+                factors = self.file("factors.csv", f"transformer,mvar_per_ampere,at_kv\n{name},1,\n")
+                (line,) = self.refused("losses", case, f"--factors={factors}", *words)
+                self.assertIn(f'line 2, transformer: "{name}" is no transformer of the case', line)
+        self.assertEqual(asked, ["list", "list"])

@@ -5,6 +5,7 @@ import random
 import subprocess
 import unittest
 from collections.abc import Callable
+from pathlib import Path
 from typing import Any
 
 from plain import solved
@@ -13,6 +14,14 @@ from shared import BUILT, EXAMPLES, TESTS, DeskTest, desk
 from gicdesk.powermodels_read import scale_of
 
 NORTH, EAST = 6000, -5000
+ROLES = ("line", "high", "series", "neutral")
+LONG = "a number of 5000 digits"
+VALUES: tuple[object, ...] = (None, -1, 0, 1, 3, 1e300, 1e-310, -5.0, LONG, "", "x", True, [], {}, 0.25)
+
+
+def with_long(data: object) -> str:
+    """Data as JSON, with the number in the place of its words."""
+    return json.dumps(data).replace(f'"{LONG}"', "9" * 5000)
 
 
 def potentials(data: dict[str, Any]) -> dict[int, float]:
@@ -134,28 +143,100 @@ class Back(DeskTest):
             (lambda data: data.pop("gmd_bus"), "it has no table gmd_bus of rows by their indices; write one"),
         ]
         for change, words in changes:
-            data = json.loads(json.dumps(north))
-            change(data)
-            (self.folder / "north.json").write_text(json.dumps(data))
-            self.assertIn(words, "\n".join(self.refused("from-powermodels", *files, out)))
+            self.assertIn(words, "\n".join(self.changed(files, change)))
         (self.folder / "north.json").write_text("{")
         self.assertIn("it is no JSON", self.refused("from-powermodels", *files, out)[0])
         other = self.written(EXAMPLES / "valley.toml")[0]
         (self.folder / "east.json").write_text(json.dumps(north))
         self.assertIn("its branches aren't those of", self.refused("from-powermodels", other, files[1], out)[0])
 
+    def changed(self, files: list[str], change: Callable[[Any], object], write: Callable[[Any], str] = json.dumps) -> list[str]:
+        """The refusal of the data with a change in both files."""
+        texts = [Path(file).read_text() for file in files]
+        for file, text in zip(files, texts):
+            data = json.loads(text)
+            change(data)
+            Path(file).write_text(write(data))
+        try:
+            return self.refused("from-powermodels", *files, f"--out={self.folder / 'case.toml'}")
+        finally:
+            for file, text in zip(files, texts):
+                Path(file).write_text(text)
+
+    def test_grounds_that_a_case_does_not_have(self) -> None:
+        files = self.written(EXAMPLES / "valley.toml")
+        for siemens in (-5.0, 1e-310, 0.00099, 1001):
+            lines = self.changed(files, lambda data: data["gmd_bus"]["1"].update(g_gnd=siemens))
+            words = f"g_gnd is {siemens:g}, and a ground of a case has 0.001 to 1000 ohm"
+            self.assertIn(f"{files[0]}: gmd_bus 1: {words}; write 1 over its ohm, or 0 where there is none", lines)
+
+    def test_windings_that_do_not_fit_each_other(self) -> None:
+        files = self.written(EXAMPLES / "region.toml")
+        data = json.loads(Path(files[0]).read_text())
+        units = {row["config"]: (index, row) for index, row in data["branch_gmd"].items()}
+        for config, key, end, words in (
+            ("gwye-gwye", "gmd_br_lo", "t_bus", "its windings end at two nodes; both end (t_bus) at its neutral, or at the ground of"),
+            ("gwye-gwye-auto", "gmd_br_series", "t_bus", "its series winding ends (t_bus) at another bus than its common one begins"),
+            ("gwye-gwye-auto", "gmd_br_common", "f_bus", "its series winding ends (t_bus) at another bus than its common one begins"),
+        ):
+            unit, row = units[config]
+            winding = str(row[key])
+            other = next(row["index"] for row in data["gmd_bus"].values() if row["index"] != data["gmd_branch"][winding][end])
+            lines = self.changed(files, lambda data: data["gmd_branch"][winding].update({end: other}))
+            self.assertIn(f"{files[0]}: branch_gmd {unit}: {words}", "\n".join(lines))
+
+    def test_files_of_two_networks(self) -> None:
+        """They have the same branches, but for the voltages of lines; windings and resistors of neutrals have none."""
+        files = self.written(EXAMPLES / "region.toml")
+        east = json.loads(Path(files[1]).read_text())
+        at = {name: next(index for index, row in east["gmd_branch"].items() if row["name"].endswith(name)) for name in ROLES}
+        for key, value in (("name", "x"), ("f_bus", 3), ("t_bus", 4), ("br_r", 0.5)):
+            data = json.loads(json.dumps(east))
+            data["gmd_branch"][at["line"]][key] = value
+            (self.folder / "other.json").write_text(json.dumps(data))
+            (line,) = self.refused("from-powermodels", files[0], self.folder / "other.json", f"--out={self.folder / 'case.toml'}")
+            words = f"its branches aren't those of {files[0]}, as gmd_branch {at['line']}; write both of one network"
+            self.assertEqual(line, f"{self.folder / 'other.json'}: {words}")
+        for role in ROLES[1:]:
+            lines = self.changed(files, lambda data: data["gmd_branch"][at[role]].update(br_v=0.5))
+            words = "br_v isn't 0, and in a case lines alone have a voltage; make it 0, as it is of windings"
+            self.assertEqual(lines, [f"{file}: gmd_branch {at[role]}: {words}" for file in files])
+
+    def test_a_number_of_5000_digits(self) -> None:
+        files = self.written(EXAMPLES / "valley.toml")
+        (line,) = self.changed(files, lambda data: data["gmd_bus"]["1"].update(g_gnd=LONG), with_long)
+        self.assertIn(f"{files[0]}: it is no JSON (", line)
+
+    def test_what_is_out_of_service_is_refused(self) -> None:
+        """In either file; without a status a row is in service."""
+        files = self.written(EXAMPLES / "valley.toml")
+        out = f"--out={self.folder / 'case.toml'}"
+        for file in files:
+            text = Path(file).read_text()
+            for table, key in (("gmd_bus", "status"), ("gmd_branch", "br_status"), ("branch_gmd", "br_status")):
+                data = json.loads(text)
+                data[table]["1"][key] = 0
+                Path(file).write_text(json.dumps(data))
+                (line,) = self.refused("from-powermodels", *files, out, "--force")
+                words = f"{key} is not 1: it is out of service, which a case has no key for; leave it out of the data"
+                self.assertEqual(line, f"{file}: {table} 1: {words}")
+                data[table]["1"].pop(key)
+                Path(file).write_text(json.dumps(data))
+                self.done("from-powermodels", *files, out, "--force")
+            Path(file).write_text(text)
+
     def test_nothing_ends_in_a_traceback(self) -> None:
         files = self.written(EXAMPLES / "valley.toml")
-        north = json.loads((self.folder / "north.json").read_text())
+        north, east = json.loads(Path(files[0]).read_text()), Path(files[1]).read_text()
         drawn = random.Random(11)
         for _ in range(300):
             data = json.loads(json.dumps(north))
             for _ in range(drawn.choice((1, 2, 4))):
                 rows = data[drawn.choice(("gmd_bus", "gmd_branch", "branch_gmd"))]
                 row = rows[drawn.choice(list(rows))]
-                value: object = drawn.choice((None, -1, 0, 1, 3, 1e300, "", "x", True, [], {}, 0.25))
-                row[drawn.choice(list(row))] = value
-            (self.folder / "north.json").write_text(json.dumps(data))
-            status, _, err = desk("from-powermodels", *files, f"--out={self.folder / 'case.toml'}", "--force")
+                row[drawn.choice(list(row))] = drawn.choice(VALUES)
+            text = with_long(data)
+            Path(files[0]).write_text(text)
+            Path(files[1]).write_text(drawn.choice((text, east)))
+            status, _, _ = desk("from-powermodels", *files, f"--out={self.folder / 'case.toml'}", "--force")
             self.assertIn(status, (0, 1))
-            self.assertNotIn("Traceback", err)

@@ -20,7 +20,8 @@ from gicdesk.findings import Finding
 from gicdesk.network import read_degrees
 from gicdesk.places import Point
 from gicdesk.polygons import Polygon
-from gicdesk.psse_text import fields_of
+from gicdesk.psse_stations import is_node, read_stations
+from gicdesk.psse_text import SectionLine, fields_of
 from gicdesk.vectors import letters_of
 
 PAIR = TESTS / "pair"
@@ -738,6 +739,34 @@ class Sections(PsseTest):
             f"net.raw line 44: there is no branch between the buses 11 and 4, {words}",
         )
 
+    TAP = "7,11,'1 ',0.0025,0.03,0.1,0,0,0,0,0,0,0,1,1,0\n"
+
+    def test_a_branch_at_a_bus_between_sections(self) -> None:
+        raw = self.RAW.replace("4,-12,'1 '", f"{self.TAP}4,-12,'1 '")
+        self.told(
+            [*self.words(raw, self.GIC), "--beyond=leave"],
+            "net.raw line 22: it ends at a bus between two sections of a line; give that bus a substation",
+        )
+        raw = self.RAW.replace("4,-12,'1 '", f"{self.TAP.replace(',1,1,0', ',0,1,0')}4,-12,'1 '")
+        self.assertIn("M1-4-1", self.case([*self.words(raw, self.GIC), "--beyond=leave"])["line"])
+
+    def test_a_bus_between_sections_without_a_record(self) -> None:
+        for buses, missing in (("11,'DUM A',345.0,1\n", "11"), ("12,'DUM B',345.0,1\n", "12")):
+            raw = self.RAW.replace(buses, "")
+            told = f"net.raw line 43: there is no bus {missing} in net.raw; write its record"
+            self.told([*self.words(raw, self.GIC), "--beyond=leave"], told)
+
+    def test_resistances_of_a_whole_line(self) -> None:
+        """They are in its sections; a record of nothing but zeros says nothing."""
+        words = "this record is of a line of several sections, and isn't used; write one for each section"
+        for numbers in ("3.25,0.0,0.0,0.0,0.0", "0.0,0.0,0.0,1.5,0.0"):
+            gic = self.GIC.replace("11,12,'1 ',1.5,", f"1,4,'&1',{numbers}\n11,12,'1 ',1.5,")
+            for stations in (gic, gic.replace("8,3\n", "8,3\n11,3\n12,3\n")):
+                line = 21 + stations.count("\n") - gic.count("\n")
+                self.told([*self.words(self.RAW, stations), "--beyond=leave"], f"net.gic line {line}: {words}")
+        gic = self.GIC.replace("11,12,'1 ',1.5,", "1,4,'&1',0.0,0.0,0.0,0.0,0.0\n11,12,'1 ',1.5,")
+        self.assertIn("M1-4-1", self.case([*self.words(self.RAW, gic), "--beyond=leave"])["line"])
+
     def test_a_branch_of_a_resistance_within_a_station_is_a_line(self) -> None:
         # 3.84 ohm on 100 MVA at 345 kV are 0.00322621 per unit.
         raw = RAW.replace("4,5,'1 ',0.00008", "4,5,'1 ',0.00322621")
@@ -911,6 +940,18 @@ class Meant(PsseTest):
         told = self.told_of([*self.words(raw, apart), "--beyond=model"])
         where = "it lies at 50.2, -100.0, and in the power flow at 50.0, -100.0; look at both"
         self.assertIn(f"net.gic line 2: {where}", told)
+
+
+class Nodes(unittest.TestCase):
+    def test_a_substation_at_whole_degrees_is_no_node(self) -> None:
+        """Its latitude may be the number of a bus."""
+        rows = [["1", "NORTH", "50", "-100", "0.2"], ["1", "N1", "50", "1"], ["2", "SOUTH", "50", "2", "0.3"], ["1", "S1", "51", "0"]]
+        findings: list[Finding] = []
+        found = read_stations("net.raw", [SectionLine(place, row, []) for place, row in enumerate(rows, 1)], {50, 51}, findings)
+        self.assertEqual((findings, found.station_of), ([], {50: 1, 51: 2}))
+        self.assertEqual({number: station.name for number, station in found.stations.items()}, {1: "NORTH", 2: "SOUTH"})
+        for row in (["1", "N1", "52", "1"], ["1", "N1", "x", "1"], ["1", "N1", "50", "9"], ["1", "N1", "50"]):
+            self.assertFalse(is_node(row, {50}), row)
 
 
 class Polygons(unittest.TestCase):

@@ -10,11 +10,11 @@ import datetime
 import decimal
 import hashlib
 import html.parser
-import importlib
 import io
 import math
 import random
 import re
+import subprocess
 import sys
 import unittest
 from unittest import mock
@@ -607,10 +607,8 @@ class Places(DeskTest):
 
 def made_study(size: int) -> study.Study:
     """A study of a made network of so many stations, with currents that are drawn at random."""
-    sys.path.insert(0, str(TOP / "bench"))
-    made_case = importlib.import_module("made_case")
-    head = 'format = 1\n[[zone]]\nname = "Z"\nlatitude = 6000\nbeta = 100\n'
-    case = head + "\n".join(made_case.rows(size, made_case.Draws(7)))
+    words = [sys.executable, "-B", str(TOP / "generators" / "made_case.py"), str(size), "7"]
+    case = subprocess.run(words, capture_output=True, text=True, check=True).stdout
     drawn = random.Random(5)
     names = [f"T{place}" for place in range(size)]
 

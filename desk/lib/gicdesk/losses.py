@@ -17,7 +17,7 @@ from .forms import Interval
 from .network import network_of
 from .progress import Progress
 from .records import read_table
-from .reports import Screen, ScreenUnit, Series
+from .reports import Elements, Screen, ScreenUnit, Series
 from .study import Request, Runs, current_at, storm_words
 from .tables import Table
 
@@ -85,7 +85,8 @@ def bus_numbers(file: str, data: bytes, findings: list[Finding]) -> dict[str, in
 
 def high_buses(case: bytes) -> dict[str, str]:
     """The bus of the high side of each unit of a case that the program has taken."""
-    return {row["name"]: row["high"] for row in tomllib.loads(case.decode("utf-8-sig"))["transformer"] if "high" in row}
+    rows = tomllib.loads(case.decode("utf-8-sig")).get("transformer", [])
+    return {row["name"]: row["high"] for row in rows if "high" in row}
 
 
 def at_bearing(rows: Iterable[ScreenUnit], bearing: int, factors: Mapping[str, Factor], places: Mapping[str, Place]) -> list[Loss]:
@@ -109,12 +110,12 @@ def at_steps(series: Sequence[Series], factors: Mapping[str, Factor], places: Ma
 
 
 def make_losses(request: Request, names: str | None, event: str | None) -> Losses:
-    """The losses of the units of the table of factors, of one screen, and of a series of each where there is a storm."""
+    """The losses of the units of the table of factors, of one screen, and of a series of each where there is a storm. What is wrong
+    with the tables is told in front of the screen."""
     findings: list[Finding] = []
-    with Progress(1) as progress:
+    with Progress(2) as progress:
         runs = Runs(request, progress)
-        words = () if event is None else (f"--event={event}",)
-        screen = runs.report(Screen, "screen", "screen", *words, *request.screen_words)
+        runs.report(Elements, "list", "list")  # a case that the program doesn't take ends here
         network = network_of(request.data("case"))
         if network is None or request.factors is None:
             raise refuse(request.case, "it is in TOML 1.1; write the case without what only TOML 1.1 has")
@@ -127,6 +128,8 @@ def make_losses(request: Request, names: str | None, event: str | None) -> Losse
         findings += [Finding(names or "", f"it has no bus {bus}; is it the table of another case?") for bus in lost]
         if findings:
             raise Refused(findings)
+        words = () if event is None else (f"--event={event}",)
+        screen = runs.report(Screen, "screen", "screen", *words, *request.screen_words)
         places = {name: Place(buses[name], numbers.get(buses[name])) for name in factors}
         by_step = None
         if request.storm is not None:
@@ -161,11 +164,12 @@ def bus_table(losses: Losses) -> Table:
 
 
 def load_block(losses: Sequence[Loss]) -> str:
-    """Records of loads for a file `.raw`, one for each bus: the high end of its sum as a load of constant current."""
+    """Records of loads for a file `.raw`, one for each bus: the high end of its sum as a load of constant current. Area, zone
+    and owner are empty, which means those of the bus."""
     lines = []
     for place, (_, high) in bus_sums(losses).items():
         if high > 0:
-            lines.append(f"{place.number},'{LOAD_ID}',1,1,1,0.0,0.0,0.0,{high:f},0.0,0.0,1,0 / {place.bus}")
+            lines.append(f"{place.number},'{LOAD_ID}',1,,,0.0,0.0,0.0,{high:f},0.0,0.0,,0 / {place.bus}")
     return "".join(f"{line}\n" for line in lines)
 
 

@@ -14,7 +14,8 @@ from .cases import Case, Field, Names, Row, short_enough
 from .files import read_text
 from .findings import Finding, Refused, refuse
 
-TABLES = ("gmd_bus", "gmd_branch", "branch_gmd")
+STATUS = {"gmd_bus": "status", "gmd_branch": "br_status", "branch_gmd": "br_status"}  # of the tables that are read
+SAME = ("name", "f_bus", "t_bus", "br_r")  # of a branch in both files
 KINDS = {"gwye-delta": "delta-wye", "gwye-gwye": "wye-wye", "gwye-gwye-auto": "auto", "delta-delta": "delta-delta"}
 WINDINGS: dict[str, dict[str, str]] = {
     "delta-wye": {"high": "gmd_br_hi"},
@@ -63,14 +64,17 @@ def read_data(file: str, findings: list[Finding]) -> dict[str, Table]:
     """The tables of a file by the indices of their rows."""
     try:
         data = json.loads(read_text(file))
-    except (json.JSONDecodeError, RecursionError) as error:
+    except (ValueError, RecursionError) as error:  # (a number of more than 4300 digits is a ValueError alone)
         raise refuse(file, f"it is no JSON ({error}); write the data as JSON") from None
     tables: dict[str, Table] = {}
-    for name in TABLES:
+    for name in STATUS:
         rows = data.get(name) if isinstance(data, dict) else None
         if not isinstance(rows, dict) or not all(isinstance(row, dict) for row in rows.values()):
             raise refuse(file, f"it has no table {name} of rows by their indices; write one")
         tables[name] = {index: Entry(file, name, index, row, findings) for index, row in rows.items()}
+        for entry in tables[name].values():
+            if entry.number(STATUS[name], 1.0) != 1:
+                entry.wrong(f"{STATUS[name]} is not 1: it is out of service, which a case has no key for; leave it out of the data")
     return tables
 
 
@@ -97,14 +101,22 @@ class Making:
     """A case in the making, of the tables of the field to the north and the branches of that to the east."""
 
     def __init__(self, tables: dict[str, Table], east: Table) -> None:
-        self.nodes, self.branches, units = (tables[name] for name in TABLES)
+        self.nodes, self.branches, units = (tables[name] for name in STATUS)
         self.east = east
         self.case, self.names = Case(), Names()
+        self.siemens = {node: self.ground(at) for node, at in self.nodes.items()}
         self.lines = dict(self.branches)  # those that are no winding and no resistor of a neutral
         self.units = [unit for at in units.values() if (unit := self.read_unit(at)) is not None]
         self.first: dict[str, str] = {}  # of nodes of one substation, one that stands for them
         self.stations: dict[str, str] = {}  # the names of substations by the nodes of their grounds
         self.neutrals: dict[str, list[Field]] = {}  # by the nodes of neutrals
+
+    def ground(self, at: Entry) -> float:
+        """What leads from a node to the earth, in siemens."""
+        siemens = at.number("g_gnd", 0.0)
+        if siemens != 0 and not 0.001 <= siemens <= 1000:
+            at.wrong(f"g_gnd is {siemens:g}, and a ground of a case has 0.001 to 1000 ohm; write 1 over its ohm, or 0 where there is none")
+        return siemens
 
     def ends(self, at: Entry) -> tuple[str, str]:
         start, end = at.index_in("f_bus", self.nodes), at.index_in("t_bus", self.nodes)
@@ -127,8 +139,19 @@ class Making:
         pairs = [self.ends(self.branches[index]) for index in windings.values()]
         for index in windings.values():
             self.lines.pop(index, None)
+            self.look_for_volts(index)
+        if kind == "wye-wye" and pairs[0][1] != pairs[1][1]:
+            at.wrong("its windings end at two nodes; both end (t_bus) at its neutral, or at the ground of its substation")
+        if kind == "auto" and pairs[0][1] != pairs[1][0]:
+            at.wrong("its series winding ends (t_bus) at another bus than its common one begins (f_bus); make them one")
         buses = [start for start, _ in pairs]
         return Unit(at, kind, windings, buses, pairs[-1][1] if pairs else "")
+
+    def look_for_volts(self, index: str) -> None:
+        """A finding at a branch that is no line and has a voltage, in either file."""
+        for at in (self.branches[index], self.east[index]):
+            if at.number("br_v", 0.0) != 0:
+                at.wrong("br_v isn't 0, and in a case lines alone have a voltage; make it 0, as it is of windings")
 
     def of(self, node: str) -> str:
         while self.first.get(node, node) != node:
@@ -139,14 +162,14 @@ class Making:
         """Which nodes are grounds of substations, and what of a neutral lies between it and its ground."""
         for unit in self.units:
             node, station = unit.earthed, unit.earthed
-            if node and self.nodes[node].number("g_gnd", 0.0) == 0 and self.nodes[node].name == unit.at.name:
+            if node and self.siemens[node] == 0 and self.nodes[node].name == unit.at.name:
                 station = self.find_neutral(node)
             if station:
                 self.stations.setdefault(station, "")
             for bus in (*unit.buses, *([station] if station else [])):
                 self.first[self.of(bus)] = self.of(unit.buses[0])
         for node, at in self.nodes.items():
-            if node in self.stations or at.number("g_gnd", 0.0) > 0:
+            if node in self.stations or self.siemens[node] > 0:
                 self.stations[node] = self.names.give(at.name, f"S{node}")
 
     def find_neutral(self, node: str) -> str:
@@ -156,6 +179,7 @@ class Making:
             ends = self.ends(at)
             if node in ends:
                 del self.lines[index]
+                self.look_for_volts(index)
                 self.neutrals[node] = [Field("neutral", round(MICRO * at.number("br_r")), "br_r: ohm to the ground grid")]
                 return ends[1] if ends[0] == node else ends[0]
         return ""
@@ -165,7 +189,7 @@ class Making:
         units = [(unit, self.names.give(unit.at.name, f"T{unit.at.index}")) for unit in self.units]
         in_station = {self.of(node): name for node, name in self.stations.items()}
         for node, name in self.stations.items():
-            siemens = self.nodes[node].number("g_gnd", 0.0)
+            siemens = self.siemens[node]
             ground = [Field("ground", round(MICRO / siemens), "1 over g_gnd")] if siemens > 0 else []
             self.case.lists["substation"].append(Row(name, ground))
         buses: dict[str, str] = {}
@@ -214,13 +238,19 @@ class Making:
         return Row(name, [*fields, *self.neutrals.get(unit.earthed, [])])
 
 
+def differing(north: Table, east: Table) -> list[str]:
+    """The indices of branches that aren't the same in both files, but for their voltages."""
+    one, other = ({index: [row.values.get(key) for key in SAME] for index, row in table.items()} for table in (north, east))
+    return [index for index in {**one, **other} if one.get(index) != other.get(index)]
+
+
 def make_case(north_file: str, east_file: str) -> str:
     """The case of two files; all that is wrong with any of them is told at once."""
     findings: list[Finding] = []
     north, east = read_data(north_file, findings), read_data(east_file, findings)
-    same = {index: row.name for index, row in north["gmd_branch"].items()}
-    if same != {index: row.name for index, row in east["gmd_branch"].items()}:
-        raise refuse(east_file, f"its branches aren't those of {north_file}; write both of one network")
+    odd = differing(north["gmd_branch"], east["gmd_branch"])
+    if odd:
+        raise refuse(east_file, f"its branches aren't those of {north_file}, as gmd_branch {odd[0]}; write both of one network")
     making = Making(north, east["gmd_branch"])
     if not findings:
         making.make()

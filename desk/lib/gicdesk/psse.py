@@ -361,8 +361,9 @@ class Making:
     def records_used(self) -> None:
         """A row of the table of lines that is of no branch is a finding, since it was meant for one. A row of the table
         of substations that is of none is told, since the table may be of a larger network; so is a record of
-        resistances that is of nothing, and a reactor without one."""
+        resistances that is of nothing, and a reactor without one. One that is of a line of several sections is a finding."""
         branches: set[Key] = {(frozenset(branch.ends), branch.circuit) for branch in self.raw.branches}
+        single = set(branches)
         branches |= {(frozenset(grouping.ends), grouping.circuit) for grouping in self.raw.groupings}
         units: set[Key] = {(frozenset(unit.buses), unit.circuit) for unit in self.raw.transformers}
         for key, override in self.zones.of_lines.items():
@@ -374,6 +375,9 @@ class Making:
         for key, data in self.gic.lines.items():
             if key not in branches:
                 self.tell_of_none(data.record, "branch")
+            elif key not in single and (data.ohm != 0 or any(data.shunts.values())):
+                words = "this record is of a line of several sections, and isn't used; write one for each section"
+                data.record.wrong(None, words)
         for key, windings in self.gic.windings.items():
             if key not in units:
                 self.tell_of_none(windings.record, "transformer")

@@ -1,7 +1,7 @@
 """Substations as files `.raw` have them from version 35 on: places, grounds, and the buses at their nodes.
 
 Behind the record of a substation stand its nodes, each with its bus. A node is told from a substation by the bus and the
-status in its third and fourth field, which are whole numbers.
+status in its third and fourth field: a number of a bus that is there, and 0 or 1.
 """
 
 import dataclasses
@@ -40,8 +40,10 @@ class Stations:
 
 
 def is_node(fields: Sequence[str], buses: Container[int]) -> bool:
-    """Whether a line is a node: behind its name stand a bus of the file and a status."""
-    return len(fields) > 3 and all(WHOLE.fullmatch(field) for field in fields[2:4]) and int(fields[2]) in buses
+    """Whether a line is a node: behind its name stand a bus of the file and a status, which is 0 or 1."""
+    if len(fields) < 4 or fields[3] not in ("0", "1"):
+        return False
+    return WHOLE.fullmatch(fields[2]) is not None and int(fields[2]) in buses
 
 
 def read_stations(

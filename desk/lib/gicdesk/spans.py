@@ -14,8 +14,9 @@ from .network import Degrees, Link
 from .places import degrees_between
 from .reports import Question
 
-NEAR_M = 2000  # a span fits that is this near to the coordinates in each direction,
-NEAR_PART = 0.02  # and beyond that this part of its length: alpha by the formula scales spans by up to a hundredth
+# A span fits that is this near to the coordinates in each direction, and beyond that this part of its length: alpha by the
+# formula scales spans by up to a hundredth where alpha times beta is 0.05 or more, and by more below that.
+NEAR_M, NEAR_PART = 2000, 0.02
 
 Span = tuple[int, int]  # metres to the north and to the east
 
