@@ -28,7 +28,7 @@ from trial import TRIAL, copy_in, run_trial
 
 PROVE = "./gicstudy --prove proves and builds it"
 # What a first build takes, as bench/README.md has it.
-TAKES = "twenty to forty minutes on four processors, twice that on two"
+TAKES = "ten to forty minutes on four processors, twice that on two"
 UNPROVED = f"this answer is of the program compiled without proof here, and nothing is promised of it; {PROVE} ({TAKES})"
 COMPILES = "compiles the program first, which takes a minute or two; "
 

@@ -3,12 +3,16 @@
 
     python3 docs/claim.py [--write]
 
-The headline is the one clause of `gicstudy` (crates/gic_study/src/study.rt). From it this follows what is cited,
-definition by definition, through `crates/NAME/specs/FILE.antt`, and puts what it comes to in the order in which a reader
-needs it: first all that a report of `field` rests on, then what each other mode adds, then what words and files ask for,
-the lines of faults, and the headline itself. No definition cites one that comes later. Imports are left out; under each
-definition stands which others of the claim cite it, the first four by name, and in front of it the types and the constants
-of the code that it is the first to speak of.
+The headline is `Headline` of gic_headline, which `run` of that crate says of the program (crates/gic_headline/src/program.rt).
+It stands first, with the clause of `run`. From it this follows what is cited, definition by definition, through
+`crates/NAME/specs/FILE.antt`, and puts what it comes to in the order in which a reader needs it: all that a true report of
+`field` rests on, then what each other mode adds, then what words and files ask for, the lines of faults, and how a call
+ends otherwise. But for the headline no definition cites one that comes later. Imports are left out; under each definition stands
+which others of the claim cite it, the first four by name, and in front of it the types and the constants of the code that it is
+the first to speak of. Words of libraries stand in a list of their own (claim_words.py).
+
+Two faults are of names: a word of a library that is cited and told nowhere, and a name that two definitions have, or a
+definition and a word of a library. Of the few names in TWICE each definition tells the others, and one that cites that of another crate tells which it is.
 
 Without --write it compares docs/CLAIM.txt, and the table of its parts in docs/DEFINITIONS.md, with what it makes. The
 last line is `N definitions of the claim, M faults`, and the status is 0 only where M is 0.
@@ -21,86 +25,104 @@ import sys
 from dataclasses import dataclass, field
 from pathlib import Path
 
+from claim_words import OUTSIDE
 from definitions import TOP, WORDS, crate_names
 
 CLAIM = "docs/CLAIM.txt"
-CALL = "crates/gic_study/src/study.rt"
+CALL = "crates/gic_headline/src/program.rt"
 # lines of definitions and remarks that are counted for a minute of reading: an estimate
 LINES_A_MINUTE = 13
 TABLE = "| part | files | lines | minutes |"
 FIRST = "`field`"
 HEADLINE = "The headline"
+ENDS = "How a call ends otherwise"
+# what stands in front, the headline first: definitions, or all of a file
+FRONT = ("gic_headline/Program", "gic_headline/Headline", "gic_headline/TrueReports.IsTrueReport")
 # the parts of the path: what each is of, and the definitions that it is read for
 PARTS = (
-    (FIRST, ("gic_field/RightField.IsRightField", "gic_stand/Standing.steps_of", "gic_stand/Serves.Serves", "gic_stand/Serves.shown")),
-    ("`screen`", ("gic_screen_mode/RightScreen.IsRightScreen",)),
-    ("`study`", ("gic_study_mode/RightStudy.IsRightStudy", "gic_course/Steps.storm_steps")),
-    ("`outage`", ("gic_outage/RightOutage.IsRightOutage",)),
-    ("`recheck`", ("gic_recheck/RightRecheck.IsRightRecheck", "gic_recheck/Accepted.IsAccepted", "gic_recheck/Accepted.IsRefused")),
-    ("`series`", ("gic_series/RightSeries.IsRightSeries",)),
-    ("`certify`", ("gic_certify/RightCertify.IsRightCertify",)),
-    ("`make`", ("gic_make/RightMake.IsRightMake", "gic_make/MadeCase.made_case")),
+    (FIRST, ("gic_headline/TrueReports.IsTrueField",)),
+    ("`screen`", ("gic_headline/TrueReports.IsTrueScreen",)),
+    ("`study`", ("gic_headline/TrueReports.IsTrueStudy",)),
+    ("`outage`", ("gic_headline/TrueReports.IsTrueOutage",)),
+    ("`recheck`", ("gic_headline/TrueReports.IsTrueRecheck", "gic_recheck/Accepted.IsAccepted", "gic_recheck/Accepted.IsRefused")),
+    ("`series`", ("gic_headline/TrueReports.IsTrueSeries",)),
+    ("`certify`", ("gic_headline/TrueReports.IsTrueCertify",)),
+    ("`make`", ("gic_headline/TrueReports.IsTrueMake",)),
     ("`review`", ("gic_review/RightReview.IsRightReview",)),
-    ("`volts`, `list` and `check`", ("gic_volts/RightVolts.IsRightVolts", "gic_list/RightList.IsRightList", "gic_check/RightCheck.IsRightCheck")),
+    ("`volts`, `list` and `check`", ("gic_volts/RightVolts.IsRightVolts", "gic_list/RightList.IsRightList", "gic_headline/TrueReports.IsTrueCheck")),
     ("What words and files ask for", ("gic_ask/Asks.Asks",)),
-    ("The lines of faults", ("gic_study/Faults.line_of_fault", "gic_study/Faults.status_of_fault")),
-    (HEADLINE, ("gic_study/Answers.moment", "gic_study/Answers.CallEnds")),
+    ("The lines of faults", ("gic_study/Faults.line_of_fault",)),
+    (ENDS, ("gic_study/Answers.moment", "gic_study/ProgramEnds.status_without_words", "gic_headline/Program.ProgramHeadline")),
+)
+# the names that two definitions have, or a definition and a word of a library
+TWICE = (
+    ">>=",
+    "Form",
+    "IsRightRow",
+    "Line",
+    "Nothing",
+    "Outcome",
+    "Row",
+    "Written",
+    "breaks_record",
+    "broken",
+    "field_at",
+    "field_in",
+    "follows",
+    "form_of",
+    "is_among",
+    "line_of",
+    "line_volts",
+    "no_field",
+    "number_in",
+    "parts_of",
+    "total_of",
+    "value_at",
 )
 # the chapters of the first part, and the crates or files of each, in order
 CHAPTERS = (
     ("Whole numbers and intervals", ("gic_fixed",)),
-    ("A network, what stands, and a solution", ("gic_model/Network", "gic_model/Sums", "gic_model/Standing", "gic_model/Voltages", "gic_model/Solution")),
-    ("Chains to earth, and how far a node lies from it", ("gic_model/Earthing", "gic_model/Bound")),
+    (
+        "A network, what stands, and a solution",
+        ("gic_model/Network", "gic_model/Sums", "gic_model/Standing", "gic_model/Voltages", "gic_model/Solution", "gic_exists", "gic_headline/Solved"),
+    ),
     ("The case and its elements", ("gic_case", "gic_inputs", "gic_winding/ElementList", "gic_winding/InForce")),
     ("The voltages of a field", ("gic_induce", "gic_uniform")),
     ("A right view", ("gic_view", "gic_winding/Weights", "gic_effective")),
     ("The text", ("gic_text", "gic_criteria", "gic_report", "gic_field/FieldText")),
     ("A right report", ("gic_stand/Standing", "gic_field/RightField")),
-    ("How the call ends", ("gic_base", "gic_stand/Needs", "gic_stand/Serves")),
+    ("What is true of it", ("gic_field/Follows", "gic_headline/TrueReports")),
 )
-PREFACE = """\
+BEGINNING = """\
 THE CLAIM
 
-All definitions that the headline of gicstudy says, in the order in which a reader needs them; made by
-`python3 docs/claim.py --write`. docs/DEFINITIONS.md has the words, the units, and a table of the parts with lines and
-minutes; docs/PROMISES.md says in sentences what is claimed, which theorems stand beside it, and what is trusted. Imports are left
-out. Under each definition stands which others of the claim cite it, the first four by name; none cites one that comes later. The types and the constants of the
-code stand in front of the first definition that speaks of them, with the file that declares them. Steps of a storm and
-monitors come in part 3, certificates in part 5.
+What the program gicstudy says, first the headline and then all definitions that it stands on, in the order in which a reader
+needs them; made by `python3 docs/claim.py --write`. docs/DEFINITIONS.md has the words, the units, and a table of the parts
+with lines and minutes; docs/PROMISES.md says in sentences what is claimed, which theorems stand beside it, and what is trusted.
+"""
+PREFACE = """\
+Imports are left out. Under each definition stands which others of the claim cite it, the first four by name; but for the
+headline none cites one that comes later. The types and the constants of the code stand in front of the first definition that
+speaks of them, with the file that declares them. Steps of a storm and monitors come in part 3, certificates in part 5.
 
 Notation. A record holds where all its fields do; `A → Type 0` is a predicate; `abbrev` and `unfoldable` stand in front of
 definitions, of which the second are unfolded only where a proof asks for it. Of statements `P × Q` is "and", `P ⊎ Q` "or",
 `¬ P` "not", `(k : ℕ) × P k` "there is a k with", `(k : ℕ) → P k` "for each k"; `⊤` and `Unit {0}` are true, `⊥` is false; `≡`
 is equal, `≢` is not. Of values `A × B` are pairs, with `p.0` and `p.1`; `.0` is also the number in a place such as `NodeId`.
-`pos n` is the natural number n as a whole number; signs with a ℤ are on whole numbers, those without on natural ones, where
-`a - b` is 0 where b is above a. A name with a dot in front of a variant (`kinds.Auto`, `item.Line`, `role.High`) is a short
-name of its type. A value of the code stands for what it holds: a number of 16 bits for that number, a `Name` for its bytes,
-a `Case` for its `Lists`, `Switchings` for the list of its rows. Where two things have one name, one has another here:
-`NoMemory` is `Memory` of InputFault, `UsageFault` and `RefusedUsage` are `Usage`, `CaseRefused`, `StormRefused` and
-`SwitchRefused` are `Case`, `Storm` and `Switch` of InputRefusal, `CertificateFile` is `Certificate` of File, and `NamedEvent`
-is the type `Event`.
-
-From the standard library. `codes "w"` are the bytes of a word, `decimal n` and `signed_decimal z` the digits of a number
-without zeros in front, with `-` below 0; `string_bytes` the bytes of a text. `enumerate_from n xs` pairs each entry with its
-place, counted from n; `slice_index_or xs k d` is the entry at place k, and d past the end; `find` is the first entry that
-passes a test, `filter` those that do, `list_any` whether one does; `option_map_or f o d` is f of what is there, else d, and
-`unwrap_or` what is there, else the other. `int_div_euclid z d` is the quotient rounded down for d above 0. `IsTrue b` says that a
-test came out true (`IsFalse` false), `All P xs` P of each entry, `Contains xs x` that x is one. `IfSome`, `IfOk`, `IfErr` and
-`OnOk` say something of what is there, and nothing in the other case; `IsSomeAnd` and `IsOkAnd` that it is there, and this of
-it. `range_with_len a n` are the n numbers from a on; `flat_map` joins the lists that a function makes of entries;
-`slice_get` is the entry at a place, where there is one; `option_and_then` goes on with what is there; `unsigned_abs` is the
-absolute value. `Appends old new bytes` says of bytes that are
-told (`Some`) that the new ones are the old ones and then `bytes`; `Keeps old new` that they are the same; of bytes that
-aren't told (`None`) both say nothing.
+Signs with a ℤ are on whole numbers, those without on natural ones, where `a - b` is 0 where b is above a. A name with a dot in
+front of a variant (`kinds.Auto`, `item.Line`, `role.High`) is a short name of its type. A value of the code stands for what it
+holds: a number of 16 bits for that number, a `Name` for its bytes, a `Case` for its `Lists`, `Switchings` for the list of its
+rows. Where the code has one name for two variants, one has another here: `NoMemory` is `Memory` of InputFault, `UsageFault` and
+`RefusedUsage` are `Usage`, `CaseRefused`, `StormRefused` and `SwitchRefused` are `Case`, `Storm` and `Switch` of InputRefusal,
+`CertificateFile` is `Certificate` of File, and `NamedEvent` is the type `Event`. A few names stand for two things, as is told
+under each of them, and where another crate than a definition's own is meant, under that definition.
 """
 # what a reader of a part should know that its definitions don't say
 NOTES = {
     FIRST: (
-        "Every claim is of all solutions. That there is one where each live node is earthed, and that any two agree at live nodes",
-        "and in currents, are theorems (`solutions_exist_law` of gic_claims, `agreement_law` of gic_exists). What follows of a right",
-        "report is said by theorems beside it: of `field` that the absolute intervals hold and are narrow, and that its verdicts are",
-        "true (`field_verdicts_law`). In `field` bound vectors are there for status 9 alone: it refuses a network that is earthed,",
-        "and so has a solution, but not within 4096.",
+        "Every claim is of all solutions; that there is one, and that any two agree, is `HasOneSolution`. What the mode prints is",
+        "`IsRightField`; the other fields of `IsTrueField` follow from it. A network that is earthed, and so has a solution, but not",
+        "within 4096, is refused with status 9: bound vectors come in part 4.",
         "An accepted case keeps the rules of part 11: no two things of one name, no line whose two buses are one, no transformer",
         "with two sides at one bus or with buses in two substations, no low or third voltage above the high one, high voltages of",
         "at least 1000 V, resistances from 1000 to 10^9 micro-ohm. Where a definition says something odd of other cases (a",
@@ -109,17 +131,17 @@ NOTES = {
         "and tenths (alpha) times hundredths (beta) are thousandths: so their product is in nanovolt. Alpha is that of the first row",
         "whose latitude is not under the given one, without interpolation.",
     ),
-    HEADLINE: (
+    ENDS: (
         "A call has an answer: done (status 0), or one fault. Faults of input (2, 3, 5, 6, 7, 10, 12) are told by parts 11 and 12,",
         "8 and 9 are that the network doesn't meet the need of the mode, 4 that the output can't be written (a part of the text was",
         "written, perhaps none or all of it), 13 that a certificate is refused, 11 that memory is wanting. Status 11 is an answer",
-        "to any call: a program that always gave it would satisfy the headline. That others come is said by theorems of gic_study",
-        "(`accepted_is_reported_law` and others in PROMISES), and by the contract of each mode's call, which, once the mode's workspace is",
+        "to any call: a program that always gave it would satisfy the headline. That others come is said, 11 aside, by `comes` and by",
+        "theorems of gic_study (PROMISES), and by the contract of each mode's call, which, once the mode's workspace is",
         "made, has no such answer but in `study` for the texts of monitors.",
         "The files and the streams of the system tell no bytes. Of a run over them the headline says only that there are bytes which",
-        "the files may have held and for which a right text exists, or which fault there was; that the same code writes this text is",
-        "what it says over a sink that tells its bytes (gic_unit_tests has one). `gicstudy` here is the call that the program",
-        "makes: `run` of gic_study hands it the program's monitors (`ProgramEnds`), or ends at once with 2 or 11 (`EndsAtOnce`).",
+        "the files may have held and for which a true report exists, or which fault there was; that the same code writes this text is",
+        "what it says over a sink that tells its bytes (gic_unit_tests has one). A call with monitors of one's own keeps the headline",
+        "too: the clause of `gicstudy` (gic_study) is `CallEnds`, and `headline_law` of gic_headline leads from it to `Headline`.",
     ),
 }
 USE = re.compile(r"^(?:pub )?use Rattle\.(\w+)\.specs\.([\w.]+?)(?:\.\{(.*)\}| as (\w+))?$")
@@ -143,6 +165,8 @@ class Definition:
     lines: list[str]
     cites: list[str] = field(default_factory=list)  # `gic_x/Y.name`, in the order in which they stand
     types: list[str] = field(default_factory=list)  # `gic_x/file.Type`, or `gic_x/file.CONSTANT`
+    outside: list[str] = field(default_factory=list)  # `library/File.word`
+    words: dict[str, str] = field(default_factory=dict)  # a word as it stands there, and the crate or the library that is meant
     cited_in: list[str] = field(default_factory=list)
 
     @property
@@ -203,7 +227,8 @@ def read_file(name: str, text: str) -> File:
             for given, got in named_in(inside) if inside else [(alias or "", alias or "")]:
                 file.declared[bare(got)] = declared_key(crate, path[1:], given)
         elif inside:
-            file.meant.update({bare(got): f"{crate}/{path[0]}.{given}" for given, got in named_in(inside)})
+            place = path[0] if crate.startswith("gic_") else ".".join(path)
+            file.meant.update({bare(got): f"{crate}/{place}.{given}" for given, got in named_in(inside)})
     rest = "\n".join(line for line in text.splitlines() if line not in imports)
     for place, block in enumerate(blocks_of(rest)):
         code = [line for line in block if not line.startswith("--")]
@@ -256,9 +281,16 @@ def resolve(files: dict[str, File]) -> dict[str, Definition]:
             code = FIELD.sub(" ", code)
             for token in TOKEN.findall(code):
                 word = ">>=" if token == "←" else token.partition(".")[0]
+                key = file.declared.get(word) or file.meant.get(word)
                 if word in file.declared:
                     definition.types.append(file.declared[word])
                 cited = own.get(word) or (meaning(file.meant[word]) if word in file.meant else None)
+                if cited:
+                    key = cited.key
+                elif key and not key.startswith("gic_"):
+                    definition.outside.append(key)
+                if key:
+                    definition.words[word] = key.partition("/")[0]
                 if cited and cited is not definition and cited.key not in definition.cites:
                     definition.cites.append(cited.key)
     return known
@@ -326,9 +358,22 @@ class Part:
         return sum(len(definition.lines) for definition in self.definitions)
 
 
-def parts_of(files: dict[str, File], known: dict[str, Definition], crates: list[str]) -> list[Part]:
-    """The parts of the path, each with what the ones before don't have."""
-    read: set[str] = set()
+def front_of(files: dict[str, File], known: dict[str, Definition]) -> Part:
+    """What stands in front: the headline first, and behind each definition those of its file that it cites."""
+    found: list[Definition] = []
+    for name in FRONT:
+        if name in files:
+            found += reversed(files[name].definitions)
+        elif name in known:
+            found.append(known[name])
+        else:
+            raise ClaimError(f"there is no definition {name}")
+    return Part(HEADLINE, found)
+
+
+def parts_of(files: dict[str, File], known: dict[str, Definition], crates: list[str], front: Part) -> list[Part]:
+    """The parts of the path, each with what the ones before and the front don't have."""
+    read = {definition.key for definition in front.definitions}
     parts = []
     for title, roots in PARTS:
         found = {key: definition for key, definition in reached(known, roots).items() if key not in read}
@@ -350,10 +395,10 @@ def undeclared(top: Path, parts: list[Part]) -> list[str]:
     return [f"{key} is declared nowhere" for key in keys if not declaration(top, key)]
 
 
-def late_cites(parts: list[Part]) -> list[str]:
-    """The definitions that cite one that comes later."""
+def late_cites(parts: list[Part], front: Part) -> list[str]:
+    """The definitions behind the front that cite one that comes later."""
     late = []
-    read: set[str] = set()
+    read = {definition.key for definition in front.definitions}
     for part in parts:
         for definition in part.definitions:
             read.add(definition.key)
@@ -361,13 +406,89 @@ def late_cites(parts: list[Part]) -> list[str]:
     return late
 
 
+def meanings(found: list[Definition]) -> dict[str, list[str]]:
+    """Each name with the crates and the libraries that give it a meaning of their own: by a definition, a type, a word."""
+    keys: dict[str, dict[str, None]] = {}
+    for definition in found:
+        for name in definition.names:
+            keys.setdefault(bare(name), {})[definition.key] = None
+        for key in definition.types:
+            keys.setdefault(key.rpartition(".")[2], {})[key] = None
+        for key in definition.outside:
+            library, _, path = key.partition("/")
+            keys.setdefault(path.rpartition(".")[2], {})[f"{library}/"] = None
+    return {name: [key.partition("/")[0] for key in several] for name, several in keys.items()}
+
+
+def twice(found: list[Definition]) -> dict[str, list[str]]:
+    """The names of more than one meaning, with the crates and the libraries that give them one."""
+    return {name: several for name, several in meanings(found).items() if len(several) > 1}
+
+
+def name_faults(found: list[Definition]) -> list[str]:
+    """The names of two meanings that aren't known to have them, and those known that have one."""
+    several = twice(found)
+    told = [f"{name} is a name of {' and of '.join(several[name])}: rename one, or name it in TWICE" for name in several if name not in TWICE]
+    return told + [f"{name} stands in TWICE and has one meaning" for name in TWICE if name not in several]
+
+
+def cited_outside(found: list[Definition]) -> dict[str, dict[str, str]]:
+    """The words of libraries that are cited, by library, each with the file from which it is imported first."""
+    words: dict[str, dict[str, str]] = {}
+    for definition in found:
+        for key in definition.outside:
+            library, _, path = key.partition("/")
+            place, _, word = path.rpartition(".")
+            words.setdefault(library, {}).setdefault(word, place)
+    return words
+
+
+def word_faults(found: list[Definition]) -> list[str]:
+    """The words of libraries that are cited and not told, and those that are told and cited no more."""
+    cited = cited_outside(found)
+    untold = [
+        f"{word} of {library} ({place}) is cited, and claim_words.py doesn't tell it"
+        for library, words in cited.items()
+        for word, place in words.items()
+        if word not in OUTSIDE.get(library, {})
+    ]
+    return untold + [
+        f"{word} of {library} stands in claim_words.py, and no definition cites it"
+        for library, words in OUTSIDE.items()
+        for word in words
+        if word not in cited.get(library, {})
+    ]
+
+
+def outside_lines(found: list[Definition]) -> list[str]:
+    """The words of libraries, each with its meaning and the file from which it is imported."""
+    lines = []
+    for library, words in cited_outside(found).items():
+        lines += ["", f"Of {library}:", ""]
+        told = OUTSIDE.get(library, {})
+        lines += [f"    {word} (specs/{words[word]}): {told[word]}" for word in sorted(words, key=str.lower) if word in told]
+    return lines
+
+
+def name_lines(definition: Definition, several: dict[str, list[str]]) -> list[str]:
+    """What stands under a definition of names that have another meaning: its own, and those that it cites."""
+    lines = []
+    crate = definition.key.partition("/")[0]
+    for name in map(bare, definition.names):
+        others = [other for other in several.get(name, []) if other != crate]
+        if others:
+            lines.append(f"    -- `{name}` is also a name of {' and of '.join(others)}")
+    here = [f"`{word}` is that of {owner}" for word, owner in definition.words.items() if word in several and owner != crate]
+    return lines + ([f"    -- here {', '.join(here)}"] if here else [])
+
+
 def minutes(lines: int) -> int:
     """How long lines take to read."""
     return max(1, round(lines / LINES_A_MINUTE))
 
 
-def table_of(parts: list[Part]) -> list[str]:
-    """The table of the parts: the chapters of the first one, and then each other, with lines and minutes."""
+def table_of(parts: list[Part], front: Part) -> list[str]:
+    """The table of the parts: the front, the chapters of the first one, and then each other, with lines and minutes."""
     rows = [TABLE, "|---|---|---|---|"]
 
     def row(title: str, definitions: list[Definition]) -> None:
@@ -380,12 +501,15 @@ def table_of(parts: list[Part]) -> list[str]:
         lines = sum(len(definition.lines) for definition in definitions)
         rows.append(f"| {title} | {told} | {lines} | {minutes(lines)} |")
 
+    row(front.title, front.definitions)
     for place, (title, _) in enumerate(CHAPTERS, 1):
         row(f"1.{place} {title}", [d for d in parts[0].definitions if chapter_of(d.file) == place - 1])
     rows.append(f"| **1. {parts[0].title}, all of it** | | {parts[0].lines} | {minutes(parts[0].lines)} |")
+    lines = front.lines + parts[0].lines
+    rows.append(f"| **the headline and {parts[0].title}** | | {lines} | {minutes(lines)} |")
     for number, part in enumerate(parts[1:], 2):
         row(f"{number}. {part.title}", part.definitions)
-    lines = sum(part.lines for part in parts)
+    lines = front.lines + sum(part.lines for part in parts)
     rows.append(f"| **all modes** | | {lines} | {minutes(lines)} |")
     return rows
 
@@ -439,17 +563,33 @@ def declarations(top: Path, key: str, known: dict[str, str], told: set[str]) -> 
 
 def clause(top: Path) -> list[str]:
     """The head of the call whose clause the headline is, with that clause."""
-    head = re.search(r"(?ms)^pub fn gicstudy.*?(?=^\{)", (top / CALL).read_text(encoding="utf-8"))
+    head = re.search(r"(?ms)^pub fn run.*?(?=^\{)", (top / CALL).read_text(encoding="utf-8"))
     if not head:
-        raise ClaimError(f"{CALL} has no call `gicstudy`")
+        raise ClaimError(f"{CALL} has no call `run`")
     return head[0].splitlines()
 
 
-def text_of(top: Path, files: dict[str, File], parts: list[Part]) -> str:
+def text_of(top: Path, files: dict[str, File], parts: list[Part], front: Part) -> str:
     """The text of the file that is printed."""
-    lines = PREFACE.rstrip("\n").splitlines()
+    found = [definition for part in (front, *parts) for definition in part.definitions]
+    several = twice(found)
     known = declared_in(top)
     declared: set[str] = set()
+
+    def blocks(definitions: list[Definition], head: bool) -> list[str]:
+        lines = []
+        for definition in definitions:
+            if head:
+                for key in dict.fromkeys(definition.types):
+                    lines += declarations(top, key, known, declared)
+            lines += ["", *definition.lines, cited_line(definition), *name_lines(definition, several)]
+        return lines
+
+    lines = BEGINNING.rstrip("\n").splitlines()
+    lines += ["", "=" * 100, f"{front.title} ({len(front.definitions)} definitions, {front.lines} lines)", "=" * 100]
+    lines += ["", CALL, "", *clause(top), *blocks(front.definitions, False)]
+    lines += ["", "=" * 100, "How to read what follows", "=" * 100, "", *PREFACE.rstrip("\n").splitlines()]
+    lines += ["", "Words of libraries, with the file of definitions of the toolchain from which each is imported.", *outside_lines(found)]
     for number, part in enumerate(parts, 1):
         lines += ["", "=" * 100, f"{number}. {part.title} ({len(part.definitions)} definitions, {part.lines} lines)", "=" * 100]
         if part.title in NOTES:
@@ -463,10 +603,7 @@ def text_of(top: Path, files: dict[str, File], parts: list[Part]) -> str:
                 file = definition.file
                 crate, _, name = file.partition("/")
                 lines += ["", f"crates/{crate}/specs/{name}.antt", *files[file].says]
-            for key in dict.fromkeys(definition.types):
-                lines += declarations(top, key, known, declared)
-            lines += ["", *definition.lines, cited_line(definition)]
-    lines += ["", "---- The clause ----", "", CALL, "", *clause(top)]
+            lines += blocks([definition], True)
     return "\n".join(lines) + "\n"
 
 
@@ -494,8 +631,9 @@ def main(words: list[str]) -> int:
         missing = [root for _, roots in PARTS for root in roots if root not in known]
         if missing:
             raise ClaimError(f"there is no definition {missing[0]}")
-        parts = parts_of(files, known, crate_names((TOP / "crates.txt").read_text(encoding="utf-8")))
-        mine = {definition.key: definition for part in parts for definition in part.definitions}
+        front = front_of(files, known)
+        parts = parts_of(files, known, crate_names((TOP / "crates.txt").read_text(encoding="utf-8")), front)
+        mine = {definition.key: definition for part in (front, *parts) for definition in part.definitions}
         for definition in mine.values():
             for cited in definition.cites:
                 mine[cited].cited_in.append(definition.names[0])
@@ -503,7 +641,7 @@ def main(words: list[str]) -> int:
         unfiled = without_chapter(parts[0])
         if unfiled:
             raise ClaimError(unfiled[0])
-        text, table = text_of(TOP, files, parts), table_of(parts)
+        text, table = text_of(TOP, files, parts, front), table_of(parts, front)
         if words:
             (TOP / CLAIM).write_text(text, encoding="utf-8")
             document = with_table(document, table)
@@ -512,7 +650,8 @@ def main(words: list[str]) -> int:
     except (OSError, ValueError) as error:
         print(f"claim.py: {error}", file=sys.stderr)
         return 1
-    faults = late_cites(parts) + undeclared(TOP, parts)
+    found = list(mine.values())
+    faults = late_cites(parts, front) + undeclared(TOP, parts) + name_faults(found) + word_faults(found)
     if text != shown:
         faults.append(f"{CLAIM} isn't what is made today; run `python3 docs/claim.py --write`")
     if "\n".join(table) not in document:

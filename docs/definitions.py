@@ -5,13 +5,13 @@
 
 The index has each file of definitions, `crates/NAME/specs/FILE.antt`, once: first those that the headline leads to,
 numbered in the order in which a reader comes to them who follows what is cited, step by step; then those that theorems lead
-to; then the others. A crate has one row in each of the three. With each file stand the first sentence of its head, and
+to; then the others. A crate's definitions stand together in each of the three. With each file stand the first sentence of its head, and
 where it is cited: in definitions (`specs/`) and in contracts (`src/`); proofs aren't counted.
 
 Without --write it compares docs/INDEX.md with what it makes. It also looks whether each file begins with a remark,
 whether each is cited, whether docs/DEFINITIONS.md names none that isn't there, and whether each crate of crates.txt
-stands once in the first column of the tables of crates in docs/MAP.md and in crates/README.md, and no other. The last line is `N definitions, M
-faults`, and the status is 0 only where M is 0.
+stands once in the first column of the tables of crates in docs/PROMISES.md and in crates/README.md, and no other.
+The last line is `N definitions, M faults`, and the status is 0 only where M is 0.
 """
 
 from __future__ import annotations
@@ -24,9 +24,10 @@ from pathlib import Path
 TOP = Path(__file__).resolve().parent.parent
 INDEX = "docs/INDEX.md"
 WORDS = "docs/DEFINITIONS.md"
-MAP = "docs/MAP.md"
+PROMISES = "docs/PROMISES.md"
 CRATES = "crates/README.md"
-HEADLINE = "crates/gic_study/src/study.rt"
+HEADLINE = "crates/gic_headline/src/program.rt"
+MOST_COLUMNS = 500  # of a line of the index
 CITED = re.compile(r"Rattle\.(gic_\w+)\.specs\.([A-Z]\w*)")
 NAMED = re.compile(r"`(\w+\.antt)`")
 HEAD = """# Index of the definitions
@@ -134,9 +135,10 @@ def places(cited_in: list[str]) -> str:
 
 
 def crate_rows(found: dict[str, Definition], names: list[str], numbered: bool) -> list[str]:
-    """A row for each crate, with those of its definitions that are named, crates and definitions in the order of names.
+    """Rows for each crate, with those of its definitions that are named, crates and definitions in the order of names.
 
-    Where they are numbered each has its place among the names. Crates of which the same is told have one row.
+    Where they are numbered each has its place among the names. Crates of which the same is told have rows together. What
+    doesn't fit a line goes on in a row without a crate.
     """
     cells: dict[str, list[str]] = {}
     for place, name in enumerate(names, 1):
@@ -144,10 +146,22 @@ def crate_rows(found: dict[str, Definition], names: list[str], numbered: bool) -
         cited = places(found[name].cited_in).replace(f"{crate}/", "")
         number = f"{place} " if numbered else ""
         cells.setdefault(crate, []).append(f"{number}**{file}**: {found[name].says} ({cited}).")
-    rows: dict[str, list[str]] = {}
+    alike: dict[tuple[str, ...], list[str]] = {}
     for crate, told in cells.items():
-        rows.setdefault(" ".join(told), []).append(crate)
-    return [f"| {', '.join(alike)} | {told} |" for told, alike in rows.items()]
+        alike.setdefault(tuple(told), []).append(crate)
+    return [row for told_of, names_alike in alike.items() for row in rows_within(", ".join(names_alike), told_of)]
+
+
+def rows_within(head: str, told: tuple[str, ...]) -> list[str]:
+    """Rows of what is told, the first with this head, of as few lines within MOST_COLUMNS as its order allows."""
+    rows: list[str] = []
+    row = f"| {head} |"
+    for cell in told:
+        if len(row) + len(cell) + 3 > MOST_COLUMNS and not row.endswith("|"):
+            rows.append(row + " |")
+            row = "| |"
+        row += " " + cell
+    return [*rows, row + " |"]
 
 
 def index_of(found: dict[str, Definition], parts: list[list[str]]) -> str:
@@ -162,7 +176,7 @@ def index_of(found: dict[str, Definition], parts: list[list[str]]) -> str:
     return "\n".join(lines)
 
 
-def odd_crates(text: str, crates: list[str], place: str = MAP) -> list[str]:
+def odd_crates(text: str, crates: list[str], place: str = PROMISES) -> list[str]:
     """The crates that don't stand once in the table of crates, and those that stand there and aren't any."""
     table = text.partition("\n## Crates\n")[2].partition("\n## ")[0]
     rows = [line.split("|")[1] for line in table.splitlines() if line.startswith("|")]
@@ -194,7 +208,7 @@ def main(words: list[str]) -> int:
             (TOP / INDEX).write_text(index, encoding="utf-8")
         shown = (TOP / INDEX).read_text(encoding="utf-8") if (TOP / INDEX).exists() else ""
         faults = faults_of(found, index, shown, (TOP / WORDS).read_text(encoding="utf-8"))
-        for place in (MAP, CRATES):
+        for place in (PROMISES, CRATES):
             faults += odd_crates((TOP / place).read_text(encoding="utf-8"), crates, place)
     except (OSError, UnicodeDecodeError) as error:
         print(f"definitions.py: {error}", file=sys.stderr)

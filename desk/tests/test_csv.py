@@ -9,7 +9,7 @@ import unittest
 
 from shared import REPORTS, TOP, DeskTest
 
-from gicdesk.decimals import shifted, signed
+from gicdesk.decimals import middle_text, shifted, signed
 
 SCREEN = """\
 screen
@@ -71,8 +71,16 @@ class Decimals(unittest.TestCase):
         ):
             self.assertEqual(shifted(number, places), text)
 
+    def test_the_middle_is_exact(self) -> None:
+        for low, high, text in ((1, 2, "0.0015"), (-2, -1, "-0.0015"), (-1, 1, "0.0000"), (0, 3, "0.0015"), (-7, 4, "-0.0015")):
+            self.assertEqual(middle_text(low, high, 3), text)
+
     def test_a_difference_has_its_sign(self) -> None:
         self.assertEqual([signed(number, 3) for number in (5, 0, -5)], ["+0.005", "0.000", "-0.005"])
+
+
+def interval(unit: str, low: str, high: str, middle: str) -> dict[str, str]:
+    return {f"low_{unit}": low, f"high_{unit}": high, f"middle_{unit}": middle}
 
 
 class Csv(DeskTest):
@@ -82,10 +90,11 @@ class Csv(DeskTest):
     def test_screen(self) -> None:
         self.assertEqual(
             self.table(SCREEN),
-            "transformer,north_low_A_per_phase,north_high_A_per_phase,east_low_A_per_phase,east_high_A_per_phase,"
-            "worst_low_A_per_phase,worst_high_A_per_phase,verdict,threshold_A_per_phase,field_V_per_km,width_A\n"
-            "TA,-50.001,-49.999,-66.667,-66.666,83.332,83.335,reaches,75.000,8.000,0.100\n"
-            "TB,49.999,50.001,66.666,66.667,83.332,83.335,reaches,75.000,8.000,0.100\n",
+            "transformer,north_low_A_per_phase,north_high_A_per_phase,north_middle_A_per_phase,east_low_A_per_phase,"
+            "east_high_A_per_phase,east_middle_A_per_phase,worst_low_A_per_phase,worst_high_A_per_phase,"
+            "worst_middle_A_per_phase,verdict,threshold_A_per_phase,field_V_per_km,width_A\n"
+            "TA,-50.001,-49.999,-50.0000,-66.667,-66.666,-66.6665,83.332,83.335,83.3335,reaches,75.000,8.000,0.100\n"
+            "TB,49.999,50.001,50.0000,66.666,66.667,66.6665,83.332,83.335,83.3335,reaches,75.000,8.000,0.100\n",
         )
 
     def test_volts(self) -> None:
@@ -124,9 +133,9 @@ class Csv(DeskTest):
             "threshold_A_per_phase": "75.000",
             "width_V_or_A": "0.100",
         }
-        amperes = {"low_A": "-31.251", "high_A": "-31.249"}
+        amperes = interval("A", "-31.251", "-31.249", "-31.2500")
         expected = [
-            {"kind": "node", "name": "A", "low_V": "-31.251", "high_V": "-31.249"},
+            {"kind": "node", "name": "A"} | interval("V", "-31.251", "-31.249", "-31.2500"),
             {"kind": "node", "name": "B", "state": "dead"},
             {"kind": "ground", "name": "A"} | amperes,
             {"kind": "line", "name": "L", "state": "open"},
@@ -134,44 +143,45 @@ class Csv(DeskTest):
             {"kind": "winding", "name": "TA", "winding": "high"} | amperes,
             {"kind": "winding", "name": "TA", "winding": "low", "state": "open"},
             {"kind": "neutral", "name": "TA"} | amperes,
-            {"kind": "effective", "name": "TA", "low_A_per_phase": "-10.417", "high_A_per_phase": "-10.416"},
-            {"kind": "transformer", "name": "TA", "low_A_per_phase": "10.416", "high_A_per_phase": "10.417"}
-            | {"verdict": "below"},
+            {"kind": "effective", "name": "TA"} | interval("A_per_phase", "-10.417", "-10.416", "-10.4165"),
+            {"kind": "transformer", "name": "TA", "verdict": "below"}
+            | interval("A_per_phase", "10.416", "10.417", "10.4165"),
         ]
         self.assertEqual(list(map(filled, rows(self.table(text)))), [row | asked for row in expected])
         self.assertEqual(
             self.table(text, "--part=node"),
-            "kind,name,low_V,high_V,state,north_V_per_km,east_V_per_km,threshold_A_per_phase,width_V_or_A\n"
-            "node,A,-31.251,-31.249,,1.000,0.000,75.000,0.100\n"
-            "node,B,,,dead,1.000,0.000,75.000,0.100\n",
+            "kind,name,low_V,high_V,middle_V,state,north_V_per_km,east_V_per_km,threshold_A_per_phase,width_V_or_A\n"
+            "node,A,-31.251,-31.249,-31.2500,,1.000,0.000,75.000,0.100\n"
+            "node,B,,,,dead,1.000,0.000,75.000,0.100\n",
         )
 
     def test_study(self) -> None:
         asked = {"threshold_A_per_phase": "75.000", "steps": "2", "width_V_or_A": "0.100"}
         step = {"block": "step", "step": "1", "time_s": "0"}
-        amperes = {"low_A": "-31.251", "high_A": "-31.249"}
+        amperes = interval("A", "-31.251", "-31.249", "-31.2500")
         expected = [
             step | {"kind": "zone", "name": "Z", "north_V_per_km": "1.000", "east_V_per_km": "0.000"},
-            step | {"kind": "node", "name": "A", "low_V": "-31.251", "high_V": "-31.249"},
+            step | {"kind": "node", "name": "A"} | interval("V", "-31.251", "-31.249", "-31.2500"),
             step | {"kind": "node", "name": "a", "state": "dead"},
             step | {"kind": "ground", "name": "A"} | amperes,
             step | {"kind": "line", "name": "L", "state": "open"},
             step | {"kind": "line", "name": "K", "state": "blocked"},
             step | {"kind": "winding", "name": "TA", "winding": "high"} | amperes,
             step | {"kind": "neutral", "name": "TA", "state": "open"},
-            step | {"kind": "effective", "name": "TA", "low_A_per_phase": "-10.417", "high_A_per_phase": "-10.416"},
-            {"block": "peaks", "kind": "node", "name": "A", "low_V": "93.749", "high_V": "93.751"},
+            step | {"kind": "effective", "name": "TA"} | interval("A_per_phase", "-10.417", "-10.416", "-10.4165"),
+            {"block": "peaks", "kind": "node", "name": "A"} | interval("V", "93.749", "93.751", "93.7500"),
             {"block": "peaks", "kind": "ground", "name": "A", "state": "open"},
             {"block": "peaks", "kind": "winding", "name": "TA", "winding": "high", "state": "open"},
             {"block": "peaks", "kind": "neutral", "name": "TA", "state": "blocked"},
-            {"block": "peaks", "kind": "transformer", "name": "TA", "low_A_per_phase": "31.249"}
-            | {"high_A_per_phase": "31.251", "verdict": "below"},
+            {"block": "peaks", "kind": "transformer", "name": "TA", "verdict": "below"}
+            | interval("A_per_phase", "31.249", "31.251", "31.2500"),
             {"block": "monitor", "kind": "dwell", "monitor": "1", "name": "TA"}
             | {"certain_steps": "0", "possible_steps": "1"},
-            {"block": "monitor", "kind": "earth", "monitor": "2", "name": "A", "low_A": "-31.251", "high_A": "93.751"},
+            {"block": "monitor", "kind": "earth", "monitor": "2", "name": "A"}
+            | interval("A", "-31.251", "93.751", "31.2500"),
             {"block": "monitor", "kind": "earth", "monitor": "2", "name": "B", "state": "open"},
             {"block": "monitor", "kind": "loss", "monitor": "3", "step": "2"}
-            | {"low_var": "21561.810", "high_var": "21563.190"},
+            | interval("var", "21561.810", "21563.190", "21562.5000"),
             {"block": "monitor", "kind": "text", "monitor": "4", "text": 'said "a, b"'},
             {"block": "monitor", "kind": "text", "monitor": "4", "text": "x"},
         ]
@@ -227,15 +237,15 @@ class Csv(DeskTest):
         self.assertEqual(
             self.table(text),
             "kind,name,outcome,node,below,reaches,undecided,outside,worst_low_A_per_phase,worst_high_A_per_phase,"
-            "verdict,threshold_A_per_phase,field_V_per_km,width_A\n"
-            f"outage,L,unearthed,B,,,,,,,,{event}outage,K,unresolved,C,,,,,,,,{event}outage,TA,idle,,,,,,,,,{event}"
-            f"outage,TB,solved,,2,0,1,3,,,,{event}transformer,TA,,,,,,,0.000,0.002,below,{event}"
-            f"transformer,TB,,,,,,,,,none,{event}",
+            "worst_middle_A_per_phase,verdict,threshold_A_per_phase,field_V_per_km,width_A\n"
+            f"outage,L,unearthed,B,,,,,,,,,{event}outage,K,unresolved,C,,,,,,,,,{event}outage,TA,idle,,,,,,,,,,{event}"
+            f"outage,TB,solved,,2,0,1,3,,,,,{event}transformer,TA,,,,,,,0.000,0.002,0.0010,below,{event}"
+            f"transformer,TB,,,,,,,,,,none,{event}",
         )
         self.assertEqual(
             self.table(text, "--part=transformer"),
-            "kind,name,worst_low_A_per_phase,worst_high_A_per_phase,verdict,threshold_A_per_phase,field_V_per_km,"
-            f"width_A\ntransformer,TA,0.000,0.002,below,{event}transformer,TB,,,none,{event}",
+            "kind,name,worst_low_A_per_phase,worst_high_A_per_phase,worst_middle_A_per_phase,verdict,threshold_A_per_phase,"
+            f"field_V_per_km,width_A\ntransformer,TA,0.000,0.002,0.0010,below,{event}transformer,TB,,,,none,{event}",
         )
 
     def test_series(self) -> None:
@@ -243,8 +253,8 @@ class Csv(DeskTest):
             self.table(
                 "series\nwidth 100 transformer TA steps 2\nstep 1 time 0 31249 31251\nstep 2 time 60 0 0\nend\n"
             ),
-            "transformer,step,time_s,low_A_per_phase,high_A_per_phase,width_A\n"
-            "TA,1,0,31.249,31.251,0.100\nTA,2,60,0.000,0.000,0.100\n",
+            "transformer,step,time_s,low_A_per_phase,high_A_per_phase,middle_A_per_phase,width_A\n"
+            "TA,1,0,31.249,31.251,31.2500,0.100\nTA,2,60,0.000,0.000,0.0000,0.100\n",
         )
 
     def test_make(self) -> None:
@@ -265,7 +275,7 @@ class Csv(DeskTest):
     def test_recheck(self) -> None:
         self.assertEqual(
             self.table("recheck\nnorth 1000 east 0\nnode A 0 1\nend\n"),
-            "node,low_V,high_V,north_V_per_km,east_V_per_km\nA,0.000,0.001,1.000,0.000\n",
+            "node,low_V,high_V,middle_V,north_V_per_km,east_V_per_km\nA,0.000,0.001,0.0005,1.000,0.000\n",
         )
 
     def test_review(self) -> None:
@@ -299,10 +309,13 @@ class Csv(DeskTest):
         table = rows(self.done("csv", REPORTS / "region_screen.txt"))
         for line, row in zip(lines, table, strict=True):
             words = line.split(" ")
-            cells = list(row.values())
-            self.assertEqual([cells[0], cells[7]], [words[1], words[11]])
+            self.assertEqual([row["transformer"], row["verdict"]], [words[1], words[11]])
             printed = [words[place] for place in (3, 4, 6, 7, 9, 10)]
-            self.assertEqual([str(int(cell.replace(".", ""))) for cell in cells[1:7]], printed)
+            shown = [cell for head, cell in row.items() if "_low_" in head or "_high_" in head]
+            self.assertEqual([str(int(cell.replace(".", ""))) for cell in shown], printed)
+            for name in ("north", "east", "worst"):
+                low, high, middle = (float(row[f"{name}_{place}_A_per_phase"]) for place in ("low", "high", "middle"))
+                self.assertAlmostEqual(middle, (low + high) / 2, 9)
 
     def test_semicolons_and_decimal_commas(self) -> None:
         # A name may have a point, and keeps it.

@@ -148,7 +148,7 @@ class Back(DeskTest):
         self.assertIn("it is no JSON", self.refused("from-powermodels", *files, out)[0])
         other = self.written(EXAMPLES / "valley.toml")[0]
         (self.folder / "east.json").write_text(json.dumps(north))
-        self.assertIn("its branches aren't those of", self.refused("from-powermodels", other, files[1], out)[0])
+        self.assertIn("isn't that of", self.refused("from-powermodels", other, files[1], out)[0])
 
     def changed(self, files: list[str], change: Callable[[Any], object], write: Callable[[Any], str] = json.dumps) -> list[str]:
         """The refusal of the data with a change in both files."""
@@ -195,12 +195,32 @@ class Back(DeskTest):
             data["gmd_branch"][at["line"]][key] = value
             (self.folder / "other.json").write_text(json.dumps(data))
             (line,) = self.refused("from-powermodels", files[0], self.folder / "other.json", f"--out={self.folder / 'case.toml'}")
-            words = f"its branches aren't those of {files[0]}, as gmd_branch {at['line']}; write both of one network"
+            words = f"its gmd_branch isn't that of {files[0]}, as row {at['line']}; write both of one network"
             self.assertEqual(line, f"{self.folder / 'other.json'}: {words}")
         for role in ROLES[1:]:
             lines = self.changed(files, lambda data: data["gmd_branch"][at[role]].update(br_v=0.5))
             words = "br_v isn't 0, and in a case lines alone have a voltage; make it 0, as it is of windings"
             self.assertEqual(lines, [f"{file}: gmd_branch {at[role]}: {words}" for file in files])
+
+    def test_grounds_and_units_of_two_networks(self) -> None:
+        """Both files have the same grounds and the same units."""
+        files = self.written(EXAMPLES / "region.toml")
+        for table, key, value in (("gmd_bus", "g_gnd", 7.5), ("gmd_bus", "name", "x"), ("branch_gmd", "hi_kv", 1.0)):
+            data = json.loads(Path(files[1]).read_text())
+            data[table]["2"][key] = value
+            (self.folder / "other.json").write_text(json.dumps(data))
+            (line,) = self.refused("from-powermodels", files[0], self.folder / "other.json", f"--out={self.folder / 'case.toml'}")
+            words = f"its {table} isn't that of {files[0]}, as row 2; write both of one network"
+            self.assertEqual(line, f"{self.folder / 'other.json'}: {words}")
+
+    def test_a_resistor_of_a_neutral_that_a_case_does_not_have(self) -> None:
+        files = self.written(EXAMPLES / "region.toml")
+        rows = json.loads(Path(files[0]).read_text())["gmd_branch"]
+        index = next(index for index, row in rows.items() if row["name"].endswith(" neutral"))
+        for ohm, is_taken in ((0.0009, False), (0.001, True), (1000, True), (1001, False)):
+            words = f"{files[0]}: gmd_branch {index}: br_r is {ohm:g} ohm, and a neutral resistor of a case has 0.001 to 1000"
+            if not is_taken:
+                self.assertIn(words, self.changed(files, lambda data: data["gmd_branch"][index].update(br_r=ohm)))
 
     def test_a_number_of_5000_digits(self) -> None:
         files = self.written(EXAMPLES / "valley.toml")

@@ -21,7 +21,7 @@ from gicdesk.network import read_degrees
 from gicdesk.places import Point
 from gicdesk.polygons import Polygon
 from gicdesk.psse_stations import is_node, read_stations
-from gicdesk.psse_text import SectionLine, fields_of
+from gicdesk.psse_text import Layout, SectionLine, fields_of, read_sections
 from gicdesk.vectors import letters_of
 
 PAIR = TESTS / "pair"
@@ -952,6 +952,31 @@ class Nodes(unittest.TestCase):
         self.assertEqual({number: station.name for number, station in found.stations.items()}, {1: "NORTH", 2: "SOUTH"})
         for row in (["1", "N1", "52", "1"], ["1", "N1", "x", "1"], ["1", "N1", "50", "9"], ["1", "N1", "50"]):
             self.assertFalse(is_node(row, {50}), row)
+        for row in (["1", "N1", "50", "1"], ["1", "N1", "50", "1", ""], ["1", "N1", "50", "0", "1.02", "-3.1"]):
+            self.assertTrue(is_node(row, {50}), row)
+
+    def test_a_substation_on_the_meridian_is_no_node(self) -> None:
+        """Its longitude may be a status: its ground tells it, or the names of columns do."""
+        self.assertFalse(is_node(["3", "MERIDIAN", "50", "1", "0.2"], {50}))
+        columns = {"S": ["IS", "NAME", "LATI", "LONG", "SRG"], "N": ["NI", "NAME", "I", "ST", "VM", "VA"]}
+        rows = (("S", "1 NORTH 50 1"), ("N", "1 N1 50 1"), ("S", "2 SOUTH 51 0"), ("N", "1 S1 51 0"))
+        lines = [SectionLine(place, row.split(" "), columns[kind]) for place, (kind, row) in enumerate(rows, 1)]
+        findings: list[Finding] = []
+        found = read_stations("net.raw", lines, {50, 51}, findings)
+        self.assertEqual((findings, found.station_of, set(found.stations)), ([], {50: 1, 51: 2}, {1, 2}))
+
+    def test_names_of_columns_are_those_last_above_a_line(self) -> None:
+        lines = [
+            "@! IS,'NAME',LATI,LONG,SRG",
+            "1,'NORTH',50,1",
+            "@! BEGIN SUBSTATION NODE DATA",
+            "@! NI,'NAME',I,STATUS,VM,VA",
+            "@! of a second line, that a record doesn't have",
+            "1,'N1',50,1",
+        ]
+        findings: list[Finding] = []
+        read = read_sections("net.raw", lines, 1, Layout(["SUBSTATION"], {}, {}), findings)["SUBSTATION"]
+        self.assertEqual([(line.number, line.named[0], len(line.named)) for line in read], [(2, "IS", 5), (6, "NI", 6)])
 
 
 class Polygons(unittest.TestCase):

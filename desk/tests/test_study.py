@@ -23,7 +23,7 @@ import test_outages
 from shared import BUILT, EXAMPLES, FAKE, REPORTS, TOP, DeskTest
 from test_outages import BOTH, HEADS, NONE, ONE, screen
 
-from gicdesk import factors, network, outages, pictures, questions, storms, study, study_map, study_page, study_storm
+from gicdesk import directions, factors, network, outages, pictures, questions, storms, study, study_map, study_page, study_storm
 from gicdesk.findings import Finding, Refused
 from gicdesk.forms import Interval
 from gicdesk.inputs import Copies, Input
@@ -51,6 +51,7 @@ transformer = [
 """
 CHECK = "check\nnode A live\nnode B live\nnode a live\nnode b live\nnode TA dead\nlive 4\nend\n"
 STORM = "time,north,east\n0,0,0\n60,3000,4000\n120,8000,0\n"
+WAVE = "time,north,east\n0,0,0\n60,3,4\n120,1,0\n"
 STORM_REPORT = """\
 study
 width 100 threshold 75000 steps 3
@@ -157,7 +158,7 @@ class Folder(StudyTest):
         kept = {
             "review": "review", "check": "check", "list": "list", "volts": "volts", "screen": "screen",
             "supplemental": "screen-supplemental", "study": "study", "outage": "outage", "event_1": "screen+K+L",
-            "series_TA": "series@TA", "series_TB": "series@TB", "field": "field",
+            "series_TA": "series@TA", "series_TB": "series@TB", "field": "field", "flows": "field",
         }  # fmt: skip
         for name, source in kept.items():
             self.assertEqual(
@@ -202,10 +203,11 @@ class Folder(StudyTest):
 
         storm, given = self.file("storm.csv", STORM), self.file("events.csv", f"{HEADS}both,K,open\nboth,L,open\n")
         drawn = self.file("factors.csv", "transformer,mvar_per_ampere,at_kv\nTB,1.2,\n")
+        wave = self.file("wave.csv", WAVE)
         with mock.patch.object(study, "Progress", progress):
-            self.page(f"--storm={storm}", f"--events={given}", f"--factors={drawn}")
-        # Seven reports of the case, study, an event, field, three single items, and two series.
-        self.assertEqual([(one.done, one.total) for one in made], [(15, 15)])
+            self.page(f"--storm={storm}", f"--events={given}", f"--factors={drawn}", f"--waveform={wave}")
+        # Eight reports of the case, study, an event, field, three single items, two series, and four over the waveform.
+        self.assertEqual([(one.done, one.total) for one in made], [(20, 20)])
 
     def test_decimal_commas(self) -> None:
         drawn = self.file("factors.csv", "transformer,mvar_per_ampere,at_kv\nTB,1.2,\n")
@@ -238,10 +240,11 @@ class Page(StudyTest):
         self.assertIn("events &amp; &lt;b&gt;.csv", page)
 
     def test_what_was_asked(self) -> None:
-        asked = self.text_of("asked", self.page())
+        asked = self.text_of("asked", page := self.page())
+        sums = self.text_of("sums", page)
+        for data in (CASE.encode(), FAKE.read_bytes(), (self.reports / "outage.txt").read_bytes()):
+            self.assertIn(hashlib.sha256(data).hexdigest(), sums)
         for words in (
-            hashlib.sha256(CASE.encode()).hexdigest(),
-            hashlib.sha256(FAKE.read_bytes()).hexdigest(),
             "benchmark: 8.000 V/km and 75.000 A per phase",
             datetime.datetime.now().strftime("%B %Y"),
         ):
@@ -272,8 +275,8 @@ class Page(StudyTest):
     def test_which_units_must_be_assessed(self) -> None:
         # The verdicts of TA and TB in the whole network, of TB in the outages and in the event, and the answer.
         below, perhaps = "60000 60002 below", "74999 75001 undecided"
-        whole, out = "in the network as it stands", "with something out, and not before"
-        one, two = (f"{number} of 3 units must be assessed by the benchmark event" for number in (1, 2))
+        whole, out, listed = "by the event", "more with one item out", "more in an event of the list"
+        none, one, two = (f"{number} of 3 units must be assessed by the benchmark event" for number in ("None", 1, 2))
         more = "1 more by the supplemental event alone: TA"  # which has 120 A in it
         given = self.file("events.csv", f"{HEADS}both,K,open\nboth,L,open\n")
         for number, (first, second, without, event, answer) in enumerate(
@@ -281,10 +284,10 @@ class Page(StudyTest):
                 (BOTH, BOTH, below, NONE, [two, f"2 {whole}: TA TB"]),
                 (BOTH, below, below, NONE, [one, f"1 {whole}: TA"]),
                 (BOTH, perhaps, below, NONE, [two, f"2 {whole}: TA TB"]),
-                (BOTH, below, perhaps, NONE, [two, f"1 {whole}: TA", f"1 {out}: TB"]),
-                (below, below, perhaps, NONE, [one, f"1 {out}: TB", more]),
-                (below, below, below, ONE, [one, f"1 {out}: TB", more]),
-                (below, below, below, NONE, ["0 of 3 units must be assessed by the benchmark event", more]),
+                (BOTH, below, perhaps, NONE, [f"{one}, and 1 {out}", f"1 {whole}: TA", f"1 {out}: TB"]),
+                (below, below, perhaps, NONE, [f"{none}, and 1 {out}", f"1 {out}: TB", more]),
+                (below, below, below, ONE, [f"{none}, and 1 {listed}", f"1 {listed}: TB", more]),
+                (below, below, below, NONE, [none, more]),
             )
         ):
             with self.subTest(answer=answer, number=number):
@@ -296,9 +299,10 @@ class Page(StudyTest):
                 self.prints("outage", f"{head}{rows}end\n")
                 page = self.page(f"--events={given}")
                 self.assertEqual(self.shown.splitlines()[:-1], answer)
-                lead = answer[0].replace("0 of 3 units", "None of 3 units")
                 told = self.text_of("answer", page)
-                self.assertIn(lead, told)
+                self.assertIn(answer[0], told)
+                assessed = [row["must_be_assessed"] for row in self.units().values()]
+                self.assertEqual(assessed.count("no"), 3 - sum(int(line.split(" ")[0]) for line in answer[1:] if line != more))
                 self.assertIn("1 is outside of the assessment", told)
                 self.assertEqual(told.count(", perhaps"), perhaps in (second, without))
 
@@ -333,8 +337,8 @@ class Page(StudyTest):
     def test_switchings_without_a_storm_are_in_force_in_each_report(self) -> None:
         for name in ("check", "outage", "screen-supplemental"):
             self.prints(f"{name}+K", (self.reports / f"{name}.txt").read_text())
-        for items in ("K+TB",):
-            self.prints(f"screen+{items}", screen(NONE, NONE))
+        self.prints("field+K", FIELD)
+        self.prints("screen+K+TB", screen(NONE, NONE))
         page = self.page(f"--switch={self.file('switch.csv', 'time,item,action' + chr(10) + '5,K,open' + chr(10))}")
         self.assertEqual(self.units()["TA"]["worst_high_A_per_phase"], "83.335")
         self.assertIn("all rows are in force in each report of the network: 5 s open K", self.text_of("asked", page))
@@ -396,6 +400,21 @@ class Page(StudyTest):
         self.assertEqual(rows, {"TA": ("81.777", "81.780"), "TB": ("50.000", "50.001")})
         # At 60 s both series have 98.767 A.
         self.assertIn("to 180.5 Mvar at 60 s", told)
+
+    def test_the_currents_of_lines_on_the_map(self) -> None:
+        # K leads from B to A, and L from A to B: both currents flow from A to B.
+        lines = "line L 30000 30002\nline K -3002 -3000\nline S blocked\n"
+        self.prints("field", FIELD.replace("transformer TA", f"{lines}transformer TA", 1))
+        page = self.page()
+        told = self.text_of("map", page)
+        for words in ("L: 30.002 A from A to B", "K: 3.002 A from A to B", "The greatest is 30.002 A, in L."):
+            self.assertIn(words, told)
+        widths = dict(re.findall(r'stroke-width="([0-9.]+)"><title>(\w)', page))
+        self.assertEqual({name: width for width, name in widths.items()}, {"L": "7", "K": "1.6"})
+        # One arrow, for K has too little.
+        self.assertEqual(page.count('class="arrow"'), 1)
+        words = "by the middles of field --north=8000 --east=0, the report flows"
+        self.assertIn(words, told)
 
     def test_what_was_left_out(self) -> None:
         told = self.text_of("left", self.page())
@@ -498,13 +517,13 @@ class Numbers(unittest.TestCase):
                 Interval(math.floor(worst) - 1, math.ceil(worst) + 2),
                 "reaches",
             )
-            self.assertEqual(study.bearing_of(row), bearing)
-            there, across = study.current_at(row, bearing), study.current_at(row, bearing + 90)
+            self.assertEqual(directions.bearing_of(row), bearing)
+            there, across = directions.current_at(row, bearing), directions.current_at(row, bearing + 90)
             self.assertLessEqual(there.high, row.worst.high + 1)
             self.assertGreater(there.low, 0.99 * worst)
             self.assertLess(across.low, 0.02 * worst)
         nothing = ScreenUnit("T", Interval(0, 0), Interval(0, 0), Interval(0, 0), "outside")
-        self.assertIsNone(study.bearing_of(nothing))
+        self.assertIsNone(directions.bearing_of(nothing))
 
     def test_seconds_above_the_threshold(self) -> None:
         def steps(*ends: tuple[int, int, int]) -> list[tuple[int, int, Interval]]:
@@ -706,10 +725,10 @@ class OverTheProgram(DeskTest):
             self.assertEqual((out / "reports" / f"{name}.txt").read_bytes(), expected, name)
         with open(out / "units.csv", newline="") as file:
             units = {row["transformer"]: row for row in csv.DictReader(file)}
-        assessed = [name for name, row in units.items() if row["must_be_assessed"] == "yes"]
+        assessed = [name for name, row in units.items() if row["must_be_assessed"] == "by the event"]
         # 15 of step 3 of docs/STUDY.md, and 6 of its step 4.
-        self.assertEqual(len(assessed), 21)
-        self.assertEqual(assessed[:3], ["GR-G1", "GP-G2", "KS-A2"])
+        self.assertEqual((len(assessed), assessed[:3]), (15, ["GR-G1", "GP-G2", "KS-A2"]))
+        self.assertEqual(sum(row["must_be_assessed"] == "with one item out" for row in units.values()), 6)
         self.assertEqual([units["IB-A1"]["worst_outage"], units["IB-A1"]["certain_seconds"]], ["LK-IB", "120"])
         # The worst outage by its screen is the worst of the report of outage.
         for name, row in units.items():

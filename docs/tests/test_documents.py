@@ -42,6 +42,9 @@ class Definitions(unittest.TestCase):
                 "crates/gic_study/src/study.rt": "ghost use Rattle.gic_study.specs.Near.{near};\n",
             },
         )
+        headline = mock.patch.object(definitions, "HEADLINE", "crates/gic_study/src/study.rt")
+        headline.start()
+        self.addCleanup(headline.stop)
         self.crates = ["gic_low", "gic_study"]
         self.found = definitions.definitions(self.top, self.crates)
 
@@ -79,6 +82,11 @@ class Definitions(unittest.TestCase):
             ["| gic_low, gic_high | **Shows**: What it shows (laws.rt). |"],
         )
 
+    def test_what_fits_no_line_goes_on_in_a_row_without_a_crate(self) -> None:
+        with mock.patch.object(definitions, "MOST_COLUMNS", 20):
+            self.assertEqual(definitions.rows_within("gic_low", ("123456", "1234567", "1")), ["| gic_low | 123456 |", "| | 1234567 1 |"])
+            self.assertEqual(definitions.rows_within("gic_low", ("1" * 30,)), [f"| gic_low | {'1' * 30} |"])
+
     def test_where_a_definition_is_cited(self) -> None:
         self.assertEqual(self.found["gic_low/Far"].cited_in, ["gic_low/Law", "gic_study/Near"])
 
@@ -94,15 +102,15 @@ class Definitions(unittest.TestCase):
             ],
         )
 
-    def test_each_crate_stands_once_in_the_map(self) -> None:
+    def test_each_crate_stands_once_in_the_promises(self) -> None:
         flow, more = "## Flow\n| `gic_low` |\n\n", "\n## More\n| `gic_study` |\n"
         text = flow + "## Crates\n\n| `gic_low` | a |\n| `gic_low`, `gic_old` | b |\n" + more
         self.assertEqual(
             definitions.odd_crates("\n" + text, self.crates),
             [
-                "docs/MAP.md has gic_low 2 times in its table of crates",
-                "docs/MAP.md has gic_study 0 times in its table of crates",
-                "docs/MAP.md has gic_old 1 times in its table of crates",
+                "docs/PROMISES.md has gic_low 2 times in its table of crates",
+                "docs/PROMISES.md has gic_study 0 times in its table of crates",
+                "docs/PROMISES.md has gic_old 1 times in its table of crates",
             ],
         )
 
@@ -162,7 +170,9 @@ twice n = n * 2
 
     def test_what_comes_later_is_told(self) -> None:
         part = claim.Part("one", [self.known["gic_top/Near.near"], self.known["gic_low/Far.far"]])
-        self.assertEqual(len(claim.late_cites([part])), 3)
+        self.assertEqual(len(claim.late_cites([part], claim.Part("front", []))), 3)
+        front = claim.Part("front", [self.known["gic_low/Far.Place"]])
+        self.assertEqual(len(claim.late_cites([part], front)), 2)
         self.assertEqual(part.lines, 6)
 
     def test_a_declaration_is_told_without_what_the_proof_adds(self) -> None:
@@ -188,25 +198,37 @@ class ClaimOfATree(unittest.TestCase):
         "crates/gic_low/specs/Passed.antt": "-- What is passed on.\npub use Rattle.gic_low.specs.Sums.{total}\n",
         "crates/gic_far/specs/First.antt": "-- The first part.\nuse Rattle.gic_low.specs.Passed.{total as whole}\n"
         "use Rattle.gic_low.specs.declared.item.Line.{Line}\n\n-- first\nabbrev pub first : Line → ℕ\nfirst l = whole\n",
-        "crates/gic_study/specs/Top.antt": "-- The top.\nuse Rattle.gic_far.specs.First.{first}\nuse Rattle.gic_low.specs.Sums.{total, spare}\n\n"
+        "crates/gic_study/specs/Top.antt": "-- The top.\nuse Rattle.std.specs.List.{count}\nuse Rattle.gic_far.specs.First.{first}\n"
+        "use Rattle.gic_low.specs.Sums.{total, spare}\n\n"
         "-- top\npub record Top : Type 0 where\n  pub total : ℕ\n  pub is : spare ≡ 2\n\n"
-        "abbrev pub made : Top\nmade = record { total = first 3; is = refl }\n",
+        "abbrev pub made : Top\nmade = record { total = count (first 3); is = refl }\n",
+        "crates/gic_study/specs/Said.antt": "-- What is said.\nuse Rattle.gic_study.specs.Top.{Top, made}\n\n"
+        "-- low\nabbrev pub low_said : Top\nlow_said = made\n\n-- said\nabbrev pub said : Top\nsaid = low_said\n",
         "crates/gic_low/src/item.rt": "/// A name.\npub(crate) struct Name(pub u8);\n\n/// A line.\npub struct Line {\n    pub name: Name,\n}\n",
-        "crates/gic_study/src/study.rt": "/// The call.\npub fn gicstudy() -> u8\n    ensures { Top }\n{\n    0\n}\n",
+        "crates/gic_study/src/program.rt": "/// The call.\npub fn run() -> u8\n    ensures { said }\n{\n    0\n}\n",
         "docs/DEFINITIONS.md": "| part | files | lines | minutes |\n|---|---|---|---|\n",
     }
+    CONSTANTS = (
+        ("CALL", "crates/gic_study/src/program.rt"),
+        ("FRONT", ("gic_study/Said",)),
+        ("PARTS", (("one", ("gic_far/First.first",)), ("two", ("gic_study/Top.made",)))),
+        ("CHAPTERS", (("low", ("gic_low",)), ("far", ("gic_far/First",)))),
+        ("OUTSIDE", {"std": {"count": "how many"}}),
+        ("TWICE", ()),
+    )
 
     def setUp(self) -> None:
         folder = tempfile.TemporaryDirectory()
         self.addCleanup(folder.cleanup)
         self.top = Path(folder.name)
         written(self.top, self.TEXTS)
-        parts = (("one", ("gic_far/First.first",)), ("two", ("gic_study/Top.made",)))
-        chapters = (("low", ("gic_low",)), ("far", ("gic_far/First",)))
-        for name, value in (("TOP", self.top), ("PARTS", parts), ("CHAPTERS", chapters)):
-            patch = mock.patch.object(claim, name, value)
-            patch.start()
-            self.addCleanup(patch.stop)
+        for name, value in (("TOP", self.top), *self.CONSTANTS):
+            self.put(name, value)
+
+    def put(self, name: str, value: object) -> None:
+        patch = mock.patch.object(claim, name, value)
+        patch.start()
+        self.addCleanup(patch.stop)
 
     def run_main(self, *words: str) -> tuple[int, str]:
         out = io.StringIO()
@@ -216,7 +238,10 @@ class ClaimOfATree(unittest.TestCase):
 
     def test_a_part_has_what_the_ones_before_have_not(self) -> None:
         files = claim.read_all(self.top)
-        parts = claim.parts_of(files, claim.resolve(files), ["gic_low", "gic_far", "gic_study"])
+        known = claim.resolve(files)
+        front = claim.front_of(files, known)
+        self.assertEqual([definition.names[0] for definition in front.definitions], ["said", "low_said"])
+        parts = claim.parts_of(files, known, ["gic_low", "gic_far", "gic_study"], front)
         names = [[definition.names[0] for definition in part.definitions] for part in parts]
         self.assertEqual(names, [["total", "first"], ["spare", "Top", "made"]])
         top = next(definition for definition in parts[1].definitions if definition.names == ["Top"])
@@ -224,23 +249,25 @@ class ClaimOfATree(unittest.TestCase):
 
     def test_the_text_is_made_and_checked(self) -> None:
         self.assertEqual(self.run_main()[0], 1)
-        self.assertEqual(self.run_main("--write"), (0, "5 definitions of the claim, 0 faults\n"))
+        self.assertEqual(self.run_main("--write"), (0, "7 definitions of the claim, 0 faults\n"))
         text = (self.top / "docs/CLAIM.txt").read_text()
-        heads = ["---- 1.1 low", "crates/gic_low/specs/Sums.antt", "---- 1.2 far", "struct Name", "struct Line", "-- first", "2. two", "-- top", "pub fn gicstudy"]
+        heads = ["pub fn run", "-- said", "-- low", "How to read", "count (specs/List): how many", "---- 1.1 low", "crates/gic_low/specs/Sums.antt", "---- 1.2 far", "struct Name", "struct Line", "-- first", "2. two", "-- top"]
         places = [text.index(head) for head in heads]
         self.assertEqual(places, sorted(places))
         self.assertEqual(text.count("pub struct Line"), 1)
         self.assertIn("-- a sum\nabbrev pub total : ℕ\ntotal = 1\n    -- cited by first\n", text)
         table = (self.top / "docs/DEFINITIONS.md").read_text()
-        self.assertIn("| **1. one, all of it** | | 6 | 1 |\n| 2. two | gic_low: Sums; gic_study: Top | 8 | 1 |\n| **all modes** | | 14 | 1 |", table)
-        self.assertEqual(self.run_main(), (0, "5 definitions of the claim, 0 faults\n"))
+        self.assertIn("| The headline | gic_study: Said | 6 | 1 |\n", table)
+        told = "| **1. one, all of it** | | 6 | 1 |\n| **the headline and one** | | 12 | 1 |\n| 2. two | gic_low: Sums; gic_study: Top | 8 | 1 |\n"
+        self.assertIn(told + "| **all modes** | | 20 | 2 |", table)
+        self.assertEqual(self.run_main(), (0, "7 definitions of the claim, 0 faults\n"))
         written(self.top, {"docs/DEFINITIONS.md": "no table\n"})
         self.assertIn("has no table of the parts", self.run_main("--write")[1])
 
     def test_what_is_wrong_is_told_in_a_line(self) -> None:
         for name, text, told in (
             ("crates/gic_low/src/item.rt", "", "gic_low/item.Line is declared nowhere"),
-            ("crates/gic_study/src/study.rt", "", "has no call `gicstudy`"),
+            ("crates/gic_study/src/program.rt", "", "has no call `run`"),
             ("crates/gic_low/specs/Sums.antt", "-- Sums.\n\ninfixl 3 ◌+◌\n", "there is no definition in the lines that begin"),
             ("crates/gic_far/specs/First.antt", "-- None.\n", "there is no definition gic_far/First.first"),
         ):
@@ -249,6 +276,35 @@ class ClaimOfATree(unittest.TestCase):
                 status, out = self.run_main("--write")
                 self.assertEqual(status, 1)
                 self.assertIn(told, out)
+
+
+    def test_a_name_of_two_meanings_is_refused_or_told(self) -> None:
+        other = self.TEXTS["crates/gic_far/specs/First.antt"] + "\n-- another\nabbrev pub spare : ℕ\nspare = first 2\n"
+        top = self.TEXTS["crates/gic_study/specs/Top.antt"].replace("{first}", "{first, spare as other}").replace("first 3", "other")
+        written(self.top, {"crates/gic_far/specs/First.antt": other, "crates/gic_study/specs/Top.antt": top})
+        status, out = self.run_main("--write")
+        self.assertEqual(status, 1)
+        self.assertIn("spare is a name of gic_low and of gic_far: rename one, or name it in TWICE\n", out)
+        self.put("TWICE", ("spare",))
+        self.assertEqual(self.run_main("--write")[0], 0)
+        text = (self.top / "docs/CLAIM.txt").read_text()
+        self.assertIn("spare = first 2\n    -- cited by made\n    -- `spare` is also a name of gic_low\n", text)
+        self.assertIn("  pub is : spare ≡ 2\n    -- cited by said, low_said, made\n    -- here `spare` is that of gic_low\n", text)
+        written(self.top, self.TEXTS)
+        self.assertIn("spare stands in TWICE and has one meaning\n", self.run_main("--write")[1])
+
+    def test_a_name_of_a_library_counts_as_a_meaning(self) -> None:
+        sums = self.TEXTS["crates/gic_low/specs/Sums.antt"].replace("spare", "count")
+        top = self.TEXTS["crates/gic_study/specs/Top.antt"].replace("{total, spare}", "{total, count as spare}")
+        written(self.top, {"crates/gic_low/specs/Sums.antt": sums, "crates/gic_study/specs/Top.antt": top})
+        self.assertIn("count is a name of gic_low and of std: rename one, or name it in TWICE\n", self.run_main("--write")[1])
+
+    def test_a_word_that_is_told_nowhere_is_refused(self) -> None:
+        self.put("OUTSIDE", {"std": {"length": "how long"}})
+        status, out = self.run_main("--write")
+        self.assertEqual(status, 1)
+        self.assertIn("count of std (List) is cited, and claim_words.py doesn't tell it\n", out)
+        self.assertIn("length of std stands in claim_words.py, and no definition cites it\n", out)
 
 
 class Links(unittest.TestCase):

@@ -56,12 +56,14 @@ LAWS_WITHOUT_AN_EDIT = (
     "peak_is_narrow",
     "potential",
     "potential_bound",
+    "program_headline",
     "rounded_residual",
     "second_share",
     "settled",
     "sharp",
     "square",
     "starts",
+    "superposed_effective",
     "superposed_width",
     "superposition",
     "sweeps_converge",
@@ -164,7 +166,7 @@ class Table(unittest.TestCase):
         self.assertEqual([it for it in SENTENCES if f"headline {it}" not in self.guards], [])
 
     def test_each_mode_has_an_edit_and_one_of_its_text(self) -> None:
-        told = re.findall(r"(?m)^\*\*`(\w+)`\*\* needs", self.promises)
+        told = re.findall(r"(?m)^- \*\*`(\w+)`\*\* needs", self.promises)
         self.assertEqual(sorted(told), sorted(MODES))
         wanted = [f"{kind} {it}" for kind in ("mode", "text of") for it in MODES]
         self.assertEqual([it for it in wanted if it not in self.guards], [])

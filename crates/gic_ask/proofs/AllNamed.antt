@@ -4,7 +4,7 @@ use Rattle.std.specs.Prelude.{IfOk, IfErr, IfSome, IsSomeAnd, IsOkAnd, ok_or}
 use Rattle.gic_files.specs.Files.{Files, Fetches, HasFailed}
 use Rattle.gic_case.specs.Lists.{Lists}
 use Rattle.gic_inputs.specs.declared.inputs.Inputs.{Inputs}
-use Rattle.gic_criteria.specs.declared.asked.Question.{Question}
+use Rattle.gic_criteria.specs.declared.asked.Criteria.{Criteria}
 use Rattle.gic_words.specs.Requests.{request_of}
 use Rattle.gic_words.specs.declared.fault.Usage.{Usage}
 use Rattle.gic_words.specs.declared.request.Request.{Request}
@@ -82,13 +82,13 @@ pub of_request : (files : Option Files) (request known : Request) (before now : 
     → Gathers files known before now answer → Gathers files request before now answer
 of_request files request known before now answer is g = subst (λ (r : Request). Gathers files r before now answer) (sym is) g
 
--- a question that is known
-pub in_question : {A : Type 0} (files : Option Files) (o : Names) (named : List NamedFile) (step : Question → Contents → Outcome A) (question known : Question) (before now : Fetches)
-    (answer : Result A InputFault) → question ≡ known → Reads files o named (step question) before now answer → Reads files o named (step known) before now answer
-in_question files o named step question known before now answer is r = subst (λ (q : Question). Reads files o named (step q) before now answer) is r
+-- criteria that are known
+pub in_criteria : {A : Type 0} (files : Option Files) (o : Names) (named : List NamedFile) (step : Criteria → Contents → Outcome A) (criteria known : Criteria) (before now : Fetches)
+    (answer : Result A InputFault) → criteria ≡ known → Reads files o named (step criteria) before now answer → Reads files o named (step known) before now answer
+in_criteria files o named step criteria known before now answer is r = subst (λ (q : Criteria). Reads files o named (step q) before now answer) is r
 
 -- one of a network, and what is made of it
-module _ (files : Option Files) (case : List ℕ) (switch : Option (List ℕ)) (question : Question) (make : Inputs → Asked) (before now : Fetches) where
+module _ {Q : Type 0} (files : Option Files) (case : List ℕ) (switch : Option (List ℕ)) (question : Q) (make : Inputs Q → Asked) (before now : Fetches) where
   abbrev network_files : List NamedFile
   network_files = file_named file.Case (Some case) ++ file_named file.Switch switch
 
@@ -98,12 +98,12 @@ module _ (files : Option Files) (case : List ℕ) (switch : Option (List ℕ)) (
   whole : network_files ≡ file_named file.Case (Some case) ++ (file_named file.Switch switch ++ [])
   whole = ap (λ l. file_named file.Case (Some case) ++ l) (sym (append-nil (file_named file.Switch switch)))
 
-  pub network_made : (inputs : Inputs) → Reads {A = Inputs} files (of_case case switch) network_files (reading_network switch question) before now (Ok inputs) → Made (Ok (make inputs))
+  pub network_made : (inputs : Inputs Q) → Reads {A = Inputs Q} files (of_case case switch) network_files (reading_network switch question) before now (Ok inputs) → Made (Ok (make inputs))
   network_made inputs r =
       of_list files (of_case case switch) network_files _ _ before now (Ok (make inputs)) whole
       (last_step files (of_case case switch) network_files (reading_network switch question) make before now inputs r)
 
-  pub network_fails : (fault : InputFault) → Reads {A = Inputs} files (of_case case switch) network_files (reading_network switch question) before now (Err fault) → Made (Err fault)
+  pub network_fails : (fault : InputFault) → Reads {A = Inputs Q} files (of_case case switch) network_files (reading_network switch question) before now (Err fault) → Made (Err fault)
   network_fails fault r =
       of_list files (of_case case switch) network_files _ _ before now (Err fault) whole
       (last_fails files (of_case case switch) network_files (reading_network switch question) make before now fault r)

@@ -9,7 +9,7 @@ use Rattle.gic_switch.specs.Rules.{switchings_of}
 use Rattle.gic_words.specs.Requests.{request_of}
 use Rattle.gic_words.specs.declared.request.Request.{Request}
 use Rattle.gic_words.specs.declared.request.Request.TheVariants as request
-use Rattle.gic_criteria.specs.declared.asked.Question.{Question}
+use Rattle.gic_criteria.specs.declared.asked.Criteria.{Criteria}
 use Rattle.gic_words.specs.declared.fault.Usage.{Usage}
 use Rattle.gic_ask.specs.Contents.{Given, Nothing, Long, Whole, Contents}
 use Rattle.gic_ask.specs.Outcome.{Outcome, Refuses, Lacks, Accepts, ◌>>=◌, reading, if_given, handing, reading_file, reading_case, reading_storm, reading_switchings, reading_inputs, reading_network, reading_after_storm, reading_over, transformer_named, transformer_asked, asking, asking_study, asking_recheck, asking_series}
@@ -71,36 +71,36 @@ module _ (u : Usage) (contents : Contents) where
       given_meets u switch (λ name. reading_file file.Switch SwitchRefused (switchings_of case) (contents file.Switch))
       (λ name. file_meets u file.Switch SwitchRefused (switchings_of case) (contents file.Switch) (λ refusal e. grind (arith, e)))
 
-  network_meets : (switch : Option (List ℕ)) (question : Question) → Meets Any u (reading_network switch question contents)
+  network_meets : {Q : Type 0} (switch : Option (List ℕ)) (question : Q) → Meets Any u (reading_network switch question contents)
   network_meets switch question =
       then_meets u Any Any (reading_case (contents file.Case)) (λ case. reading_inputs switch question case contents) case_meets
       (λ case any. made_meets u (reading_switchings switch case contents) _ (switchings_meets switch case))
 
-  over_meets : (switch : Option (List ℕ)) (question : Question) (case : Lists) → Meets Any u (reading_over switch question case contents)
+  over_meets : (switch : Option (List ℕ)) (question : Criteria) (case : Lists) → Meets Any u (reading_over switch question case contents)
   over_meets switch question case =
       then_meets u Any Any (reading_storm case (contents file.Storm)) (λ storm. reading_after_storm switch question case storm contents)
       (file_meets u file.Storm StormRefused (storm_of (zone_names case.zones)) (contents file.Storm) (λ refusal e. grind (arith, e)))
       (λ storm any. made_meets u (reading_switchings switch case contents) _ (switchings_meets switch case))
 
   asking_meets : (r : Request) → Meets Any u (asking r contents)
-  asking_meets (request.Volts case field) = made_meets u _ _ (network_meets None _)
+  asking_meets (request.Volts r) = made_meets u _ _ (network_meets None _)
   asking_meets (request.List case) = made_meets u _ _ (network_meets None _)
-  asking_meets (request.Check case switch) = made_meets u _ _ (network_meets switch _)
-  asking_meets (request.Field case switch field criteria) = made_meets u _ _ (network_meets switch _)
-  asking_meets (request.Screen case switch criteria) = made_meets u _ _ (network_meets switch _)
-  asking_meets (request.Certify case switch field) = made_meets u _ _ (network_meets switch _)
-  asking_meets (request.Outage case switch criteria) = made_meets u _ _ (network_meets switch _)
-  asking_meets (request.Study case storm switch criteria detail) =
-      then_meets u Any Any (reading_case (contents file.Case)) (λ lists. asking_study switch criteria detail lists contents) case_meets
-      (λ lists any. made_meets u _ _ (over_meets switch _ lists))
-  asking_meets (request.Make seed size) = tt
-  asking_meets (request.Recheck case switch cert) =
-      then_meets u Any Any (reading_network switch _ contents) (λ inputs. asking_recheck inputs contents) (network_meets switch _)
+  asking_meets (request.Check r) = made_meets u _ _ (network_meets r.switch _)
+  asking_meets (request.Field r) = made_meets u _ _ (network_meets r.switch _)
+  asking_meets (request.Screen r) = made_meets u _ _ (network_meets r.switch _)
+  asking_meets (request.Certify r) = made_meets u _ _ (network_meets r.switch _)
+  asking_meets (request.Outage r) = made_meets u _ _ (network_meets r.switch _)
+  asking_meets (request.Study r) =
+      then_meets u Any Any (reading_case (contents file.Case)) (λ lists. asking_study r lists contents) case_meets
+      (λ lists any. made_meets u _ _ (over_meets r.switch _ lists))
+  asking_meets (request.Make r) = tt
+  asking_meets (request.Recheck r) =
+      then_meets u Any Any (reading_network r.switch _ contents) (λ inputs. asking_recheck inputs contents) (network_meets r.switch _)
       (λ inputs any. made_meets u _ _ (handing_meets u file.Certificate (contents file.Certificate)))
-  asking_meets (request.Series case storm switch width transformer) =
-      then_meets u Any Any (reading_case (contents file.Case)) (λ lists. asking_series switch width transformer lists contents) case_meets
-      (λ lists any. then_meets u Any Any (reading (λ refusal. refusal) (transformer_asked lists transformer)) _ (found_meets u (transformer_named lists transformer))
-      (λ place any. made_meets u _ _ (over_meets switch _ lists)))
+  asking_meets (request.Series r) =
+      then_meets u Any Any (reading_case (contents file.Case)) (λ lists. asking_series r lists contents) case_meets
+      (λ lists any. then_meets u Any Any (reading (λ refusal. refusal) (transformer_asked lists r.transformer)) _ (found_meets u (transformer_named lists r.transformer))
+      (λ place any. made_meets u _ _ (over_meets r.switch _ lists)))
   asking_meets (request.Review case) = made_meets u _ _ (network_meets None _)
 
 -- so no refusal of the words

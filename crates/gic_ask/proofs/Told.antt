@@ -14,12 +14,12 @@ use Rattle.gic_switch.specs.Rules.{switchings_of}
 use Rattle.gic_words.specs.Requests.{request_of}
 use Rattle.gic_words.specs.declared.request.Request.{Request}
 use Rattle.gic_words.specs.declared.request.Request.TheVariants as request
-use Rattle.gic_criteria.specs.declared.asked.Question.{Question}
+use Rattle.gic_criteria.specs.declared.asked.Criteria.{Criteria}
 use Rattle.gic_words.specs.declared.fault.Usage.{Usage}
 use Rattle.gic_ask.specs.Asks.{IsAnswer}
 use Rattle.gic_ask.specs.Contents.{Given, Nothing, Long, Whole, Contents, Names, MayGive, MayHandOut, name_of_file, names_in, of_case}
 use Rattle.gic_ask.specs.Held.{held, held_bytes, held_by_length, held_for, AnswersOfFiles}
-use Rattle.gic_ask.specs.Outcome.{Outcome, Refuses, Lacks, Accepts, ◌>>=◌, reading, if_given, handing, reading_file, reading_case, reading_storm, reading_switchings, reading_inputs, reading_network, reading_after_storm, reading_over, transformer_asked, asking, asking_study, asking_recheck, asking_series, outcome}
+use Rattle.gic_ask.specs.Outcome.{Outcome, Refuses, Lacks, Accepts, ◌>>=◌, reading, if_given, handing, reading_file, reading_case, reading_storm, reading_switchings, reading_inputs, reading_network, reading_after_storm, reading_over, transformer_asked, asking, asking_study, asking_recheck, asking_series, outcome, recheck_given, series_given, study_given}
 use Rattle.gic_ask.specs.declared.fault.File.{File}
 use Rattle.gic_ask.specs.declared.fault.File.TheVariants as file
 use Rattle.gic_ask.specs.declared.fault.InputFault.{InputFault}
@@ -98,7 +98,7 @@ module _ (files : Files) (n : Names) (contents : Contents) (may : MayHandOut (So
       given_same n.switch (λ name. reading_file file.Switch SwitchRefused (switchings_of case) (contents file.Switch)) (λ name. reading_file file.Switch SwitchRefused (switchings_of case) (has file.Switch))
       (λ name named. read_same file.Switch SwitchRefused (switchings_of case) name named)
 
-  inputs_same : (question : Question) (case : Lists) → IsSameOrLacks (reading_inputs n.switch question case contents) (reading_inputs n.switch question case has)
+  inputs_same : {Q : Type 0} (question : Q) (case : Lists) → IsSameOrLacks (reading_inputs n.switch question case contents) (reading_inputs n.switch question case has)
   inputs_same question case =
       made_same (reading_switchings n.switch case contents) (reading_switchings n.switch case has) (λ rows. record { case = case; switchings = rows; question = question }) (switchings_same case)
 
@@ -108,10 +108,10 @@ module _ (files : Files) (n : Names) (contents : Contents) (may : MayHandOut (So
   from_case rest name named more =
       both_same (reading_case (contents file.Case)) (reading_case (has file.Case)) (λ case. rest case contents) (λ case. rest case has) (read_same file.Case CaseRefused case_of name named) more
 
-  network_same : (question : Question) (name : List ℕ) → n.case ≡ Some name → IsSameOrLacks (reading_network n.switch question contents) (reading_network n.switch question has)
+  network_same : {Q : Type 0} (question : Q) (name : List ℕ) → n.case ≡ Some name → IsSameOrLacks (reading_network n.switch question contents) (reading_network n.switch question has)
   network_same question name named = from_case (reading_inputs n.switch question) name named (inputs_same question)
 
-  over_same : (question : Question) (name : List ℕ) → n.storm ≡ Some name → (case : Lists) → IsSameOrLacks (reading_over n.switch question case contents) (reading_over n.switch question case has)
+  over_same : (question : Criteria) (name : List ℕ) → n.storm ≡ Some name → (case : Lists) → IsSameOrLacks (reading_over n.switch question case contents) (reading_over n.switch question case has)
   over_same question name named case =
       let read : List ℕ → Result StormView StormRefusal = storm_of (zone_names case.zones) in
       both_same (reading_storm case (contents file.Storm)) (reading_storm case (has file.Storm))
@@ -121,27 +121,27 @@ module _ (files : Files) (n : Names) (contents : Contents) (may : MayHandOut (So
 
 -- what a request asks for
 asked_same : (files : Files) (r : Request) (contents : Contents) → MayHandOut (Some files) (names_in r) contents → IsSameOrLacks (asking r contents) (asking r (held_for files (Ok r)))
-asked_same files (request.Volts case field) contents may = made_same _ _ asked.Volts (network_same files (of_case case None) contents may _ case refl)
+asked_same files (request.Volts r) contents may = made_same _ _ asked.Volts (network_same files (of_case r.case None) contents may _ r.case refl)
 asked_same files (request.List case) contents may = made_same _ _ asked.List (network_same files (of_case case None) contents may _ case refl)
-asked_same files (request.Check case switch) contents may = made_same _ _ asked.Check (network_same files (of_case case switch) contents may _ case refl)
-asked_same files (request.Field case switch field criteria) contents may = made_same _ _ asked.Field (network_same files (of_case case switch) contents may _ case refl)
-asked_same files (request.Screen case switch criteria) contents may = made_same _ _ asked.Screen (network_same files (of_case case switch) contents may _ case refl)
-asked_same files (request.Certify case switch field) contents may = made_same _ _ asked.Certify (network_same files (of_case case switch) contents may _ case refl)
-asked_same files (request.Outage case switch criteria) contents may = made_same _ _ asked.Outage (network_same files (of_case case switch) contents may _ case refl)
-asked_same files (request.Study case storm switch criteria detail) contents may =
-    let n : Names = record (of_case case switch) { storm = Some storm } in
-    from_case files n contents may (asking_study switch criteria detail) case refl
-    (λ lists. made_same _ _ (λ inputs. asked.Study inputs detail) (over_same files n contents may _ storm refl lists))
-asked_same files (request.Make seed size) contents may = inl refl
-asked_same files (request.Recheck case switch cert) contents may =
-    let n : Names = record (of_case case switch) { cert = Some cert } in
-    both_same _ _ (λ inputs. asking_recheck inputs contents) (λ inputs. asking_recheck inputs (held_for files (Ok (request.Recheck case switch cert)))) (network_same files n contents may _ case refl)
-    (λ inputs. made_same _ _ (asked.Recheck inputs) (handed_same files n contents may file.Certificate cert refl))
-asked_same files (request.Series case storm switch width transformer) contents may =
-    let n : Names = record (of_case case switch) { storm = Some storm } in
-    from_case files n contents may (asking_series switch width transformer) case refl
-    (λ lists. next_same (reading (λ refusal. refusal) (transformer_asked lists transformer)) _ _
-    (λ place. made_same _ _ (λ inputs. asked.Series inputs place) (over_same files n contents may _ storm refl lists)))
+asked_same files (request.Check r) contents may = made_same _ _ asked.Check (network_same files (of_case r.case r.switch) contents may _ r.case refl)
+asked_same files (request.Field r) contents may = made_same _ _ asked.Field (network_same files (of_case r.case r.switch) contents may _ r.case refl)
+asked_same files (request.Screen r) contents may = made_same _ _ asked.Screen (network_same files (of_case r.case r.switch) contents may _ r.case refl)
+asked_same files (request.Certify r) contents may = made_same _ _ asked.Certify (network_same files (of_case r.case r.switch) contents may _ r.case refl)
+asked_same files (request.Outage r) contents may = made_same _ _ asked.Outage (network_same files (of_case r.case r.switch) contents may _ r.case refl)
+asked_same files (request.Study r) contents may =
+    let n : Names = record (of_case r.case r.switch) { storm = Some r.storm } in
+    from_case files n contents may (asking_study r) r.case refl
+    (λ lists. made_same _ _ (study_given r) (over_same files n contents may _ r.storm refl lists))
+asked_same files (request.Make r) contents may = inl refl
+asked_same files (request.Recheck r) contents may =
+    let n : Names = record (of_case r.case r.switch) { cert = Some r.cert } in
+    both_same _ _ (λ inputs. asking_recheck inputs contents) (λ inputs. asking_recheck inputs (held_for files (Ok (request.Recheck r)))) (network_same files n contents may _ r.case refl)
+    (λ inputs. made_same _ _ (recheck_given inputs) (handed_same files n contents may file.Certificate r.cert refl))
+asked_same files (request.Series r) contents may =
+    let n : Names = record (of_case r.case r.switch) { storm = Some r.storm } in
+    from_case files n contents may (asking_series r) r.case refl
+    (λ lists. next_same (reading (λ refusal. refusal) (transformer_asked lists r.transformer)) _ _
+    (λ place. made_same _ _ (series_given r place) (over_same files n contents may _ r.storm refl lists)))
 asked_same files (request.Review case) contents may = made_same _ _ asked.Review (network_same files (of_case case None) contents may _ case refl)
 
 same_words : (files : Files) (r : Result Request Usage) (contents : Contents) → IfOk r (λ q. MayHandOut (Some files) (names_in q) contents)

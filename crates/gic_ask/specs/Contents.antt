@@ -22,17 +22,17 @@ of_case case switch = record { case = Some case; storm = None; switch = switch; 
 
 -- one row a mode
 abbrev pub names_in : Request → Names
-names_in (request.Volts case field) = of_case case None
+names_in (request.Volts r) = of_case r.case None
 names_in (request.List case) = of_case case None
-names_in (request.Check case switch) = of_case case switch
-names_in (request.Field case switch field criteria) = of_case case switch
-names_in (request.Screen case switch criteria) = of_case case switch
-names_in (request.Certify case switch field) = of_case case switch
-names_in (request.Outage case switch criteria) = of_case case switch
-names_in (request.Study case storm switch criteria detail) = record (of_case case switch) { storm = Some storm }
-names_in (request.Make seed size) = record { case = None; storm = None; switch = None; cert = None }
-names_in (request.Recheck case switch cert) = record (of_case case switch) { cert = Some cert }
-names_in (request.Series case storm switch width transformer) = record (of_case case switch) { storm = Some storm }
+names_in (request.Check r) = of_case r.case r.switch
+names_in (request.Field r) = of_case r.case r.switch
+names_in (request.Screen r) = of_case r.case r.switch
+names_in (request.Certify r) = of_case r.case r.switch
+names_in (request.Outage r) = of_case r.case r.switch
+names_in (request.Study r) = record (of_case r.case r.switch) { storm = Some r.storm }
+names_in (request.Make r) = record { case = None; storm = None; switch = None; cert = None }
+names_in (request.Recheck r) = record (of_case r.case r.switch) { cert = Some r.cert }
+names_in (request.Series r) = record (of_case r.case r.switch) { storm = Some r.storm }
 names_in (request.Review case) = of_case case None
 
 -- the name of a file

@@ -7,12 +7,13 @@ use Rattle.gic_model.specs.declared.parts.Switching.{Switching}
 use Rattle.gic_storm.specs.Rules.{storm_of}
 use Rattle.gic_storm.specs.StormView.{StormView, zone_names}
 use Rattle.gic_switch.specs.Rules.{switchings_of}
-use Rattle.gic_criteria.specs.Questions.{no_field, question_of, usual_criteria}
+use Rattle.gic_criteria.specs.Questions.{usual_criteria}
 use Rattle.gic_criteria.specs.declared.asked.Criteria.{Criteria}
-use Rattle.gic_criteria.specs.declared.asked.Question.{Question}
 use Rattle.gic_words.specs.Requests.{request_of}
 use Rattle.gic_words.specs.declared.request.Request.{Request}
 use Rattle.gic_words.specs.declared.request.Request.TheVariants as request
+use Rattle.gic_words.specs.declared.request.SeriesRequest.{SeriesRequest}
+use Rattle.gic_words.specs.declared.request.StudyRequest.{StudyRequest}
 use Rattle.gic_inputs.specs.declared.inputs.Inputs.{Inputs}
 use Rattle.gic_inputs.specs.declared.inputs.StormInputs.{StormInputs}
 use Rattle.gic_ask.specs.Contents.{Given, Nothing, Long, Whole, Contents}
@@ -76,25 +77,25 @@ reading_certificate = handing file.Certificate
 -- ---- what modes are given, one file after another
 
 -- the switchings of a case that is read
-abbrev pub reading_inputs : (switch : Option (List ℕ)) → Question → Lists → Contents → Outcome Inputs
+abbrev pub reading_inputs : {Q : Type 0} → (switch : Option (List ℕ)) → Q → Lists → Contents → Outcome (Inputs Q)
 reading_inputs switch question case contents = do
   switchings ← reading_switchings switch case contents
   Accepts (record { case = case; switchings = switchings; question = question })
 
 -- a case, and its switchings
-abbrev pub reading_network : (switch : Option (List ℕ)) → Question → Contents → Outcome Inputs
+abbrev pub reading_network : {Q : Type 0} → (switch : Option (List ℕ)) → Q → Contents → Outcome (Inputs Q)
 reading_network switch question contents = do
   case ← reading_case (contents file.Case)
   reading_inputs switch question case contents
 
 -- the switchings of a case, behind its storm
-abbrev pub reading_after_storm : (switch : Option (List ℕ)) → Question → Lists → StormView → Contents → Outcome StormInputs
+abbrev pub reading_after_storm : (switch : Option (List ℕ)) → Criteria → Lists → StormView → Contents → Outcome StormInputs
 reading_after_storm switch question case storm contents = do
   switchings ← reading_switchings switch case contents
   Accepts (record { case = case; switchings = switchings; storm = storm; question = question })
 
 -- a storm over a case that is read, and the switchings
-abbrev pub reading_over : (switch : Option (List ℕ)) → Question → Lists → Contents → Outcome StormInputs
+abbrev pub reading_over : (switch : Option (List ℕ)) → Criteria → Lists → Contents → Outcome StormInputs
 reading_over switch question case contents = do
   storm ← reading_storm case (contents file.Storm)
   reading_after_storm switch question case storm contents
@@ -108,60 +109,70 @@ transformer_asked case name = ok_or (transformer_named case name) UnknownTransfo
 
 -- ---- what is asked for
 
+-- what the modes with more than inputs are given
+abbrev pub study_given : StudyRequest → StormInputs → Asked
+study_given r inputs = asked.Study (record { inputs = inputs; detail = r.detail })
+
+abbrev pub series_given : SeriesRequest → (transformer : ℕ) → StormInputs → Asked
+series_given r transformer inputs = asked.Series (record { inputs = inputs; transformer = transformer })
+
+abbrev pub recheck_given : Inputs (Unit {0}) → (certificate : List ℕ) → Asked
+recheck_given inputs certificate = asked.Recheck (record { inputs = inputs; certificate = certificate })
+
 -- of a storm over a case
-abbrev pub asking_study : (switch : Option (List ℕ)) → Criteria → (detail : Option ℕ) → Lists → Contents → Outcome Asked
-asking_study switch criteria detail case contents = do
-  inputs ← reading_over switch (question_of no_field criteria) case contents
-  Accepts (asked.Study inputs detail)
+abbrev pub asking_study : StudyRequest → Lists → Contents → Outcome Asked
+asking_study r case contents = do
+  inputs ← reading_over r.switch r.criteria case contents
+  Accepts (study_given r inputs)
 
 -- of one transformer, which is looked for as soon as its case is read
-abbrev pub asking_series : (switch : Option (List ℕ)) → (width : ℕ) → (transformer : List ℕ) → Lists → Contents → Outcome Asked
-asking_series switch width transformer case contents = do
-  place ← reading (λ refusal. refusal) (transformer_asked case transformer)
-  inputs ← reading_over switch (question_of no_field (record usual_criteria { width = width })) case contents
-  Accepts (asked.Series inputs place)
+abbrev pub asking_series : SeriesRequest → Lists → Contents → Outcome Asked
+asking_series r case contents = do
+  place ← reading (λ refusal. refusal) (transformer_asked case r.transformer)
+  inputs ← reading_over r.switch (record usual_criteria { width = r.width }) case contents
+  Accepts (series_given r place inputs)
 
 -- of a certificate
-abbrev pub asking_recheck : Inputs → Contents → Outcome Asked
+abbrev pub asking_recheck : Inputs (Unit {0}) → Contents → Outcome Asked
 asking_recheck inputs contents = do
   certificate ← reading_certificate (contents file.Certificate)
-  Accepts (asked.Recheck inputs certificate)
+  Accepts (recheck_given inputs certificate)
 
 -- what a request asks for; one row a mode
 abbrev pub asking : Request → Contents → Outcome Asked
-asking (request.Volts case field) contents = do
-  inputs ← reading_network None (question_of field usual_criteria) contents
+asking (request.Volts r) contents = do
+  inputs ← reading_network None r.field contents
   Accepts (asked.Volts inputs)
 asking (request.List case) contents = do
-  inputs ← reading_network None (question_of no_field usual_criteria) contents
+  inputs ← reading_network None (tt {0}) contents
   Accepts (asked.List inputs)
-asking (request.Check case switch) contents = do
-  inputs ← reading_network switch (question_of no_field usual_criteria) contents
+asking (request.Check r) contents = do
+  inputs ← reading_network r.switch (tt {0}) contents
   Accepts (asked.Check inputs)
-asking (request.Field case switch field criteria) contents = do
-  inputs ← reading_network switch (question_of field criteria) contents
+asking (request.Field r) contents = do
+  inputs ← reading_network r.switch (record { field = r.field; criteria = r.criteria }) contents
   Accepts (asked.Field inputs)
-asking (request.Screen case switch criteria) contents = do
-  inputs ← reading_network switch (question_of no_field criteria) contents
+asking (request.Screen r) contents = do
+  inputs ← reading_network r.switch r.criteria contents
   Accepts (asked.Screen inputs)
-asking (request.Certify case switch field) contents = do
-  inputs ← reading_network switch (question_of field usual_criteria) contents
+asking (request.Certify r) contents = do
+  inputs ← reading_network r.switch r.field contents
   Accepts (asked.Certify inputs)
-asking (request.Outage case switch criteria) contents = do
-  inputs ← reading_network switch (question_of no_field criteria) contents
+asking (request.Outage r) contents = do
+  inputs ← reading_network r.switch r.criteria contents
   Accepts (asked.Outage inputs)
-asking (request.Study case storm switch criteria detail) contents = do
+asking (request.Study r) contents = do
   case ← reading_case (contents file.Case)
-  asking_study switch criteria detail case contents
-asking (request.Make seed size) contents = Accepts (asked.Make seed size)
-asking (request.Recheck case switch cert) contents = do
-  inputs ← reading_network switch (question_of no_field usual_criteria) contents
+  asking_study r case contents
+asking (request.Make r) contents = Accepts (asked.Make r)
+asking (request.Recheck r) contents = do
+  inputs ← reading_network r.switch (tt {0}) contents
   asking_recheck inputs contents
-asking (request.Series case storm switch width transformer) contents = do
+asking (request.Series r) contents = do
   case ← reading_case (contents file.Case)
-  asking_series switch width transformer case contents
+  asking_series r case contents
 asking (request.Review case) contents = do
-  inputs ← reading_network None (question_of no_field usual_criteria) contents
+  inputs ← reading_network None (tt {0}) contents
   Accepts (asked.Review inputs)
 
 -- the words, and then the files that they name, one after another

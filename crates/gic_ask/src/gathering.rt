@@ -5,7 +5,7 @@ ghost use Rattle.gic_files.specs.Files.{fetches};
 ghost use Rattle.gic_inputs.specs.Inputs.{IsStormOf};
 ghost use Rattle.gic_criteria.specs.Ranges.{IsWidth, IsWithinCriteria};
 ghost use Rattle.gic_words.specs.Accepted.{AreWithinRanges};
-ghost use Rattle.gic_words.specs.declared.request.Request.TheVariants as request;
+ghost use Rattle.gic_words.specs.declared.request.Request.TheVariants as requests;
 ghost use Rattle.gic_ask.specs.declared.fault.File.TheVariants as file;
 ghost use Rattle.gic_ask.specs.Contents.{file_named, files_named, names_in, of_case};
 ghost use Rattle.gic_ask.specs.Outcome.{reading_network, reading_over, asking};
@@ -15,22 +15,22 @@ ghost use Rattle.gic_ask.specs.Within.{IsAskedWithinRanges};
 use crate::fault::InputFault;
 use crate::finding::transformer;
 use crate::reading::{case, certificate, storm, switchings};
-use crate::request::Asked;
+use crate::request::{Asked, RecheckAsked, SeriesAsked, StudyAsked};
 use gic_case::Case;
-use gic_criteria::{Criteria, Question, UniformField};
+use gic_criteria::{Criteria, Question};
 use gic_files::Library;
 use gic_inputs::{Inputs, StormInputs};
-use gic_words::{FileName, Request, Text};
+use gic_words::{FileName, RecheckRequest, Request, SeriesRequest, StudyRequest};
 use std::alloc::Global;
 
 /// A case, and then its switchings, where they are named. A certificate may be named as well.
-fn network<L: Library>(
+fn network<L: Library, Q: Copy>(
     alloc: Global,
     library: &mut L,
     name: &FileName,
     switch: &Option<FileName>,
-    question: Question,
-) -> Result<Inputs, InputFault>
+    question: Q,
+) -> Result<Inputs<Q>, InputFault>
     ensures content { L.content library.new ≡ L.content library.old }
     ensures reads { (cert : Option (List ℕ)) → Reads (L.content library.old) (record (of_case name.now switch.now) { cert = cert })
         (file_named file.Case (Some name.now) ++ file_named file.Switch switch.now) (reading_network switch.now question)
@@ -53,7 +53,7 @@ fn over_case<L: Library>(
     case: Case,
     name: &FileName,
     switch: &Option<FileName>,
-    question: Question,
+    question: Criteria,
 ) -> Result<StormInputs, InputFault>
     ensures content { L.content library.new ≡ L.content library.old }
     ensures reads { (of : List ℕ) → Reads (L.content library.old) (record (of_case of switch.now) { storm = Some name.now })
@@ -76,78 +76,82 @@ fn over_case<L: Library>(
 fn study<L: Library>(
     alloc: Global,
     library: &mut L,
-    name: &FileName,
-    storm: &FileName,
-    switch: &Option<FileName>,
-    criteria: Criteria,
-    detail: Option<u32>,
+    request: &StudyRequest,
 ) -> Result<Asked, InputFault>
-    ensures reads { Reads (L.content library.old) (record (of_case name.now switch.now) { storm = Some storm.now })
-        (file_named file.Case (Some name.now) ++ (file_named file.Storm (Some storm.now) ++ file_named file.Switch switch.now))
-        (asking (request.Study name.now storm.now switch.now criteria detail))
-        (fetches L.fetched L.failures library.old) (fetches L.fetched L.failures library.new) result }
-    ensures ranges { IsWithinCriteria criteria → IfOk result IsAskedWithinRanges }
+    ensures reads { let r = request.now in
+        Reads (L.content library.old) (record (of_case r.case r.switch) { storm = Some r.storm })
+        (file_named file.Case (Some r.case) ++ (file_named file.Storm (Some r.storm) ++ file_named file.Switch r.switch))
+        (asking (requests.Study r)) (fetches L.fetched L.failures library.old) (fetches L.fetched L.failures library.new) result }
+    ensures ranges { IsWithinCriteria request.now.criteria → IfOk result IsAskedWithinRanges }
 {
-    let case = case(alloc, library, name)?;
-    let question = Question::new(UniformField::none(), criteria);
-    let inputs = over_case(alloc, library, case, storm, switch, question)?;
-    Ok(Asked::Study { inputs, detail })
+    let case = case(alloc, library, &request.case)?;
+    let inputs = over_case(
+        alloc,
+        library,
+        case,
+        &request.storm,
+        &request.switch,
+        request.criteria,
+    )?;
+    Ok(Asked::Study(StudyAsked {
+        inputs,
+        detail: request.detail,
+    }))
 }
 
 /// What the course of one transformer asks for. It is looked for as soon as the case is read.
 fn series<L: Library>(
     alloc: Global,
     library: &mut L,
-    name: &FileName,
-    storm: &FileName,
-    switch: &Option<FileName>,
-    width: u32,
-    unit: &Text,
+    request: &SeriesRequest,
 ) -> Result<Asked, InputFault>
-    ensures reads { Reads (L.content library.old) (record (of_case name.now switch.now) { storm = Some storm.now })
-        (file_named file.Case (Some name.now) ++ (file_named file.Storm (Some storm.now) ++ file_named file.Switch switch.now))
-        (asking (request.Series name.now storm.now switch.now width unit.now))
-        (fetches L.fetched L.failures library.old) (fetches L.fetched L.failures library.new) result }
-    ensures ranges { IsWidth width → IfOk result IsAskedWithinRanges }
+    ensures reads { let r = request.now in
+        Reads (L.content library.old) (record (of_case r.case r.switch) { storm = Some r.storm })
+        (file_named file.Case (Some r.case) ++ (file_named file.Storm (Some r.storm) ++ file_named file.Switch r.switch))
+        (asking (requests.Series r)) (fetches L.fetched L.failures library.old) (fetches L.fetched L.failures library.new) result }
+    ensures ranges { IsWidth request.now.width → IfOk result IsAskedWithinRanges }
 {
-    let case = case(alloc, library, name)?;
-    let transformer = match transformer(unit, &case) {
+    let case = case(alloc, library, &request.case)?;
+    let transformer = match transformer(&request.transformer, &case) {
         Ok(place) => place,
         Err(refusal) => return Err(InputFault::Refused(refusal)),
     };
     let criteria = Criteria {
-        width,
+        width: request.width,
         ..Criteria::usual()
     };
-    let question = Question::new(UniformField::none(), criteria);
-    let inputs = over_case(alloc, library, case, storm, switch, question)?;
-    Ok(Asked::Series {
+    let inputs = over_case(
+        alloc,
+        library,
+        case,
+        &request.storm,
+        &request.switch,
+        criteria,
+    )?;
+    Ok(Asked::Series(SeriesAsked {
         inputs,
         transformer,
-    })
+    }))
 }
 
 /// What the check of a certificate asks for.
 fn recheck<L: Library>(
     alloc: Global,
     library: &mut L,
-    name: &FileName,
-    switch: &Option<FileName>,
-    cert: &FileName,
+    request: &RecheckRequest,
 ) -> Result<Asked, InputFault>
-    ensures reads { Reads (L.content library.old) (record (of_case name.now switch.now) { cert = Some cert.now })
-        ((file_named file.Case (Some name.now) ++ file_named file.Switch switch.now) ++ file_named file.Certificate (Some cert.now))
-        (asking (request.Recheck name.now switch.now cert.now))
-        (fetches L.fetched L.failures library.old) (fetches L.fetched L.failures library.new) result }
+    ensures reads { let r = request.now in
+        Reads (L.content library.old) (record (of_case r.case r.switch) { cert = Some r.cert })
+        ((file_named file.Case (Some r.case) ++ file_named file.Switch r.switch) ++ file_named file.Certificate (Some r.cert))
+        (asking (requests.Recheck r)) (fetches L.fetched L.failures library.old) (fetches L.fetched L.failures library.new) result }
     ensures ranges { IfOk result IsAskedWithinRanges }
 {
-    let question = Question::new(UniformField::none(), Criteria::usual());
-    let inputs = network(alloc, library, name, switch, question)?;
-    let certificate = certificate(alloc, library, cert)?;
-    Ok(Asked::Recheck {
+    let inputs = network(alloc, library, &request.case, &request.switch, ())?;
+    let certificate = certificate(alloc, library, &request.cert)?;
+    Ok(Asked::Recheck(RecheckAsked {
         inputs,
         certificate,
-    })
+    }))
 }
 
 /// Fetches and reads all that a request names, and answers what it asks for.
@@ -161,81 +165,45 @@ pub(crate) fn gather<L: Library>(
     ensures ranges { AreWithinRanges request.now → IfOk result IsAskedWithinRanges }
 {
     match request {
-        Request::Volts { case, field } => {
-            let question = Question::new(*field, Criteria::usual());
-            let inputs = network(alloc, library, case, &None, question)?;
-            Ok(Asked::Volts { inputs })
+        Request::Volts(r) => {
+            let inputs = network(alloc, library, &r.case, &None, r.field)?;
+            Ok(Asked::Volts(inputs))
         }
-        Request::List { case } => {
-            let question = Question::new(UniformField::none(), Criteria::usual());
-            let inputs = network(alloc, library, case, &None, question)?;
-            Ok(Asked::List { inputs })
+        Request::List(case) => {
+            let inputs = network(alloc, library, case, &None, ())?;
+            Ok(Asked::List(inputs))
         }
-        Request::Check { case, switch } => {
-            let question = Question::new(UniformField::none(), Criteria::usual());
-            let inputs = network(alloc, library, case, switch, question)?;
-            Ok(Asked::Check { inputs })
+        Request::Check(r) => {
+            let inputs = network(alloc, library, &r.case, &r.switch, ())?;
+            Ok(Asked::Check(inputs))
         }
-        Request::Field {
-            case,
-            switch,
-            field,
-            criteria,
-        } => {
-            let question = Question::new(*field, *criteria);
-            let inputs = network(alloc, library, case, switch, question)?;
-            Ok(Asked::Field { inputs })
+        Request::Field(r) => {
+            let question = Question {
+                field: r.field,
+                criteria: r.criteria,
+            };
+            let inputs = network(alloc, library, &r.case, &r.switch, question)?;
+            Ok(Asked::Field(inputs))
         }
-        Request::Screen {
-            case,
-            switch,
-            criteria,
-        } => {
-            let question = Question::new(UniformField::none(), *criteria);
-            let inputs = network(alloc, library, case, switch, question)?;
-            Ok(Asked::Screen { inputs })
+        Request::Screen(r) => {
+            let inputs = network(alloc, library, &r.case, &r.switch, r.criteria)?;
+            Ok(Asked::Screen(inputs))
         }
-        Request::Certify {
-            case,
-            switch,
-            field,
-        } => {
-            let question = Question::new(*field, Criteria::usual());
-            let inputs = network(alloc, library, case, switch, question)?;
-            Ok(Asked::Certify { inputs })
+        Request::Certify(r) => {
+            let inputs = network(alloc, library, &r.case, &r.switch, r.field)?;
+            Ok(Asked::Certify(inputs))
         }
-        Request::Outage {
-            case,
-            switch,
-            criteria,
-        } => {
-            let question = Question::new(UniformField::none(), *criteria);
-            let inputs = network(alloc, library, case, switch, question)?;
-            Ok(Asked::Outage { inputs })
+        Request::Outage(r) => {
+            let inputs = network(alloc, library, &r.case, &r.switch, r.criteria)?;
+            Ok(Asked::Outage(inputs))
         }
-        Request::Study {
-            case,
-            storm,
-            switch,
-            criteria,
-            detail,
-        } => study(alloc, library, case, storm, switch, *criteria, *detail),
-        Request::Make { seed, size } => Ok(Asked::Make {
-            seed: *seed,
-            size: *size,
-        }),
-        Request::Recheck { case, switch, cert } => recheck(alloc, library, case, switch, cert),
-        Request::Series {
-            case,
-            storm,
-            switch,
-            width,
-            transformer,
-        } => series(alloc, library, case, storm, switch, *width, transformer),
-        Request::Review { case } => {
-            let question = Question::new(UniformField::none(), Criteria::usual());
-            let inputs = network(alloc, library, case, &None, question)?;
-            Ok(Asked::Review { inputs })
+        Request::Study(r) => study(alloc, library, r),
+        Request::Make(r) => Ok(Asked::Make(*r)),
+        Request::Recheck(r) => recheck(alloc, library, r),
+        Request::Series(r) => series(alloc, library, r),
+        Request::Review(case) => {
+            let inputs = network(alloc, library, case, &None, ())?;
+            Ok(Asked::Review(inputs))
         }
     }
 }

@@ -57,9 +57,9 @@ superposed_zero fields row none =
     let high = sum_below-zero (λ zone. zone_high (field_at fields zone) (zone_at row zone)) (length fields) (λ zone less. (zone_zero (field_at fields zone) (zone_at row zone) (none zone less)).1) in
     ap₂ (λ (l h : ℤ). record { low = floor_div l (pos 20000000000); high = ceil_div h (pos 20000000000) }) low high
 
-module _ (case : Lists) (stands : Item → Bool) (fields : List (ℤ × ℤ)) (rows : BaseRows) (view : View) (width : ℕ)
+module _ (case : Lists) (stands : Item → Bool) (fields : List (ℤ × ℤ)) (rows : BaseRows) (width : ℕ)
     (limits : IsWithinLimits (elements_of case)) (earthed : AreEarthed (standing_elements (elements_of case) stands)) (given : AreFieldsOf case fields)
-    (certified : AreCertifiedRows case (standing_elements (elements_of case) stands) rows) (shown : IsSuperposedView case (standing_elements (elements_of case) stands) fields rows view) (least : 2 ≤ width) where
+    (certified : AreCertifiedRows case (standing_elements (elements_of case) stands) rows) (least : 2 ≤ width) where
   abbrev standing : List Placed
   standing = standing_elements (elements_of case) stands
 
@@ -106,7 +106,7 @@ module _ (case : Lists) (stands : Item → Bool) (fields : List (ℤ × ℤ)) (r
   narrow_element place true is = narrow (λ s. s.current place) 1 (rows.elements place) (λ zone less. (certified zone less).elements place is)
   narrow_element place false none = tt
 
-  right_effective : (t : ℕ) → t < length case.transformers → IsRightEffective case standing volts t (superposed fields (rows.effective t))
+  pub right_effective : (t : ℕ) → t < length case.transformers → IsRightEffective case standing volts t (superposed fields (rows.effective t))
   right_effective t less = record {
     holds = λ s solves.
         let same : 1000000 * (3 * (transformer_at case t).high_volts) * s.denominator ≡ effective_denominator case t s = omega arith in
@@ -115,19 +115,23 @@ module _ (case : Lists) (stands : Item → Bool) (fields : List (ℤ × ℤ)) (r
     zeroed = λ none. superposed_zero fields (rows.effective t) (λ zone within. ((certified zone (within_zones zone within)).effective t less).zeroed none);
   }
 
-  pub right_view : IsRightView case standing volts view
-  right_view = record {
+  pub narrow_effective : (t : ℕ) → t < length case.transformers → IsAtMostWide width (superposed fields (rows.effective t)).low (superposed fields (rows.effective t)).high
+  narrow_effective t less =
+      narrow (λ s. effective_numerator case s t) (3 * (transformer_at case t).high_volts) (rows.effective t) (λ zone within. ((certified zone within).effective t less).certified)
+
+  -- the whole view
+  pub right_view : (view : View) → IsSuperposedView case standing fields rows view → IsRightView case standing volts view
+  right_view view shown = record {
     lengths = shown.lengths;
     nodes = λ k less. subst (IsRightNode standing volts k) (sym (shown.nodes k less)) (right_node k (is_live standing k) refl);
     elements = λ place less. subst (IsRightElement standing volts place) (sym (shown.elements place less)) (right_element place (is_standing standing place) refl);
     effective = λ t less. subst (IsRightEffective case standing volts t) (sym (shown.effective t less)) (right_effective t less);
   }
 
-  pub narrow_view : IsNarrowView case width view
-  narrow_view = record {
+  pub narrow_view : (view : View) → IsSuperposedView case standing fields rows view → IsNarrowView case width view
+  narrow_view view shown = record {
     lengths = shown.lengths;
     nodes = λ k less. subst (IsNoWider width) (sym (shown.nodes k less)) (narrow_node k (is_live standing k) refl);
     elements = λ place less. subst (IsNoWider width) (sym (shown.elements place less)) (narrow_element place (is_standing standing place) refl);
-    effective = λ t less. subst (λ (e : Ends). IsNoWider width (Some e)) (sym (shown.effective t less))
-        (narrow (λ s. effective_numerator case s t) (3 * (transformer_at case t).high_volts) (rows.effective t) (λ zone within. ((certified zone within).effective t less).certified));
+    effective = λ t less. subst (λ (e : Ends). IsNoWider width (Some e)) (sym (shown.effective t less)) (narrow_effective t less);
   }

@@ -2,7 +2,7 @@
 use Rattle.std.specs.Prelude.{ℕ, ◌≡◌, ◌≤◌, ◌<◌, Bool, Option, None, Some, List, All, length, ℤ, if◌then◌else◌}
 use Rattle.gic_base.specs.declared.limits.TheConstants.{MOST_ZONES}
 use Rattle.gic_case.specs.Lists.{Lists, node_names}
-use Rattle.gic_fixed.specs.Ends.{Ends}
+use Rattle.gic_fixed.specs.Ends.{Ends, IsAtMostWide}
 use Rattle.gic_induce.specs.Fields.{IsField}
 use Rattle.gic_induce.specs.LineVolts.{volts_of}
 use Rattle.gic_model.specs.declared.parts.Item.{Item}
@@ -14,7 +14,7 @@ use Rattle.gic_model.specs.Voltages.{number_at}
 use Rattle.gic_view.specs.View.{View, node_at, element_at, effective_at}
 use Rattle.gic_winding.specs.ElementList.{elements_of}
 use Rattle.gic_effective.specs.Narrow.{IsNarrowView}
-use Rattle.gic_effective.specs.RightView.{IsRightView}
+use Rattle.gic_effective.specs.RightView.{IsRightView, IsRightEffective}
 use Rattle.gic_effective.specs.ViewLengths.{HasViewLengths}
 use Rattle.gic_superpose.specs.Superposed.{superposed}
 use Rattle.gic_base_views.specs.BaseRows.{BaseRows, AreCertifiedRows}
@@ -44,3 +44,12 @@ SuperposedViewsAreRight = (case : Lists) (stands : Item → Bool) (fields : List
     IsWithinLimits (elements_of case) → AreEarthed standing → AreFieldsOf case fields → AreCertifiedRows case standing rows →
     IsSuperposedView case standing fields rows view → 2 ≤ width →
     IsRightView case standing (number_at (volts_of case fields (elements_of case).list)) view × IsNarrowView case width view
+
+-- of the same: a transformer's interval that is superposed from its certified row is right for the voltages of the fields, and no wider than a width from 2 on
+abbrev pub SuperposedEffectiveIsRight : Type 0
+SuperposedEffectiveIsRight = (case : Lists) (stands : Item → Bool) (fields : List (ℤ × ℤ)) (rows : BaseRows) (t width : ℕ) →
+    let standing = standing_elements (elements_of case) stands in
+    let interval = superposed fields (rows.effective t) in
+    IsWithinLimits (elements_of case) → AreEarthed standing → AreFieldsOf case fields →
+    AreCertifiedRows case standing rows → t < length case.transformers → 2 ≤ width →
+    IsRightEffective case standing (number_at (volts_of case fields (elements_of case).list)) t interval × IsAtMostWide width interval.low interval.high

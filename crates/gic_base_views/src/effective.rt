@@ -17,7 +17,7 @@ ghost use Rattle.gic_enclose.specs.Certain.{AreTight};
 
 use gic_base::ElementId;
 use gic_case::Case;
-use gic_effective::{current_na, effective_na};
+use gic_effective::{WindingCurrents, current_na, effective_na};
 use gic_enclose::Potentials;
 use gic_fixed::Interval;
 use gic_model::Volts;
@@ -78,7 +78,8 @@ pub fn base_effective(
     requires together { AreOfNetwork net.now.network volts.now potentials.now }
     requires place { transformer < length case.now.transformers }
     ensures holds { HoldsSolutions (standing net.now) (number_at volts.now) potentials.now →
-        HoldsQuantity (standing net.now) (number_at volts.now) (λ s. effective_numerator case.now s transformer) (3 * (transformer_at case.now transformer).high_volts) (ends_of result) }
+        HoldsQuantity (standing net.now) (number_at volts.now) (λ s. effective_numerator case.now s transformer)
+        (3 * (transformer_at case.now transformer).high_volts) (ends_of result) }
     ensures zeroed { HasNoEffect case.now (standing net.now) transformer → ends_of result ≡ zero_ends }
     ensures narrow { AreTight potentials.now → IsNarrowBase (ends_of result) }
     ensures small { IsWithin most_base result.lo result.hi }
@@ -89,5 +90,10 @@ pub fn base_effective(
     let first = winding_or_zero(net, volts, potentials, weights.first);
     let second = winding_or_zero(net, volts, potentials, weights.second);
     let third = winding_or_zero(net, volts, potentials, weights.third);
-    effective_na(&weights, first, second, third)
+    let currents = WindingCurrents {
+        first,
+        second,
+        third,
+    };
+    effective_na(&weights, &currents)
 }

@@ -70,7 +70,8 @@ fn element_interval(
 ) -> Option<Interval>
     requires rows { AreRowsOf (length net.now.network.list) (length fields.now) rows.now }
     requires element { element.0 < length net.now.network.list }
-    ensures { optional_ends result ≡ shown_where (is_standing (standing net.now) element.0) (superposed fields.now (row_at rows.now element.0)) }
+    ensures { optional_ends result ≡
+        shown_where (is_standing (standing net.now) element.0) (superposed fields.now (row_at rows.now element.0)) }
 {
     if net.stands(element) {
         Some(rows.superposed(fields, element.0))

@@ -26,7 +26,8 @@ fn node_pair(net: &Net, north: &BaseField, east: &BaseField, node: NodeId) -> Zo
     requires north { IsSolvedIn net.now.network (standing net.now) north.now }
     requires east { IsSolvedIn net.now.network (standing net.now) east.now }
     ensures certified { IsLive (standing net.now) node.0 →
-        IsCertifiedPair (standing net.now) (number_at north.now.volts) (number_at east.now.volts) (λ s. s.potential node.0) 1 (zone_of result) }
+        IsCertifiedPair (standing net.now) (number_at north.now.volts) (number_at east.now.volts) (λ s. s.potential node.0) 1
+        (zone_of result) }
     ensures small { IsSmallPair result }
 {
     ZonePair {
@@ -41,7 +42,8 @@ fn element_pair(net: &Net, north: &BaseField, east: &BaseField, element: Element
     requires north { IsSolvedIn net.now.network (standing net.now) north.now }
     requires east { IsSolvedIn net.now.network (standing net.now) east.now }
     ensures certified { IsTrue (is_standing (standing net.now) element.0) →
-        IsCertifiedPair (standing net.now) (number_at north.now.volts) (number_at east.now.volts) (λ s. s.current element.0) 1 (zone_of result) }
+        IsCertifiedPair (standing net.now) (number_at north.now.volts) (number_at east.now.volts) (λ s. s.current element.0) 1
+        (zone_of result) }
     ensures small { IsSmallPair result }
 {
     if net.stands(element) {
@@ -69,7 +71,8 @@ fn effective_pair(
     requires place { transformer < length case.now.transformers }
     requires north { IsSolvedIn net.now.network (standing net.now) north.now }
     requires east { IsSolvedIn net.now.network (standing net.now) east.now }
-    ensures certified { IsCertifiedEffective case.now (standing net.now) (number_at north.now.volts) (number_at east.now.volts) transformer (zone_of result) }
+    ensures certified { IsCertifiedEffective case.now (standing net.now) (number_at north.now.volts) (number_at east.now.volts) transformer
+        (zone_of result) }
     ensures small { IsSmallPair result }
 {
     ZonePair {
@@ -91,7 +94,8 @@ pub(crate) fn write_nodes(
     requires zone { zone < rows.old.zones }
     requires rows { rows.old.places ≡ net.now.network.nodes }
     ensures certified { (k : ℕ) → IsLive (standing net.now) k →
-        IsCertifiedPair (standing net.now) (number_at north.now.volts) (number_at east.now.volts) (λ s. s.potential k) 1 (zone_at (row_at rows.new k) zone) }
+        IsCertifiedPair (standing net.now) (number_at north.now.volts) (number_at east.now.volts) (λ s. s.potential k) 1
+        (zone_at (row_at rows.new k) zone) }
     ensures others { OthersStay zone rows.old rows.new }
     ensures shape { AreRowsOf rows.old.places rows.old.zones rows.new }
 {
@@ -114,7 +118,8 @@ pub(crate) fn write_elements(
     requires zone { zone < rows.old.zones }
     requires rows { rows.old.places ≡ length net.now.network.list }
     ensures certified { (place : ℕ) → IsTrue (is_standing (standing net.now) place) →
-        IsCertifiedPair (standing net.now) (number_at north.now.volts) (number_at east.now.volts) (λ s. s.current place) 1 (zone_at (row_at rows.new place) zone) }
+        IsCertifiedPair (standing net.now) (number_at north.now.volts) (number_at east.now.volts) (λ s. s.current place) 1
+        (zone_at (row_at rows.new place) zone) }
     ensures others { OthersStay zone rows.old rows.new }
     ensures shape { AreRowsOf rows.old.places rows.old.zones rows.new }
 {
@@ -139,7 +144,8 @@ pub(crate) fn write_effective(
     requires zone { zone < rows.old.zones }
     requires rows { rows.old.places ≡ length case.now.transformers }
     ensures certified { (t : ℕ) → t < length case.now.transformers →
-        IsCertifiedEffective case.now (standing net.now) (number_at north.now.volts) (number_at east.now.volts) t (zone_at (row_at rows.new t) zone) }
+        IsCertifiedEffective case.now (standing net.now) (number_at north.now.volts) (number_at east.now.volts) t
+        (zone_at (row_at rows.new t) zone) }
     ensures others { OthersStay zone rows.old rows.new }
     ensures shape { AreRowsOf rows.old.places rows.old.zones rows.new }
 {

@@ -2,11 +2,11 @@
 //! passes and is promised nowhere.
 ghost use Rattle.std.specs.Prelude.{◌≡◌, ◌+◌, ◌<◌, ◌≤◌, ◌↔◌, length, slice_index, slice_set, sum, IsTrue, IsFalse};
 ghost use Rattle.gic_net.specs.Net.{standing};
-ghost use Rattle.gic_bound.specs.Caps.{cap_entry, IsCapFor};
+ghost use Rattle.gic_bound.specs.Caps.{cap_entry, IsCapFor, IsUnderCap};
 ghost use Rattle.gic_bound.specs.Entries.{AreCapped};
 ghost use Rattle.gic_bound.specs.Raising.{IsTooSmall};
 ghost use Rattle.gic_bound.specs.Shares.{entries_where_live};
-ghost use Rattle.gic_bound.specs.Starting.{IsNotAbove, IsLeastHeld, IsUnderHeld, KeepsShifts};
+ghost use Rattle.gic_bound.specs.Starting.{IsLeastHeld, IsUnderHeld, KeepsShifts};
 
 use crate::cap::Cap;
 use crate::row::meets_row_rule;
@@ -23,9 +23,7 @@ const LOOKS: u32 = 8;
 /// small or not. The neighbours of a raised node are looked at next, as far as there is space for those that wait: space
 /// for as many as there are nodes serves where little has to be raised, and none where much has.
 pub fn raise_under(net: &Net, cap: &Cap, out: &mut BoundVector, waiting: &mut [u16])
-    requires cap { IsCapFor net.now.network.nodes cap.now }
-    requires nodes { length out.old ≡ net.now.network.nodes }
-    requires below { IsNotAbove (slice_index out.old) (cap_entry (standing net.now) cap.now) }
+    requires { IsUnderCap net.now cap.now out.old }
     ensures least { IsLeastHeld (standing net.now) (slice_index out.old) (cap_entry (standing net.now) cap.now) (slice_index out.new) }
     ensures shifts { KeepsShifts (standing net.now) (slice_index out.old) (slice_index out.new) }
     ensures same_length { length out.new ≡ length out.old }
@@ -37,9 +35,7 @@ pub fn raise_under(net: &Net, cap: &Cap, out: &mut BoundVector, waiting: &mut [u
 
 /// Raises each entry that is too small, node by node, and answers whether there was one.
 pub fn raise_all(net: &Net, cap: &Cap, out: &mut BoundVector, waiting: &mut [u16]) -> bool
-    requires cap { IsCapFor net.now.network.nodes cap.now }
-    requires nodes { length out.old ≡ net.now.network.nodes }
-    requires below { IsNotAbove (slice_index out.old) (cap_entry (standing net.now) cap.now) }
+    requires { IsUnderCap net.now cap.now out.old }
     ensures under { IsUnderHeld (standing net.now) (slice_index out.old) (cap_entry (standing net.now) cap.now)
         (slice_index out.new) }
     ensures least { IsFalse result → IsLeastHeld (standing net.now) (slice_index out.old)
@@ -68,10 +64,8 @@ fn follow(
     waiting: &mut [u16],
     looks: u32,
 ) -> u32
-    requires cap { IsCapFor net.now.network.nodes cap.now }
-    requires nodes { length out.old ≡ net.now.network.nodes }
+    requires under_cap { IsUnderCap net.now cap.now out.old }
     requires node { node.0 < net.now.network.nodes }
-    requires below { IsNotAbove (slice_index out.old) (cap_entry (standing net.now) cap.now) }
     ensures under { IsUnderHeld (standing net.now) (slice_index out.old) (cap_entry (standing net.now) cap.now)
         (slice_index out.new) }
     ensures not_lower { sum out.old ≤ sum out.new }
@@ -98,10 +92,8 @@ fn follow(
 /// Raises the entry at a node by 1 if it is too small, and answers whether it was.
 #[inline(always)]
 fn raise_if_small(net: &Net, cap: &Cap, out: &mut BoundVector, node: NodeId) -> bool
-    requires cap { IsCapFor net.now.network.nodes cap.now }
-    requires nodes { length out.old ≡ net.now.network.nodes }
+    requires under_cap { IsUnderCap net.now cap.now out.old }
     requires node { node.0 < net.now.network.nodes }
-    requires below { IsNotAbove (slice_index out.old) (cap_entry (standing net.now) cap.now) }
     ensures under { IsUnderHeld (standing net.now) (slice_index out.old) (cap_entry (standing net.now) cap.now)
         (slice_index out.new) }
     ensures small { IsTrue result ↔ IsTooSmall (standing net.now) (cap_entry (standing net.now) cap.now) (slice_index out.old) node.0 }

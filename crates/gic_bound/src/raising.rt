@@ -1,8 +1,8 @@
 //! The least capped vector, or some bound vector, by raising entries that are too small.
-ghost use Rattle.std.specs.Prelude.{◌≡◌, ℕ, ◌<◌, ◌≤◌, ◌↔◌, length, slice_index, IsTrue, IsOk, OnOk, OnErr, IfErr, IfNone, IfSome};
+ghost use Rattle.std.specs.Prelude.{◌≡◌, ℕ, ◌≤◌, ◌↔◌, length, slice_index, IsTrue, IsOk, OnOk, OnErr, IfErr, IfNone, IfSome};
 ghost use Rattle.gic_model.specs.Bound.{IsCappedVector, IsEarthedWithin, IsLeastCappedVector};
 ghost use Rattle.gic_net.specs.Net.{standing};
-ghost use Rattle.gic_bound.specs.Entries.{IsBoundWithin};
+ghost use Rattle.gic_bound.specs.Entries.{IsBoundWithin, IsFirstFull};
 ghost use Rattle.gic_bound.specs.Raising.{IsUnderCapped};
 ghost use Rattle.gic_bound.specs.Starting.{AreForNodes};
 
@@ -39,11 +39,7 @@ pub fn bound(net: &Net, out: &mut BoundVector) -> Result<(), Unresolved>
     ensures least { IsLeastCappedVector (standing net.now) (slice_index out.new) }
     ensures earthed { IsOk result ↔ IsEarthedWithin (standing net.now) MOST_WALK }
     ensures bound { OnOk result (IsBoundWithin (standing net.now) MOST_WALK (slice_index out.new)) }
-
-    // The named node has the entry `FULL_WALK`, and no node before it has.
-    ensures full { IfErr result (λ refusal. slice_index out.new refusal.node.0 ≡ FULL_WALK) }
-    ensures first { IfErr result (λ refusal. (k : ℕ) → k < refusal.node.0 → slice_index out.new k ≤ MOST_WALK) }
-
+    ensures first { IfErr result (λ refusal. IsFirstFull (slice_index out.new) refusal.node.0) }
     ensures same_length { length out.new ≡ length out.old }
 {
     raise_from_1(net, out);
@@ -63,11 +59,7 @@ pub fn bound_from(
     ensures least { IsLeastCappedVector (standing net.now) (slice_index out.new) }
     ensures earthed { IsOk result ↔ IsEarthedWithin (standing net.now) MOST_WALK }
     ensures bound { OnOk result (IsBoundWithin (standing net.now) MOST_WALK (slice_index out.new)) }
-
-    // The named node has the entry `FULL_WALK`, and no node before it has.
-    ensures full { IfErr result (λ refusal. slice_index out.new refusal.node.0 ≡ FULL_WALK) }
-    ensures first { IfErr result (λ refusal. (k : ℕ) → k < refusal.node.0 → slice_index out.new k ≤ MOST_WALK) }
-
+    ensures first { IfErr result (λ refusal. IsFirstFull (slice_index out.new) refusal.node.0) }
     ensures same_length { length out.new ≡ length out.old }
     ensures same_workspace { workspace.new ≡ workspace.old }
 {
@@ -93,12 +85,8 @@ pub fn some_bound(
     requires workspace { workspace.old ≡ net.now.network.nodes }
     ensures earthed { IsOk result ↔ IsEarthedWithin (standing net.now) MOST_WALK }
     ensures bound { OnOk result (IsBoundWithin (standing net.now) MOST_WALK (slice_index out.new)) }
-
-    // As `bound` does: the named node has the entry `FULL_WALK` in the least capped vector, and no node before it has.
     ensures least { OnErr result (IsLeastCappedVector (standing net.now) (slice_index out.new)) }
-    ensures full { IfErr result (λ refusal. slice_index out.new refusal.node.0 ≡ FULL_WALK) }
-    ensures first { IfErr result (λ refusal. (k : ℕ) → k < refusal.node.0 → slice_index out.new k ≤ MOST_WALK) }
-
+    ensures first { IfErr result (λ refusal. IsFirstFull (slice_index out.new) refusal.node.0) }
     ensures same_length { length out.new ≡ length out.old }
     ensures same_workspace { workspace.new ≡ workspace.old }
 {
@@ -195,8 +183,7 @@ fn told(net: &Net, vector: &BoundVector) -> Result<(), Unresolved>
     requires least { IsLeastCappedVector (standing net.now) (slice_index vector.now) }
     ensures earthed { IsOk result ↔ IsEarthedWithin (standing net.now) MOST_WALK }
     ensures bound { OnOk result (IsBoundWithin (standing net.now) MOST_WALK (slice_index vector.now)) }
-    ensures full { IfErr result (λ refusal. slice_index vector.now refusal.node.0 ≡ FULL_WALK) }
-    ensures first { IfErr result (λ refusal. (k : ℕ) → k < refusal.node.0 → slice_index vector.now k ≤ MOST_WALK) }
+    ensures first { IfErr result (λ refusal. IsFirstFull (slice_index vector.now) refusal.node.0) }
 {
     least_capped_vector_law();
     net.within_limits();
@@ -219,8 +206,7 @@ fn is_below_full(net: &Net, vector: &BoundVector) -> bool
 fn first_full(net: &Net, vector: &BoundVector) -> Option<NodeId>
     requires { length vector.now ≡ net.now.network.nodes }
     ensures none { IfNone result ((k : ℕ) → slice_index vector.now k ≤ MOST_WALK) }
-    ensures full { IfSome result (λ node. slice_index vector.now node.0 ≡ FULL_WALK) }
-    ensures first { IfSome result (λ node. (k : ℕ) → k < node.0 → slice_index vector.now k ≤ MOST_WALK) }
+    ensures first { IfSome result (λ node. IsFirstFull (slice_index vector.now) node.0) }
 {
     for node in 0..net.nodes() {
         if vector.entry(NodeId(node)) == FULL_WALK {

@@ -6,3 +6,4 @@ pub mod Lists
 pub mod Sound
 pub mod Names
 pub mod NodeNames
+pub mod ListWord

@@ -5,8 +5,8 @@ use Rattle.gic_case.specs.ZoneView.{ZoneView}
 use Rattle.gic_case.specs.declared.item.Substation.{Substation}
 use Rattle.gic_case.specs.declared.item.Bus.{Bus}
 use Rattle.gic_case.specs.declared.item.Line.{Line}
-use Rattle.gic_case.specs.declared.item.Kind.{Kind}
-use Rattle.gic_case.specs.declared.item.Kind.TheVariants as kinds
+use Rattle.gic_case.specs.declared.kind.Kind.{Kind}
+use Rattle.gic_case.specs.declared.kind.Kind.TheVariants as kinds
 use Rattle.gic_case.specs.declared.item.Neutral.{Neutral}
 use Rattle.gic_case.specs.declared.item.Neutral.TheVariants as devices
 use Rattle.gic_case.specs.declared.item.Transformer.{Transformer}
@@ -95,7 +95,7 @@ abbrev pub degree_of : List ℕ → ℕ → ℕ
 degree_of ends k = count_by (λ n. n == k) ends
 
 -- whether the core of a unit of a kind has an effective current here: not that of a reactor, and not where there are no windings
-abbrev pub has_effect : Kind → Bool
+abbrev pub has_effect : {Bus : Type 0} → Kind Bus → Bool
 has_effect (kinds.DeltaWye high high_resistance) = true
 has_effect (kinds.WyeWye high low low_volts high_resistance low_resistance third) = true
 has_effect (kinds.Auto high low low_volts series_resistance common_resistance third) = true

@@ -1,8 +1,8 @@
 -- The windings of transformers. Voltages are rated ones, in V; resistances are in micro-ohm per phase.
 use Rattle.std.specs.Prelude.{ℕ, ◌-◌, List, [], ◌∷◌, slice_get, Bool, Option, Some, None, is_some}
-use Rattle.gic_case.specs.declared.item.Third.{Third}
-use Rattle.gic_case.specs.declared.item.Kind.{Kind}
-use Rattle.gic_case.specs.declared.item.Kind.TheVariants as kinds
+use Rattle.gic_case.specs.declared.kind.Third.{Third}
+use Rattle.gic_case.specs.declared.kind.Kind.{Kind}
+use Rattle.gic_case.specs.declared.kind.Kind.TheVariants as kinds
 use Rattle.gic_case.specs.declared.item.Transformer.{Transformer}
 use Rattle.gic_case.specs.declared.winding.Terminal.{Terminal}
 use Rattle.gic_case.specs.declared.winding.WindingEnd.{WindingEnd}
@@ -24,12 +24,12 @@ abbrev pub to_neutral : WindingRole → (from : Terminal) → (resistance : ℕ)
 to_neutral r from resistance = record { role = r; from = from; to = ends.Neutral; resistance = resistance }
 
 -- a third winding, if there is one
-abbrev pub third_windings : Option Third → List Winding
+abbrev pub third_windings : Option (Third ℕ) → List Winding
 third_windings None = []
 third_windings (Some t) = to_neutral roles.Third (terminal t.bus t.volts) t.resistance ∷ []
 
 -- the windings of a unit of a kind whose high side has this voltage, in the order of the element list
-abbrev pub windings_by : (high_volts : ℕ) → Kind → List Winding
+abbrev pub windings_by : (high_volts : ℕ) → Kind ℕ → List Winding
 windings_by high_volts (kinds.DeltaWye high high_resistance) =
     to_neutral roles.High (terminal high high_volts) high_resistance ∷ []
 windings_by high_volts (kinds.WyeWye high low low_volts high_resistance low_resistance third) =

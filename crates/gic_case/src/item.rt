@@ -1,6 +1,7 @@
 //! The items of a case's lists. Zones are those of the scaling of fields.
 
 use crate::course::Course;
+use crate::kind::Kind;
 use gic_base::Name;
 
 /// A node with its earthing, if it has one, in micro-ohm from 1000 to 1000000000, for the three phases together.
@@ -30,54 +31,6 @@ pub struct Line {
     pub blocked: bool,
 }
 
-/// A third winding, from its bus to the neutral: the place of the bus in the case's list, from 0, its rated voltage in V,
-/// from 1000 to 2000000, and its resistance in micro-ohm per phase, from 1000 to 1000000000.
-#[derive(Clone, Copy, Debug, PartialEq, Eq)]
-pub struct Third {
-    pub bus: u16,
-    pub volts: u32,
-    pub resistance: u32,
-}
-
-/// How a transformer's windings are joined, as far as they carry direct current. The numbers `high` and `low` are the
-/// places of its buses in the case's list, from 0; voltages are rated ones, in V from 1000 to 2000000; resistances are
-/// in micro-ohm per phase, from 1000 to 1000000000.
-#[derive(Clone, Copy, Debug, PartialEq, Eq)]
-pub enum Kind {
-    /// An earthed wye on the high side and a delta on the low side: one winding, from the high bus to the neutral.
-    DeltaWye {
-        high: u16,
-        high_resistance: u32,
-    },
-    /// Earthed wyes on both sides, or on all three: a winding from each bus to the neutral.
-    WyeWye {
-        high: u16,
-        low: u16,
-        low_volts: u32,
-        high_resistance: u32,
-        low_resistance: u32,
-        third: Option<Third>,
-    },
-    /// An autotransformer: the series winding from the high bus to the low bus, the common one from there to the neutral,
-    /// and maybe an earthed wye on a third side.
-    Auto {
-        high: u16,
-        low: u16,
-        low_volts: u32,
-        series_resistance: u32,
-        common_resistance: u32,
-        third: Option<Third>,
-    },
-    /// A shunt reactor or an earthing transformer: one winding, from the bus to the neutral. Its core has no effective
-    /// current here.
-    Reactor {
-        high: u16,
-        high_resistance: u32,
-    },
-    /// Deltas on both sides: no winding in the network.
-    DeltaDelta,
-}
-
 /// A device in a transformer's neutral.
 #[derive(Clone, Copy, Debug, PartialEq, Eq)]
 pub enum Neutral {
@@ -88,13 +41,13 @@ pub enum Neutral {
     Blocked,
 }
 
-/// A transformer, with the rated voltage of its high side in V, from 1000 to 2000000. With a neutral device of either
-/// kind its neutral is a node of its own, named as the transformer; without one it is the ground grid of the substation
-/// of its buses. A delta-delta unit has no neutral device.
+/// A transformer, with the rated voltage of its high side in V, from 1000 to 2000000. Its buses are places in the case's
+/// list, from 0. With a neutral device of either kind its neutral is a node of its own, named as the transformer; without
+/// one it is the ground grid of the substation of its buses. A delta-delta unit has no neutral device.
 #[derive(Clone, Copy, Debug, PartialEq, Eq)]
 pub struct Transformer {
     pub name: Name,
     pub high_volts: u32,
-    pub kind: Kind,
+    pub kind: Kind<u16>,
     pub neutral: Option<Neutral>,
 }

@@ -4,8 +4,10 @@
 
 mod alpha;
 mod case;
+mod case_list;
 mod course;
 mod item;
+mod kind;
 mod network;
 mod neutral;
 mod node;
@@ -17,8 +19,10 @@ mod windings;
 mod zone;
 
 pub use case::Case;
+pub use case_list::CaseList;
 pub use course::Course;
-pub use item::{Bus, Kind, Line, Neutral, Substation, Third, Transformer};
+pub use item::{Bus, Line, Neutral, Substation, Transformer};
+pub use kind::{Kind, Third};
 pub use network::CaseLists;
 pub use neutral::{grid_of, ground_grid, neutrals, substation_at};
 pub use node::{NodeNames, node_count, node_name};

@@ -20,9 +20,16 @@ impl Model for CaseLists {
 
     ghost Value = { Lists };
 
-    ghost view = { λ n. record { zones = n.zones.items; substations = n.substations.items; buses = n.buses.items; lines = n.lines.items; transformers = n.transformers.items } };
+    ghost view = { λ n. record {
+      zones = n.zones.items;
+      substations = n.substations.items;
+      buses = n.buses.items;
+      lines = n.lines.items;
+      transformers = n.transformers.items;
+    } };
 
-    ghost invariant = { λ n. (length n.substations.items ≤ MOST_SUBSTATIONS) × (length n.buses.items ≤ MOST_BUSES) × (length n.lines.items ≤ MOST_LINES) × (length n.transformers.items ≤ MOST_TRANSFORMERS) };
+    ghost invariant = { λ n. (length n.substations.items ≤ MOST_SUBSTATIONS) × (length n.buses.items ≤ MOST_BUSES)
+        × (length n.lines.items ≤ MOST_LINES) × (length n.transformers.items ≤ MOST_TRANSFORMERS) };
 }
 
 impl Drop for CaseLists {

@@ -1,10 +1,12 @@
 //! The windings of each kind of transformer. What has to be known of a kind besides is whether its core has an effective
 //! current.
 ghost use Rattle.std.specs.Prelude.{◌≡◌, ◌≤◌, [], ◌∷◌, length};
-ghost use Rattle.gic_case.specs.Windings.{terminal, between, to_neutral, third_windings, windings_of, has_windings, end_volts, volts_across};
+ghost use Rattle.gic_case.specs.Windings.{terminal, between, to_neutral, third_windings};
+ghost use Rattle.gic_case.specs.Windings.{windings_of, has_windings, end_volts, volts_across};
 ghost use Rattle.gic_case.specs.Lists.{has_effect};
 
-use crate::item::{Kind, Third, Transformer};
+use crate::item::Transformer;
+use crate::kind::{Kind, Third};
 use crate::winding::{Terminal, Winding, WindingEnd, WindingRole};
 use std::marker::Model;
 
@@ -49,7 +51,7 @@ impl Windings {
     }
 
     /// Two windings, and a third one if there is one.
-    fn several(first: Winding, second: Winding, third: Option<Third>) -> Windings
+    fn several(first: Winding, second: Winding, third: Option<Third<u16>>) -> Windings
         ensures { result ≡ first ∷ second ∷ third_windings third }
     {
         match third {
@@ -174,7 +176,7 @@ impl Transformer {
     }
 }
 
-impl Kind {
+impl<Bus> Kind<Bus> {
     /// Whether the core of a unit of the kind has an effective current here: not that of a reactor, nor of a delta-delta
     /// unit.
     pub fn has_effect(&self) -> bool

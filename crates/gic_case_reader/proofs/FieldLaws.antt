@@ -13,15 +13,15 @@ use Rattle.gic_case_reader.specs.Pass.{required, optional_in, optional, row_tabl
 use Rattle.gic_case_reader.specs.declared.field.Field.{Field}
 use Rattle.gic_case_reader.specs.declared.field.Field.TheVariants as fields
 use Rattle.gic_case_reader.specs.declared.format.Format.{Format}
-use Rattle.gic_case_reader.specs.declared.refusal.Part.{Part}
-use Rattle.gic_case_reader.specs.declared.refusal.Part.TheVariants as parts
+use Rattle.gic_case.specs.declared.case_list.CaseList.{CaseList}
+use Rattle.gic_case.specs.declared.case_list.CaseList.TheVariants as lists
 use Rattle.gic_case_reader.specs.declared.refusal.CaseRefusal.{CaseRefusal}
 use Rattle.gic_case_reader.specs.declared.refusal.CaseRefusal.TheVariants as refusals
 use Rattle.gic_case_reader.specs.declared.transformer.KindWord.{KindWord}
 use Rattle.gic_case_reader.specs.declared.transformer.KindWord.TheVariants as words
 
 -- a field
-pub required_law : {A : Type 0} (read : Data → Option A) (list : Part) (row : ℕ) (at : Field) (ms : Members) (d : A)
+pub required_law : {A : Type 0} (read : Data → Option A) (list : CaseList) (row : ℕ) (at : Field) (ms : Members) (d : A)
     → required read list row at ms ≡ settle (breaks_value read list row at ms) (unwrap_or (value_at read at ms) d)
 unfolding required
 required_law read list row at ms d = value_law (value_at read at ms) (refusals.Value list row at) d
@@ -35,7 +35,7 @@ present_law read e None = refl
 present_law read e (Some d) = present_value (read d) e
 
 -- a field that may be absent
-pub optional_law : {A : Type 0} (read : Data → Option A) (list : Part) (row : ℕ) (at : Field) (ms : Members)
+pub optional_law : {A : Type 0} (read : Data → Option A) (list : CaseList) (row : ℕ) (at : Field) (ms : Members)
     → optional read list row at ms ≡ settle (breaks_optional read list row at ms) (value_at read at ms)
 unfolding optional
 optional_law read list row at ms = present_law read (refusals.Value list row at) (get_member (key_of at) ms)
@@ -52,7 +52,7 @@ table_cases fit e None f es y h = refl
 table_cases fit e (Some ms) f es y h = fit_law (fit ms) ms e f es y h
 
 -- a row's table, and its fields after it
-pub table_law : {B : Type 0} (list : Part) (needed others : List Field) (row : ℕ) (d : Data) (f : Members → Result B CaseRefusal) (es : List CaseRefusal) (y : B)
+pub table_law : {B : Type 0} (list : CaseList) (needed others : List Field) (row : ℕ) (d : Data) (f : Members → Result B CaseRefusal) (es : List CaseRefusal) (y : B)
     → f (members_in d) ≡ settle es y → (row_table list needed others row d >>= f) ≡ settle (breaks_keys list needed others row d ++ es) y
 unfolding row_table
 table_law list needed others row d f es y h = table_cases (fits needed others) (refusals.Key list row) (as_table d) f es y h
@@ -60,14 +60,14 @@ table_law list needed others row d f es y h = table_cases (fits needed others) (
 -- the table of a transformer, which has a kind
 kinded_law : {B : Type 0} (row : ℕ) (d : Data) (f : Members → Result B CaseRefusal) (es : List CaseRefusal) (y : B)
     → f (members_in d) ≡ settle es y
-    → (table_with parts.Transformer fields.Kind row d >>= f) ≡ settle (unless (is_some (as_table d) && has fields.Kind (members_in d)) (refusals.Key parts.Transformer row) ++ es) y
+    → (table_with lists.Transformer fields.Kind row d >>= f) ≡ settle (unless (is_some (as_table d) && has fields.Kind (members_in d)) (refusals.Key lists.Transformer row) ++ es) y
 unfolding table_with
-kinded_law row d f es y h = table_cases (has fields.Kind) (refusals.Key parts.Transformer row) (as_table d) f es y h
+kinded_law row d f es y h = table_cases (has fields.Kind) (refusals.Key lists.Transformer row) (as_table d) f es y h
 
-name_law : (list : Part) (row : ℕ) (at : Field) (ms : Members) → required read_name list row at ms ≡ settle (breaks_value read_name list row at ms) (unwrap_or (value_at read_name at ms) [])
+name_law : (list : CaseList) (row : ℕ) (at : Field) (ms : Members) → required read_name list row at ms ≡ settle (breaks_value read_name list row at ms) (unwrap_or (value_at read_name at ms) [])
 name_law list row at ms = required_law read_name list row at ms []
 
-natural_law : (low high : ℕ) (list : Part) (row : ℕ) (at : Field) (ms : Members)
+natural_law : (low high : ℕ) (list : CaseList) (row : ℕ) (at : Field) (ms : Members)
     → required (natural_within low high) list row at ms ≡ settle (breaks_value (natural_within low high) list row at ms) (unwrap_or (value_at (natural_within low high) at ms) 0)
 natural_law low high list row at ms = required_law (natural_within low high) list row at ms 0
 
@@ -80,18 +80,18 @@ earth_zone_law : (row : ℕ) (d : Data) → earth_zone_row row d ≡ settle (bre
 unfolding earth_zone_row
 earth_zone_law row d =
     let ms = members_in d in
-    table_law parts.Zone earth_zone_fields [] row d _ _ _
-    (then_law _ _ _ _ _ _ (name_law parts.Zone row fields.Name ms)
-    (then_law _ _ _ _ _ _ (natural_law 0 9000 parts.Zone row fields.Latitude ms)
-    (last_law _ _ _ _ (natural_law 1 150 parts.Zone row fields.Beta ms))))
+    table_law lists.Zone earth_zone_fields [] row d _ _ _
+    (then_law _ _ _ _ _ _ (name_law lists.Zone row fields.Name ms)
+    (then_law _ _ _ _ _ _ (natural_law 0 9000 lists.Zone row fields.Latitude ms)
+    (last_law _ _ _ _ (natural_law 1 150 lists.Zone row fields.Beta ms))))
 
 scaled_zone_law : (row : ℕ) (d : Data) → scaled_zone_row row d ≡ settle (breaks_scaled_zone row d) (scaled_zone_of d)
 unfolding scaled_zone_row
 scaled_zone_law row d =
     let ms = members_in d in
-    table_law parts.Zone scaled_zone_fields [] row d _ _ _
-    (then_law _ _ _ _ _ _ (name_law parts.Zone row fields.Name ms)
-    (last_law _ _ _ _ (natural_law 1 1500 parts.Zone row fields.Scale ms)))
+    table_law lists.Zone scaled_zone_fields [] row d _ _ _
+    (then_law _ _ _ _ _ _ (name_law lists.Zone row fields.Name ms)
+    (last_law _ _ _ _ (natural_law 1 1500 lists.Zone row fields.Scale ms)))
 
 pub zone_law : (format : Format) (row : ℕ) (d : Data) → zone_row format row d ≡ settle (breaks_zone format row d) (zone_of format d)
 unfolding zone_row
@@ -101,56 +101,56 @@ pub substation_law : (row : ℕ) (d : Data) → substation_row row d ≡ settle 
 unfolding substation_row
 substation_law row d =
     let ms = members_in d in
-    table_law parts.Substation (fields.Name ∷ []) (fields.Ground ∷ []) row d _ _ _
-    (then_law _ _ _ _ _ _ (name_law parts.Substation row fields.Name ms)
-    (last_law _ _ _ _ (optional_law ohm_within parts.Substation row fields.Ground ms)))
+    table_law lists.Substation (fields.Name ∷ []) (fields.Ground ∷ []) row d _ _ _
+    (then_law _ _ _ _ _ _ (name_law lists.Substation row fields.Name ms)
+    (last_law _ _ _ _ (optional_law ohm_within lists.Substation row fields.Ground ms)))
 
 pub bus_law : (row : ℕ) (d : Data) → bus_row row d ≡ settle (breaks_bus row d) (bus_of d)
 unfolding bus_row
 bus_law row d =
     let ms = members_in d in
-    table_law parts.Bus bus_fields [] row d _ _ _
-    (then_law _ _ _ _ _ _ (name_law parts.Bus row fields.Name ms)
-    (last_law _ _ _ _ (name_law parts.Bus row fields.Substation ms)))
+    table_law lists.Bus bus_fields [] row d _ _ _
+    (then_law _ _ _ _ _ _ (name_law lists.Bus row fields.Name ms)
+    (last_law _ _ _ _ (name_law lists.Bus row fields.Substation ms)))
 
 plain_line_law : (row : ℕ) (d : Data) → plain_line_row row d ≡ settle (breaks_plain_line row d) (plain_line_of d)
 unfolding plain_line_row
 plain_line_law row d =
     let ms = members_in d in
-    table_law parts.Line plain_line_fields (fields.Blocked ∷ []) row d _ _ _
-    (then_law _ _ _ _ _ _ (name_law parts.Line row fields.Name ms)
-    (then_law _ _ _ _ _ _ (name_law parts.Line row fields.From ms)
-    (then_law _ _ _ _ _ _ (name_law parts.Line row fields.To ms)
-    (then_law _ _ _ _ _ _ (name_law parts.Line row fields.Zone ms)
-    (then_law _ _ _ _ _ _ (natural_law 1000 1000000000 parts.Line row fields.Resistance ms)
-    (then_law _ _ _ _ _ _ (required_law metres_within parts.Line row fields.North ms (pos 0))
-    (then_law _ _ _ _ _ _ (required_law metres_within parts.Line row fields.East ms (pos 0))
-    (last_law _ _ _ _ (optional_law as_bool parts.Line row fields.Blocked ms)))))))))
+    table_law lists.Line plain_line_fields (fields.Blocked ∷ []) row d _ _ _
+    (then_law _ _ _ _ _ _ (name_law lists.Line row fields.Name ms)
+    (then_law _ _ _ _ _ _ (name_law lists.Line row fields.From ms)
+    (then_law _ _ _ _ _ _ (name_law lists.Line row fields.To ms)
+    (then_law _ _ _ _ _ _ (name_law lists.Line row fields.Zone ms)
+    (then_law _ _ _ _ _ _ (natural_law 1000 1000000000 lists.Line row fields.Resistance ms)
+    (then_law _ _ _ _ _ _ (required_law metres_within lists.Line row fields.North ms (pos 0))
+    (then_law _ _ _ _ _ _ (required_law metres_within lists.Line row fields.East ms (pos 0))
+    (last_law _ _ _ _ (optional_law as_bool lists.Line row fields.Blocked ms)))))))))
 
 parted_line_law : (row : ℕ) (d : Data) → parted_line_row row d ≡ settle (breaks_parted_line row d) (parted_line_of d)
 unfolding parted_line_row
 parted_line_law row d =
     let ms = members_in d in
-    table_law parts.Line parted_line_fields (fields.Blocked ∷ []) row d _ _ _
-    (then_law _ _ _ _ _ _ (name_law parts.Line row fields.Name ms)
-    (then_law _ _ _ _ _ _ (name_law parts.Line row fields.From ms)
-    (then_law _ _ _ _ _ _ (name_law parts.Line row fields.To ms)
-    (then_law _ _ _ _ _ _ (natural_law 1000 1000000000 parts.Line row fields.Resistance ms)
-    (then_law _ _ _ _ _ _ (optional_law as_bool parts.Line row fields.Blocked ms)
-    (last_law _ _ _ _ (required_law read_parts parts.Line row fields.Part ms [])))))))
+    table_law lists.Line parted_line_fields (fields.Blocked ∷ []) row d _ _ _
+    (then_law _ _ _ _ _ _ (name_law lists.Line row fields.Name ms)
+    (then_law _ _ _ _ _ _ (name_law lists.Line row fields.From ms)
+    (then_law _ _ _ _ _ _ (name_law lists.Line row fields.To ms)
+    (then_law _ _ _ _ _ _ (natural_law 1000 1000000000 lists.Line row fields.Resistance ms)
+    (then_law _ _ _ _ _ _ (optional_law as_bool lists.Line row fields.Blocked ms)
+    (last_law _ _ _ _ (required_law read_parts lists.Line row fields.Part ms [])))))))
 
 pub line_law : (format : Format) (row : ℕ) (d : Data) → line_row format row d ≡ settle (breaks_line format row d) (line_of format d)
 unfolding line_row
 line_law format row d = either_law (is_parted format d) _ _ _ _ _ _ (parted_line_law row d) (plain_line_law row d)
 
-bus_name_law : (row : ℕ) (at : Field) (ms : Members) → required read_name parts.Transformer row at ms ≡ settle (breaks_bus_name row at ms) (name_in at ms)
-bus_name_law row at ms = name_law parts.Transformer row at ms
+bus_name_law : (row : ℕ) (at : Field) (ms : Members) → required read_name lists.Transformer row at ms ≡ settle (breaks_bus_name row at ms) (name_in at ms)
+bus_name_law row at ms = name_law lists.Transformer row at ms
 
-ohm_law : (row : ℕ) (at : Field) (ms : Members) → required ohm_within parts.Transformer row at ms ≡ settle (breaks_ohm row at ms) (ohm_in at ms)
-ohm_law row at ms = natural_law 1000 1000000000 parts.Transformer row at ms
+ohm_law : (row : ℕ) (at : Field) (ms : Members) → required ohm_within lists.Transformer row at ms ≡ settle (breaks_ohm row at ms) (ohm_in at ms)
+ohm_law row at ms = natural_law 1000 1000000000 lists.Transformer row at ms
 
-volts_law : (row : ℕ) (at : Field) (ms : Members) → required volts_within parts.Transformer row at ms ≡ settle (breaks_volts row at ms) (volts_in at ms)
-volts_law row at ms = natural_law 1000 2000000 parts.Transformer row at ms
+volts_law : (row : ℕ) (at : Field) (ms : Members) → required volts_within lists.Transformer row at ms ≡ settle (breaks_volts row at ms) (volts_in at ms)
+volts_law row at ms = natural_law 1000 2000000 lists.Transformer row at ms
 
 -- the fields of a third winding
 third_row_law : (row : ℕ) (ms : Members)
@@ -201,9 +201,9 @@ unfolding transformer_row
 transformer_law format row d =
     let ms = members_in d in
     kinded_law row d _ _ _
-    (then_law _ _ _ _ _ _ (required_law (read_kind format) parts.Transformer row fields.Kind ms words.DeltaDelta)
+    (then_law _ _ _ _ _ _ (required_law (read_kind format) lists.Transformer row fields.Kind ms words.DeltaDelta)
     (then_law _ _ _ _ _ _ (test_law _ _)
     (then_law _ _ _ _ _ _ (bus_name_law row fields.Name ms)
     (then_law _ _ _ _ _ _ (volts_law row fields.HighVolts ms)
     (then_law _ _ _ _ _ _ (own_law (kind_of format ms) row ms)
-    (last_law _ _ _ _ (optional_law read_neutral parts.Transformer row fields.Neutral ms)))))))
+    (last_law _ _ _ _ (optional_law read_neutral lists.Transformer row fields.Neutral ms)))))))

@@ -7,7 +7,7 @@ use Rattle.toml.specs.Data.{Data, Items, no_items, item, Members, get_member, as
 use Rattle.gic_base.specs.Refusals.{unless, settle}
 use Rattle.gic_base.specs.Passes.{◌>>=◌, or_refuse}
 use Rattle.gic_base.proofs.RefusalLaws.{then_law, last_law, value_law, test_law}
-use Rattle.gic_case_reader.specs.Keys.{list_key}
+use Rattle.gic_case.specs.ListWord.{list_word}
 use Rattle.gic_case_reader.specs.Formats.{read_format, format_in, most_rows}
 use Rattle.gic_case_reader.specs.Rows.{breaks_zone, zone_of, breaks_substation, substation_of, breaks_bus, bus_of}
 use Rattle.gic_case_reader.specs.Lines.{breaks_line, line_of}
@@ -20,8 +20,8 @@ use Rattle.gic_case_reader.specs.Pass.{items_or, items_at, count_of, rows_from, 
 use Rattle.gic_case_reader.specs.declared.field.Field.{Field}
 use Rattle.gic_case_reader.specs.declared.field.Field.TheVariants as fields
 use Rattle.gic_case_reader.specs.declared.format.Format.TheVariants as formats
-use Rattle.gic_case_reader.specs.declared.refusal.Part.{Part}
-use Rattle.gic_case_reader.specs.declared.refusal.Part.TheVariants as parts
+use Rattle.gic_case.specs.declared.case_list.CaseList.{CaseList}
+use Rattle.gic_case.specs.declared.case_list.CaseList.TheVariants as lists
 use Rattle.gic_case_reader.specs.declared.refusal.CaseRefusal.{CaseRefusal}
 use Rattle.gic_case_reader.specs.declared.refusal.CaseRefusal.TheVariants as refusals
 use Rattle.gic_case_reader.specs.declared.row.BusRow.{BusRow}
@@ -29,12 +29,11 @@ use Rattle.gic_case_reader.specs.declared.part_row.PartRow.{PartRow}
 use Rattle.gic_case_reader.specs.declared.row.CourseRow.{CourseRow}
 use Rattle.gic_case_reader.specs.declared.row.CourseRow.TheVariants as written
 use Rattle.gic_case_reader.specs.declared.row.LineRow.{LineRow}
-use Rattle.gic_case_reader.specs.declared.row.ThirdRow.{ThirdRow}
-use Rattle.gic_case_reader.specs.declared.row.KindRow.{KindRow}
-use Rattle.gic_case_reader.specs.declared.row.KindRow.TheVariants as rows
+use Rattle.gic_case.specs.declared.kind.Third.{Third}
+use Rattle.gic_case.specs.declared.kind.Kind.{Kind}
 use Rattle.gic_case_reader.specs.declared.row.TransformerRow.{TransformerRow}
 use Rattle.gic_case.specs.declared.course.Course.TheVariants as courses
-use Rattle.gic_case.specs.declared.item.Kind.TheVariants as kinds
+use Rattle.gic_case.specs.declared.kind.Kind.TheVariants as kinds
 use Rattle.gic_case_reader.proofs.FieldLaws.{required_law, zone_law, substation_law, bus_law, line_law, transformer_law}
 
 -- rows, one after another
@@ -77,12 +76,12 @@ items_law None e f es y h = h no_items
 items_law (Some d) e f es y h = array_law (as_array d) e f es y h
 
 -- a list of the document
-list_law : {A : Type 0} (list : Part) (limit : ℕ) (read : ℕ → Data → Result A CaseRefusal) (breaks : ℕ → Data → List CaseRefusal) (of : Data → A)
+list_law : {A : Type 0} (list : CaseList) (limit : ℕ) (read : ℕ → Data → Result A CaseRefusal) (breaks : ℕ → Data → List CaseRefusal) (of : Data → A)
     → ((n : ℕ) (d : Data) → read n d ≡ settle (breaks n d) (of d))
     → (ms : Members) → list_at list limit read ms ≡ settle (breaks_list list limit breaks ms) (map of (entries_of list ms))
 unfolding list_at items_at
 list_law list limit read breaks of law ms =
-    items_law (get_member (list_key list) ms) (refusals.Key list 0) _ (λ ds. unless (nat_le (length ds) limit) (refusals.TooMany list) ++ flat_map (λ p. breaks p.0 p.1) (enumerate_from 1 ds)) (map of)
+    items_law (get_member (list_word list) ms) (refusals.Key list 0) _ (λ ds. unless (nat_le (length ds) limit) (refusals.TooMany list) ++ flat_map (λ p. breaks p.0 p.1) (enumerate_from 1 ds)) (map of)
     (λ ds. rw (count_list ds, lt_not_le (length (list_in ds)) limit) (few_law (nat_le (length (list_in ds)) limit) (refusals.TooMany list) _ _ _ (rows_law read breaks of law 1 ds)))
 
 -- the form of the document
@@ -91,12 +90,12 @@ unfolding rows_of breaks_form written_in
 rows_of_law ms =
     let format = format_in ms in
     then_law _ _ _ _ _ _ (test_law _ _)
-    (then_law _ _ _ _ _ _ (required_law read_format parts.Case 0 fields.Format ms formats.One)
-    (then_law _ _ _ _ _ _ (list_law parts.Zone (most_rows format parts.Zone) (zone_row format) (breaks_zone format) (zone_of format) (zone_law format) ms)
-    (then_law _ _ _ _ _ _ (list_law parts.Substation (most_rows format parts.Substation) substation_row breaks_substation substation_of substation_law ms)
-    (then_law _ _ _ _ _ _ (list_law parts.Bus (most_rows format parts.Bus) bus_row breaks_bus bus_of bus_law ms)
-    (then_law _ _ _ _ _ _ (list_law parts.Line (most_rows format parts.Line) (line_row format) (breaks_line format) (line_of format) (line_law format) ms)
-    (last_law _ _ _ _ (list_law parts.Transformer (most_rows format parts.Transformer) (transformer_row format) (breaks_transformer format) (transformer_of format) (transformer_law format) ms)))))))
+    (then_law _ _ _ _ _ _ (required_law read_format lists.Document 0 fields.Format ms formats.One)
+    (then_law _ _ _ _ _ _ (list_law lists.Zone (most_rows format lists.Zone) (zone_row format) (breaks_zone format) (zone_of format) (zone_law format) ms)
+    (then_law _ _ _ _ _ _ (list_law lists.Substation (most_rows format lists.Substation) substation_row breaks_substation substation_of substation_law ms)
+    (then_law _ _ _ _ _ _ (list_law lists.Bus (most_rows format lists.Bus) bus_row breaks_bus bus_of bus_law ms)
+    (then_law _ _ _ _ _ _ (list_law lists.Line (most_rows format lists.Line) (line_row format) (breaks_line format) (line_of format) (line_law format) ms)
+    (last_law _ _ _ _ (list_law lists.Transformer (most_rows format lists.Transformer) (transformer_row format) (breaks_transformer format) (transformer_of format) (transformer_law format) ms)))))))
 
 first_law : (test : ℕ → Bool) (refusal : ℕ → CaseRefusal) (n i : ℕ)
     → refuse_if (option_map refusal (first_from test n i)) ≡ settle (flat_map (λ k. unless (not (test k)) (refusal k)) (range_with_len i n)) tt
@@ -114,10 +113,10 @@ unique_law w = first_law (is_repeat (written_names w)) (duplicate_at (length w.z
 
 bus_in_law : (w : Written) (row : ℕ) (b : BusRow) → bus_in (substation_place w) row b ≡ settle (breaks_bus_reference w row b) (bus_with_place w b)
 unfolding bus_in
-bus_in_law w row b = last_law _ _ _ _ (value_law (substation_place w b.substation) (refusals.Unknown parts.Bus row fields.Substation) 0)
+bus_in_law w row b = last_law _ _ _ _ (value_law (substation_place w b.substation) (refusals.Unknown lists.Bus row fields.Substation) 0)
 
-part_in_law : (w : Written) (row : ℕ) (at : Field) (part : PartRow) → part_in (zone_place w) row at part ≡ settle (unless (is_in_zone w part) (refusals.Unknown parts.Line row at)) (part_with_place w part)
-part_in_law w row at part = last_law _ _ _ _ (value_law (zone_place w part.zone) (refusals.Unknown parts.Line row at) 0)
+part_in_law : (w : Written) (row : ℕ) (at : Field) (part : PartRow) → part_in (zone_place w) row at part ≡ settle (unless (is_in_zone w part) (refusals.Unknown lists.Line row at)) (part_with_place w part)
+part_in_law w row at part = last_law _ _ _ _ (value_law (zone_place w part.zone) (refusals.Unknown lists.Line row at) 0)
 
 -- two facts that are refused alike
 both_law : {A : Type 0} (a b : Bool) (e : CaseRefusal) (x : A) → settle (unless a e ++ unless b e) x ≡ settle (unless (a && b) e) x
@@ -125,11 +124,11 @@ both_law true b e x = refl
 both_law false b e x = refl
 
 parts_with_law : (w : Written) (row : ℕ) (ps : List PartRow)
-    → parts_with (zone_place w) row ps ≡ settle (unless (list_all (is_in_zone w) ps) (refusals.Unknown parts.Line row fields.Part)) (map (part_with_place w) ps)
+    → parts_with (zone_place w) row ps ≡ settle (unless (list_all (is_in_zone w) ps) (refusals.Unknown lists.Line row fields.Part)) (map (part_with_place w) ps)
 parts_with_law w row [] = refl
 parts_with_law w row (part ∷ ps) =
     then_law _ _ _ _ _ _ (part_in_law w row fields.Part part) (last_law _ _ _ (λ xs. part_with_place w part ∷ xs) (parts_with_law w row ps))
-    ∙ both_law (is_in_zone w part) (list_all (is_in_zone w) ps) (refusals.Unknown parts.Line row fields.Part) (map (part_with_place w) (part ∷ ps))
+    ∙ both_law (is_in_zone w part) (list_all (is_in_zone w) ps) (refusals.Unknown lists.Line row fields.Part) (map (part_with_place w) (part ∷ ps))
 
 course_in_law : (w : Written) (row : ℕ) (course : CourseRow) → course_in (zone_place w) row course ≡ settle (breaks_course_reference w row course) (course_with_places w course)
 unfolding course_in
@@ -139,30 +138,30 @@ course_in_law w row (written.Several ps) = last_law _ _ _ (λ xs. courses.Severa
 line_in_law : (w : Written) (row : ℕ) (l : LineRow) → line_in (bus_place w) (zone_place w) row l ≡ settle (breaks_line_references w row l) (line_with_places w l)
 unfolding line_in
 line_in_law w row l =
-    then_law _ _ _ _ _ _ (value_law (bus_place w l.from) (refusals.Unknown parts.Line row fields.From) 0)
-    (then_law _ _ _ _ _ _ (value_law (bus_place w l.to) (refusals.Unknown parts.Line row fields.To) 0)
+    then_law _ _ _ _ _ _ (value_law (bus_place w l.from) (refusals.Unknown lists.Line row fields.From) 0)
+    (then_law _ _ _ _ _ _ (value_law (bus_place w l.to) (refusals.Unknown lists.Line row fields.To) 0)
     (last_law _ _ _ _ (course_in_law w row l.course)))
 
 side_law : (w : Written) (row : ℕ) (at : Field) (bus : List ℕ) → side_at (bus_place w) row at bus ≡ settle (breaks_side_reference w row at bus) (side_place w bus)
-side_law w row at bus = value_law (bus_place w bus) (refusals.Unknown parts.Transformer row at) 0
+side_law w row at bus = value_law (bus_place w bus) (refusals.Unknown lists.Transformer row at) 0
 
-third_in_law : (w : Written) (row : ℕ) (third : Option ThirdRow) → third_in (bus_place w) row third ≡ settle (breaks_third_reference w row third) (option_map (third_with_place w) third)
+third_in_law : (w : Written) (row : ℕ) (third : Option (Third (List ℕ))) → third_in (bus_place w) row third ≡ settle (breaks_third_reference w row third) (option_map (third_with_place w) third)
 third_in_law w row None = refl
 third_in_law w row (Some t) = last_law _ _ _ (λ place. Some (record { bus = place; volts = t.volts; resistance = t.resistance })) (side_law w row fields.Third t.bus)
 
-kind_in_law : (w : Written) (row : ℕ) (k : KindRow) → kind_in (bus_place w) row k ≡ settle (breaks_kind_references w row k) (kind_with_places w k)
+kind_in_law : (w : Written) (row : ℕ) (k : Kind (List ℕ)) → kind_in (bus_place w) row k ≡ settle (breaks_kind_references w row k) (kind_with_places w k)
 unfolding kind_in
-kind_in_law w row (rows.DeltaWye high high_resistance) = last_law _ _ _ (λ h. kinds.DeltaWye h high_resistance) (side_law w row fields.High high)
-kind_in_law w row (rows.WyeWye high low low_volts high_resistance low_resistance third) =
+kind_in_law w row (kinds.DeltaWye high high_resistance) = last_law _ _ _ (λ h. kinds.DeltaWye h high_resistance) (side_law w row fields.High high)
+kind_in_law w row (kinds.WyeWye high low low_volts high_resistance low_resistance third) =
     then_law _ _ _ _ _ _ (side_law w row fields.High high)
     (then_law _ _ _ _ _ _ (side_law w row fields.Low low)
     (last_law _ _ _ (λ t. kinds.WyeWye (side_place w high) (side_place w low) low_volts high_resistance low_resistance t) (third_in_law w row third)))
-kind_in_law w row (rows.Auto high low low_volts series_resistance common_resistance third) =
+kind_in_law w row (kinds.Auto high low low_volts series_resistance common_resistance third) =
     then_law _ _ _ _ _ _ (side_law w row fields.High high)
     (then_law _ _ _ _ _ _ (side_law w row fields.Low low)
     (last_law _ _ _ (λ t. kinds.Auto (side_place w high) (side_place w low) low_volts series_resistance common_resistance t) (third_in_law w row third)))
-kind_in_law w row (rows.Reactor high high_resistance) = last_law _ _ _ (λ h. kinds.Reactor h high_resistance) (side_law w row fields.High high)
-kind_in_law w row rows.DeltaDelta = refl
+kind_in_law w row (kinds.Reactor high high_resistance) = last_law _ _ _ (λ h. kinds.Reactor h high_resistance) (side_law w row fields.High high)
+kind_in_law w row kinds.DeltaDelta = refl
 
 transformer_in_law : (w : Written) (row : ℕ) (t : TransformerRow) → transformer_in (bus_place w) row t ≡ settle (breaks_kind_references w row t.kind) (transformer_with_places w t)
 unfolding transformer_in

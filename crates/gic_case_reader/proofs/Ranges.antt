@@ -23,8 +23,8 @@ use Rattle.gic_case_reader.specs.Transformers.{read_kind, fields_of, others_of, 
 use Rattle.gic_case_reader.specs.declared.field.Field.{Field}
 use Rattle.gic_case_reader.specs.declared.field.Field.TheVariants as fields
 use Rattle.gic_case_reader.specs.declared.format.Format.{Format}
-use Rattle.gic_case_reader.specs.declared.refusal.Part.{Part}
-use Rattle.gic_case_reader.specs.declared.refusal.Part.TheVariants as parts
+use Rattle.gic_case.specs.declared.case_list.CaseList.{CaseList}
+use Rattle.gic_case.specs.declared.case_list.CaseList.TheVariants as lists
 use Rattle.gic_case_reader.specs.declared.refusal.CaseRefusal.TheVariants as refusals
 use Rattle.gic_case.specs.declared.item.Neutral.{Neutral}
 use Rattle.gic_case.specs.declared.item.Neutral.TheVariants as devices
@@ -32,9 +32,9 @@ use Rattle.gic_case_reader.specs.declared.part_row.PartRow.{PartRow}
 use Rattle.gic_case_reader.specs.declared.row.CourseRow.{CourseRow}
 use Rattle.gic_case_reader.specs.declared.row.CourseRow.TheVariants as courses
 use Rattle.gic_case_reader.specs.declared.row.LineRow.{LineRow}
-use Rattle.gic_case_reader.specs.declared.row.ThirdRow.{ThirdRow}
-use Rattle.gic_case_reader.specs.declared.row.KindRow.{KindRow}
-use Rattle.gic_case_reader.specs.declared.row.KindRow.TheVariants as kinds
+use Rattle.gic_case.specs.declared.kind.Third.{Third}
+use Rattle.gic_case.specs.declared.kind.Kind.{Kind}
+use Rattle.gic_case.specs.declared.kind.Kind.TheVariants as kinds
 use Rattle.gic_case_reader.specs.declared.row.TransformerRow.{TransformerRow}
 use Rattle.gic_case_reader.specs.declared.transformer.KindWord.{KindWord}
 use Rattle.gic_case_reader.specs.declared.transformer.KindWord.TheVariants as words
@@ -75,12 +75,12 @@ span_holds : (limit : ℕ) (at : Field) (ms : Members) → IfSome (value_at (spa
 span_holds limit at ms =
     then_holds _ (span_within limit) (λ d. then_holds _ (near_zero limit) (λ z. if_near limit z (nat_le (unsigned_abs z) limit) refl) (as_integer d)) (get_member (key_of at) ms)
 
-natural_taken : (low high : ℕ) (list : Part) (row : ℕ) (at : Field) (ms : Members) → breaks_value (natural_within low high) list row at ms ≡ []
+natural_taken : (low high : ℕ) (list : CaseList) (row : ℕ) (at : Field) (ms : Members) → breaks_value (natural_within low high) list row at ms ≡ []
     → (low ≤ unwrap_or (value_at (natural_within low high) at ms) 0) × (unwrap_or (value_at (natural_within low high) at ms) 0 ≤ high)
 natural_taken low high list row at ms h =
     taken_holds (λ k. (low ≤ k) × (k ≤ high)) (value_at (natural_within low high) at ms) 0 (unless_holds _ (refusals.Value list row at) h) (natural_holds low high at ms)
 
-span_taken : (limit : ℕ) (list : Part) (row : ℕ) (at : Field) (ms : Members) → breaks_value (span_within limit) list row at ms ≡ []
+span_taken : (limit : ℕ) (list : CaseList) (row : ℕ) (at : Field) (ms : Members) → breaks_value (span_within limit) list row at ms ≡ []
     → unsigned_abs (unwrap_or (value_at (span_within limit) at ms) (pos 0)) ≤ limit
 span_taken limit list row at ms h =
     taken_holds (λ x. unsigned_abs x ≤ limit) (value_at (span_within limit) at ms) (pos 0) (unless_holds _ (refusals.Value list row at) h) (span_holds limit at ms)
@@ -93,11 +93,11 @@ name_holds : (at : Field) (ms : Members) → IfSome (value_at read_name at ms) (
 name_holds at ms =
     then_holds _ read_name (λ d. then_holds _ (λ text. cond (is_name text) (Some text) None) (λ text. if_name text (is_name text) refl) (as_str d)) (get_member (key_of at) ms)
 
-name_taken : (list : Part) (row : ℕ) (at : Field) (ms : Members) → breaks_value read_name list row at ms ≡ [] → IsTrue (is_name (unwrap_or (value_at read_name at ms) []))
+name_taken : (list : CaseList) (row : ℕ) (at : Field) (ms : Members) → breaks_value read_name list row at ms ≡ [] → IsTrue (is_name (unwrap_or (value_at read_name at ms) []))
 name_taken list row at ms h = taken_holds (λ s. IsTrue (is_name s)) (value_at read_name at ms) [] (unless_holds _ (refusals.Value list row at) h) (name_holds at ms)
 
 -- the name of a row, which follows its keys
-first_name : (list : Part) (needed others : List Field) (row : ℕ) (d : Data) (rest : List CaseRefusal)
+first_name : (list : CaseList) (needed others : List Field) (row : ℕ) (d : Data) (rest : List CaseRefusal)
     → breaks_keys list needed others row d ++ (breaks_value read_name list row fields.Name (members_in d) ++ rest) ≡ []
     → IsTrue (is_name (unwrap_or (value_at read_name fields.Name (members_in d)) []))
 first_name list needed others row d rest h =
@@ -113,23 +113,23 @@ either_holds P false es fs x y one other h = other h
 pub zone_named : (format : Format) (row : ℕ) (d : Data) → breaks_zone format row d ≡ [] → IsTrue (is_name (zone_of format d).name)
 zone_named format row d h =
     either_holds (λ z. IsTrue (is_name z.name)) (is_scaled format d) (breaks_scaled_zone row d) (breaks_earth_zone row d) (scaled_zone_of d) (earth_zone_of d)
-    (λ none. first_name parts.Zone scaled_zone_fields [] row d _ none) (λ none. first_name parts.Zone earth_zone_fields [] row d _ none) h
+    (λ none. first_name lists.Zone scaled_zone_fields [] row d _ none) (λ none. first_name lists.Zone earth_zone_fields [] row d _ none) h
 
 pub substation_named : (row : ℕ) (d : Data) → breaks_substation row d ≡ [] → IsTrue (is_name (substation_of d).name)
-substation_named row d h = first_name parts.Substation (fields.Name ∷ []) (fields.Ground ∷ []) row d _ h
+substation_named row d h = first_name lists.Substation (fields.Name ∷ []) (fields.Ground ∷ []) row d _ h
 
 pub bus_named : (row : ℕ) (d : Data) → breaks_bus row d ≡ [] → IsTrue (is_name (bus_of d).name)
-bus_named row d h = first_name parts.Bus bus_fields [] row d _ h
+bus_named row d h = first_name lists.Bus bus_fields [] row d _ h
 
 pub line_named : (format : Format) (row : ℕ) (d : Data) → breaks_line format row d ≡ [] → IsTrue (is_name (line_of format d).name)
 line_named format row d h =
     either_holds (λ l. IsTrue (is_name l.name)) (is_parted format d) (breaks_parted_line row d) (breaks_plain_line row d) (parted_line_of d) (plain_line_of d)
-    (λ none. first_name parts.Line parted_line_fields (fields.Blocked ∷ []) row d _ none) (λ none. first_name parts.Line plain_line_fields (fields.Blocked ∷ []) row d _ none) h
+    (λ none. first_name lists.Line parted_line_fields (fields.Blocked ∷ []) row d _ none) (λ none. first_name lists.Line plain_line_fields (fields.Blocked ∷ []) row d _ none) h
 
 earth_zone_measured : (row : ℕ) (d : Data) → breaks_earth_zone row d ≡ [] → IsZone (earth_zone_of d)
 earth_zone_measured row d h =
     let ms = members_in d in
-    let list = parts.Zone in
+    let list = lists.Zone in
     let keys = none_of_both (breaks_keys list earth_zone_fields [] row d) _ h in
     let name = none_of_both (breaks_value read_name list row fields.Name ms) _ keys.1 in
     let numbers = none_of_both (breaks_value (natural_within 0 9000) list row fields.Latitude ms) (breaks_value (natural_within 1 150) list row fields.Beta ms) name.1 in
@@ -140,7 +140,7 @@ earth_zone_measured row d h =
 scaled_zone_measured : (row : ℕ) (d : Data) → breaks_scaled_zone row d ≡ [] → IsZone (scaled_zone_of d)
 scaled_zone_measured row d h =
     let ms = members_in d in
-    let list = parts.Zone in
+    let list = lists.Zone in
     let keys = none_of_both (breaks_keys list scaled_zone_fields [] row d) _ h in
     let values = none_of_both (breaks_value read_name list row fields.Name ms) (breaks_value (natural_within 1 1500) list row fields.Scale ms) keys.1 in
     natural_taken 1 1500 list row fields.Scale ms values.1
@@ -174,7 +174,7 @@ one_way n h = omega (arith, h)
 plain_line_measured : (row : ℕ) (d : Data) → breaks_plain_line row d ≡ [] → IsMeasured (plain_line_of d)
 plain_line_measured row d h =
     let ms = members_in d in
-    let list = parts.Line in
+    let list = lists.Line in
     let keys = none_of_both (breaks_keys list plain_line_fields (fields.Blocked ∷ []) row d) _ h in
     let name = none_of_both (breaks_value read_name list row fields.Name ms) _ keys.1 in
     let from = none_of_both (breaks_value read_name list row fields.From ms) _ name.1 in
@@ -198,13 +198,13 @@ parts_hold : (ms : Members) → IfSome (value_at read_parts fields.Part ms) (λ 
 parts_hold ms =
     then_holds _ read_parts (λ d. then_holds _ (λ ps. cond (are_parts ps) (Some ps) None) (λ ps. if_parts ps (are_parts ps) refl) (option_and_then parts_in (as_array d))) (get_member (key_of fields.Part) ms)
 
-parts_taken : (row : ℕ) (ms : Members) → breaks_value read_parts parts.Line row fields.Part ms ≡ [] → are_parts (unwrap_or (value_at read_parts fields.Part ms) []) ≡ true
-parts_taken row ms h = taken_holds (λ ps. are_parts ps ≡ true) (value_at read_parts fields.Part ms) [] (unless_holds _ (refusals.Value parts.Line row fields.Part) h) (parts_hold ms)
+parts_taken : (row : ℕ) (ms : Members) → breaks_value read_parts lists.Line row fields.Part ms ≡ [] → are_parts (unwrap_or (value_at read_parts fields.Part ms) []) ≡ true
+parts_taken row ms h = taken_holds (λ ps. are_parts ps ≡ true) (value_at read_parts fields.Part ms) [] (unless_holds _ (refusals.Value lists.Line row fields.Part) h) (parts_hold ms)
 
 parted_line_measured : (row : ℕ) (d : Data) → breaks_parted_line row d ≡ [] → IsMeasured (parted_line_of d)
 parted_line_measured row d h =
     let ms = members_in d in
-    let list = parts.Line in
+    let list = lists.Line in
     let ps = unwrap_or (value_at read_parts fields.Part ms) [] in
     let keys = none_of_both (breaks_keys list parted_line_fields (fields.Blocked ∷ []) row d) _ h in
     let name = none_of_both (breaks_value read_name list row fields.Name ms) _ keys.1 in
@@ -227,11 +227,11 @@ line_measured format row d h =
     either_holds IsMeasured (is_parted format d) (breaks_parted_line row d) (breaks_plain_line row d) (parted_line_of d) (plain_line_of d) (parted_line_measured row d) (plain_line_measured row d) h
 
 -- the ranges of a third winding
-abbrev pub IsMeasuredThird : ThirdRow → Type 0
+abbrev pub IsMeasuredThird : Third (List ℕ) → Type 0
 IsMeasuredThird t = IsRated t.volts × IsResistance t.resistance
 
 -- the ranges of what a kind has of its own
-abbrev pub IsMeasuredKind : KindRow → Type 0
+abbrev pub IsMeasuredKind : Kind (List ℕ) → Type 0
 IsMeasuredKind (kinds.DeltaWye high high_resistance) = IsResistance high_resistance
 IsMeasuredKind (kinds.WyeWye high low low_volts high_resistance low_resistance third) = IsRated low_volts × (IsResistance high_resistance × IsResistance low_resistance) × IfSome third IsMeasuredThird
 IsMeasuredKind (kinds.Auto high low low_volts series_resistance common_resistance third) = IsRated low_volts × (IsResistance series_resistance × IsResistance common_resistance) × IfSome third IsMeasuredThird
@@ -239,7 +239,7 @@ IsMeasuredKind (kinds.Reactor high high_resistance) = IsResistance high_resistan
 IsMeasuredKind kinds.DeltaDelta = Unit {0}
 
 -- a delta-delta unit has no neutral device
-abbrev pub HasPlaceFor : KindRow → Option Neutral → Type 0
+abbrev pub HasPlaceFor : Kind (List ℕ) → Option Neutral → Type 0
 HasPlaceFor (kinds.DeltaWye high high_resistance) neutral = Unit {0}
 HasPlaceFor (kinds.WyeWye high low low_volts high_resistance low_resistance third) neutral = Unit {0}
 HasPlaceFor (kinds.Auto high low low_volts series_resistance common_resistance third) neutral = Unit {0}
@@ -254,10 +254,10 @@ pub record IsMeasuredTransformer (t : TransformerRow) : Type 0 where
   pub place : HasPlaceFor t.kind t.neutral
 
 ohm_taken : (row : ℕ) (at : Field) (ms : Members) → breaks_ohm row at ms ≡ [] → IsResistance (ohm_in at ms)
-ohm_taken row at ms h = natural_taken 1000 1000000000 parts.Transformer row at ms h
+ohm_taken row at ms h = natural_taken 1000 1000000000 lists.Transformer row at ms h
 
 volts_taken : (row : ℕ) (at : Field) (ms : Members) → breaks_volts row at ms ≡ [] → IsRated (volts_in at ms)
-volts_taken row at ms h = natural_taken 1000 2000000 parts.Transformer row at ms h
+volts_taken row at ms h = natural_taken 1000 2000000 lists.Transformer row at ms h
 
 one_winding_measured : (row : ℕ) (ms : Members) → breaks_one_winding row ms ≡ [] → IsResistance (ohm_in fields.HighResistance ms)
 one_winding_measured row ms h = ohm_taken row fields.HighResistance ms (none_of_both (breaks_bus_name row fields.High ms) (breaks_ohm row fields.HighResistance ms) h).1
@@ -344,7 +344,7 @@ device_place format words.DeltaDelta ms h =
 -- what each rule of a transformer that breaks none gives
 record IsKept (format : Format) (row : ℕ) (ms : Members) : Type 0 where
   keys : fits (fields_of (kind_of format ms)) (others_of format (kind_of format ms)) ms ≡ true
-  name : breaks_value read_name parts.Transformer row fields.Name ms ≡ []
+  name : breaks_value read_name lists.Transformer row fields.Name ms ≡ []
   volts : breaks_volts row fields.HighVolts ms ≡ []
   own : breaks_own (kind_of format ms) row ms ≡ []
 
@@ -352,21 +352,21 @@ kept : (format : Format) (row : ℕ) (d : Data) → breaks_transformer format ro
 kept format row d h =
     let ms = members_in d in
     let kind = kind_of format ms in
-    let table = none_of_both (unless (is_some (as_table d) && has fields.Kind ms) (refusals.Key parts.Transformer row)) _ h in
-    let word = none_of_both (breaks_value (read_kind format) parts.Transformer row fields.Kind ms) _ table.1 in
-    let keys = none_of_both (unless (fits (fields_of kind) (others_of format kind) ms) (refusals.Key parts.Transformer row)) _ word.1 in
-    let name = none_of_both (breaks_value read_name parts.Transformer row fields.Name ms) _ keys.1 in
+    let table = none_of_both (unless (is_some (as_table d) && has fields.Kind ms) (refusals.Key lists.Transformer row)) _ h in
+    let word = none_of_both (breaks_value (read_kind format) lists.Transformer row fields.Kind ms) _ table.1 in
+    let keys = none_of_both (unless (fits (fields_of kind) (others_of format kind) ms) (refusals.Key lists.Transformer row)) _ word.1 in
+    let name = none_of_both (breaks_value read_name lists.Transformer row fields.Name ms) _ keys.1 in
     let volts = none_of_both (breaks_volts row fields.HighVolts ms) _ name.1 in
-    let own = none_of_both (breaks_own kind row ms) (breaks_optional read_neutral parts.Transformer row fields.Neutral ms) volts.1 in
+    let own = none_of_both (breaks_own kind row ms) (breaks_optional read_neutral lists.Transformer row fields.Neutral ms) volts.1 in
     record {
-      keys = unless_holds _ (refusals.Key parts.Transformer row) keys.0;
+      keys = unless_holds _ (refusals.Key lists.Transformer row) keys.0;
       name = name.0;
       volts = volts.0;
       own = own.0;
     }
 
 pub transformer_named : (format : Format) (row : ℕ) (d : Data) → breaks_transformer format row d ≡ [] → IsTrue (is_name (transformer_of format d).name)
-transformer_named format row d h = name_taken parts.Transformer row fields.Name (members_in d) (kept format row d h).name
+transformer_named format row d h = name_taken lists.Transformer row fields.Name (members_in d) (kept format row d h).name
 
 pub transformer_measured : (format : Format) (row : ℕ) (d : Data) → breaks_transformer format row d ≡ [] → IsMeasuredTransformer (transformer_of format d)
 transformer_measured format row d h =

@@ -33,15 +33,15 @@ use Rattle.gic_case_reader.specs.OneByOne.{breaks_degree_from}
 use Rattle.gic_case_reader.specs.Pass.{case_in}
 use Rattle.gic_case_reader.specs.declared.field.Field.{Field}
 use Rattle.gic_case_reader.specs.declared.field.Field.TheVariants as fields
-use Rattle.gic_case_reader.specs.declared.refusal.Part.{Part}
-use Rattle.gic_case_reader.specs.declared.refusal.Part.TheVariants as parts
+use Rattle.gic_case.specs.declared.case_list.CaseList.{CaseList}
+use Rattle.gic_case.specs.declared.case_list.CaseList.TheVariants as lists
 use Rattle.gic_case_reader.specs.declared.refusal.CaseRefusal.{CaseRefusal}
 use Rattle.gic_case_reader.specs.declared.refusal.CaseRefusal.TheVariants as refusals
 use Rattle.gic_case.specs.declared.part.LinePart.{LinePart}
 use Rattle.gic_case.specs.declared.item.Line.{Line}
 use Rattle.gic_case.specs.declared.item.Bus.{Bus}
-use Rattle.gic_case.specs.declared.item.Kind.{Kind}
-use Rattle.gic_case.specs.declared.item.Kind.TheVariants as kinds
+use Rattle.gic_case.specs.declared.kind.Kind.{Kind}
+use Rattle.gic_case.specs.declared.kind.Kind.TheVariants as kinds
 use Rattle.gic_case.specs.declared.winding.WindingRole.{WindingRole}
 use Rattle.gic_case.specs.declared.winding.WindingRole.TheVariants as roles
 use Rattle.gic_case.specs.declared.winding.Winding.{Winding}
@@ -51,9 +51,7 @@ use Rattle.gic_case_reader.specs.declared.part_row.PartRow.{PartRow}
 use Rattle.gic_case_reader.specs.declared.row.CourseRow.{CourseRow}
 use Rattle.gic_case_reader.specs.declared.row.CourseRow.TheVariants as courses
 use Rattle.gic_case_reader.specs.declared.row.LineRow.{LineRow}
-use Rattle.gic_case_reader.specs.declared.row.ThirdRow.{ThirdRow}
-use Rattle.gic_case_reader.specs.declared.row.KindRow.{KindRow}
-use Rattle.gic_case_reader.specs.declared.row.KindRow.TheVariants as rows
+use Rattle.gic_case.specs.declared.kind.Third.{Third}
 use Rattle.gic_case_reader.specs.declared.row.TransformerRow.{TransformerRow}
 use Rattle.gic_case_reader.proofs.Ranges.{zone_measured, zone_named, substation_named, bus_named, line_named, few_of, taken_holds, natural_holds, written_parts, AreFewWritten, IsMeasured, line_measured, IsMeasuredThird, IsMeasuredKind, HasPlaceFor, IsMeasuredTransformer, transformer_named, transformer_measured}
 use Rattle.gic_case_reader.proofs.PassLaws.{case_in_law}
@@ -70,10 +68,10 @@ all_kept f P law n (x ∷ xs) h =
 all_unmapped : {X Y : Type 0} (P : X → Type 0) (f : Y → X) (ys : List Y) → All P (map f ys) → All (λ y. P (f y)) ys
 all_unmapped P f ys all = λ k d lt. subst P (get_or-map f ys k d (f d) lt) (all k (f d) (rw (length-map ys f) lt))
 
-few_rows : (list : Part) (limit : ℕ) (breaks : ℕ → Data → List CaseRefusal) (ms : Members) → breaks_list list limit breaks ms ≡ [] → length (entries_of list ms) ≤ limit
+few_rows : (list : CaseList) (limit : ℕ) (breaks : ℕ → Data → List CaseRefusal) (ms : Members) → breaks_list list limit breaks ms ≡ [] → length (entries_of list ms) ≤ limit
 few_rows list limit breaks ms h = few_of (length (entries_of list ms)) limit (unless_holds _ _ (none_of_both _ _ (none_of_both _ _ h).1).0)
 
-rows_kept : (list : Part) (limit : ℕ) (breaks : ℕ → Data → List CaseRefusal) (ms : Members) → breaks_list list limit breaks ms ≡ []
+rows_kept : (list : CaseList) (limit : ℕ) (breaks : ℕ → Data → List CaseRefusal) (ms : Members) → breaks_list list limit breaks ms ≡ []
     → flat_map (λ p. breaks p.0 p.1) (enumerate_from 1 (entries_of list ms)) ≡ []
 rows_kept list limit breaks ms h = (none_of_both _ _ (none_of_both _ _ h).1).1
 
@@ -114,7 +112,7 @@ line_placed w row l h =
     }
 
 -- where a transformer's references go
-abbrev IsPlacedKind : (buses : ℕ) → Kind → Type 0
+abbrev IsPlacedKind : (buses : ℕ) → Kind ℕ → Type 0
 IsPlacedKind buses (kinds.DeltaWye high high_resistance) = high < buses
 IsPlacedKind buses (kinds.WyeWye high low low_volts high_resistance low_resistance third) = (high < buses) × (low < buses) × IfSome third (λ t. t.bus < buses)
 IsPlacedKind buses (kinds.Auto high low low_volts series_resistance common_resistance third) = (high < buses) × (low < buses) × IfSome third (λ t. t.bus < buses)
@@ -122,13 +120,13 @@ IsPlacedKind buses (kinds.Reactor high high_resistance) = high < buses
 IsPlacedKind buses kinds.DeltaDelta = Unit {0}
 
 side_placed : (w : Written) (row : ℕ) (at : Field) (bus : List ℕ) → breaks_side_reference w row at bus ≡ [] → side_place w bus < length w.buses
-side_placed w row at bus h = place_within (λ b. b.name) w.buses bus (unless_holds _ (refusals.Unknown parts.Transformer row at) h)
+side_placed w row at bus h = place_within (λ b. b.name) w.buses bus (unless_holds _ (refusals.Unknown lists.Transformer row at) h)
 
-third_placed : (w : Written) (row : ℕ) (third : Option ThirdRow) → breaks_third_reference w row third ≡ [] → IfSome (option_map (third_with_place w) third) (λ t. t.bus < length w.buses)
+third_placed : (w : Written) (row : ℕ) (third : Option (Third (List ℕ))) → breaks_third_reference w row third ≡ [] → IfSome (option_map (third_with_place w) third) (λ t. t.bus < length w.buses)
 third_placed w row None h = tt
 third_placed w row (Some t) h = side_placed w row fields.Third t.bus h
 
-sides_placed : (w : Written) (row : ℕ) (high low : List ℕ) (third : Option ThirdRow)
+sides_placed : (w : Written) (row : ℕ) (high low : List ℕ) (third : Option (Third (List ℕ)))
     → breaks_side_reference w row fields.High high ++ (breaks_side_reference w row fields.Low low ++ breaks_third_reference w row third) ≡ []
     → (side_place w high < length w.buses) × (side_place w low < length w.buses) × IfSome (option_map (third_with_place w) third) (λ t. t.bus < length w.buses)
 sides_placed w row high low third h =
@@ -136,12 +134,12 @@ sides_placed w row high low third h =
     let others = none_of_both (breaks_side_reference w row fields.Low low) (breaks_third_reference w row third) first.1 in
     (side_placed w row fields.High high first.0, side_placed w row fields.Low low others.0, third_placed w row third others.1)
 
-kind_placed : (w : Written) (row : ℕ) (k : KindRow) → breaks_kind_references w row k ≡ [] → IsPlacedKind (length w.buses) (kind_with_places w k)
-kind_placed w row (rows.DeltaWye high high_resistance) h = side_placed w row fields.High high h
-kind_placed w row (rows.WyeWye high low low_volts high_resistance low_resistance third) h = sides_placed w row high low third h
-kind_placed w row (rows.Auto high low low_volts series_resistance common_resistance third) h = sides_placed w row high low third h
-kind_placed w row (rows.Reactor high high_resistance) h = side_placed w row fields.High high h
-kind_placed w row rows.DeltaDelta h = tt
+kind_placed : (w : Written) (row : ℕ) (k : Kind (List ℕ)) → breaks_kind_references w row k ≡ [] → IsPlacedKind (length w.buses) (kind_with_places w k)
+kind_placed w row (kinds.DeltaWye high high_resistance) h = side_placed w row fields.High high h
+kind_placed w row (kinds.WyeWye high low low_volts high_resistance low_resistance third) h = sides_placed w row high low third h
+kind_placed w row (kinds.Auto high low low_volts series_resistance common_resistance third) h = sides_placed w row high low third h
+kind_placed w row (kinds.Reactor high high_resistance) h = side_placed w row fields.High high h
+kind_placed w row kinds.DeltaDelta h = tt
 
 no_not : (b : Bool) → not b ≡ true → b ≡ false
 no_not true h = absurd (false≢true h)
@@ -219,26 +217,26 @@ module _ (c : Lists) (w : Written) (many : length c.buses ≡ length w.buses) (v
     ohm = measured;
   }
 
-  third_by : (third : Option ThirdRow) → IfSome third IsMeasuredThird → IfSome (option_map (third_with_place w) third) (λ t. t.bus < length w.buses)
+  third_by : (third : Option (Third (List ℕ))) → IfSome third IsMeasuredThird → IfSome (option_map (third_with_place w) third) (λ t. t.bus < length w.buses)
       → are_ordered volts (third_windings (option_map (third_with_place w) third)) ≡ true → AllByRecursion (IsSoundWinding c volts) (third_windings (option_map (third_with_place w) third))
   third_by None measured placed ordered = tt
   third_by (Some t) measured placed ordered =
       let order = and_parts (nat_le t.volts volts) true ordered in
       (one_by roles.Third (side_place w t.bus) t.volts t.resistance placed measured.0 order.0 measured.1, tt)
 
-  windings_sound_by : (k : KindRow) → IsRated volts → IsMeasuredKind k → IsPlacedKind (length w.buses) (kind_with_places w k)
+  windings_sound_by : (k : Kind (List ℕ)) → IsRated volts → IsMeasuredKind k → IsPlacedKind (length w.buses) (kind_with_places w k)
       → sides_differ (windings_by volts (kind_with_places w k)) ≡ true → are_ordered volts (windings_by volts (kind_with_places w k)) ≡ true
       → AllByRecursion (IsSoundWinding c volts) (windings_by volts (kind_with_places w k))
-  windings_sound_by (rows.DeltaWye high high_resistance) rated measured placed differ ordered =
+  windings_sound_by (kinds.DeltaWye high high_resistance) rated measured placed differ ordered =
       (one_by roles.High (side_place w high) volts high_resistance placed rated (and_parts (nat_le volts volts) true ordered).0 measured, tt)
-  windings_sound_by (rows.WyeWye high low low_volts high_resistance low_resistance third) rated measured placed differ ordered =
+  windings_sound_by (kinds.WyeWye high low low_volts high_resistance low_resistance third) rated measured placed differ ordered =
       let third_row = option_map (third_with_place w) third in
       let first = and_parts (nat_le volts volts) (nat_le low_volts volts && are_ordered volts (third_windings third_row)) ordered in
       let second = and_parts (nat_le low_volts volts) (are_ordered volts (third_windings third_row)) first.1 in (
         one_by roles.High (side_place w high) volts high_resistance placed.0 rated first.0 measured.1.0,
         (one_by roles.Low (side_place w low) low_volts low_resistance placed.1 measured.0 second.0 measured.1.1, third_by third measured.2 placed.2 second.1),
       )
-  windings_sound_by (rows.Auto high low low_volts series_resistance common_resistance third) rated measured placed differ ordered =
+  windings_sound_by (kinds.Auto high low low_volts series_resistance common_resistance third) rated measured placed differ ordered =
       let third_row = option_map (third_with_place w) third in
       let first = and_parts (nat_le volts volts) (nat_le low_volts volts && are_ordered volts (third_windings third_row)) ordered in
       let second = and_parts (nat_le low_volts volts) (are_ordered volts (third_windings third_row)) first.1 in
@@ -248,16 +246,16 @@ module _ (c : Lists) (w : Written) (many : length c.buses ≡ length w.buses) (v
         series_by (side_place w high) (side_place w low) low_volts series_resistance placed.0 placed.1 rated first.0 second.0 two.0 measured.1.0,
         (one_by roles.Common (side_place w low) low_volts common_resistance placed.1 measured.0 second.0 measured.1.1, third_by third measured.2 placed.2 second.1),
       )
-  windings_sound_by (rows.Reactor high high_resistance) rated measured placed differ ordered =
+  windings_sound_by (kinds.Reactor high high_resistance) rated measured placed differ ordered =
       (one_by roles.High (side_place w high) volts high_resistance placed rated (and_parts (nat_le volts volts) true ordered).0 measured, tt)
-  windings_sound_by rows.DeltaDelta rated measured placed differ ordered = tt
+  windings_sound_by kinds.DeltaDelta rated measured placed differ ordered = tt
 
-no_device_by : (w : Written) (volts : ℕ) (k : KindRow) (neutral : Option Neutral) → HasPlaceFor k neutral → is_some (slice_get (windings_by volts (kind_with_places w k)) 0) ≡ false → is_some neutral ≡ false
-no_device_by w volts (rows.DeltaWye high high_resistance) neutral place h = absurd (false≢true (sym h))
-no_device_by w volts (rows.WyeWye high low low_volts high_resistance low_resistance third) neutral place h = absurd (false≢true (sym h))
-no_device_by w volts (rows.Auto high low low_volts series_resistance common_resistance third) neutral place h = absurd (false≢true (sym h))
-no_device_by w volts (rows.Reactor high high_resistance) neutral place h = absurd (false≢true (sym h))
-no_device_by w volts rows.DeltaDelta neutral place h = ap is_some place
+no_device_by : (w : Written) (volts : ℕ) (k : Kind (List ℕ)) (neutral : Option Neutral) → HasPlaceFor k neutral → is_some (slice_get (windings_by volts (kind_with_places w k)) 0) ≡ false → is_some neutral ≡ false
+no_device_by w volts (kinds.DeltaWye high high_resistance) neutral place h = absurd (false≢true (sym h))
+no_device_by w volts (kinds.WyeWye high low low_volts high_resistance low_resistance third) neutral place h = absurd (false≢true (sym h))
+no_device_by w volts (kinds.Auto high low low_volts series_resistance common_resistance third) neutral place h = absurd (false≢true (sym h))
+no_device_by w volts (kinds.Reactor high high_resistance) neutral place h = absurd (false≢true (sym h))
+no_device_by w volts kinds.DeltaDelta neutral place h = ap is_some place
 
 -- a transformer of a document that breaks no rule
 transformer_by : (c : Lists) (w : Written) (t : TransformerRow) → length c.buses ≡ length w.buses → IsMeasuredTransformer t → IsPlacedKind (length w.buses) (kind_with_places w t.kind)
@@ -273,7 +271,7 @@ transformer_by c w t many measured placed ruled = record {
   no_device = no_device_by w t.high_volts t.kind t.neutral measured.place;
 }
 
-differ : (row : ℕ) (l : Line) → unless (not (l.from == l.to)) (refusals.SameEnds parts.Line row) ≡ [] → l.from ≢ l.to
+differ : (row : ℕ) (l : Line) → unless (not (l.from == l.to)) (refusals.SameEnds lists.Line row) ≡ [] → l.from ≢ l.to
 differ row l h = unequal l.from l.to (unless_holds _ _ h)
 
 none_repeated : (test : ℕ → Bool) (refusal : ℕ → CaseRefusal) (a n : ℕ) → flat_map (λ i. unless (not (test i)) (refusal i)) (range_with_len a n) ≡ []
@@ -310,7 +308,7 @@ unfolding resolved
 names_stay w = simp map-map
 
 -- the names of a list's rows
-named : {A : Type 0} (list : Part) (limit : ℕ) (breaks : ℕ → Data → List CaseRefusal) (of : Data → A) (name : A → List ℕ)
+named : {A : Type 0} (list : CaseList) (limit : ℕ) (breaks : ℕ → Data → List CaseRefusal) (of : Data → A) (name : A → List ℕ)
     → ((row : ℕ) (d : Data) → breaks row d ≡ [] → IsTrue (is_name (name (of d))))
     → (ms : Members) → breaks_list list limit breaks ms ≡ [] → All (λ n. IsTrue (is_name n)) (map name (map of (entries_of list ms)))
 named list limit breaks of name law ms h =
@@ -344,12 +342,12 @@ formed ms h =
     let zones = none_of_both _ _ number.1 in
     let substations = none_of_both _ _ zones.1 in
     let buses = none_of_both _ _ substations.1 in
-    let lists = none_of_both _ _ buses.1 in
-    let z = few_rows parts.Zone (most_rows format parts.Zone) (breaks_zone format) ms zones.0 in
-    let s = few_rows parts.Substation (most_rows format parts.Substation) breaks_substation ms substations.0 in
-    let b = few_rows parts.Bus (most_rows format parts.Bus) breaks_bus ms buses.0 in
-    let l = few_rows parts.Line (most_rows format parts.Line) (breaks_line format) ms lists.0 in
-    let t = few_rows parts.Transformer (most_rows format parts.Transformer) (breaks_transformer format) ms lists.1 in
+    let last_two = none_of_both _ _ buses.1 in
+    let z = few_rows lists.Zone (most_rows format lists.Zone) (breaks_zone format) ms zones.0 in
+    let s = few_rows lists.Substation (most_rows format lists.Substation) breaks_substation ms substations.0 in
+    let b = few_rows lists.Bus (most_rows format lists.Bus) breaks_bus ms buses.0 in
+    let l = few_rows lists.Line (most_rows format lists.Line) (breaks_line format) ms last_two.0 in
+    let t = few_rows lists.Transformer (most_rows format lists.Transformer) (breaks_transformer format) ms last_two.1 in
     record {
       few_zones = rw length-map z;
       few_substations = rw length-map (few_by (is_third format) _ MOST_SUBSTATIONS MOST_SUBSTATIONS_BEFORE_FORMAT_3 refl s);
@@ -357,15 +355,15 @@ formed ms h =
       few_lines = rw length-map (few_by (is_third format) _ MOST_LINES MOST_LINES_BEFORE_FORMAT_3 refl l);
       few_transformers = rw length-map (few_by (is_third format) _ MOST_TRANSFORMERS MOST_TRANSFORMERS_BEFORE_FORMAT_3 refl t);
       names =
-          All-append (λ n. IsTrue (is_name n)) (map (λ z. z.name) (map (zone_of format) (entries_of parts.Zone ms))) _ (named parts.Zone (most_rows format parts.Zone) (breaks_zone format) (zone_of format) (λ z. z.name) (zone_named format) ms zones.0)
-          (All-append (λ n. IsTrue (is_name n)) (map (λ s. s.name) (map substation_of (entries_of parts.Substation ms))) _ (named parts.Substation (most_rows format parts.Substation) breaks_substation substation_of (λ s. s.name) substation_named ms substations.0)
-          (All-append (λ n. IsTrue (is_name n)) (map (λ b. b.name) (map bus_of (entries_of parts.Bus ms))) _ (named parts.Bus (most_rows format parts.Bus) breaks_bus bus_of (λ b. b.name) bus_named ms buses.0)
-          (All-append (λ n. IsTrue (is_name n)) (map (λ l. l.name) (map (line_of format) (entries_of parts.Line ms))) (map (λ t. t.name) (map (transformer_of format) (entries_of parts.Transformer ms)))
-          (named parts.Line (most_rows format parts.Line) (breaks_line format) (line_of format) (λ l. l.name) (line_named format) ms lists.0) (named parts.Transformer (most_rows format parts.Transformer) (breaks_transformer format) (transformer_of format) (λ t. t.name) (transformer_named format) ms lists.1))));
-      zones = All-map IsZone (zone_of format) (entries_of parts.Zone ms) (all_kept (breaks_zone format) (λ d. IsZone (zone_of format d)) (zone_measured format) 1 (entries_of parts.Zone ms) (rows_kept parts.Zone (most_rows format parts.Zone) (breaks_zone format) ms zones.0));
-      substations = All-map IsSoundSubstation substation_of (entries_of parts.Substation ms) (λ k d lt. natural_holds 1000 1000000000 fields.Ground (members_in (get_or (entries_of parts.Substation ms) k d)));
-      lines = All-map IsMeasured (line_of format) (entries_of parts.Line ms) (all_kept (breaks_line format) (λ d. IsMeasured (line_of format d)) (line_measured format) 1 (entries_of parts.Line ms) (rows_kept parts.Line (most_rows format parts.Line) (breaks_line format) ms lists.0));
-      transformers = All-map IsMeasuredTransformer (transformer_of format) (entries_of parts.Transformer ms) (all_kept (breaks_transformer format) (λ d. IsMeasuredTransformer (transformer_of format d)) (transformer_measured format) 1 (entries_of parts.Transformer ms) (rows_kept parts.Transformer (most_rows format parts.Transformer) (breaks_transformer format) ms lists.1));
+          All-append (λ n. IsTrue (is_name n)) (map (λ z. z.name) (map (zone_of format) (entries_of lists.Zone ms))) _ (named lists.Zone (most_rows format lists.Zone) (breaks_zone format) (zone_of format) (λ z. z.name) (zone_named format) ms zones.0)
+          (All-append (λ n. IsTrue (is_name n)) (map (λ s. s.name) (map substation_of (entries_of lists.Substation ms))) _ (named lists.Substation (most_rows format lists.Substation) breaks_substation substation_of (λ s. s.name) substation_named ms substations.0)
+          (All-append (λ n. IsTrue (is_name n)) (map (λ b. b.name) (map bus_of (entries_of lists.Bus ms))) _ (named lists.Bus (most_rows format lists.Bus) breaks_bus bus_of (λ b. b.name) bus_named ms buses.0)
+          (All-append (λ n. IsTrue (is_name n)) (map (λ l. l.name) (map (line_of format) (entries_of lists.Line ms))) (map (λ t. t.name) (map (transformer_of format) (entries_of lists.Transformer ms)))
+          (named lists.Line (most_rows format lists.Line) (breaks_line format) (line_of format) (λ l. l.name) (line_named format) ms last_two.0) (named lists.Transformer (most_rows format lists.Transformer) (breaks_transformer format) (transformer_of format) (λ t. t.name) (transformer_named format) ms last_two.1))));
+      zones = All-map IsZone (zone_of format) (entries_of lists.Zone ms) (all_kept (breaks_zone format) (λ d. IsZone (zone_of format d)) (zone_measured format) 1 (entries_of lists.Zone ms) (rows_kept lists.Zone (most_rows format lists.Zone) (breaks_zone format) ms zones.0));
+      substations = All-map IsSoundSubstation substation_of (entries_of lists.Substation ms) (λ k d lt. natural_holds 1000 1000000000 fields.Ground (members_in (get_or (entries_of lists.Substation ms) k d)));
+      lines = All-map IsMeasured (line_of format) (entries_of lists.Line ms) (all_kept (breaks_line format) (λ d. IsMeasured (line_of format d)) (line_measured format) 1 (entries_of lists.Line ms) (rows_kept lists.Line (most_rows format lists.Line) (breaks_line format) ms last_two.0));
+      transformers = All-map IsMeasuredTransformer (transformer_of format) (entries_of lists.Transformer ms) (all_kept (breaks_transformer format) (λ d. IsMeasuredTransformer (transformer_of format d)) (transformer_measured format) 1 (entries_of lists.Transformer ms) (rows_kept lists.Transformer (most_rows format lists.Transformer) (breaks_transformer format) ms last_two.1));
     }
 
 buses_by : (w : Written) → flat_map (λ p. breaks_bus_reference w p.0 p.1) (enumerate_from 1 w.buses) ≡ [] → All (λ b. b.substation < length w.substations) (map (bus_with_place w) w.buses)
@@ -401,7 +399,7 @@ lines_by w measured references apart =
     let easts = All-map (λ l. east_way (parts_of l.course) ≤ 1000000) (line_with_places w) w.lines (λ k d lt. subst (λ n. n ≤ 1000000) (sym (east_stays w (get_or w.lines k d).course)) (measured k d lt).east) in
     let IsHere : Line → Type 0 = IsPlaced (length w.buses) (length w.zones) in
     let placed = All-map IsHere (line_with_places w) w.lines (all_kept (breaks_line_references w) (λ l. IsHere (line_with_places w l)) (line_placed w) 1 w.lines references) in
-    let two = all_kept (λ row l. unless (not (l.from == l.to)) (refusals.SameEnds parts.Line row)) (λ l. l.from ≢ l.to) differ 1 lines apart in
+    let two = all_kept (λ row l. unless (not (l.from == l.to)) (refusals.SameEnds lists.Line row)) (λ l. l.from ≢ l.to) differ 1 lines apart in
     λ k d lt. record {
       from_within = rw buses (placed k d lt).from;
       to_within = rw buses (placed k d lt).to;
@@ -423,7 +421,7 @@ transformers_by w measured references differ apart order =
     let many = length-map w.buses (bus_with_place w) in
     let placed = all_kept (λ row t. breaks_kind_references w row t.kind) (λ t. IsPlacedKind (length w.buses) (kind_with_places w t.kind)) (λ row t. kind_placed w row t.kind) 1 w.transformers references in
     let read = transformer_with_places w in
-    let differs = all_kept (λ row t. unless (sides_differ (windings_of t)) (refusals.SameEnds parts.Transformer row)) (λ t. sides_differ (windings_of t) ≡ true) (λ row t. unless_holds _ _) 1 c.transformers differ in
+    let differs = all_kept (λ row t. unless (sides_differ (windings_of t)) (refusals.SameEnds lists.Transformer row)) (λ t. sides_differ (windings_of t) ≡ true) (λ row t. unless_holds _ _) 1 c.transformers differ in
     let together = all_kept (λ row t. unless (are_together c.buses (windings_of t)) (refusals.Apart row)) (λ t. are_together c.buses (windings_of t) ≡ true) (λ row t. unless_holds _ _) 1 c.transformers apart in
     let ordered = all_kept (λ row t. unless (are_ordered t.high_volts (windings_of t)) (refusals.VoltageOrder row)) (λ t. are_ordered t.high_volts (windings_of t) ≡ true) (λ row t. unless_holds _ _) 1 c.transformers order in
     let differs_there = all_unmapped (λ t. sides_differ (windings_of t) ≡ true) read w.transformers differs in

@@ -6,8 +6,8 @@ use Rattle.gic_case_reader.specs.Values.{natural_within, value_at}
 use Rattle.gic_case_reader.specs.declared.field.Field.TheVariants as fields
 use Rattle.gic_case_reader.specs.declared.format.Format.{Format}
 use Rattle.gic_case_reader.specs.declared.format.Format.TheVariants as formats
-use Rattle.gic_case_reader.specs.declared.refusal.Part.{Part}
-use Rattle.gic_case_reader.specs.declared.refusal.Part.TheVariants as parts
+use Rattle.gic_case.specs.declared.case_list.CaseList.{CaseList}
+use Rattle.gic_case.specs.declared.case_list.CaseList.TheVariants as lists
 
 -- the format of a number from 1 to 3
 abbrev pub format_by : ℕ → Format
@@ -34,10 +34,10 @@ is_third formats.Two = false
 is_third formats.Three = true
 
 -- the most rows of a list
-abbrev pub most_rows : Format → Part → ℕ
-most_rows format parts.Case = 0
-most_rows format parts.Zone = MOST_ZONES
-most_rows format parts.Substation = if is_third format then MOST_SUBSTATIONS else MOST_SUBSTATIONS_BEFORE_FORMAT_3
-most_rows format parts.Bus = if is_third format then MOST_BUSES else MOST_BUSES_BEFORE_FORMAT_3
-most_rows format parts.Line = if is_third format then MOST_LINES else MOST_LINES_BEFORE_FORMAT_3
-most_rows format parts.Transformer = if is_third format then MOST_TRANSFORMERS else MOST_TRANSFORMERS_BEFORE_FORMAT_3
+abbrev pub most_rows : Format → CaseList → ℕ
+most_rows format lists.Document = 0
+most_rows format lists.Zone = MOST_ZONES
+most_rows format lists.Substation = if is_third format then MOST_SUBSTATIONS else MOST_SUBSTATIONS_BEFORE_FORMAT_3
+most_rows format lists.Bus = if is_third format then MOST_BUSES else MOST_BUSES_BEFORE_FORMAT_3
+most_rows format lists.Line = if is_third format then MOST_LINES else MOST_LINES_BEFORE_FORMAT_3
+most_rows format lists.Transformer = if is_third format then MOST_TRANSFORMERS else MOST_TRANSFORMERS_BEFORE_FORMAT_3

@@ -3,10 +3,11 @@ use Rattle.std.specs.Prelude.{ℕ, List, [], ◌∷◌, Bool, true, ◌&&◌, �
 use Rattle.std.specs.List.{list_any, list_all}
 use Rattle.toml.specs.Data.{Members, no_members, member, get_member}
 use Rattle.gic_case.specs.Names.{same}
+use Rattle.gic_case.specs.ListWord.{list_word}
 use Rattle.gic_case_reader.specs.declared.field.Field.{Field}
 use Rattle.gic_case_reader.specs.declared.field.Field.TheVariants as fields
-use Rattle.gic_case_reader.specs.declared.refusal.Part.{Part}
-use Rattle.gic_case_reader.specs.declared.refusal.Part.TheVariants as parts
+use Rattle.gic_case.specs.declared.case_list.CaseList.{CaseList}
+use Rattle.gic_case.specs.declared.case_list.CaseList.TheVariants as lists
 
 -- the key of a field
 abbrev pub key_of : Field → List ℕ
@@ -39,26 +40,17 @@ key_of fields.ThirdVolts = codes "third_volts"
 key_of fields.ThirdResistance = codes "third_resistance"
 key_of fields.Neutral = codes "neutral"
 
--- the key of a list; the document itself has none
-abbrev pub list_key : Part → List ℕ
-list_key parts.Case = []
-list_key parts.Zone = codes "zone"
-list_key parts.Substation = codes "substation"
-list_key parts.Bus = codes "bus"
-list_key parts.Line = codes "line"
-list_key parts.Transformer = codes "transformer"
-
 -- the key is that of one of these fields
 unfoldable pub is_among : List Field → List ℕ → Bool
 is_among these k = list_any (λ at. same k (key_of at)) these
 
 -- the key is that of one of these lists
-unfoldable pub is_list_key : List Part → List ℕ → Bool
-is_list_key these k = list_any (λ list. same k (list_key list)) these
+unfoldable pub is_list_key : List CaseList → List ℕ → Bool
+is_list_key these k = list_any (λ list. same k (list_word list)) these
 
 -- the document may have the key: its format, and the lists
 abbrev pub is_document_key : List ℕ → Bool
-is_document_key k = is_among (fields.Format ∷ []) k || is_list_key (parts.Zone ∷ parts.Substation ∷ parts.Bus ∷ parts.Line ∷ parts.Transformer ∷ []) k
+is_document_key k = is_among (fields.Format ∷ []) k || is_list_key (lists.Zone ∷ lists.Substation ∷ lists.Bus ∷ lists.Line ∷ lists.Transformer ∷ []) k
 
 -- each key of the members passes the test
 abbrev pub has_only : (List ℕ → Bool) → Members → Bool

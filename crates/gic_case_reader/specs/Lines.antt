@@ -10,7 +10,7 @@ use Rattle.gic_case_reader.specs.Rows.{members_in, breaks_keys, breaks_value, br
 use Rattle.gic_case_reader.specs.declared.field.Field.{Field}
 use Rattle.gic_case_reader.specs.declared.field.Field.TheVariants as fields
 use Rattle.gic_case_reader.specs.declared.format.Format.{Format}
-use Rattle.gic_case_reader.specs.declared.refusal.Part.TheVariants as parts
+use Rattle.gic_case.specs.declared.case_list.CaseList.TheVariants as lists
 use Rattle.gic_case_reader.specs.declared.refusal.CaseRefusal.{CaseRefusal}
 use Rattle.gic_case_reader.specs.declared.part_row.PartRow.{PartRow}
 use Rattle.gic_case_reader.specs.declared.row.CourseRow.TheVariants as courses
@@ -67,27 +67,27 @@ read_parts d = option_and_then (λ ps. if are_parts ps then Some ps else None) (
 abbrev pub breaks_plain_line : ℕ → Data → List CaseRefusal
 breaks_plain_line row d =
     let ms = members_in d in
-    breaks_keys parts.Line plain_line_fields (fields.Blocked ∷ []) row d
-    ++ (breaks_value read_name parts.Line row fields.Name ms
-    ++ (breaks_value read_name parts.Line row fields.From ms
-    ++ (breaks_value read_name parts.Line row fields.To ms
-    ++ (breaks_value read_name parts.Line row fields.Zone ms
-    ++ (breaks_value ohm_within parts.Line row fields.Resistance ms
-    ++ (breaks_value metres_within parts.Line row fields.North ms
-    ++ (breaks_value metres_within parts.Line row fields.East ms
-    ++ breaks_optional as_bool parts.Line row fields.Blocked ms)))))))
+    breaks_keys lists.Line plain_line_fields (fields.Blocked ∷ []) row d
+    ++ (breaks_value read_name lists.Line row fields.Name ms
+    ++ (breaks_value read_name lists.Line row fields.From ms
+    ++ (breaks_value read_name lists.Line row fields.To ms
+    ++ (breaks_value read_name lists.Line row fields.Zone ms
+    ++ (breaks_value ohm_within lists.Line row fields.Resistance ms
+    ++ (breaks_value metres_within lists.Line row fields.North ms
+    ++ (breaks_value metres_within lists.Line row fields.East ms
+    ++ breaks_optional as_bool lists.Line row fields.Blocked ms)))))))
 
 -- a line in parts has a name, the names of two buses, a resistance, perhaps whether it is blocked, and its parts
 abbrev pub breaks_parted_line : ℕ → Data → List CaseRefusal
 breaks_parted_line row d =
     let ms = members_in d in
-    breaks_keys parts.Line parted_line_fields (fields.Blocked ∷ []) row d
-    ++ (breaks_value read_name parts.Line row fields.Name ms
-    ++ (breaks_value read_name parts.Line row fields.From ms
-    ++ (breaks_value read_name parts.Line row fields.To ms
-    ++ (breaks_value ohm_within parts.Line row fields.Resistance ms
-    ++ (breaks_optional as_bool parts.Line row fields.Blocked ms
-    ++ breaks_value read_parts parts.Line row fields.Part ms)))))
+    breaks_keys lists.Line parted_line_fields (fields.Blocked ∷ []) row d
+    ++ (breaks_value read_name lists.Line row fields.Name ms
+    ++ (breaks_value read_name lists.Line row fields.From ms
+    ++ (breaks_value read_name lists.Line row fields.To ms
+    ++ (breaks_value ohm_within lists.Line row fields.Resistance ms
+    ++ (breaks_optional as_bool lists.Line row fields.Blocked ms
+    ++ breaks_value read_parts lists.Line row fields.Part ms)))))
 
 -- a line keeps the rules of a line in parts, or of one through one zone
 abbrev pub breaks_line : Format → ℕ → Data → List CaseRefusal

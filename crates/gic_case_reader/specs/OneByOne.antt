@@ -7,7 +7,7 @@ use Rattle.gic_case.specs.Names.{is_repeat}
 use Rattle.gic_case.specs.Lists.{degree_of}
 use Rattle.gic_case.specs.Windings.{windings_of}
 use Rattle.gic_case_reader.specs.Sides.{sides_differ, are_together, are_ordered}
-use Rattle.gic_case_reader.specs.declared.refusal.Part.TheVariants as parts
+use Rattle.gic_case.specs.declared.case_list.CaseList.TheVariants as lists
 use Rattle.gic_case_reader.specs.declared.refusal.CaseRefusal.{CaseRefusal}
 use Rattle.gic_case_reader.specs.declared.refusal.CaseRefusal.TheVariants as refusals
 use Rattle.gic_case.specs.declared.item.Bus.{Bus}
@@ -16,11 +16,11 @@ use Rattle.gic_case.specs.declared.item.Transformer.{Transformer}
 
 -- the two buses of each of these lines, numbered from here on, are not one
 abbrev pub breaks_same_ends_from : (row : ℕ) → List Line → List CaseRefusal
-breaks_same_ends_from row lines = flat_map (λ p. unless (not (p.1.from == p.1.to)) (refusals.SameEnds parts.Line p.0)) (enumerate_from row lines)
+breaks_same_ends_from row lines = flat_map (λ p. unless (not (p.1.from == p.1.to)) (refusals.SameEnds lists.Line p.0)) (enumerate_from row lines)
 
 -- the sides of each of these transformers, numbered from here on, have each a bus of its own
 abbrev pub breaks_same_sides_from : (row : ℕ) → List Transformer → List CaseRefusal
-breaks_same_sides_from row transformers = flat_map (λ p. unless (sides_differ (windings_of p.1)) (refusals.SameEnds parts.Transformer p.0)) (enumerate_from row transformers)
+breaks_same_sides_from row transformers = flat_map (λ p. unless (sides_differ (windings_of p.1)) (refusals.SameEnds lists.Transformer p.0)) (enumerate_from row transformers)
 
 -- the sides of each of these transformers, numbered from here on, are in one substation
 abbrev pub breaks_apart_from : List Bus → (row : ℕ) → List Transformer → List CaseRefusal

@@ -12,8 +12,8 @@ use Rattle.gic_case_reader.specs.Values.{natural_within, span_within, read_name,
 use Rattle.gic_case_reader.specs.declared.field.Field.{Field}
 use Rattle.gic_case_reader.specs.declared.field.Field.TheVariants as fields
 use Rattle.gic_case_reader.specs.declared.format.Format.{Format}
-use Rattle.gic_case_reader.specs.declared.refusal.Part.{Part}
-use Rattle.gic_case_reader.specs.declared.refusal.Part.TheVariants as parts
+use Rattle.gic_case.specs.declared.case_list.CaseList.{CaseList}
+use Rattle.gic_case.specs.declared.case_list.CaseList.TheVariants as lists
 use Rattle.gic_case_reader.specs.declared.refusal.CaseRefusal.{CaseRefusal}
 use Rattle.gic_case_reader.specs.declared.refusal.CaseRefusal.TheVariants as refusals
 use Rattle.gic_case.specs.declared.item.Substation.{Substation}
@@ -26,11 +26,11 @@ abbrev pub members_in : Data → Members
 members_in d = unwrap_or (as_table d) no_members
 
 -- a row is a table, has each required key, and has no key but these and the others
-abbrev pub breaks_keys : Part → (required others : List Field) → ℕ → Data → List CaseRefusal
+abbrev pub breaks_keys : CaseList → (required others : List Field) → ℕ → Data → List CaseRefusal
 breaks_keys list required others row d = unless (is_some (as_table d) && fits required others (members_in d)) (refusals.Key list row)
 
 -- a field has a value of its kind
-abbrev pub breaks_value : {A : Type 0} → (Data → Option A) → Part → ℕ → Field → Members → List CaseRefusal
+abbrev pub breaks_value : {A : Type 0} → (Data → Option A) → CaseList → ℕ → Field → Members → List CaseRefusal
 breaks_value read list row at ms = unless (is_some (value_at read at ms)) (refusals.Value list row at)
 
 -- what is there is of its kind
@@ -39,7 +39,7 @@ breaks_present read refusal None = []
 breaks_present read refusal (Some d) = unless (is_some (read d)) refusal
 
 -- a field that may be absent has a value of its kind where it is there
-abbrev pub breaks_optional : {A : Type 0} → (Data → Option A) → Part → ℕ → Field → Members → List CaseRefusal
+abbrev pub breaks_optional : {A : Type 0} → (Data → Option A) → CaseList → ℕ → Field → Members → List CaseRefusal
 breaks_optional read list row at ms = breaks_present read (refusals.Value list row at) (get_member (key_of at) ms)
 
 -- a resistance in micro-ohm
@@ -79,18 +79,18 @@ is_scaled format d = is_third format && has fields.Scale (members_in d)
 abbrev pub breaks_earth_zone : ℕ → Data → List CaseRefusal
 breaks_earth_zone row d =
     let ms = members_in d in
-    breaks_keys parts.Zone earth_zone_fields [] row d
-    ++ (breaks_value read_name parts.Zone row fields.Name ms
-    ++ (breaks_value (natural_within 0 9000) parts.Zone row fields.Latitude ms
-    ++ breaks_value (natural_within 1 150) parts.Zone row fields.Beta ms))
+    breaks_keys lists.Zone earth_zone_fields [] row d
+    ++ (breaks_value read_name lists.Zone row fields.Name ms
+    ++ (breaks_value (natural_within 0 9000) lists.Zone row fields.Latitude ms
+    ++ breaks_value (natural_within 1 150) lists.Zone row fields.Beta ms))
 
 -- a zone by its scale has a name, and the scale in thousandths
 abbrev pub breaks_scaled_zone : ℕ → Data → List CaseRefusal
 breaks_scaled_zone row d =
     let ms = members_in d in
-    breaks_keys parts.Zone scaled_zone_fields [] row d
-    ++ (breaks_value read_name parts.Zone row fields.Name ms
-    ++ breaks_value (natural_within 1 1500) parts.Zone row fields.Scale ms)
+    breaks_keys lists.Zone scaled_zone_fields [] row d
+    ++ (breaks_value read_name lists.Zone row fields.Name ms
+    ++ breaks_value (natural_within 1 1500) lists.Zone row fields.Scale ms)
 
 -- a zone keeps the rules of a zone by its scale, or of one by its latitude and its earth
 abbrev pub breaks_zone : Format → ℕ → Data → List CaseRefusal
@@ -122,9 +122,9 @@ zone_of format d = if is_scaled format d then scaled_zone_of d else earth_zone_o
 abbrev pub breaks_substation : ℕ → Data → List CaseRefusal
 breaks_substation row d =
     let ms = members_in d in
-    breaks_keys parts.Substation (fields.Name ∷ []) (fields.Ground ∷ []) row d
-    ++ (breaks_value read_name parts.Substation row fields.Name ms
-    ++ breaks_optional ohm_within parts.Substation row fields.Ground ms)
+    breaks_keys lists.Substation (fields.Name ∷ []) (fields.Ground ∷ []) row d
+    ++ (breaks_value read_name lists.Substation row fields.Name ms
+    ++ breaks_optional ohm_within lists.Substation row fields.Ground ms)
 
 -- the substation that a row is
 abbrev pub substation_of : Data → Substation
@@ -140,9 +140,9 @@ bus_fields = fields.Name ∷ fields.Substation ∷ []
 abbrev pub breaks_bus : ℕ → Data → List CaseRefusal
 breaks_bus row d =
     let ms = members_in d in
-    breaks_keys parts.Bus bus_fields [] row d
-    ++ (breaks_value read_name parts.Bus row fields.Name ms
-    ++ breaks_value read_name parts.Bus row fields.Substation ms)
+    breaks_keys lists.Bus bus_fields [] row d
+    ++ (breaks_value read_name lists.Bus row fields.Name ms
+    ++ breaks_value read_name lists.Bus row fields.Substation ms)
 
 -- the bus that a row is
 abbrev pub bus_of : Data → BusRow

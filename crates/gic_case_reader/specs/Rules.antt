@@ -7,7 +7,8 @@ use Rattle.toml.specs.Parse.{parse_document}
 use Rattle.gic_base.specs.Refusals.{unless, settle}
 use Rattle.gic_base.specs.declared.limits.TheConstants.{MOST_AT_A_NODE}
 use Rattle.gic_case.specs.ZoneView.{ZoneView}
-use Rattle.gic_case_reader.specs.Keys.{fits_document, list_key}
+use Rattle.gic_case_reader.specs.Keys.{fits_document}
+use Rattle.gic_case.specs.ListWord.{list_word}
 use Rattle.gic_case_reader.specs.Formats.{read_format, format_in, most_rows}
 use Rattle.gic_case_reader.specs.Rows.{breaks_value, breaks_zone, zone_of, breaks_substation, substation_of, breaks_bus, bus_of}
 use Rattle.gic_case_reader.specs.Lines.{breaks_line, line_of}
@@ -18,8 +19,8 @@ use Rattle.gic_case.specs.Windings.{windings_of}
 use Rattle.gic_case_reader.specs.Sides.{sides_differ, are_together, are_ordered}
 use Rattle.gic_case_reader.specs.declared.field.Field.{Field}
 use Rattle.gic_case_reader.specs.declared.field.Field.TheVariants as fields
-use Rattle.gic_case_reader.specs.declared.refusal.Part.{Part}
-use Rattle.gic_case_reader.specs.declared.refusal.Part.TheVariants as parts
+use Rattle.gic_case.specs.declared.case_list.CaseList.{CaseList}
+use Rattle.gic_case.specs.declared.case_list.CaseList.TheVariants as lists
 use Rattle.gic_case_reader.specs.declared.refusal.CaseRefusal.{CaseRefusal}
 use Rattle.gic_case_reader.specs.declared.refusal.CaseRefusal.TheVariants as refusals
 use Rattle.gic_case.specs.declared.item.Substation.{Substation}
@@ -28,18 +29,15 @@ use Rattle.gic_case.specs.declared.part.LinePart.{LinePart}
 use Rattle.gic_case.specs.declared.course.Course.{Course}
 use Rattle.gic_case.specs.declared.course.Course.TheVariants as courses
 use Rattle.gic_case.specs.declared.item.Line.{Line}
-use Rattle.gic_case.specs.declared.item.Third.{Third}
-use Rattle.gic_case.specs.declared.item.Kind.{Kind}
-use Rattle.gic_case.specs.declared.item.Kind.TheVariants as kinds
+use Rattle.gic_case.specs.declared.kind.Third.{Third}
+use Rattle.gic_case.specs.declared.kind.Kind.{Kind}
+use Rattle.gic_case.specs.declared.kind.Kind.TheVariants as kinds
 use Rattle.gic_case.specs.declared.item.Transformer.{Transformer}
 use Rattle.gic_case_reader.specs.declared.row.BusRow.{BusRow}
 use Rattle.gic_case_reader.specs.declared.part_row.PartRow.{PartRow}
 use Rattle.gic_case_reader.specs.declared.row.CourseRow.{CourseRow}
 use Rattle.gic_case_reader.specs.declared.row.CourseRow.TheVariants as written
 use Rattle.gic_case_reader.specs.declared.row.LineRow.{LineRow}
-use Rattle.gic_case_reader.specs.declared.row.ThirdRow.{ThirdRow}
-use Rattle.gic_case_reader.specs.declared.row.KindRow.{KindRow}
-use Rattle.gic_case_reader.specs.declared.row.KindRow.TheVariants as rows
 use Rattle.gic_case_reader.specs.declared.row.TransformerRow.{TransformerRow}
 
 -- the entries of an array
@@ -53,8 +51,8 @@ array_in None = []
 array_in (Some d) = list_in (unwrap_or (as_array d) no_items)
 
 -- the entries of a list of the document
-abbrev pub entries_of : Part → Members → List Data
-entries_of list ms = array_in (get_member (list_key list) ms)
+abbrev pub entries_of : CaseList → Members → List Data
+entries_of list ms = array_in (get_member (list_word list) ms)
 
 -- a list is an array where it is there
 abbrev pub is_array : Option Data → Bool
@@ -62,9 +60,9 @@ is_array None = true
 is_array (Some d) = is_some (as_array d)
 
 -- a list is an array of a given number of rows at most, and each row keeps its rules
-abbrev pub breaks_list : Part → (limit : ℕ) → (ℕ → Data → List CaseRefusal) → Members → List CaseRefusal
+abbrev pub breaks_list : CaseList → (limit : ℕ) → (ℕ → Data → List CaseRefusal) → Members → List CaseRefusal
 breaks_list list limit breaks ms =
-    unless (is_array (get_member (list_key list) ms)) (refusals.Key list 0)
+    unless (is_array (get_member (list_word list) ms)) (refusals.Key list 0)
     ++ (unless (nat_le (length (entries_of list ms)) limit) (refusals.TooMany list)
     ++ flat_map (λ p. breaks p.0 p.1) (enumerate_from 1 (entries_of list ms)))
 
@@ -72,13 +70,13 @@ breaks_list list limit breaks ms =
 unfoldable pub breaks_form : Members → List CaseRefusal
 breaks_form ms =
     let format = format_in ms in
-    unless (fits_document ms) (refusals.Key parts.Case 0)
-    ++ (breaks_value read_format parts.Case 0 fields.Format ms
-    ++ (breaks_list parts.Zone (most_rows format parts.Zone) (breaks_zone format) ms
-    ++ (breaks_list parts.Substation (most_rows format parts.Substation) breaks_substation ms
-    ++ (breaks_list parts.Bus (most_rows format parts.Bus) breaks_bus ms
-    ++ (breaks_list parts.Line (most_rows format parts.Line) (breaks_line format) ms
-    ++ breaks_list parts.Transformer (most_rows format parts.Transformer) (breaks_transformer format) ms)))))
+    unless (fits_document ms) (refusals.Key lists.Document 0)
+    ++ (breaks_value read_format lists.Document 0 fields.Format ms
+    ++ (breaks_list lists.Zone (most_rows format lists.Zone) (breaks_zone format) ms
+    ++ (breaks_list lists.Substation (most_rows format lists.Substation) breaks_substation ms
+    ++ (breaks_list lists.Bus (most_rows format lists.Bus) breaks_bus ms
+    ++ (breaks_list lists.Line (most_rows format lists.Line) (breaks_line format) ms
+    ++ breaks_list lists.Transformer (most_rows format lists.Transformer) (breaks_transformer format) ms)))))
 
 -- the rows as they are written, with names in place of references
 pub record Written : Type 0 where
@@ -91,11 +89,11 @@ pub record Written : Type 0 where
 -- the rows of a document, each field that breaks its rule taken as zero
 unfoldable pub written_in : Members → Written
 written_in ms = record {
-  zones = map (zone_of (format_in ms)) (entries_of parts.Zone ms);
-  substations = map substation_of (entries_of parts.Substation ms);
-  buses = map bus_of (entries_of parts.Bus ms);
-  lines = map (line_of (format_in ms)) (entries_of parts.Line ms);
-  transformers = map (transformer_of (format_in ms)) (entries_of parts.Transformer ms);
+  zones = map (zone_of (format_in ms)) (entries_of lists.Zone ms);
+  substations = map substation_of (entries_of lists.Substation ms);
+  buses = map bus_of (entries_of lists.Bus ms);
+  lines = map (line_of (format_in ms)) (entries_of lists.Line ms);
+  transformers = map (transformer_of (format_in ms)) (entries_of lists.Transformer ms);
 }
 
 -- the names of all rows, list after list
@@ -105,11 +103,11 @@ written_names w = map (λ z. z.name) w.zones ++ (map (λ s. s.name) w.substation
 -- the refusal for a place in these names
 abbrev pub duplicate_at : (zones substations buses lines : ℕ) → ℕ → CaseRefusal
 duplicate_at zones substations buses lines i =
-    if nat_lt i zones then refusals.Duplicate parts.Zone (i + 1)
-    else if nat_lt i (zones + substations) then refusals.Duplicate parts.Substation (i - zones + 1)
-    else if nat_lt i (zones + substations + buses) then refusals.Duplicate parts.Bus (i - (zones + substations) + 1)
-    else if nat_lt i (zones + substations + buses + lines) then refusals.Duplicate parts.Line (i - (zones + substations + buses) + 1)
-    else refusals.Duplicate parts.Transformer (i - (zones + substations + buses + lines) + 1)
+    if nat_lt i zones then refusals.Duplicate lists.Zone (i + 1)
+    else if nat_lt i (zones + substations) then refusals.Duplicate lists.Substation (i - zones + 1)
+    else if nat_lt i (zones + substations + buses) then refusals.Duplicate lists.Bus (i - (zones + substations) + 1)
+    else if nat_lt i (zones + substations + buses + lines) then refusals.Duplicate lists.Line (i - (zones + substations + buses) + 1)
+    else refusals.Duplicate lists.Transformer (i - (zones + substations + buses + lines) + 1)
 
 -- a row's name is the name of no earlier row
 unfoldable pub breaks_once : Written → List CaseRefusal
@@ -131,7 +129,7 @@ zone_place w = place_in (map (λ z. z.name) w.zones)
 
 -- a bus is in one of the substations
 abbrev pub breaks_bus_reference : Written → ℕ → BusRow → List CaseRefusal
-breaks_bus_reference w row b = unless (is_some (substation_place w b.substation)) (refusals.Unknown parts.Bus row fields.Substation)
+breaks_bus_reference w row b = unless (is_some (substation_place w b.substation)) (refusals.Unknown lists.Bus row fields.Substation)
 
 -- a part of a line is in one of the zones
 abbrev pub is_in_zone : Written → PartRow → Bool
@@ -139,32 +137,32 @@ is_in_zone w part = is_some (zone_place w part.zone)
 
 -- a line leads through one of the zones, or each of its parts does
 abbrev pub breaks_course_reference : Written → ℕ → CourseRow → List CaseRefusal
-breaks_course_reference w row (written.One part) = unless (is_in_zone w part) (refusals.Unknown parts.Line row fields.Zone)
-breaks_course_reference w row (written.Several ps) = unless (list_all (is_in_zone w) ps) (refusals.Unknown parts.Line row fields.Part)
+breaks_course_reference w row (written.One part) = unless (is_in_zone w part) (refusals.Unknown lists.Line row fields.Zone)
+breaks_course_reference w row (written.Several ps) = unless (list_all (is_in_zone w) ps) (refusals.Unknown lists.Line row fields.Part)
 
 -- a line runs between two of the buses, and through the zones
 abbrev pub breaks_line_references : Written → ℕ → LineRow → List CaseRefusal
 breaks_line_references w row l =
-    unless (is_some (bus_place w l.from)) (refusals.Unknown parts.Line row fields.From)
-    ++ (unless (is_some (bus_place w l.to)) (refusals.Unknown parts.Line row fields.To)
+    unless (is_some (bus_place w l.from)) (refusals.Unknown lists.Line row fields.From)
+    ++ (unless (is_some (bus_place w l.to)) (refusals.Unknown lists.Line row fields.To)
     ++ breaks_course_reference w row l.course)
 
 -- a side of a transformer is at one of the buses
 abbrev pub breaks_side_reference : Written → ℕ → Field → (bus : List ℕ) → List CaseRefusal
-breaks_side_reference w row at bus = unless (is_some (bus_place w bus)) (refusals.Unknown parts.Transformer row at)
+breaks_side_reference w row at bus = unless (is_some (bus_place w bus)) (refusals.Unknown lists.Transformer row at)
 
 -- a third side, where there is one, is at one of the buses
-abbrev pub breaks_third_reference : Written → ℕ → Option ThirdRow → List CaseRefusal
+abbrev pub breaks_third_reference : Written → ℕ → Option (Third (List ℕ)) → List CaseRefusal
 breaks_third_reference w row None = []
 breaks_third_reference w row (Some t) = breaks_side_reference w row fields.Third t.bus
 
 -- the sides that a kind has are at buses: first the high one, then the low one, then the third
-abbrev pub breaks_kind_references : Written → ℕ → KindRow → List CaseRefusal
-breaks_kind_references w row (rows.DeltaWye high high_resistance) = breaks_side_reference w row fields.High high
-breaks_kind_references w row (rows.WyeWye high low low_volts high_resistance low_resistance third) = breaks_side_reference w row fields.High high ++ (breaks_side_reference w row fields.Low low ++ breaks_third_reference w row third)
-breaks_kind_references w row (rows.Auto high low low_volts series_resistance common_resistance third) = breaks_side_reference w row fields.High high ++ (breaks_side_reference w row fields.Low low ++ breaks_third_reference w row third)
-breaks_kind_references w row (rows.Reactor high high_resistance) = breaks_side_reference w row fields.High high
-breaks_kind_references w row rows.DeltaDelta = []
+abbrev pub breaks_kind_references : Written → ℕ → Kind (List ℕ) → List CaseRefusal
+breaks_kind_references w row (kinds.DeltaWye high high_resistance) = breaks_side_reference w row fields.High high
+breaks_kind_references w row (kinds.WyeWye high low low_volts high_resistance low_resistance third) = breaks_side_reference w row fields.High high ++ (breaks_side_reference w row fields.Low low ++ breaks_third_reference w row third)
+breaks_kind_references w row (kinds.Auto high low low_volts series_resistance common_resistance third) = breaks_side_reference w row fields.High high ++ (breaks_side_reference w row fields.Low low ++ breaks_third_reference w row third)
+breaks_kind_references w row (kinds.Reactor high high_resistance) = breaks_side_reference w row fields.High high
+breaks_kind_references w row kinds.DeltaDelta = []
 
 -- each reference is the name of a row of its list
 unfoldable pub breaks_references : Written → List CaseRefusal
@@ -202,16 +200,16 @@ abbrev pub side_place : Written → (bus : List ℕ) → ℕ
 side_place w bus = unwrap_or (bus_place w bus) 0
 
 -- a third side, with the place of its bus
-abbrev pub third_with_place : Written → ThirdRow → Third
+abbrev pub third_with_place : Written → Third (List ℕ) → Third ℕ
 third_with_place w t = record { bus = side_place w t.bus; volts = t.volts; resistance = t.resistance }
 
 -- a kind, with the places of its buses
-abbrev pub kind_with_places : Written → KindRow → Kind
-kind_with_places w (rows.DeltaWye high high_resistance) = kinds.DeltaWye (side_place w high) high_resistance
-kind_with_places w (rows.WyeWye high low low_volts high_resistance low_resistance third) = kinds.WyeWye (side_place w high) (side_place w low) low_volts high_resistance low_resistance (option_map (third_with_place w) third)
-kind_with_places w (rows.Auto high low low_volts series_resistance common_resistance third) = kinds.Auto (side_place w high) (side_place w low) low_volts series_resistance common_resistance (option_map (third_with_place w) third)
-kind_with_places w (rows.Reactor high high_resistance) = kinds.Reactor (side_place w high) high_resistance
-kind_with_places w rows.DeltaDelta = kinds.DeltaDelta
+abbrev pub kind_with_places : Written → Kind (List ℕ) → Kind ℕ
+kind_with_places w (kinds.DeltaWye high high_resistance) = kinds.DeltaWye (side_place w high) high_resistance
+kind_with_places w (kinds.WyeWye high low low_volts high_resistance low_resistance third) = kinds.WyeWye (side_place w high) (side_place w low) low_volts high_resistance low_resistance (option_map (third_with_place w) third)
+kind_with_places w (kinds.Auto high low low_volts series_resistance common_resistance third) = kinds.Auto (side_place w high) (side_place w low) low_volts series_resistance common_resistance (option_map (third_with_place w) third)
+kind_with_places w (kinds.Reactor high high_resistance) = kinds.Reactor (side_place w high) high_resistance
+kind_with_places w kinds.DeltaDelta = kinds.DeltaDelta
 
 -- a transformer, with the places of its buses
 abbrev pub transformer_with_places : Written → TransformerRow → Transformer
@@ -233,11 +231,11 @@ breaks_rows test refusal rows = flat_map (λ p. unless (test p.1) (refusal p.0))
 
 -- no line has one bus for two
 abbrev pub breaks_same_ends : Lists → List CaseRefusal
-breaks_same_ends c = breaks_rows (λ l. not (l.from == l.to)) (refusals.SameEnds parts.Line) c.lines
+breaks_same_ends c = breaks_rows (λ l. not (l.from == l.to)) (refusals.SameEnds lists.Line) c.lines
 
 -- no transformer has one bus for two of its sides
 abbrev pub breaks_same_sides : Lists → List CaseRefusal
-breaks_same_sides c = breaks_rows (λ t. sides_differ (windings_of t)) (refusals.SameEnds parts.Transformer) c.transformers
+breaks_same_sides c = breaks_rows (λ t. sides_differ (windings_of t)) (refusals.SameEnds lists.Transformer) c.transformers
 
 -- no transformer stands in two substations
 abbrev pub breaks_apart : Lists → List CaseRefusal

@@ -10,12 +10,12 @@ use Rattle.gic_case_reader.specs.Rows.{members_in, breaks_value, breaks_optional
 use Rattle.gic_case_reader.specs.declared.field.Field.{Field}
 use Rattle.gic_case_reader.specs.declared.field.Field.TheVariants as fields
 use Rattle.gic_case_reader.specs.declared.format.Format.{Format}
-use Rattle.gic_case_reader.specs.declared.refusal.Part.TheVariants as parts
+use Rattle.gic_case.specs.declared.case_list.CaseList.TheVariants as lists
 use Rattle.gic_case_reader.specs.declared.refusal.CaseRefusal.{CaseRefusal}
 use Rattle.gic_case_reader.specs.declared.refusal.CaseRefusal.TheVariants as refusals
-use Rattle.gic_case_reader.specs.declared.row.ThirdRow.{ThirdRow}
-use Rattle.gic_case_reader.specs.declared.row.KindRow.{KindRow}
-use Rattle.gic_case_reader.specs.declared.row.KindRow.TheVariants as kinds
+use Rattle.gic_case.specs.declared.kind.Third.{Third}
+use Rattle.gic_case.specs.declared.kind.Kind.{Kind}
+use Rattle.gic_case.specs.declared.kind.Kind.TheVariants as kinds
 use Rattle.gic_case_reader.specs.declared.row.TransformerRow.{TransformerRow}
 use Rattle.gic_case_reader.specs.declared.transformer.KindWord.{KindWord}
 use Rattle.gic_case_reader.specs.declared.transformer.KindWord.TheVariants as words
@@ -74,15 +74,15 @@ kind_of format ms = unwrap_or (value_at (read_kind format) fields.Kind ms) words
 
 -- the field of a transformer is the name of a bus
 abbrev pub breaks_bus_name : ℕ → Field → Members → List CaseRefusal
-breaks_bus_name = breaks_value read_name parts.Transformer
+breaks_bus_name = breaks_value read_name lists.Transformer
 
 -- the field of a transformer is a resistance
 abbrev pub breaks_ohm : ℕ → Field → Members → List CaseRefusal
-breaks_ohm = breaks_value ohm_within parts.Transformer
+breaks_ohm = breaks_value ohm_within lists.Transformer
 
 -- the field of a transformer is a rated voltage
 abbrev pub breaks_volts : ℕ → Field → Members → List CaseRefusal
-breaks_volts = breaks_value volts_within parts.Transformer
+breaks_volts = breaks_value volts_within lists.Transformer
 
 -- the values of the fields of a third winding, of a unit with one
 abbrev pub breaks_third : (with_third : Bool) → ℕ → Members → List CaseRefusal
@@ -130,13 +130,13 @@ breaks_own words.DeltaDelta row ms = []
 abbrev pub breaks_transformer : Format → ℕ → Data → List CaseRefusal
 breaks_transformer format row d =
     let ms = members_in d in
-    unless (is_some (as_table d) && has fields.Kind ms) (refusals.Key parts.Transformer row)
-    ++ (breaks_value (read_kind format) parts.Transformer row fields.Kind ms
-    ++ (unless (fits (fields_of (kind_of format ms)) (others_of format (kind_of format ms)) ms) (refusals.Key parts.Transformer row)
-    ++ (breaks_value read_name parts.Transformer row fields.Name ms
+    unless (is_some (as_table d) && has fields.Kind ms) (refusals.Key lists.Transformer row)
+    ++ (breaks_value (read_kind format) lists.Transformer row fields.Kind ms
+    ++ (unless (fits (fields_of (kind_of format ms)) (others_of format (kind_of format ms)) ms) (refusals.Key lists.Transformer row)
+    ++ (breaks_value read_name lists.Transformer row fields.Name ms
     ++ (breaks_volts row fields.HighVolts ms
     ++ (breaks_own (kind_of format ms) row ms
-    ++ breaks_optional read_neutral parts.Transformer row fields.Neutral ms)))))
+    ++ breaks_optional read_neutral lists.Transformer row fields.Neutral ms)))))
 
 -- the name in a field of a row, and none where there is no name
 abbrev pub name_in : Field → Members → List ℕ
@@ -151,20 +151,20 @@ abbrev pub volts_in : Field → Members → ℕ
 volts_in at ms = unwrap_or (value_at volts_within at ms) 0
 
 -- the third winding that a row tells, of a unit with one
-abbrev pub third_told : (with_third : Bool) → Members → Option ThirdRow
+abbrev pub third_told : (with_third : Bool) → Members → Option (Third (List ℕ))
 third_told false ms = None
 third_told true ms = Some (record { bus = name_in fields.Third ms; volts = volts_in fields.ThirdVolts ms; resistance = ohm_in fields.ThirdResistance ms })
 
 -- a wye-wye unit, with a third winding or without
-abbrev pub wye_wye_in : (with_third : Bool) → Members → KindRow
+abbrev pub wye_wye_in : (with_third : Bool) → Members → Kind (List ℕ)
 wye_wye_in with_third ms = kinds.WyeWye (name_in fields.High ms) (name_in fields.Low ms) (volts_in fields.LowVolts ms) (ohm_in fields.HighResistance ms) (ohm_in fields.LowResistance ms) (third_told with_third ms)
 
 -- an autotransformer, with a third winding or without
-abbrev pub auto_in : (with_third : Bool) → Members → KindRow
+abbrev pub auto_in : (with_third : Bool) → Members → Kind (List ℕ)
 auto_in with_third ms = kinds.Auto (name_in fields.High ms) (name_in fields.Low ms) (volts_in fields.LowVolts ms) (ohm_in fields.SeriesResistance ms) (ohm_in fields.CommonResistance ms) (third_told with_third ms)
 
 -- what a row of a kind has of its own
-abbrev pub own_of : KindWord → Members → KindRow
+abbrev pub own_of : KindWord → Members → Kind (List ℕ)
 own_of words.DeltaWye ms = kinds.DeltaWye (name_in fields.High ms) (ohm_in fields.HighResistance ms)
 own_of words.WyeWye ms = wye_wye_in false ms
 own_of words.Auto ms = auto_in false ms

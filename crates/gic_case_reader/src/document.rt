@@ -4,7 +4,7 @@ ghost use Rattle.toml.specs.View.{table_view};
 ghost use Rattle.gic_base.specs.Refusals.{AnswersRead, AnswersExactly};
 ghost use Rattle.gic_base.specs.Passes.{or_refuse, test};
 ghost use Rattle.gic_case_reader.specs.declared.refusal.CaseRefusal.TheVariants.{NotToml, Key};
-ghost use Rattle.gic_case_reader.specs.declared.refusal.Part.TheVariants as parts;
+ghost use Rattle.gic_case.specs.declared.case_list.CaseList.TheVariants as lists;
 ghost use Rattle.gic_case_reader.specs.Keys.{fits_document};
 ghost use Rattle.gic_case_reader.specs.Rules.{Written, document_of};
 ghost use Rattle.gic_case_reader.specs.Pass.{rows_of};
@@ -12,10 +12,10 @@ ghost use Rattle.gic_case_reader.specs.Pass.{rows_of};
 use crate::format::format_at;
 use crate::keys::fits_document;
 use crate::list::list_at;
-use crate::refusal::{CaseRefusal, Part};
+use crate::refusal::CaseRefusal;
 use crate::row::{BusRow, LineRow, TransformerRow};
 use gic_base::ReadFault;
-use gic_case::{Substation, Zone};
+use gic_case::{CaseList, Substation, Zone};
 use std::alloc::Global;
 use std::marker::Model;
 use toml::Table;
@@ -38,13 +38,13 @@ pub(crate) fn document_of(alloc: Global, bytes: &[u8]) -> Result<Table, ReadFaul
 
 /// Whether the document has the keys that it may and must have.
 fn document_keys(table: &Table) -> Result<(), CaseRefusal>
-    ensures { AnswersExactly (λ u. u) result (test (fits_document (table_view table.now)) (Key parts.Case 0)) }
+    ensures { AnswersExactly (λ u. u) result (test (fits_document (table_view table.now)) (Key lists.Document 0)) }
 {
     if fits_document(table) {
         Ok(())
     } else {
         Err(CaseRefusal::Key {
-            list: Part::Case,
+            list: CaseList::Document,
             row: 0,
         })
     }
@@ -67,9 +67,17 @@ impl Model for Rows {
 
     ghost Value = { Written };
 
-    ghost view = { λ r. record { zones = r.zones.items; substations = r.substations.items; buses = r.buses.items; lines = r.lines.items; transformers = r.transformers.items } };
+    ghost view = { λ r. record {
+      zones = r.zones.items;
+      substations = r.substations.items;
+      buses = r.buses.items;
+      lines = r.lines.items;
+      transformers = r.transformers.items;
+    } };
 
-    ghost invariant = { λ r. (length r.zones.items ≤ MOST_ZONES) × (length r.substations.items ≤ MOST_SUBSTATIONS) × (length r.buses.items ≤ MOST_BUSES) × (length r.lines.items ≤ MOST_LINES) × (length r.transformers.items ≤ MOST_TRANSFORMERS) };
+    ghost invariant = { λ r. (length r.zones.items ≤ MOST_ZONES) × (length r.substations.items ≤ MOST_SUBSTATIONS)
+        × (length r.buses.items ≤ MOST_BUSES) × (length r.lines.items ≤ MOST_LINES)
+        × (length r.transformers.items ≤ MOST_TRANSFORMERS) };
 }
 
 impl Rows {
@@ -80,11 +88,11 @@ impl Rows {
     {
         document_keys(table)?;
         let format = format_at(table)?;
-        let zones = list_at(alloc, Part::Zone, format, table)?;
-        let substations = list_at(alloc, Part::Substation, format, table)?;
-        let buses = list_at(alloc, Part::Bus, format, table)?;
-        let lines = list_at(alloc, Part::Line, format, table)?;
-        let transformers = list_at(alloc, Part::Transformer, format, table)?;
+        let zones = list_at(alloc, CaseList::Zone, format, table)?;
+        let substations = list_at(alloc, CaseList::Substation, format, table)?;
+        let buses = list_at(alloc, CaseList::Bus, format, table)?;
+        let lines = list_at(alloc, CaseList::Line, format, table)?;
+        let transformers = list_at(alloc, CaseList::Transformer, format, table)?;
         Ok(Rows {
             zones,
             substations,

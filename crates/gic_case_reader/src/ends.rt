@@ -71,7 +71,8 @@ pub(crate) fn push_device_ends(
     buses: &[Bus],
     neutrals: &[(u16, Transformer)],
 ) -> Result<(), AllocError>
-    ensures { OnOk result (ends.new.items ≡ ends.old.items ++ flat_map (λ p. device_ends p.0 (grid_of buses.now p.1) p.1.neutral) neutrals.now) }
+    ensures { OnOk result (ends.new.items ≡
+        ends.old.items ++ flat_map (λ p. device_ends p.0 (grid_of buses.now p.1) p.1.neutral) neutrals.now) }
 {
     for (neutral, transformer) in neutrals {
         let grid = u32::from(grid_of(buses, transformer));

@@ -3,18 +3,19 @@ ghost use Rattle.std.specs.Prelude.{◌≡◌, ◌<◌, ◌^◌, if◌then◌els
 ghost use Rattle.toml.specs.View.{table_view};
 ghost use Rattle.gic_base.specs.Refusals.{AnswersExactly};
 ghost use Rattle.gic_case_reader.specs.declared.field.Field.TheVariants as fields;
-ghost use Rattle.gic_case_reader.specs.declared.refusal.Part.TheVariants as parts;
+ghost use Rattle.gic_case.specs.declared.case_list.CaseList.TheVariants as lists;
 ghost use Rattle.gic_case_reader.specs.Formats.{format_by, read_format, has_devices, is_third, most_rows};
 ghost use Rattle.gic_case_reader.specs.Pass.{required};
 
 use crate::field::Field;
-use crate::refusal::{CaseRefusal, Part};
+use crate::refusal::CaseRefusal;
 use crate::value::natural_at;
 use gic_base::limits::{
     MOST_BUSES, MOST_BUSES_BEFORE_FORMAT_3, MOST_LINES, MOST_LINES_BEFORE_FORMAT_3,
     MOST_SUBSTATIONS, MOST_SUBSTATIONS_BEFORE_FORMAT_3, MOST_TRANSFORMERS,
     MOST_TRANSFORMERS_BEFORE_FORMAT_3, MOST_ZONES,
 };
+use gic_case::CaseList;
 use toml::Table;
 
 /// The format of a case: what its rows may say, and how many of them there may be.
@@ -58,17 +59,20 @@ impl Format {
     }
 
     /// The most rows of a list.
-    pub(crate) fn most_rows(self, list: Part) -> usize
+    pub(crate) fn most_rows(self, list: CaseList) -> usize
         ensures value { result ≡ most_rows self list }
         ensures few { result < 2 ^ 16 }
     {
         match list {
-            Part::Case => 0,
-            Part::Zone => MOST_ZONES,
-            Part::Substation => self.choose(MOST_SUBSTATIONS, MOST_SUBSTATIONS_BEFORE_FORMAT_3),
-            Part::Bus => self.choose(MOST_BUSES, MOST_BUSES_BEFORE_FORMAT_3),
-            Part::Line => self.choose(MOST_LINES, MOST_LINES_BEFORE_FORMAT_3),
-            Part::Transformer => self.choose(MOST_TRANSFORMERS, MOST_TRANSFORMERS_BEFORE_FORMAT_3),
+            CaseList::Document => 0,
+            CaseList::Zone => MOST_ZONES,
+            CaseList::Substation => self.choose(MOST_SUBSTATIONS, MOST_SUBSTATIONS_BEFORE_FORMAT_3),
+            CaseList::Bus => self.choose(MOST_BUSES, MOST_BUSES_BEFORE_FORMAT_3),
+            CaseList::Line => self.choose(MOST_LINES, MOST_LINES_BEFORE_FORMAT_3),
+            CaseList::Transformer => self.choose(
+                MOST_TRANSFORMERS,
+                MOST_TRANSFORMERS_BEFORE_FORMAT_3,
+            ),
         }
     }
 
@@ -83,8 +87,8 @@ impl Format {
 /// The format of a document.
 #[tactic(auto, unfolding(crate::specs::Pass::required))]
 pub(crate) fn format_at(table: &Table) -> Result<Format, CaseRefusal>
-    ensures { AnswersExactly (λ f. f) result (required read_format parts.Case 0 fields.Format (table_view table.now)) }
+    ensures { AnswersExactly (λ f. f) result (required read_format lists.Document 0 fields.Format (table_view table.now)) }
 {
-    let number = natural_at(Part::Case, 0, Field::Format, 1, 3, table)?;
+    let number = natural_at(CaseList::Document, 0, Field::Format, 1, 3, table)?;
     Ok(Format::of(number))
 }

@@ -3,34 +3,21 @@ ghost use Rattle.std.specs.Prelude.{◌≡◌, option_map, ◌||◌};
 ghost use Rattle.toml.specs.Data.{get_member};
 ghost use Rattle.toml.specs.View.{view, table_view};
 ghost use Rattle.gic_base.specs.Refusals.{AnswersExactly};
-ghost use Rattle.gic_case_reader.specs.Keys.{list_key, is_among, is_list_key, is_document_key, has, has_only, has_all, fits, fits_document};
+ghost use Rattle.gic_case_reader.specs.Keys.{is_among, is_list_key, is_document_key, has, has_only, has_all, fits, fits_document};
 ghost use Rattle.gic_case_reader.specs.Rows.{members_in};
 ghost use Rattle.gic_case_reader.specs.Pass.{row_table};
 
 use crate::field::{Field, is_among};
-use crate::refusal::{CaseRefusal, Part};
+use crate::refusal::CaseRefusal;
+use gic_case::CaseList;
 use toml::{Table, Value};
-
-/// The key of a list; the document itself has none.
-pub(crate) fn list_key(list: Part) -> &'static str
-    ensures { result.now ≡ list_key list }
-{
-    match list {
-        Part::Case => "",
-        Part::Zone => "zone",
-        Part::Substation => "substation",
-        Part::Bus => "bus",
-        Part::Line => "line",
-        Part::Transformer => "transformer",
-    }
-}
 
 /// Whether a key is that of one of these lists.
 #[tactic(auto, unfolding(crate::specs::Keys::is_list_key))]
-fn is_list_key(lists: &[Part], key: &str) -> bool
+fn is_list_key(lists: &[CaseList], key: &str) -> bool
     ensures { result ≡ is_list_key lists.now key.now }
 {
-    lists.iter().any(|list| key == list_key(*list))
+    lists.iter().any(|list| key == list.word())
 }
 
 /// Whether the document may have a key.
@@ -40,11 +27,11 @@ fn is_document_key(key: &str) -> bool
     is_among(&[Field::Format], key)
         || is_list_key(
             &[
-                Part::Zone,
-                Part::Substation,
-                Part::Bus,
-                Part::Line,
-                Part::Transformer,
+                CaseList::Zone,
+                CaseList::Substation,
+                CaseList::Bus,
+                CaseList::Line,
+                CaseList::Transformer,
             ],
             key,
         )
@@ -117,7 +104,7 @@ pub(crate) fn fits_document(table: &Table) -> bool
 /// The table of a row, with the fields that it must have, and no key but of these and the others.
 #[tactic(auto, unfolding(crate::specs::Pass::row_table))]
 pub(crate) fn row_table<'a>(
-    list: Part,
+    list: CaseList,
     required: &[Field],
     others: &[Field],
     row: u32,

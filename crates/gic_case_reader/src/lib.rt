@@ -24,4 +24,4 @@ mod value;
 
 pub use field::Field;
 pub use reading::read_case;
-pub use refusal::{CaseRefusal, Part};
+pub use refusal::CaseRefusal;

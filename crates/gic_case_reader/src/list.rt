@@ -9,12 +9,12 @@ ghost use Rattle.gic_case_reader.specs.Formats.{most_rows};
 ghost use Rattle.gic_case_reader.specs.Pass.{items_at, rows_from, list_at, zone_row, substation_row, bus_row, line_row, transformer_row};
 
 use crate::format::Format;
-use crate::keys::{at_key, list_key};
-use crate::refusal::{CaseRefusal, Part};
+use crate::keys::at_key;
+use crate::refusal::CaseRefusal;
 use crate::row::{BusRow, LineRow, TransformerRow, bus_row, line_row, substation_row, zone_row};
 use crate::transformer::transformer_row;
 use gic_base::{Name, ReadFault};
-use gic_case::{Substation, Zone};
+use gic_case::{CaseList, Substation, Zone};
 use std::alloc::{AllocError, Global};
 use toml::{Table, Value};
 
@@ -137,10 +137,10 @@ impl Row for TransformerRow {
 
 /// The values of a list, none where it isn't there.
 #[tactic(auto, unfolding(crate::specs::Pass::items_at))]
-fn items_at(list: Part, table: &Table) -> Result<&[Value], CaseRefusal>
+fn items_at(list: CaseList, table: &Table) -> Result<&[Value], CaseRefusal>
     ensures { AnswersExactly (λ s. items_view s.now) result (items_at list (table_view table.now)) }
 {
-    match at_key(table, list_key(list)) {
+    match at_key(table, list.word()) {
         Some(value) => match value.as_array() {
             Some(values) => Ok(values.as_slice()),
             None => Err(CaseRefusal::Key { list, row: 0 }),
@@ -170,7 +170,7 @@ fn rows_from<R: Row>(
 #[tactic(auto, using(crate::proofs::Rows::count_length), unfolding(crate::specs::Pass::list_at))]
 pub(crate) fn list_at<R: Row>(
     alloc: Global,
-    list: Part,
+    list: CaseList,
     format: Format,
     table: &Table,
 ) -> Result<Vec<R>, ReadFault<CaseRefusal>>

@@ -3,7 +3,7 @@ ghost use Rattle.std.specs.Prelude.{◌≡◌, ◌≤◌, IfOk, length, option_m
 ghost use Rattle.toml.specs.View.{view, table_view, items_view};
 ghost use Rattle.gic_base.specs.Refusals.{AnswersRead};
 ghost use Rattle.gic_case_reader.specs.declared.field.Field.TheVariants as fields;
-ghost use Rattle.gic_case_reader.specs.declared.refusal.Part.TheVariants as parts;
+ghost use Rattle.gic_case.specs.declared.case_list.CaseList.TheVariants as lists;
 ghost use Rattle.gic_case_reader.specs.Lines.{read_part, parts_in, north_way, east_way, are_parts, read_parts};
 ghost use Rattle.gic_base.specs.declared.limits.TheConstants.{MOST_PARTS};
 ghost use Rattle.gic_case_reader.specs.Pass.{required};
@@ -12,10 +12,11 @@ use crate::field::Field;
 use crate::keys::{at_key, fits};
 use crate::part_row::PartRow;
 use crate::part_rows::PartRows;
-use crate::refusal::{CaseRefusal, Part};
+use crate::refusal::CaseRefusal;
 use crate::value::{metres_within, read_name, refused};
 use gic_base::ReadFault;
 use gic_base::limits::MOST_PARTS;
+use gic_case::CaseList;
 use std::alloc::{AllocError, Global};
 use toml::{Table, Value};
 
@@ -109,13 +110,13 @@ pub(crate) fn parts_at(
     row: u32,
     table: &Table,
 ) -> Result<PartRows, ReadFault<CaseRefusal>>
-    ensures { AnswersRead (λ ps. ps) result (required read_parts parts.Line row fields.Part (table_view table.now)) }
+    ensures { AnswersRead (λ ps. ps) result (required read_parts lists.Line row fields.Part (table_view table.now)) }
 {
     match at_key(table, Field::Part.key()) {
         Some(value) => match read_parts(alloc, value)? {
             Some(parts) => Ok(parts),
-            None => Err(ReadFault::Refused(refused(Part::Line, row, Field::Part))),
+            None => Err(ReadFault::Refused(refused(CaseList::Line, row, Field::Part))),
         },
-        None => Err(ReadFault::Refused(refused(Part::Line, row, Field::Part))),
+        None => Err(ReadFault::Refused(refused(CaseList::Line, row, Field::Part))),
     }
 }

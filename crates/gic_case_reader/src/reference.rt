@@ -4,17 +4,20 @@ ghost use Rattle.std.specs.HashMap.{get};
 ghost use Rattle.gic_base.specs.Refusals.{AnswersRead, AnswersExactly};
 ghost use Rattle.gic_case.specs.Names.{same, place_in};
 ghost use Rattle.gic_case_reader.specs.Rules.{substation_place, bus_place, zone_place};
-ghost use Rattle.gic_case_reader.specs.Pass.{each, place_at, side_at, bus_in, part_in, parts_with, course_in, line_in, third_in, kind_in, transformer_in, resolve};
+ghost use Rattle.gic_case_reader.specs.Pass.{each, place_at, side_at, bus_in, part_in, parts_with, course_in, line_in};
+ghost use Rattle.gic_case_reader.specs.Pass.{third_in, kind_in, transformer_in, resolve};
 
 use crate::document::Rows;
 use crate::field::Field;
 use crate::list::{Row, push_names};
 use crate::names::places_of;
 use crate::part_row::PartRow;
-use crate::refusal::{CaseRefusal, Part};
-use crate::row::{BusRow, CourseRow, KindRow, LineRow, ThirdRow, TransformerRow};
+use crate::refusal::CaseRefusal;
+use crate::row::{BusRow, CourseRow, LineRow, TransformerRow};
 use gic_base::{Name, ReadFault};
-use gic_case::{Bus, CaseLists, Course, Kind, Line, LinePart, LineParts, Third, Transformer};
+use gic_case::{
+    Bus, CaseList, CaseLists, Course, Kind, Line, LinePart, LineParts, Third, Transformer,
+};
 use std::alloc::{AllocError, Global};
 use std::collections::HashMap;
 
@@ -31,7 +34,7 @@ fn row_places<R: Row>(alloc: Global, rows: &[R]) -> Result<HashMap<Name, u16>, A
 /// The place of the name that a field refers to.
 fn place_at(
     places: &HashMap<Name, u16>,
-    list: Part,
+    list: CaseList,
     row: u32,
     at: Field,
     name: &Name,
@@ -55,7 +58,7 @@ fn bus_in(substations: &HashMap<Name, u16>, row: u32, bus: &BusRow) -> Result<Bu
 {
     let substation = place_at(
         substations,
-        Part::Bus,
+        CaseList::Bus,
         row,
         Field::Substation,
         &bus.substation,
@@ -75,7 +78,7 @@ fn part_in(
 ) -> Result<LinePart, CaseRefusal>
     ensures { AnswersExactly (λ p. p) result (part_in (get same zones.now) row at part.now) }
 {
-    let zone = place_at(zones, Part::Line, row, at, &part.zone)?;
+    let zone = place_at(zones, CaseList::Line, row, at, &part.zone)?;
     Ok(LinePart {
         zone,
         north: part.north,
@@ -131,8 +134,8 @@ fn line_in(
 ) -> Result<Line, ReadFault<CaseRefusal>>
     ensures { AnswersRead (λ l. l) result (line_in (get same buses.now) (get same zones.now) row line.now) }
 {
-    let from = place_at(buses, Part::Line, row, Field::From, &line.from)?;
-    let to = place_at(buses, Part::Line, row, Field::To, &line.to)?;
+    let from = place_at(buses, CaseList::Line, row, Field::From, &line.from)?;
+    let to = place_at(buses, CaseList::Line, row, Field::To, &line.to)?;
     let course = course_in(alloc, zones, row, &line.course)?;
     Ok(Line {
         name: line.name,
@@ -148,15 +151,15 @@ fn line_in(
 fn side_at(buses: &HashMap<Name, u16>, row: u32, at: Field, bus: &Name) -> Result<u16, CaseRefusal>
     ensures { AnswersExactly (λ n. n) result (side_at (get same buses.now) row at bus.now) }
 {
-    place_at(buses, Part::Transformer, row, at, bus)
+    place_at(buses, CaseList::Transformer, row, at, bus)
 }
 
 /// A third side, with the place of its bus.
 fn third_in(
     buses: &HashMap<Name, u16>,
     row: u32,
-    third: Option<ThirdRow>,
-) -> Result<Option<Third>, CaseRefusal>
+    third: Option<Third<Name>>,
+) -> Result<Option<Third<u16>>, CaseRefusal>
     ensures { AnswersExactly (λ t. t) result (third_in (get same buses.now) row third) }
 {
     match third {
@@ -174,18 +177,22 @@ fn third_in(
 
 /// A kind, with the places of its buses.
 #[tactic(auto, unfolding(crate::specs::Pass::kind_in))]
-fn kind_in(buses: &HashMap<Name, u16>, row: u32, kind: &KindRow) -> Result<Kind, CaseRefusal>
+fn kind_in(
+    buses: &HashMap<Name, u16>,
+    row: u32,
+    kind: &Kind<Name>,
+) -> Result<Kind<u16>, CaseRefusal>
     ensures { AnswersExactly (λ k. k) result (kind_in (get same buses.now) row kind.now) }
 {
     match *kind {
-        KindRow::DeltaWye {
+        Kind::DeltaWye {
             high,
             high_resistance,
         } => Ok(Kind::DeltaWye {
             high: side_at(buses, row, Field::High, &high)?,
             high_resistance,
         }),
-        KindRow::WyeWye {
+        Kind::WyeWye {
             high,
             low,
             low_volts,
@@ -200,7 +207,7 @@ fn kind_in(buses: &HashMap<Name, u16>, row: u32, kind: &KindRow) -> Result<Kind,
             low_resistance,
             third: third_in(buses, row, third)?,
         }),
-        KindRow::Auto {
+        Kind::Auto {
             high,
             low,
             low_volts,
@@ -215,14 +222,14 @@ fn kind_in(buses: &HashMap<Name, u16>, row: u32, kind: &KindRow) -> Result<Kind,
             common_resistance,
             third: third_in(buses, row, third)?,
         }),
-        KindRow::Reactor {
+        Kind::Reactor {
             high,
             high_resistance,
         } => Ok(Kind::Reactor {
             high: side_at(buses, row, Field::High, &high)?,
             high_resistance,
         }),
-        KindRow::DeltaDelta => Ok(Kind::DeltaDelta),
+        Kind::DeltaDelta => Ok(Kind::DeltaDelta),
     }
 }
 

@@ -1,7 +1,8 @@
 //! Rows, read from tables.
 ghost use Rattle.toml.specs.View.{view};
 ghost use Rattle.gic_base.specs.Refusals.{AnswersExactly, AnswersRead};
-ghost use Rattle.gic_case_reader.specs.Pass.{earth_zone_row, scaled_zone_row, zone_row, substation_row, bus_row, plain_line_row, parted_line_row, line_row};
+ghost use Rattle.gic_case_reader.specs.Pass.{earth_zone_row, scaled_zone_row, zone_row, substation_row, bus_row};
+ghost use Rattle.gic_case_reader.specs.Pass.{plain_line_row, parted_line_row, line_row};
 
 use crate::field::Field;
 use crate::format::Format;
@@ -9,10 +10,10 @@ use crate::keys::{has_in, row_table};
 use crate::part_row::PartRow;
 use crate::part_rows::PartRows;
 use crate::parts::parts_at;
-use crate::refusal::{CaseRefusal, Part};
+use crate::refusal::CaseRefusal;
 use crate::value::{metres_at, name_at, natural_at, ohm_at, optional_flag_at, optional_ohm_at};
 use gic_base::{Name, ReadFault};
-use gic_case::{Neutral, Scaling, Substation, Zone};
+use gic_case::{CaseList, Kind, Neutral, Scaling, Substation, Zone};
 use std::alloc::Global;
 use toml::Value;
 
@@ -41,50 +42,12 @@ pub(crate) struct LineRow {
     pub(crate) blocked: bool,
 }
 
-/// A third winding, with the name of its bus.
-#[derive(Clone, Copy)]
-pub(crate) struct ThirdRow {
-    pub(crate) bus: Name,
-    pub(crate) volts: u32,
-    pub(crate) resistance: u32,
-}
-
-/// What a transformer's kind has of its own, with the names of its buses.
-#[derive(Clone, Copy)]
-pub(crate) enum KindRow {
-    DeltaWye {
-        high: Name,
-        high_resistance: u32,
-    },
-    WyeWye {
-        high: Name,
-        low: Name,
-        low_volts: u32,
-        high_resistance: u32,
-        low_resistance: u32,
-        third: Option<ThirdRow>,
-    },
-    Auto {
-        high: Name,
-        low: Name,
-        low_volts: u32,
-        series_resistance: u32,
-        common_resistance: u32,
-        third: Option<ThirdRow>,
-    },
-    Reactor {
-        high: Name,
-        high_resistance: u32,
-    },
-    DeltaDelta,
-}
-
 /// A transformer, with the names of its buses.
 #[derive(Clone, Copy)]
 pub(crate) struct TransformerRow {
     pub(crate) name: Name,
     pub(crate) high_volts: u32,
-    pub(crate) kind: KindRow,
+    pub(crate) kind: Kind<Name>,
     pub(crate) neutral: Option<Neutral>,
 }
 
@@ -94,10 +57,10 @@ fn earth_zone_row(row: u32, value: &Value) -> Result<Zone, CaseRefusal>
     ensures { AnswersExactly (λ z. z) result (earth_zone_row row (view value.now)) }
 {
     let required = [Field::Name, Field::Latitude, Field::Beta];
-    let table = row_table(Part::Zone, &required, &[], row, value)?;
-    let name = name_at(Part::Zone, row, Field::Name, table)?;
-    let latitude = natural_at(Part::Zone, row, Field::Latitude, 0, 9000, table)?;
-    let beta = natural_at(Part::Zone, row, Field::Beta, 1, 150, table)?;
+    let table = row_table(CaseList::Zone, &required, &[], row, value)?;
+    let name = name_at(CaseList::Zone, row, Field::Name, table)?;
+    let latitude = natural_at(CaseList::Zone, row, Field::Latitude, 0, 9000, table)?;
+    let beta = natural_at(CaseList::Zone, row, Field::Beta, 1, 150, table)?;
     Ok(Zone {
         name,
         scaling: Scaling::Earth {
@@ -113,9 +76,9 @@ fn scaled_zone_row(row: u32, value: &Value) -> Result<Zone, CaseRefusal>
     ensures { AnswersExactly (λ z. z) result (scaled_zone_row row (view value.now)) }
 {
     let required = [Field::Name, Field::Scale];
-    let table = row_table(Part::Zone, &required, &[], row, value)?;
-    let name = name_at(Part::Zone, row, Field::Name, table)?;
-    let scale = natural_at(Part::Zone, row, Field::Scale, 1, 1500, table)?;
+    let table = row_table(CaseList::Zone, &required, &[], row, value)?;
+    let name = name_at(CaseList::Zone, row, Field::Name, table)?;
+    let scale = natural_at(CaseList::Zone, row, Field::Scale, 1, 1500, table)?;
     Ok(Zone {
         name,
         scaling: Scaling::Factor(scale as u16),
@@ -140,14 +103,14 @@ pub(crate) fn substation_row(row: u32, value: &Value) -> Result<Substation, Case
     ensures { AnswersExactly (λ s. s) result (substation_row row (view value.now)) }
 {
     let table = row_table(
-        Part::Substation,
+        CaseList::Substation,
         &[Field::Name],
         &[Field::Ground],
         row,
         value,
     )?;
-    let name = name_at(Part::Substation, row, Field::Name, table)?;
-    let ground = optional_ohm_at(Part::Substation, row, Field::Ground, table)?;
+    let name = name_at(CaseList::Substation, row, Field::Name, table)?;
+    let ground = optional_ohm_at(CaseList::Substation, row, Field::Ground, table)?;
     Ok(Substation { name, ground })
 }
 
@@ -157,9 +120,9 @@ pub(crate) fn bus_row(row: u32, value: &Value) -> Result<BusRow, CaseRefusal>
     ensures { AnswersExactly (λ b. b) result (bus_row row (view value.now)) }
 {
     let required = [Field::Name, Field::Substation];
-    let table = row_table(Part::Bus, &required, &[], row, value)?;
-    let name = name_at(Part::Bus, row, Field::Name, table)?;
-    let substation = name_at(Part::Bus, row, Field::Substation, table)?;
+    let table = row_table(CaseList::Bus, &required, &[], row, value)?;
+    let name = name_at(CaseList::Bus, row, Field::Name, table)?;
+    let substation = name_at(CaseList::Bus, row, Field::Substation, table)?;
     Ok(BusRow { name, substation })
 }
 
@@ -177,15 +140,15 @@ fn plain_line_row(row: u32, value: &Value) -> Result<LineRow, CaseRefusal>
         Field::North,
         Field::East,
     ];
-    let table = row_table(Part::Line, &required, &[Field::Blocked], row, value)?;
-    let name = name_at(Part::Line, row, Field::Name, table)?;
-    let from = name_at(Part::Line, row, Field::From, table)?;
-    let to = name_at(Part::Line, row, Field::To, table)?;
-    let zone = name_at(Part::Line, row, Field::Zone, table)?;
-    let resistance = ohm_at(Part::Line, row, Field::Resistance, table)?;
-    let north = metres_at(Part::Line, row, Field::North, table)?;
-    let east = metres_at(Part::Line, row, Field::East, table)?;
-    let blocked = optional_flag_at(Part::Line, row, Field::Blocked, table)?;
+    let table = row_table(CaseList::Line, &required, &[Field::Blocked], row, value)?;
+    let name = name_at(CaseList::Line, row, Field::Name, table)?;
+    let from = name_at(CaseList::Line, row, Field::From, table)?;
+    let to = name_at(CaseList::Line, row, Field::To, table)?;
+    let zone = name_at(CaseList::Line, row, Field::Zone, table)?;
+    let resistance = ohm_at(CaseList::Line, row, Field::Resistance, table)?;
+    let north = metres_at(CaseList::Line, row, Field::North, table)?;
+    let east = metres_at(CaseList::Line, row, Field::East, table)?;
+    let blocked = optional_flag_at(CaseList::Line, row, Field::Blocked, table)?;
     Ok(LineRow {
         name,
         from,
@@ -212,12 +175,12 @@ fn parted_line_row(
         Field::Resistance,
         Field::Part,
     ];
-    let table = row_table(Part::Line, &required, &[Field::Blocked], row, value)?;
-    let name = name_at(Part::Line, row, Field::Name, table)?;
-    let from = name_at(Part::Line, row, Field::From, table)?;
-    let to = name_at(Part::Line, row, Field::To, table)?;
-    let resistance = ohm_at(Part::Line, row, Field::Resistance, table)?;
-    let blocked = optional_flag_at(Part::Line, row, Field::Blocked, table)?;
+    let table = row_table(CaseList::Line, &required, &[Field::Blocked], row, value)?;
+    let name = name_at(CaseList::Line, row, Field::Name, table)?;
+    let from = name_at(CaseList::Line, row, Field::From, table)?;
+    let to = name_at(CaseList::Line, row, Field::To, table)?;
+    let resistance = ohm_at(CaseList::Line, row, Field::Resistance, table)?;
+    let blocked = optional_flag_at(CaseList::Line, row, Field::Blocked, table)?;
     let parts = parts_at(alloc, row, table)?;
     Ok(LineRow {
         name,

@@ -4,10 +4,11 @@ ghost use Rattle.std.specs.List.{list_all};
 ghost use Rattle.gic_base.specs.Refusals.{AnswersExactly, settle};
 ghost use Rattle.gic_case.specs.Lists.{substation_at};
 ghost use Rattle.gic_case_reader.specs.Sides.{sides_differ, are_together, are_ordered};
-ghost use Rattle.gic_case_reader.specs.OneByOne.{breaks_same_ends_from, breaks_same_sides_from, breaks_apart_from, breaks_voltage_order_from};
+ghost use Rattle.gic_case_reader.specs.OneByOne.{breaks_same_ends_from, breaks_same_sides_from};
+ghost use Rattle.gic_case_reader.specs.OneByOne.{breaks_apart_from, breaks_voltage_order_from};
 
-use crate::refusal::{CaseRefusal, Part};
-use gic_case::{Bus, Line, Transformer, Winding, substation_at};
+use crate::refusal::CaseRefusal;
+use gic_case::{Bus, CaseList, Line, Transformer, Winding, substation_at};
 
 /// Whether a winding runs from a bus from which none of the others does.
 fn has_own_bus(winding: &Winding, others: &[Winding]) -> bool
@@ -66,7 +67,7 @@ pub(crate) fn lines_have_two_buses(lines: &[Line]) -> Result<(), CaseRefusal>
     for (i, line) in lines.iter().enumerate() {
         if line.from == line.to {
             return Err(CaseRefusal::SameEnds {
-                list: Part::Line,
+                list: CaseList::Line,
                 row: i as u32 + 1,
             });
         }
@@ -83,7 +84,7 @@ pub(crate) fn sides_have_own_buses(transformers: &[Transformer]) -> Result<(), C
         let windings = transformer.windings();
         if !sides_differ(windings.as_slice()) {
             return Err(CaseRefusal::SameEnds {
-                list: Part::Transformer,
+                list: CaseList::Transformer,
                 row: i as u32 + 1,
             });
         }

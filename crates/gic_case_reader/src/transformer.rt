@@ -4,22 +4,25 @@ ghost use Rattle.toml.specs.View.{view, table_view};
 ghost use Rattle.gic_base.specs.Refusals.{AnswersExactly};
 ghost use Rattle.gic_base.specs.Passes.{test};
 ghost use Rattle.gic_case_reader.specs.declared.refusal.CaseRefusal.TheVariants.{Key};
-ghost use Rattle.gic_case_reader.specs.declared.refusal.Part.TheVariants as parts;
+ghost use Rattle.gic_case.specs.declared.case_list.CaseList.TheVariants as lists;
 ghost use Rattle.gic_case_reader.specs.declared.field.Field.TheVariants as fields;
 ghost use Rattle.gic_case_reader.specs.Keys.{fits};
 ghost use Rattle.gic_case_reader.specs.Transformers.{in_third_format, kind_word, read_kind, fields_of, has_neutral, others_of};
-ghost use Rattle.gic_case_reader.specs.Pass.{required, table_with, delta_wye_row, third_row, third_if, wye_wye_row, auto_row, reactor_row, kind_row, transformer_row};
+ghost use Rattle.gic_case_reader.specs.Pass.{required, table_with, delta_wye_row, third_row, third_if};
+ghost use Rattle.gic_case_reader.specs.Pass.{wye_wye_row, auto_row, reactor_row, kind_row, transformer_row};
 
 use crate::field::Field;
 use crate::format::Format;
 use crate::keys::{at_key, fits, has};
-use crate::refusal::{CaseRefusal, Part};
-use crate::row::{KindRow, ThirdRow, TransformerRow};
+use crate::refusal::CaseRefusal;
+use crate::row::TransformerRow;
 use crate::value::{name_at, ohm_at, optional_neutral_at, volts_at};
+use gic_base::Name;
+use gic_case::{CaseList, Kind, Third};
 use toml::{Table, Value};
 
 /// The list of these rows.
-const LIST: Part = Part::Transformer;
+const LIST: CaseList = CaseList::Transformer;
 
 /// The kind of a transformer, as its word tells it.
 #[derive(Clone, Copy)]
@@ -142,7 +145,7 @@ impl KindWord {
 /// The table that a row is, if it has a kind.
 #[tactic(auto, unfolding(crate::specs::Pass::table_with))]
 fn kinded_table(row: u32, value: &Value) -> Result<&Table, CaseRefusal>
-    ensures { AnswersExactly (λ t. table_view t.now) result (table_with parts.Transformer fields.Kind row (view value.now)) }
+    ensures { AnswersExactly (λ t. table_view t.now) result (table_with lists.Transformer fields.Kind row (view value.now)) }
 {
     match value.as_table() {
         Some(table) if has(table, Field::Kind) => Ok(table),
@@ -160,7 +163,7 @@ fn read_kind(format: Format, value: &Value) -> Option<KindWord>
 /// The kind of a row.
 #[tactic(auto, unfolding(crate::specs::Pass::required))]
 fn kind_at(format: Format, row: u32, table: &Table) -> Result<KindWord, CaseRefusal>
-    ensures { AnswersExactly (λ k. k) result (required (read_kind format) parts.Transformer row fields.Kind (table_view table.now)) }
+    ensures { AnswersExactly (λ k. k) result (required (read_kind format) lists.Transformer row fields.Kind (table_view table.now)) }
 {
     let refusal = CaseRefusal::Value {
         list: LIST,
@@ -175,7 +178,8 @@ fn kind_at(format: Format, row: u32, table: &Table) -> Result<KindWord, CaseRefu
 
 /// Whether a row has the keys of its kind.
 fn kind_keys(format: Format, kind: KindWord, row: u32, table: &Table) -> Result<(), CaseRefusal>
-    ensures { AnswersExactly (λ u. u) result (test (fits (fields_of kind) (others_of format kind) (table_view table.now)) (Key parts.Transformer row)) }
+    ensures { AnswersExactly (λ u. u) result
+        (test (fits (fields_of kind) (others_of format kind) (table_view table.now)) (Key lists.Transformer row)) }
 {
     if fits(kind.fields(), kind.others(format), table) {
         Ok(())
@@ -186,12 +190,12 @@ fn kind_keys(format: Format, kind: KindWord, row: u32, table: &Table) -> Result<
 
 /// What a delta-wye unit has of its own.
 #[tactic(auto, unfolding(crate::specs::Pass::delta_wye_row))]
-fn delta_wye_row(row: u32, table: &Table) -> Result<KindRow, CaseRefusal>
+fn delta_wye_row(row: u32, table: &Table) -> Result<Kind<Name>, CaseRefusal>
     ensures { AnswersExactly (λ k. k) result (delta_wye_row row (table_view table.now)) }
 {
     let high = name_at(LIST, row, Field::High, table)?;
     let high_resistance = ohm_at(LIST, row, Field::HighResistance, table)?;
-    Ok(KindRow::DeltaWye {
+    Ok(Kind::DeltaWye {
         high,
         high_resistance,
     })
@@ -199,13 +203,13 @@ fn delta_wye_row(row: u32, table: &Table) -> Result<KindRow, CaseRefusal>
 
 /// A third winding.
 #[tactic(auto, unfolding(crate::specs::Pass::third_row))]
-fn third_row(row: u32, table: &Table) -> Result<ThirdRow, CaseRefusal>
+fn third_row(row: u32, table: &Table) -> Result<Third<Name>, CaseRefusal>
     ensures { AnswersExactly (λ t. t) result (third_row row (table_view table.now)) }
 {
     let bus = name_at(LIST, row, Field::Third, table)?;
     let volts = volts_at(LIST, row, Field::ThirdVolts, table)?;
     let resistance = ohm_at(LIST, row, Field::ThirdResistance, table)?;
-    Ok(ThirdRow {
+    Ok(Third {
         bus,
         volts,
         resistance,
@@ -213,7 +217,7 @@ fn third_row(row: u32, table: &Table) -> Result<ThirdRow, CaseRefusal>
 }
 
 /// The third winding of a unit that has one.
-fn third_if(with_third: bool, row: u32, table: &Table) -> Result<Option<ThirdRow>, CaseRefusal>
+fn third_if(with_third: bool, row: u32, table: &Table) -> Result<Option<Third<Name>>, CaseRefusal>
     ensures { AnswersExactly (λ t. t) result (third_if with_third row (table_view table.now)) }
 {
     if with_third {
@@ -225,7 +229,7 @@ fn third_if(with_third: bool, row: u32, table: &Table) -> Result<Option<ThirdRow
 
 /// What a wye-wye unit has of its own, with a third winding or without.
 #[tactic(auto, unfolding(crate::specs::Pass::wye_wye_row))]
-fn wye_wye_row(with_third: bool, row: u32, table: &Table) -> Result<KindRow, CaseRefusal>
+fn wye_wye_row(with_third: bool, row: u32, table: &Table) -> Result<Kind<Name>, CaseRefusal>
     ensures { AnswersExactly (λ k. k) result (wye_wye_row with_third row (table_view table.now)) }
 {
     let high = name_at(LIST, row, Field::High, table)?;
@@ -234,7 +238,7 @@ fn wye_wye_row(with_third: bool, row: u32, table: &Table) -> Result<KindRow, Cas
     let high_resistance = ohm_at(LIST, row, Field::HighResistance, table)?;
     let low_resistance = ohm_at(LIST, row, Field::LowResistance, table)?;
     let third = third_if(with_third, row, table)?;
-    Ok(KindRow::WyeWye {
+    Ok(Kind::WyeWye {
         high,
         low,
         low_volts,
@@ -246,7 +250,7 @@ fn wye_wye_row(with_third: bool, row: u32, table: &Table) -> Result<KindRow, Cas
 
 /// What an autotransformer has of its own, with a third winding or without.
 #[tactic(auto, unfolding(crate::specs::Pass::auto_row))]
-fn auto_row(with_third: bool, row: u32, table: &Table) -> Result<KindRow, CaseRefusal>
+fn auto_row(with_third: bool, row: u32, table: &Table) -> Result<Kind<Name>, CaseRefusal>
     ensures { AnswersExactly (λ k. k) result (auto_row with_third row (table_view table.now)) }
 {
     let high = name_at(LIST, row, Field::High, table)?;
@@ -255,7 +259,7 @@ fn auto_row(with_third: bool, row: u32, table: &Table) -> Result<KindRow, CaseRe
     let series_resistance = ohm_at(LIST, row, Field::SeriesResistance, table)?;
     let common_resistance = ohm_at(LIST, row, Field::CommonResistance, table)?;
     let third = third_if(with_third, row, table)?;
-    Ok(KindRow::Auto {
+    Ok(Kind::Auto {
         high,
         low,
         low_volts,
@@ -267,12 +271,12 @@ fn auto_row(with_third: bool, row: u32, table: &Table) -> Result<KindRow, CaseRe
 
 /// What a reactor has of its own.
 #[tactic(auto, unfolding(crate::specs::Pass::reactor_row))]
-fn reactor_row(row: u32, table: &Table) -> Result<KindRow, CaseRefusal>
+fn reactor_row(row: u32, table: &Table) -> Result<Kind<Name>, CaseRefusal>
     ensures { AnswersExactly (λ k. k) result (reactor_row row (table_view table.now)) }
 {
     let high = name_at(LIST, row, Field::High, table)?;
     let high_resistance = ohm_at(LIST, row, Field::HighResistance, table)?;
-    Ok(KindRow::Reactor {
+    Ok(Kind::Reactor {
         high,
         high_resistance,
     })
@@ -280,7 +284,7 @@ fn reactor_row(row: u32, table: &Table) -> Result<KindRow, CaseRefusal>
 
 /// What a transformer of a kind has of its own.
 #[tactic(auto, unfolding(crate::specs::Pass::kind_row))]
-fn kind_row(kind: KindWord, row: u32, table: &Table) -> Result<KindRow, CaseRefusal>
+fn kind_row(kind: KindWord, row: u32, table: &Table) -> Result<Kind<Name>, CaseRefusal>
     ensures { AnswersExactly (λ k. k) result (kind_row kind row (table_view table.now)) }
 {
     match kind {
@@ -290,7 +294,7 @@ fn kind_row(kind: KindWord, row: u32, table: &Table) -> Result<KindRow, CaseRefu
         KindWord::WyeWyeWye => wye_wye_row(true, row, table),
         KindWord::AutoWye => auto_row(true, row, table),
         KindWord::Reactor => reactor_row(row, table),
-        KindWord::DeltaDelta => Ok(KindRow::DeltaDelta),
+        KindWord::DeltaDelta => Ok(Kind::DeltaDelta),
     }
 }
 

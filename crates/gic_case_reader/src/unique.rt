@@ -7,9 +7,10 @@ ghost use Rattle.gic_case_reader.specs.Pass.{unique};
 use crate::document::Rows;
 use crate::list::push_names;
 use crate::names::first_repeat;
-use crate::refusal::{CaseRefusal, Part};
+use crate::refusal::CaseRefusal;
 use gic_base::limits::{MOST_BUSES, MOST_LINES, MOST_SUBSTATIONS, MOST_ZONES};
 use gic_base::{Name, ReadFault};
+use gic_case::CaseList;
 use std::alloc::{AllocError, Global};
 
 /// The names of all rows, list after list.
@@ -41,15 +42,15 @@ fn duplicate_at(
     ensures value { result ≡ duplicate_at zones substations buses lines i }
 {
     let (list, before) = if i < zones {
-        (Part::Zone, 0)
+        (CaseList::Zone, 0)
     } else if i < zones + substations {
-        (Part::Substation, zones)
+        (CaseList::Substation, zones)
     } else if i < zones + substations + buses {
-        (Part::Bus, zones + substations)
+        (CaseList::Bus, zones + substations)
     } else if i < zones + substations + buses + lines {
-        (Part::Line, zones + substations + buses)
+        (CaseList::Line, zones + substations + buses)
     } else {
-        (Part::Transformer, zones + substations + buses + lines)
+        (CaseList::Transformer, zones + substations + buses + lines)
     };
     CaseRefusal::Duplicate {
         list,

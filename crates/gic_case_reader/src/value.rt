@@ -10,9 +10,9 @@ ghost use Rattle.gic_case_reader.specs.Pass.{required, optional};
 
 use crate::field::Field;
 use crate::keys::at_key;
-use crate::refusal::{CaseRefusal, Part};
+use crate::refusal::CaseRefusal;
 use gic_base::Name;
-use gic_case::Neutral;
+use gic_case::{CaseList, Neutral};
 use toml::{Table, Value};
 
 /// The number that a value is, where it is one within bounds.
@@ -63,7 +63,7 @@ fn read_neutral(value: &Value) -> Option<Neutral>
 }
 
 /// The refusal of a row for the value of a field.
-pub(crate) fn refused(list: Part, row: u32, at: Field) -> CaseRefusal
+pub(crate) fn refused(list: CaseList, row: u32, at: Field) -> CaseRefusal
     ensures { result ≡ refusals.Value list row at }
 {
     CaseRefusal::Value {
@@ -76,7 +76,7 @@ pub(crate) fn refused(list: Part, row: u32, at: Field) -> CaseRefusal
 /// A whole number, within bounds.
 #[tactic(auto, unfolding(crate::specs::Pass::required))]
 pub(crate) fn natural_at(
-    list: Part,
+    list: CaseList,
     row: u32,
     at: Field,
     low: u32,
@@ -93,14 +93,19 @@ pub(crate) fn natural_at(
 }
 
 /// A resistance in micro-ohm.
-pub(crate) fn ohm_at(list: Part, row: u32, at: Field, table: &Table) -> Result<u32, CaseRefusal>
+pub(crate) fn ohm_at(list: CaseList, row: u32, at: Field, table: &Table) -> Result<u32, CaseRefusal>
     ensures { AnswersExactly (λ n. n) result (required ohm_within list row at (table_view table.now)) }
 {
     natural_at(list, row, at, 1000, 1000000000, table)
 }
 
 /// A rated voltage in V.
-pub(crate) fn volts_at(list: Part, row: u32, at: Field, table: &Table) -> Result<u32, CaseRefusal>
+pub(crate) fn volts_at(
+    list: CaseList,
+    row: u32,
+    at: Field,
+    table: &Table,
+) -> Result<u32, CaseRefusal>
     ensures { AnswersExactly (λ n. n) result (required volts_within list row at (table_view table.now)) }
 {
     natural_at(list, row, at, 1000, 2000000, table)
@@ -109,7 +114,7 @@ pub(crate) fn volts_at(list: Part, row: u32, at: Field, table: &Table) -> Result
 /// A resistance in micro-ohm that may be absent.
 #[tactic(auto, unfolding(crate::specs::Pass::optional))]
 pub(crate) fn optional_ohm_at(
-    list: Part,
+    list: CaseList,
     row: u32,
     at: Field,
     table: &Table,
@@ -127,7 +132,12 @@ pub(crate) fn optional_ohm_at(
 
 /// A part of a span, in metres.
 #[tactic(auto, unfolding(crate::specs::Pass::required))]
-pub(crate) fn metres_at(list: Part, row: u32, at: Field, table: &Table) -> Result<i32, CaseRefusal>
+pub(crate) fn metres_at(
+    list: CaseList,
+    row: u32,
+    at: Field,
+    table: &Table,
+) -> Result<i32, CaseRefusal>
     ensures { AnswersExactly (λ n. n) result (required metres_within list row at (table_view table.now)) }
 {
     at_key(table, at.key())
@@ -137,7 +147,12 @@ pub(crate) fn metres_at(list: Part, row: u32, at: Field, table: &Table) -> Resul
 
 /// A name.
 #[tactic(auto, unfolding(crate::specs::Pass::required))]
-pub(crate) fn name_at(list: Part, row: u32, at: Field, table: &Table) -> Result<Name, CaseRefusal>
+pub(crate) fn name_at(
+    list: CaseList,
+    row: u32,
+    at: Field,
+    table: &Table,
+) -> Result<Name, CaseRefusal>
     ensures { AnswersExactly (λ n. n) result (required read_name list row at (table_view table.now)) }
 {
     at_key(table, at.key())
@@ -148,7 +163,7 @@ pub(crate) fn name_at(list: Part, row: u32, at: Field, table: &Table) -> Result<
 /// A flag that may be absent.
 #[tactic(auto, unfolding(crate::specs::Pass::optional))]
 pub(crate) fn optional_flag_at(
-    list: Part,
+    list: CaseList,
     row: u32,
     at: Field,
     table: &Table,
@@ -164,7 +179,7 @@ pub(crate) fn optional_flag_at(
 /// A neutral device that may be absent.
 #[tactic(auto, unfolding(crate::specs::Pass::optional))]
 pub(crate) fn optional_neutral_at(
-    list: Part,
+    list: CaseList,
     row: u32,
     at: Field,
     table: &Table,

@@ -14,12 +14,13 @@ use Rattle.gic_net.specs.Net.{NetView, standing, stands}
 use Rattle.gic_sweep.specs.Residuals.{most_reach}
 use Rattle.gic_cert.specs.declared.limits.TheConstants.{MOST_MADE_RADIUS}
 use Rattle.gic_cert.specs.Certifiable.{IsCertifiable}
+use Rattle.gic_cert.specs.Made.{IsMadeOf}
 use Rattle.gic_cert.specs.Written.{Certificate, entry_of, guess_of, radius_of}
 use Rattle.gic_cert.specs.Columns.{written_of, IsKept}
 use Rattle.gic_cert.specs.Step.{most_residual, checked_step}
 use Rattle.gic_cert.specs.Passing.{IsPassing}
 use Rattle.gic_cert.specs.Laws.{LiveGuessesAreEnough}
-use Rattle.gic_cert.proofs.Columns.{cert, count_is, row_is, entries_are, guesses_same, radii_are}
+use Rattle.gic_cert.proofs.Columns.{cert, count_is, row_is, entries_are, guesses_are, guesses_same, radii_are}
 
 some_written : (v : ℕ) (x : ℤ) (r : ℕ) → 1 ≤ v → is_some (written_of v x r) ≡ true
 some_written zero x r h = absurd (omega (arith, h))
@@ -56,14 +57,14 @@ pub record AreMade (net : NetView) (volts guesses : List ℤ) (bound vs : List �
   pub step_is : step ≡ checked_step (standing net) (number_at volts) (number_at xs) net.network.nodes
   pub step_small : step ≤ most_reach (2 ^ 18)
 
--- the certificate passes, and its radii are its entries times the checked step, none above `MOST_MADE_RADIUS`
-pub record IsCertified (net : NetView) (volts : List ℤ) (c : Certificate) : Type 0 where
+-- the certificate passes and is made of these guesses and this vector, with no radius above `MOST_MADE_RADIUS`
+pub record IsCertified (net : NetView) (volts guesses : List ℤ) (vector : List ℕ) (c : Certificate) : Type 0 where
   pub passes : IsPassing net.network.nodes (standing net) (number_at volts) c
-  pub radii : (k : ℕ) → radius_of c k ≡ entry_of c k * checked_step (standing net) (number_at volts) (guess_of c) net.network.nodes
+  pub made : IsMadeOf net volts guesses vector c
   pub small : (k : ℕ) → radius_of c k ≤ MOST_MADE_RADIUS
 
 module _ {net : NetView} {volts guesses : List ℤ} {bound vs : List ℕ} {xs : List ℤ} {rs : List ℕ} {step : ℕ} (columns : AreMade net volts guesses bound vs xs rs step)
-    (north east : ℤ) (north_range : unsigned_abs north ≤ MOST_FIELD) (east_range : unsigned_abs east ≤ MOST_FIELD) where
+    (limits : IsWithinLimits net.network) (north east : ℤ) (north_range : unsigned_abs north ≤ MOST_FIELD) (east_range : unsigned_abs east ≤ MOST_FIELD) where
   entries_same : (k : ℕ) → slice_index vs k ≡ slice_index bound k
   entries_same k =
       ⊎_elim (λ inside. columns.entry_each k inside)
@@ -139,9 +140,14 @@ module _ {net : NetView} {volts guesses : List ℤ} {bound vs : List ℕ} {xs : 
     radii = λ k live. omega (arith, radius_is k);
   }
 
-  pub certified : IsCertified net volts (cert north east vs xs rs)
+  guess_live : (k : ℕ) → IsLive (standing net) k → guess_of made k ≡ number_at guesses k
+  guess_live k live =
+      let inside = live_within net.network.nodes (standing net) k (standing_within net.network (stands net) limits) live in
+      guesses_are north east vs xs rs kept k ∙ columns.guess_each k inside ∙ ap (λ b. cond b (number_at guesses k) (pos 0)) live
+
+  pub certified : IsCertified net volts guesses bound (cert north east vs xs rs)
   certified = record {
     passes = passing;
-    radii = radius_is;
+    made = record { entry = λ k. sym (entry_is k); guess = guess_live; radius = radius_is };
     small = λ k. omega (arith, radii_are north east vs xs rs kept k, radius_most k);
   }

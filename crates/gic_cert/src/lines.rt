@@ -1,7 +1,8 @@
 //! The rules of one line of a certificate.
 ghost use Rattle.std.specs.Prelude.{◌≡◌, ◌≤◌, List, [], map, codes, IfOk, IfErr, pos, neg_ℤ, unsigned_abs};
 ghost use Rattle.gic_base.specs.declared.limits.TheConstants.{MOST_FIELD};
-ghost use Rattle.gic_cert.specs.Reading.{word_at, has_word, none_empty, is_only, is_field_line, breaks_field, is_dead_line, is_node_line, breaks_node, node_in, field_in, number_or_0, IsFirstOf};
+ghost use Rattle.gic_cert.specs.Reading.{word_at, has_word, none_empty, is_only, is_field_line, breaks_field, is_dead_line, is_node_line};
+ghost use Rattle.gic_cert.specs.Reading.{breaks_node, node_in, field_in, number_or_0, IsFirstOf};
 ghost use Rattle.gic_cert.specs.Rows.{row_written, IsNodeRow};
 
 use crate::limits::{MOST_WRITTEN_GUESS, MOST_WRITTEN_NODES, MOST_WRITTEN_RADIUS};

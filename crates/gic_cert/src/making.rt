@@ -62,19 +62,19 @@ fn asked_radii(nodes: u16, vector: &BoundVector, step: u128, others: Vec<u128>) 
 }
 
 impl Cert {
-    ghost use Rattle.std.specs.Prelude.{◌≡◌, ℕ, ◌*◌, ◌≤◌, unsigned_abs};
+    ghost use Rattle.std.specs.Prelude.{◌≡◌, ℕ, ◌≤◌, unsigned_abs};
     ghost use Rattle.gic_base.specs.declared.limits.TheConstants.{MOST_FIELD};
     ghost use Rattle.gic_cert.specs.declared.limits.TheConstants.{MOST_MADE_RADIUS};
     ghost use Rattle.gic_model.specs.Voltages.{number_at};
     ghost use Rattle.gic_net.specs.Net.{standing};
     ghost use Rattle.gic_cert.specs.Certifiable.{IsCertifiable};
     ghost use Rattle.gic_cert.specs.CertWorkspaceFor.{IsCertWorkspaceFor};
-    ghost use Rattle.gic_cert.specs.Written.{entry_of, guess_of, radius_of};
-    ghost use Rattle.gic_cert.specs.Step.{checked_step as checked_step_of};
+    ghost use Rattle.gic_cert.specs.Written.{radius_of};
+    ghost use Rattle.gic_cert.specs.Made.{IsMadeOf};
     ghost use Rattle.gic_cert.specs.Passing.{IsPassing};
 
-    /// The certificate of settled guesses, whose radii are what the checked step asks for, made in this workspace. It
-    /// passes for this net and these voltages, and no radius is above [`MOST_MADE_RADIUS`]. North and east, in mV/km,
+    /// The certificate of settled guesses and of a bound vector, whose radii are what the checked step asks for, made in
+    /// this workspace. It passes for this net and these voltages, and no radius is above [`MOST_MADE_RADIUS`]. North and east, in mV/km,
     /// are those of the field that makes the voltages. Takes no memory.
     ///
     /// [`MOST_MADE_RADIUS`]: crate::limits::MOST_MADE_RADIUS
@@ -93,8 +93,7 @@ impl Cert {
         requires east { unsigned_abs east ≤ MOST_FIELD }
         ensures field { (result.north ≡ north) × (result.east ≡ east) }
         ensures passes { IsPassing net.now.network.nodes (standing net.now) (number_at volts.now) result }
-        ensures radii { (k : ℕ) → radius_of result k
-            ≡ entry_of result k * checked_step_of (standing net.now) (number_at volts.now) (guess_of result) net.now.network.nodes }
+        ensures made { IsMadeOf net.now volts.now solver.now bound.now result }
         ensures small { (k : ℕ) → radius_of result k ≤ MOST_MADE_RADIUS }
     {
         settled_step_law();

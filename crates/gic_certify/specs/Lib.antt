@@ -1,2 +1,3 @@
 pub mod RightCertify
+pub mod Follows
 pub mod Made

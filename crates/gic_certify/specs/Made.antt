@@ -2,6 +2,7 @@
 use Rattle.std.specs.Prelude.{◌≡◌}
 use Rattle.gic_cert.specs.CertWorkspaceFor.{IsCertWorkspaceFor}
 use Rattle.gic_induce.specs.LineVolts.{volts_of}
+use Rattle.gic_criteria.specs.declared.asked.UniformField.{UniformField}
 use Rattle.gic_inputs.specs.declared.inputs.Inputs.{Inputs}
 use Rattle.gic_net.specs.Net.{standing}
 use Rattle.gic_stand.specs.Standing.{standing_of}
@@ -11,7 +12,7 @@ use Rattle.gic_winding.specs.ElementList.{elements_of}
 use Rattle.gic_certify.specs.declared.workspace.Workspace.{Workspace}
 
 -- it has the network with all switchings in force, the voltages of the field that is asked for, and space for each node, and for the certificate
-pub record IsMadeFor (inputs : Inputs) (workspace : Workspace) : Type 0 where
+pub record IsMadeFor (inputs : Inputs UniformField) (workspace : Workspace) : Type 0 where
   pub network : workspace.net.network ≡ elements_of inputs.case
   pub stands : standing workspace.net ≡ standing_of inputs.case inputs.switchings
   pub volts : workspace.volts ≡ volts_of inputs.case (uniform_field inputs.case inputs.question.north inputs.question.east) (elements_of inputs.case).list

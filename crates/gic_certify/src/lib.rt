@@ -1,6 +1,7 @@
 //! The mode `certify`: writes a certificate of the potentials in one uniform field.
 #![tactic(auto)]
 
+pub mod laws;
 mod mode;
 mod workspace;
 

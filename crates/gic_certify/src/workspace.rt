@@ -1,10 +1,11 @@
 //! What the mode takes memory for.
 ghost use Rattle.std.specs.Prelude.{IfOk};
-ghost use Rattle.gic_criteria.specs.Ranges.{IsWithinRanges};
+ghost use Rattle.gic_criteria.specs.Ranges.{IsWithinField};
 ghost use Rattle.gic_certify.specs.Made.{IsMadeFor};
 
 use gic_base::OutOfMemory;
 use gic_cert::{CertWorkspace, make_cert_workspace};
+use gic_criteria::UniformField;
 use gic_inputs::Inputs;
 use gic_model::Volts;
 use gic_net::Net;
@@ -27,16 +28,19 @@ pub struct Workspace {
 }
 
 /// The workspace for the network of the case, with all rows of the switchings in force.
-pub fn make_workspace(alloc: Global, inputs: &Inputs) -> Result<Workspace, OutOfMemory>
-    requires { IsWithinRanges inputs.now.question }
+pub fn make_workspace(
+    alloc: Global,
+    inputs: &Inputs<UniformField>,
+) -> Result<Workspace, OutOfMemory>
+    requires { IsWithinField inputs.now.question }
     ensures { IfOk result (IsMadeFor inputs.now) }
 {
     let line = LineBuilder::new(alloc)?;
     let case = &inputs.case;
-    let question = &inputs.question;
+    let field = &inputs.question;
     let elements = elements(alloc, case)?;
     let net = standing_net(alloc, &elements, &inputs.switchings)?;
-    let volts = uniform_volts(alloc, case, &elements, question.north, question.east)?;
+    let volts = uniform_volts(alloc, case, &elements, field.north, field.east)?;
     let solving = solve_workspace_for(alloc, case, &net)?;
     let certificate = make_cert_workspace(alloc, net.nodes())?;
     Ok(Workspace {

@@ -18,5 +18,5 @@ abbrev pub check_text : Lists → List Placed → List ℕ
 check_text case standing = lines_text (check_report case (live_nodes case standing))
 
 -- with all switchings in force
-abbrev pub IsRightCheck : Inputs → List ℕ → Type 0
+abbrev pub IsRightCheck : Inputs (Unit {0}) → List ℕ → Type 0
 IsRightCheck inputs text = text ≡ check_text inputs.case (standing_of inputs.case inputs.switchings)

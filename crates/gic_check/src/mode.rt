@@ -37,7 +37,7 @@ fn write_live<S: Sink>(
 
 /// Writes which nodes are live with all rows of the switchings in force, where each live one is earthed. Takes no memory.
 pub fn check<S: Sink>(
-    inputs: &Inputs,
+    inputs: &Inputs<()>,
     workspace: &mut Workspace,
     out: &mut S,
 ) -> Result<(), ReportFault>

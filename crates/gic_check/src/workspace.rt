@@ -33,7 +33,7 @@ impl Drop for Workspace {
 }
 
 /// The workspace for the network of the case, with all rows of the switchings in force.
-pub fn make_workspace(alloc: Global, inputs: &Inputs) -> Result<Workspace, OutOfMemory>
+pub fn make_workspace(alloc: Global, inputs: &Inputs<()>) -> Result<Workspace, OutOfMemory>
     ensures { IfOk result (IsMadeFor inputs.now) }
 {
     let line = LineBuilder::new(alloc)?;

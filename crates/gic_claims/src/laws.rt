@@ -1,5 +1,6 @@
 //! Theorems over the definitions, each the contract of a function that does nothing but bring the theorems that it joins.
-ghost use Rattle.gic_claims.specs.Claims.{AcceptedNetworksAreSolved, AcceptedSolutionsAgree, BoundNetworksAreEarthed, BoundNetworksAreSolved};
+ghost use Rattle.gic_claims.specs.Claims.{AcceptedNetworksAreSolved, AcceptedSolutionsAgree, BoundNetworksAreEarthed};
+ghost use Rattle.gic_claims.specs.Claims.{BoundNetworksAreSolved};
 
 use gic_case_reader::laws::accepted_law;
 use gic_exists::laws::{agreement_law, existence_law};

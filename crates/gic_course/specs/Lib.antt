@@ -1,5 +1,6 @@
 pub mod Steps
 pub mod Views
+pub mod Single
 pub mod Switched
 pub mod Epochs
 pub mod WorkspaceFor

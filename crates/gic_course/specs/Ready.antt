@@ -23,6 +23,11 @@ pub record IsSwitchedFor (inputs : StormInputs) (now : SwitchedNet) : Type 0 whe
   pub network : now.net.network ≡ elements_of inputs.case
   pub stands : StandsThrough (rows_in inputs.switchings) now
 
+-- the epochs of the storm can be walked over: the net is the case's, with the first rows of its switchings in force, and the workspace is for the case
+pub record CanWalk (inputs : StormInputs) (now : SwitchedNet) (workspace : Workspace) : Type 0 where
+  pub switched : IsSwitchedFor inputs now
+  pub space : IsWorkspaceForCourse inputs.case workspace
+
 -- what this way of showing steps takes is there: a bound vector of the net, and for superposing certified base fields too
 abbrev pub IsSettledBy : Way → Lists → NetView → Workspace → Type 0
 IsSettledBy Solve case net workspace = IsBoundWithin (standing net) MOST_WALK (slice_index workspace.solve_workspace.vector)

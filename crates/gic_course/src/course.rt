@@ -1,6 +1,7 @@
 //! The course of a storm.
-ghost use Rattle.std.specs.Prelude.{◌≡◌, length, None, IfOk, OnOk, IfErr, IfSome, IsSomeAnd};
+ghost use Rattle.std.specs.Prelude.{◌≡◌, ◌<◌, length, None, IfOk, OnOk, IfErr, IfSome, IsSomeAnd};
 ghost use Rattle.gic_enclose.specs.Solved.{IsWidth};
+ghost use Rattle.gic_fixed.specs.Ends.{ends_of};
 ghost use Rattle.gic_view.specs.Kept.{blank_view};
 ghost use Rattle.gic_winding.specs.ElementList.{elements_of};
 ghost use Rattle.gic_effective.specs.ViewLengths.{HasViewLengths};
@@ -10,19 +11,22 @@ ghost use Rattle.gic_course.specs.CourseOf.{IsCourseOf, CanShow};
 ghost use Rattle.gic_course.specs.Epochs.{HasStep};
 ghost use Rattle.gic_course.specs.Ready.{IsReadyAt, IsShownBy};
 ghost use Rattle.gic_inputs.specs.Inputs.{IsStormOf};
-ghost use Rattle.gic_course.specs.Steps.{IsStepOf, storm_steps};
+ghost use Rattle.gic_course.specs.Single.{IsNarrowEffective};
+ghost use Rattle.gic_course.specs.Steps.{IsStepOf, standing_at_step, storm_steps, storm_volts};
 ghost use Rattle.gic_course.specs.Views.{IsSolvedStep};
 
 use crate::epochs::{epoch_with, epochs_under, has_step};
 use crate::preparing::prepare_epoch;
 use crate::ready::{Ready, Way, way_after};
 use crate::showing::show_step;
+use crate::single::effective_of_step;
 use crate::switched::SwitchedNet;
 use crate::walking::{expect_epochs, put_in_force};
 use crate::workspace::{Workspace, make_workspace};
 use gic_base::OutOfMemory;
 use gic_effective::view_of_case;
 use gic_exists::laws::existence_law;
+use gic_fixed::Interval;
 use gic_inputs::StormInputs;
 use gic_model::laws::potential_law;
 use gic_stand::NetworkRefusal;
@@ -83,8 +87,8 @@ impl Course {
         Ok(view)
     }
 
-    /// Whether the network can be solved at each step of the storm: the first step at which it can't is told. It looks at
-    /// most once at each epoch, and takes no memory.
+    /// Whether the network can be solved at each step of the storm: the first step at which it can't is told. Takes no
+    /// memory.
     pub fn expect_solvable(&mut self, inputs: &StormInputs) -> Result<(), NetworkRefusal>
         requires { IsCourseOf inputs.now self.old }
         ensures met { OnOk result (CanShow inputs.now self.new) }
@@ -134,10 +138,9 @@ impl Course {
     }
 
     /// Fills the view of a step, counted from 1: its number, its time, and intervals that are no wider than `width`, in
-    /// millivolts and milliamperes, with no effective current beyond 2^52 mA per phase. Where the step before was not
-    /// of the same epoch, the epoch is prepared first, so each is prepared once where steps are shown in order; what is ready
-    /// is kept where no row changes what stands. No interval begins at -2^127, which has no absolute value of 128 bits. Takes
-    /// no memory.
+    /// millivolts and milliamperes, with no effective current beyond 2^52 mA per phase. Steps may be shown in
+    /// any order; how often their epochs are prepared isn't promised. No interval begins at -2^127, which has no absolute
+    /// value of 128 bits. Takes no memory.
     pub fn show(&mut self, inputs: &StormInputs, number: u32, width: u32, view: &mut StepView)
         requires shows { CanShow inputs.now self.old }
         requires step { IsStepOf inputs.now number }
@@ -161,5 +164,35 @@ impl Course {
             &mut self.workspace,
             view,
         );
+    }
+
+    /// An interval, in milliamperes per phase, that holds the signed effective current of the transformer at a place of the
+    /// case at a step, counted from 1, in every solution, and is no wider than `width`. No other quantity of the step is
+    /// looked at. What `show` makes ready is made ready and kept here as well. Takes no memory.
+    pub fn effective_at(
+        &mut self,
+        inputs: &StormInputs,
+        number: u32,
+        transformer: u16,
+        width: u32,
+    ) -> Interval
+        requires shows { CanShow inputs.now self.old }
+        requires step { IsStepOf inputs.now number }
+        requires transformer { transformer < length inputs.now.case.transformers }
+        requires width { IsWidth width }
+        ensures shown { IsNarrowEffective inputs.now.case (standing_at_step inputs.now number) (storm_volts inputs.now number)
+            transformer width (ends_of result) }
+        ensures shows { CanShow inputs.now self.new }
+    {
+        let way = self.be_ready_for(inputs, number);
+        effective_of_step(
+            inputs,
+            &self.switched.net,
+            number,
+            way,
+            transformer,
+            width,
+            &mut self.workspace,
+        )
     }
 }

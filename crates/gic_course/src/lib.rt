@@ -6,6 +6,7 @@ mod epochs;
 mod preparing;
 mod ready;
 mod showing;
+mod single;
 mod switched;
 mod walking;
 mod workspace;

@@ -32,7 +32,7 @@ use gic_switch::time_of_step;
 use gic_view::StepView;
 
 /// Solves the network in the fields, from the guesses that are there.
-fn solve_fields(case: &Case, net: &Net, width: u32, workspace: &mut Workspace)
+pub(crate) fn solve_fields(case: &Case, net: &Net, width: u32, workspace: &mut Workspace)
     requires network { net.now.network ≡ elements_of case.now }
     requires workspace { IsWorkspaceForCourse case.now workspace.old }
     requires bound { IsBoundWithin (standing net.now) MOST_WALK (slice_index workspace.old.solve_workspace.vector) }

@@ -6,8 +6,7 @@ ghost use Rattle.gic_stand.specs.Needs.{Solved, Fails, IsMet, IsUnmet};
 ghost use Rattle.gic_inputs.specs.Inputs.{rows_in};
 ghost use Rattle.gic_stand.specs.Standing.{IsSolvable};
 ghost use Rattle.gic_course.specs.Epochs.{HasStep, IsEpochOf};
-ghost use Rattle.gic_course.specs.Ready.{IsSwitchedFor};
-ghost use Rattle.gic_course.specs.WorkspaceFor.{IsWorkspaceForCourse};
+ghost use Rattle.gic_course.specs.Ready.{IsSwitchedFor, CanWalk};
 ghost use Rattle.gic_course.specs.Steps.{standing_at_step, storm_steps};
 ghost use Rattle.gic_course.specs.Switched.{changes_to};
 
@@ -39,14 +38,12 @@ fn expect_epoch(
     workspace: &mut Workspace,
 ) -> Result<(), NetworkRefusal>
     requires epoch { IsEpochOf inputs.now epoch }
-    requires switched { IsSwitchedFor inputs.now switched.old }
-    requires workspace { IsWorkspaceForCourse inputs.now.case workspace.old }
+    requires walks { CanWalk inputs.now switched.old workspace.old }
     requires seen { IsTrue seen → IsSolvable (standing switched.old.net) }
     ensures net { OnOk result (IsSolvable (standing switched.new.net)) }
     ensures solvable { OnOk result ((number : ℕ) → HasStep number epoch → IsSolvable (standing_at_step inputs.now number)) }
     ensures err { IfErr result (Fails Solved inputs.now.case epoch.first (standing_at_step inputs.now epoch.first)) }
-    ensures switched { IsSwitchedFor inputs.now switched.new }
-    ensures workspace { IsWorkspaceForCourse inputs.now.case workspace.new }
+    ensures walks { CanWalk inputs.now switched.new workspace.new }
 {
     let changed = put_in_force(inputs, epoch, switched);
     if seen && !changed {
@@ -66,12 +63,10 @@ pub(crate) fn expect_epochs(
     workspace: &mut Workspace,
 ) -> Result<(), NetworkRefusal>
     requires epochs { AreEpochs inputs.now.storm.rows (rows_in inputs.now.switchings) epochs.now }
-    requires switched { IsSwitchedFor inputs.now switched.old }
-    requires workspace { IsWorkspaceForCourse inputs.now.case workspace.old }
+    requires walks { CanWalk inputs.now switched.old workspace.old }
     ensures met { OnOk result (IsMet Solved (storm_steps inputs.now)) }
     ensures unmet { IfErr result (IsUnmet Solved inputs.now.case (storm_steps inputs.now)) }
-    ensures switched { IsSwitchedFor inputs.now switched.new }
-    ensures workspace { IsWorkspaceForCourse inputs.now.case workspace.new }
+    ensures walks { CanWalk inputs.now switched.new workspace.new }
 {
     for (place, epoch) in epochs.iter().enumerate() {
         expect_epoch(inputs, *epoch, place > 0, switched, workspace)?;

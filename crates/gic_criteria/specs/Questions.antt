@@ -1,8 +1,7 @@
--- Questions of fields and criteria.
+-- What is asked where words say nothing.
 use Rattle.std.specs.Prelude.{pos}
 use Rattle.gic_criteria.specs.declared.event.Event.TheVariants.{Benchmark}
 use Rattle.gic_criteria.specs.declared.asked.Criteria.{Criteria}
-use Rattle.gic_criteria.specs.declared.asked.Question.{Question}
 use Rattle.gic_criteria.specs.declared.asked.UniformField.{UniformField}
 
 -- where no field is given
@@ -12,7 +11,3 @@ no_field = record { north = pos 0; east = pos 0 }
 -- where no criteria are given: 100 mV or mA, and the benchmark event
 abbrev pub usual_criteria : Criteria
 usual_criteria = record { width = 100; event = Benchmark }
-
--- what is asked in a field by these criteria
-abbrev pub question_of : UniformField → Criteria → Question
-question_of field criteria = record { north = field.north; east = field.east; width = criteria.width; event = criteria.event }

@@ -19,9 +19,7 @@ pub record IsWidth (width : ℕ) : Type 0 where
 abbrev pub IsWithinCriteria : Criteria → Type 0
 IsWithinCriteria c = IsWidth c.width
 
--- each part of the field lies within `MOST_FIELD`, 20000 mV/km, and the width is from 10 to 10000 mV or mA
+-- the field and the criteria of a question are within theirs
 pub record IsWithinRanges (q : Question) : Type 0 where
-  pub north : unsigned_abs q.north ≤ MOST_FIELD
-  pub east : unsigned_abs q.east ≤ MOST_FIELD
-  pub width_least : 10 ≤ q.width
-  pub width_most : q.width ≤ 10000
+  pub field : IsWithinField q.field
+  pub criteria : IsWithinCriteria q.criteria

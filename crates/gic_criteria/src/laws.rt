@@ -2,7 +2,8 @@
 //! theorem calls it.
 ghost use Rattle.std.specs.Prelude.{◌≡◌, ◌+◌, ◌*◌, ◌≤◌, ℤ, ◌+ℤ◌, ◌*ℤ◌};
 ghost use Rattle.gic_criteria.specs.Worst.{square_of, WorstIsDetermined, WorstOfZeroIsZero, WorstAboutZero};
-ghost use Rattle.gic_criteria.specs.VerdictLaws.{BelowIsUnder, ReachesIsAtLeast, UndecidedIsAcross, WorstBelowIsUnder, WorstReachesIsAtLeast};
+ghost use Rattle.gic_criteria.specs.VerdictLaws.{BelowIsUnder, ReachesIsAtLeast, UndecidedIsAcross, WorstBelowIsUnder};
+ghost use Rattle.gic_criteria.specs.VerdictLaws.{WorstReachesIsAtLeast};
 
 /// In a uniform field with the parts c and s a current that is a for the one unit field and b for the other is
 /// a·c + b·s. Over all fields of one strength none gives more than the root of a² + b², times the strength; the field

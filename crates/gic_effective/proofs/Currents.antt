@@ -7,12 +7,11 @@ use Rattle.gic_fixed.specs.Encloses.{Encloses, IsWithin}
 use Rattle.gic_fixed.proofs.Integers.{linear, *ℤ-+ℤ, *ℤ--ℤ, *ℤ-neg_ℤ, *ℤ_assoc, *ℤ_left_comm, abs-neg_ℤ}
 use Rattle.gic_fixed.proofs.Divisions.{positive_product, floor_ge, floor_le}
 use Rattle.gic_fixed.proofs.Enclosures.{Encloses-neg, Encloses-add, Encloses-point, Encloses-times, Encloses-div_out, Encloses-cancel}
-use Rattle.gic_model.specs.Limits.{most_volts}
-use Rattle.gic_effective.specs.Ohm.{OhmsLaw, drive_of, current_low, current_high}
+use Rattle.gic_effective.specs.Ohm.{OhmsLaw, current_low, current_high}
 use lib.IntN.{*ℤ_comm}
 
 -- g grains are a nanovolt
-module _ (g times r : ℕ) (flo fhi tlo thi p q v current : ℤ) (d : ℕ) where
+module _ (g : ℕ) (flo fhi tlo thi p q v : ℤ) (d : ℕ) where
   driven : pos g *ℤ p +ℤ neg_ℤ (pos g *ℤ q) +ℤ (pos g *ℤ v) *ℤ pos d ≡ pos g *ℤ (p -ℤ q +ℤ pos d *ℤ v)
   driven =
       let sum = *ℤ-+ℤ (pos g) (p -ℤ q) (pos d *ℤ v) in
@@ -20,26 +19,30 @@ module _ (g times r : ℕ) (flo fhi tlo thi p q v current : ℤ) (d : ℕ) where
       let last : (pos g *ℤ v) *ℤ pos d ≡ pos g *ℤ (pos d *ℤ v) = *ℤ_assoc (pos g) v (pos d) ∙ ap (λ z. pos g *ℤ z) (*ℤ_comm v (pos d)) in
       omega (arith, linear)
 
-  numerator : OhmsLaw times r p q v current d → pos (times * 1000000) *ℤ (pos g *ℤ p +ℤ neg_ℤ (pos g *ℤ q) +ℤ (pos g *ℤ v) *ℤ pos d) ≡ pos (r * g) *ℤ current
-  numerator ohm =
-      ap (λ z. pos (times * 1000000) *ℤ z) driven ∙
-      *ℤ_left_comm (pos (times * 1000000)) (pos g) (p -ℤ q +ℤ pos d *ℤ v) ∙
-      ap (λ z. pos g *ℤ z) (sym ohm) ∙
-      *ℤ_left_comm (pos g) (pos r) current ∙
-      sym (*ℤ_assoc (pos r) (pos g) current)
-
-  pub current_holds : 0 < r → 0 < g → Encloses flo fhi (pos g *ℤ p) d → Encloses tlo thi (pos g *ℤ q) d → OhmsLaw times r p q v current d →
-      Encloses (floor_div (pos (times * 1000000) *ℤ (flo -ℤ thi +ℤ pos g *ℤ v)) (pos (r * g))) (ceil_div (pos (times * 1000000) *ℤ (fhi -ℤ tlo +ℤ pos g *ℤ v)) (pos (r * g))) current d
-  current_holds h k from to ohm =
+  pub drive_holds : Encloses flo fhi (pos g *ℤ p) d → Encloses tlo thi (pos g *ℤ q) d → Encloses (flo -ℤ thi +ℤ pos g *ℤ v) (fhi -ℤ tlo +ℤ pos g *ℤ v) (pos g *ℤ (p -ℤ q +ℤ pos d *ℤ v)) d
+  drive_holds from to =
       let turned = Encloses-neg tlo thi (pos g *ℤ q) d to in
       let difference = Encloses-add flo fhi (pos g *ℤ p) (neg_ℤ thi) (neg_ℤ tlo) (neg_ℤ (pos g *ℤ q)) d from turned in
       let push = Encloses-point (pos g *ℤ v) d in
       let sum = Encloses-add (flo -ℤ thi) (fhi -ℤ tlo) (pos g *ℤ p +ℤ neg_ℤ (pos g *ℤ q)) (pos g *ℤ v) (pos g *ℤ v) ((pos g *ℤ v) *ℤ pos d) d difference push in
-      let raised = Encloses-times (flo -ℤ thi +ℤ pos g *ℤ v) (fhi -ℤ tlo +ℤ pos g *ℤ v) (pos g *ℤ p +ℤ neg_ℤ (pos g *ℤ q) +ℤ (pos g *ℤ v) *ℤ pos d) d (times * 1000000) sum in
+      subst (λ (z : ℤ). Encloses (flo -ℤ thi +ℤ pos g *ℤ v) (fhi -ℤ tlo +ℤ pos g *ℤ v) z d) driven sum
+
+module _ (g times r : ℕ) (lo hi drive current : ℤ) (d : ℕ) where
+  numerator : OhmsLaw times r drive current → pos (times * 1000000) *ℤ (pos g *ℤ drive) ≡ pos (r * g) *ℤ current
+  numerator ohm =
+      *ℤ_left_comm (pos (times * 1000000)) (pos g) drive ∙
+      ap (λ z. pos g *ℤ z) (sym ohm) ∙
+      *ℤ_left_comm (pos g) (pos r) current ∙
+      sym (*ℤ_assoc (pos r) (pos g) current)
+
+  pub current_holds : 0 < r → 0 < g → Encloses lo hi (pos g *ℤ drive) d → OhmsLaw times r drive current →
+      Encloses (floor_div (pos (times * 1000000) *ℤ lo) (pos (r * g))) (ceil_div (pos (times * 1000000) *ℤ hi) (pos (r * g))) current d
+  current_holds h k driven ohm =
+      let raised = Encloses-times lo hi (pos g *ℤ drive) d (times * 1000000) driven in
       let some = positive_product r g h k in
       let out = Encloses-div_out _ _ _ d (r * g) some raised in
       Encloses-cancel _ _ current d (r * g) some
-      (subst (λ (z : ℤ). Encloses (floor_div (pos (times * 1000000) *ℤ (flo -ℤ thi +ℤ pos g *ℤ v)) (pos (r * g))) (ceil_div (pos (times * 1000000) *ℤ (fhi -ℤ tlo +ℤ pos g *ℤ v)) (pos (r * g))) z (r * g * d)) (numerator ohm) out)
+      (subst (λ (z : ℤ). Encloses (floor_div (pos (times * 1000000) *ℤ lo) (pos (r * g))) (ceil_div (pos (times * 1000000) *ℤ hi) (pos (r * g))) z (r * g * d)) (numerator ohm) out)
 
 -- an interval with equal ends
 pub Encloses-same : (lo hi lo' hi' z : ℤ) (d : ℕ) → lo ≡ lo' → hi ≡ hi' → Encloses lo' hi' z d → Encloses lo hi z d
@@ -98,28 +101,13 @@ product_small n r z h k small =
     let parts = unsigned_abs-mul (pos n) z in
     omega arith
 
-drive_small : (from to volts : ℤ) → unsigned_abs from ≤ 2 ^ 96 → unsigned_abs to ≤ 2 ^ 96 → unsigned_abs volts ≤ most_volts → unsigned_abs (drive_of from to volts) ≤ 2 ^ 98
-drive_small from to volts h k small =
-    let push = unsigned_abs-mul (pos (2 ^ 36)) volts in
-    let most : 2 ^ 36 * unsigned_abs volts ≤ 2 ^ 82 = omega arith in
-    sum_small from to (pos (2 ^ 36) *ℤ volts) h k (omega (arith, push, most))
-  where
-    sum_small : (a b c : ℤ) → unsigned_abs a ≤ 2 ^ 96 → unsigned_abs b ≤ 2 ^ 96 → unsigned_abs c ≤ 2 ^ 82 → unsigned_abs (a -ℤ b +ℤ c) ≤ 2 ^ 98
-    sum_small a b c p q r = omega (arith, ints)
-
 -- no current is beyond 2^80 nanoamperes
-module _ (times r : ℕ) (from to volts : ℤ) (three : times ≤ 3) (thousand : 1000 ≤ r) (here : unsigned_abs from ≤ 2 ^ 96) (there : unsigned_abs to ≤ 2 ^ 96) (few : unsigned_abs volts ≤ most_volts) where
-  product : unsigned_abs (pos (times * 1000000) *ℤ drive_of from to volts) ≤ r * 2 ^ 36 * 2 ^ 80
-  product = product_small (times * 1000000) r (drive_of from to volts) (omega arith) thousand (drive_small from to volts here there few)
+module _ (times r : ℕ) (drive : ℤ) (three : times ≤ 3) (thousand : 1000 ≤ r) (small : unsigned_abs drive ≤ 2 ^ 98) where
+  product : unsigned_abs (pos (times * 1000000) *ℤ drive) ≤ r * 2 ^ 36 * 2 ^ 80
+  product = product_small (times * 1000000) r drive (omega arith) thousand small
 
-  pub low_small : (z : ℤ) → z ≡ current_low times r (drive_of from to volts) → unsigned_abs z ≤ 2 ^ 80
-  low_small z is = subst (λ (w : ℤ). unsigned_abs w ≤ 2 ^ 80) (sym is) (floor_small (pos (times * 1000000) *ℤ drive_of from to volts) (r * 2 ^ 36) (2 ^ 80) (omega arith) product)
+  pub low_small : (z : ℤ) → z ≡ current_low times r drive → unsigned_abs z ≤ 2 ^ 80
+  low_small z is = subst (λ (w : ℤ). unsigned_abs w ≤ 2 ^ 80) (sym is) (floor_small (pos (times * 1000000) *ℤ drive) (r * 2 ^ 36) (2 ^ 80) (omega arith) product)
 
-  pub high_small : (z : ℤ) → z ≡ current_high times r (drive_of from to volts) → unsigned_abs z ≤ 2 ^ 80
-  high_small z is =
-      let x = pos (times * 1000000) *ℤ drive_of from to volts in
-      let q = floor_div (neg_ℤ x) (pos (r * 2 ^ 36)) in
-      let turned = abs-neg_ℤ x in
-      let down : unsigned_abs q ≤ 2 ^ 80 = floor_small (neg_ℤ x) (r * 2 ^ 36) (2 ^ 80) (omega arith) (omega (arith, turned, product)) in
-      let up = abs-neg_ℤ q in
-      subst (λ (w : ℤ). unsigned_abs w ≤ 2 ^ 80) (sym is) (omega (arith, up, down))
+  pub high_small : (z : ℤ) → z ≡ current_high times r drive → unsigned_abs z ≤ 2 ^ 80
+  high_small z is = subst (λ (w : ℤ). unsigned_abs w ≤ 2 ^ 80) (sym is) (ceil_small (pos (times * 1000000) *ℤ drive) (r * 2 ^ 36) (2 ^ 80) (omega arith) product)

@@ -19,7 +19,7 @@ use Rattle.gic_fixed.specs.Ends.{Ends, IsAtMostWide}
 use Rattle.gic_enclose.specs.Certain.{AreCertain}
 use Rattle.gic_effective.specs.Holds.{HoldsAt, HoldsSolution, HoldsSolutions}
 use Rattle.gic_effective.specs.Ohm.{drive_of, least_nano, most_nano}
-use Rattle.gic_effective.proofs.Currents.{current_holds}
+use Rattle.gic_effective.proofs.Currents.{drive_holds, current_holds}
 use Rattle.gic_effective.proofs.Widths.{milli_low, milli_high, same_width}
 
 module _ (standing : List Placed) (potentials : List Ends) (s : Solution) (p : Placed) (has : Contains standing p) (holds : HoldsSolution standing potentials s) where
@@ -37,9 +37,9 @@ module _ (standing : List Placed) (potentials : List Ends) (s : Solution) (p : P
 
   pub element_holds : (volts : ℕ → ℤ) → 0 < p.1.micro_ohm → IsSolution standing volts s → Encloses (least_nano volts (low_at potentials) (high_at potentials) p) (most_nano volts (low_at potentials) (high_at potentials) p) (s.current p.0) s.denominator
   element_holds volts some solves =
-      current_holds (2 ^ 36) p.1.times p.1.micro_ohm (low_at potentials p.1.from.0) (high_at potentials p.1.from.0) (value_at (low_at potentials) p.1.to) (value_at (high_at potentials) p.1.to)
-      (s.potential p.1.from.0) (value_at s.potential p.1.to) (volts p.0) (s.current p.0) s.denominator some (omega arith) from_holds
-      (to_by p.1.to (end_own p.1 p.1.to refl (is_live standing) leads)) (All-contains (IsOhm volts s) standing p solves.ohm has)
+      let driven = drive_holds (2 ^ 36) (low_at potentials p.1.from.0) (high_at potentials p.1.from.0) (value_at (low_at potentials) p.1.to) (value_at (high_at potentials) p.1.to)
+      (s.potential p.1.from.0) (value_at s.potential p.1.to) (volts p.0) s.denominator from_holds (to_by p.1.to (end_own p.1 p.1.to refl (is_live standing) leads)) in
+      current_holds (2 ^ 36) p.1.times p.1.micro_ohm _ _ _ (s.current p.0) s.denominator some (omega arith) driven (All-contains (IsOhm volts s) standing p solves.ohm has)
 
 -- and it is no wider in milliamperes than the potentials are sharp for
 pub element_narrow : (standing : List Placed) (volts low high : ℕ → ℤ) (width : ℕ) (p : Placed) → Contains standing p → 0 < p.1.micro_ohm → IsSharp standing volts low high width →

@@ -3,6 +3,8 @@ pub mod Ohm
 pub mod Weighted
 pub mod Threshold
 pub mod WeightedSum
+pub mod Milli
+pub mod WindingCurrents
 pub mod Narrow
 pub mod Holds
 pub mod RightView

@@ -4,10 +4,9 @@ use Rattle.gic_fixed.specs.Rounding.{floor_div, ceil_div}
 use Rattle.gic_model.specs.Standing.{value_at}
 use Rattle.gic_model.specs.Sums.{Placed}
 
--- R I = times 10^6 (P_from - P_to + volts), over the denominator: R in micro-ohm, I in nA, potentials and voltage in nV
-abbrev pub OhmsLaw : (times micro_ohm : ℕ) → (from to volts current : ℤ) → (denominator : ℕ) → Type 0
-OhmsLaw times micro_ohm from to volts current denominator =
-    pos micro_ohm *ℤ current ≡ pos (times * 1000000) *ℤ (from -ℤ to +ℤ pos denominator *ℤ volts)
+-- R I = times 10^6 drive: R in micro-ohm, the current I in nA and what drives it in nV, over one denominator
+abbrev pub OhmsLaw : (times micro_ohm : ℕ) → (drive current : ℤ) → Type 0
+OhmsLaw times micro_ohm drive current = pos micro_ohm *ℤ current ≡ pos (times * 1000000) *ℤ drive
 
 -- what drives a current from one potential to another, in grains
 abbrev pub drive_of : ℤ → ℤ → ℤ → ℤ

@@ -4,7 +4,6 @@ use Rattle.gic_base.specs.declared.id.ElementId.{ElementId}
 use Rattle.gic_case.specs.Lists.{Lists}
 use Rattle.gic_enclose.specs.Ends.{high_at, low_at}
 use Rattle.gic_fixed.specs.Encloses.{Encloses, IsWithin}
-use Rattle.gic_fixed.specs.Rounding.{floor_div, ceil_div}
 use Rattle.gic_model.specs.Sharp.{IsSharp}
 use Rattle.gic_model.specs.Solution.{Solution, IsSolution}
 use Rattle.gic_model.specs.Standing.{is_standing}
@@ -12,6 +11,7 @@ use Rattle.gic_model.specs.Sums.{Placed}
 use Rattle.gic_view.specs.View.{View}
 use Rattle.gic_fixed.specs.Ends.{Ends, IsAtMostWide}
 use Rattle.gic_effective.specs.Holds.{HoldsSolution, HoldsSolutions}
+use Rattle.gic_effective.specs.Milli.{IsMilliAtMostWide}
 use Rattle.gic_effective.specs.Narrow.{IsNoWider}
 use Rattle.gic_effective.specs.RightView.{IsRightNode, IsRightElement, IsRightEffective}
 
@@ -22,7 +22,7 @@ AreSharp standing volts potentials width = IsSharp standing volts (low_at potent
 -- an element's current in nA, how wide it is in mA, and that it is 0 alone where the element doesn't stand
 pub record IsShownCurrent (standing : List Placed) (volts : ℕ → ℤ) (potentials : List Ends) (place : ℕ) (lo hi : ℤ) : Type 0 where
   pub holds : (s : Solution) → IsSolution standing volts s → HoldsSolution standing potentials s → Encloses lo hi (s.current place) s.denominator
-  pub narrow : (width : ℕ) → AreSharp standing volts potentials width → IsAtMostWide width (floor_div lo (pos 1000000)) (ceil_div hi (pos 1000000))
+  pub narrow : (width : ℕ) → AreSharp standing volts potentials width → IsMilliAtMostWide width lo hi
   pub zeroed : IsFalse (is_standing standing place) → (lo ≡ pos 0) × (hi ≡ pos 0)
 
 -- the same of a winding, and the point 0 where there is none

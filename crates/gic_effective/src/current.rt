@@ -12,10 +12,11 @@ ghost use Rattle.gic_net.specs.Net.{standing, element_of};
 ghost use Rattle.gic_enclose.specs.Ends.{low_at, high_at};
 ghost use Rattle.gic_enclose.specs.Certain.{AreTight};
 ghost use Rattle.gic_effective.specs.Holds.{AreOfNetwork, HoldsSolution};
+ghost use Rattle.gic_effective.specs.Milli.{IsMilliAtMostWide};
 ghost use Rattle.gic_effective.specs.Ohm.{least_nano, most_nano};
 ghost use Rattle.gic_fixed.specs.Ends.{IsAtMostWide};
 
-use crate::ohm::ohms_law;
+use crate::ohm::{drive_between, ohms_law};
 use gic_base::ElementId;
 use gic_enclose::Potentials;
 use gic_fixed::Interval;
@@ -42,33 +43,28 @@ pub fn current_na(net: &Net, volts: &Volts, potentials: &Potentials, element: El
     requires together { AreOfNetwork net.now.network volts.now potentials.now }
     requires element { element.0 < length net.now.network.list }
     requires stands { IsTrue (is_standing (standing net.now) element.0) }
-    ensures low { result.lo ≡
-        least_nano (number_at volts.now) (low_at potentials.now) (high_at potentials.now) (element.0, element_of net.now.network element.0) }
-    ensures high { result.hi ≡
-        most_nano (number_at volts.now) (low_at potentials.now) (high_at potentials.now) (element.0, element_of net.now.network element.0) }
-    ensures holds { (s : Solution) → IsSolution (standing net.now) (number_at volts.now) s → HoldsSolution (standing net.now) potentials.now s →
-        Encloses result.lo result.hi (s.current element.0) s.denominator }
+    ensures low { result.lo ≡ least_nano (number_at volts.now) (low_at potentials.now) (high_at potentials.now)
+        (element.0, element_of net.now.network element.0) }
+    ensures high { result.hi ≡ most_nano (number_at volts.now) (low_at potentials.now) (high_at potentials.now)
+        (element.0, element_of net.now.network element.0) }
+    ensures holds { (s : Solution) → IsSolution (standing net.now) (number_at volts.now) s →
+        HoldsSolution (standing net.now) potentials.now s → Encloses result.lo result.hi (s.current element.0) s.denominator }
     ensures small { IsWithin (2 ^ 80) result.lo result.hi }
 
     // Where the potentials are sharp for a width, the current in milliamperes is at most so wide.
     ensures narrow { (width : ℕ) → IsSharp (standing net.now) (number_at volts.now) (low_at potentials.now) (high_at potentials.now) width →
-        IsAtMostWide width (floor_div result.lo (pos 1000000)) (ceil_div result.hi (pos 1000000)) }
+        IsMilliAtMostWide width result.lo result.hi }
 {
     // Brings that the element is one of the standing ones, with its place.
     let _stands = net.stands(element);
     let row = net.element(element);
     let from = potentials.get(row.from);
     let to = at_end(potentials, row.to);
-    ohms_law(
-        row.times,
-        net.divisor(element),
-        from,
-        to,
-        volts.get(element),
-    )
+    let drive = drive_between(from, to, volts.get(element));
+    ohms_law(row.times, net.divisor(element), drive)
 }
 
-/// The same, with how wide it is where no potential's interval is wider than 2^32 grains: at most 400 nanoamperes.
+/// The same interval, with how wide it is where no potential's interval is wider than 2^32 grains: at most 400 nanoamperes.
 pub fn tight_current_na(
     net: &Net,
     volts: &Volts,
@@ -78,8 +74,12 @@ pub fn tight_current_na(
     requires together { AreOfNetwork net.now.network volts.now potentials.now }
     requires element { element.0 < length net.now.network.list }
     requires stands { IsTrue (is_standing (standing net.now) element.0) }
-    ensures holds { (s : Solution) → IsSolution (standing net.now) (number_at volts.now) s → HoldsSolution (standing net.now) potentials.now s →
-        Encloses result.lo result.hi (s.current element.0) s.denominator }
+    ensures low { result.lo ≡ least_nano (number_at volts.now) (low_at potentials.now) (high_at potentials.now)
+        (element.0, element_of net.now.network element.0) }
+    ensures high { result.hi ≡ most_nano (number_at volts.now) (low_at potentials.now) (high_at potentials.now)
+        (element.0, element_of net.now.network element.0) }
+    ensures holds { (s : Solution) → IsSolution (standing net.now) (number_at volts.now) s →
+        HoldsSolution (standing net.now) potentials.now s → Encloses result.lo result.hi (s.current element.0) s.denominator }
     ensures small { IsWithin (2 ^ 80) result.lo result.hi }
     ensures tight { AreTight potentials.now → IsAtMostWide 400 result.lo result.hi }
 {

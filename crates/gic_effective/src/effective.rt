@@ -2,9 +2,11 @@
 ghost use Rattle.std.specs.Prelude.{◌≡◌, ℕ, ◌+◌, ◌*◌, ◌^◌, ◌≤◌, ℤ, pos};
 ghost use Rattle.gic_fixed.specs.Rounding.{floor_div, ceil_div};
 ghost use Rattle.gic_fixed.specs.Encloses.{Encloses, IsWithin};
-ghost use Rattle.gic_effective.specs.WeightedSum.{weighted, weighted_sum, total_weight};
 ghost use Rattle.gic_fixed.specs.Ends.{IsAtMostWide};
+ghost use Rattle.gic_effective.specs.WeightedSum.{weighted, weighted_sum, total_weight};
+ghost use Rattle.gic_effective.specs.WindingCurrents.{low_sum, high_sum, AreWithin, EncloseEach, AreAtMostWide, AreMilliAtMostWide};
 
+use crate::winding_currents::WindingCurrents;
 use gic_base::ElementId;
 use gic_fixed::Interval;
 use gic_winding::Weights;
@@ -22,75 +24,47 @@ fn part(winding: Option<(ElementId, u32)>, current: Interval) -> Interval
     }
 }
 
-/// The signed effective current of a transformer in milliamperes per phase, from the currents of its three windings in
-/// nanoamperes of all three phases: their weighted sum over three times the voltage of the high side, rounded outward
-/// once. A winding that is `None` isn't used. No end that is given is beyond 2^80 either way, and `high_volts` is at least
-/// 1; no end of the result is beyond 2^113.
-pub fn signed_effective(
-    weights: &Weights,
-    first: Interval,
-    second: Interval,
-    third: Interval,
-) -> Interval
+/// The signed effective current of a transformer in milliamperes per phase: the weighted sum of the currents of its
+/// windings over three times the voltage of the high side, rounded outward once. No end that is given is beyond 2^80
+/// either way, and `high_volts` is at least 1; no end of the result is beyond 2^113.
+pub fn signed_effective(weights: &Weights, currents: &WindingCurrents) -> Interval
     requires volts { 1 ≤ weights.now.high_volts }
-    requires first { IsWithin (2 ^ 80) first.lo first.hi }
-    requires second { IsWithin (2 ^ 80) second.lo second.hi }
-    requires third { IsWithin (2 ^ 80) third.lo third.hi }
-    ensures low { result.lo ≡ floor_div (weighted_sum weights.now first.lo second.lo third.lo) (pos (3000000 * weights.now.high_volts)) }
-    ensures high { result.hi ≡ ceil_div (weighted_sum weights.now first.hi second.hi third.hi) (pos (3000000 * weights.now.high_volts)) }
-    ensures holds { (one other last : ℤ) (denominator : ℕ) →
-        Encloses first.lo first.hi one denominator →
-        Encloses second.lo second.hi other denominator →
-        Encloses third.lo third.hi last denominator →
-        Encloses result.lo result.hi (weighted_sum weights.now one other last) (3000000 * weights.now.high_volts * denominator) }
+    requires size { AreWithin (2 ^ 80) currents.now }
+    ensures low { result.lo ≡ floor_div (low_sum weights.now currents.now) (pos (3000000 * weights.now.high_volts)) }
+    ensures high { result.hi ≡ ceil_div (high_sum weights.now currents.now) (pos (3000000 * weights.now.high_volts)) }
+    ensures holds { (first second third : ℤ) (denominator : ℕ) → EncloseEach currents.now first second third denominator →
+        Encloses result.lo result.hi (weighted_sum weights.now first second third) (3000000 * weights.now.high_volts * denominator) }
     ensures small { IsWithin (2 ^ 113) result.lo result.hi }
 
     // From currents at most this many milliamperes wide it is at most one wider, where the weights add up to no more than
     // three times the voltage of the high side.
-    ensures narrow { (width : ℕ) →
-        total_weight weights.now ≤ 3 * weights.now.high_volts →
-        IsAtMostWide width (floor_div first.lo (pos 1000000)) (ceil_div first.hi (pos 1000000)) →
-        IsAtMostWide width (floor_div second.lo (pos 1000000)) (ceil_div second.hi (pos 1000000)) →
-        IsAtMostWide width (floor_div third.lo (pos 1000000)) (ceil_div third.hi (pos 1000000)) →
+    ensures narrow { (width : ℕ) → total_weight weights.now ≤ 3 * weights.now.high_volts → AreMilliAtMostWide width currents.now →
         IsAtMostWide (width + 1) result.lo result.hi }
 {
-    part(weights.first, first)
-        .add(part(weights.second, second))
-        .add(part(weights.third, third))
+    part(weights.first, currents.first)
+        .add(part(weights.second, currents.second))
+        .add(part(weights.third, currents.third))
         .div_out(3_000_000 * weights.high_volts as i128)
 }
 
 /// The same in nanoamperes per phase.
-pub fn effective_na(
-    weights: &Weights,
-    first: Interval,
-    second: Interval,
-    third: Interval,
-) -> Interval
+pub fn effective_na(weights: &Weights, currents: &WindingCurrents) -> Interval
     requires volts { 1 ≤ weights.now.high_volts }
-    requires first { IsWithin (2 ^ 80) first.lo first.hi }
-    requires second { IsWithin (2 ^ 80) second.lo second.hi }
-    requires third { IsWithin (2 ^ 80) third.lo third.hi }
-    ensures low { result.lo ≡ floor_div (weighted_sum weights.now first.lo second.lo third.lo) (pos (3 * weights.now.high_volts)) }
-    ensures high { result.hi ≡ ceil_div (weighted_sum weights.now first.hi second.hi third.hi) (pos (3 * weights.now.high_volts)) }
-    ensures holds { (one other last : ℤ) (denominator : ℕ) →
-        Encloses first.lo first.hi one denominator →
-        Encloses second.lo second.hi other denominator →
-        Encloses third.lo third.hi last denominator →
-        Encloses result.lo result.hi (weighted_sum weights.now one other last) (3 * weights.now.high_volts * denominator) }
+    requires size { AreWithin (2 ^ 80) currents.now }
+    ensures low { result.lo ≡ floor_div (low_sum weights.now currents.now) (pos (3 * weights.now.high_volts)) }
+    ensures high { result.hi ≡ ceil_div (high_sum weights.now currents.now) (pos (3 * weights.now.high_volts)) }
+    ensures holds { (first second third : ℤ) (denominator : ℕ) → EncloseEach currents.now first second third denominator →
+        Encloses result.lo result.hi (weighted_sum weights.now first second third) (3 * weights.now.high_volts * denominator) }
 
     // Where the weights add up to no more than three times the voltage of the high side, no end is beyond those of the
     // currents' bound, and from currents at most 400 nanoamperes wide it is at most one wider.
     ensures small { total_weight weights.now ≤ 3 * weights.now.high_volts → IsWithin (2 ^ 80) result.lo result.hi }
-    ensures tight { total_weight weights.now ≤ 3 * weights.now.high_volts →
-        IsAtMostWide 400 first.lo first.hi →
-        IsAtMostWide 400 second.lo second.hi →
-        IsAtMostWide 400 third.lo third.hi →
+    ensures tight { total_weight weights.now ≤ 3 * weights.now.high_volts → AreAtMostWide 400 currents.now →
         IsAtMostWide 401 result.lo result.hi }
 {
-    let one = part(weights.first, first);
-    let other = part(weights.second, second);
-    let last = part(weights.third, third);
+    let one = part(weights.first, currents.first);
+    let other = part(weights.second, currents.second);
+    let last = part(weights.third, currents.third);
     one.add(other)
         .add(last)
         .div_out(3 * weights.high_volts as i128)

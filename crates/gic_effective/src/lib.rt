@@ -8,8 +8,10 @@ mod ohm;
 mod potential;
 mod view;
 mod winding;
+mod winding_currents;
 
 pub use current::{current_na, milli, tight_current_na};
 pub use effective::{effective_na, signed_effective};
 pub use potential::{potential_mv, potential_nv};
-pub use view::{fill_view, view_of_case};
+pub use view::{effective_interval, fill_view, view_of_case};
+pub use winding_currents::WindingCurrents;

@@ -9,15 +9,21 @@ ghost use Rattle.gic_effective.specs.Ohm.{OhmsLaw, drive_of, current_low, curren
 use gic_fixed::{Divisor, Interval};
 use gic_sweep::{GRAINS, drive, in_grains, micro_paths};
 
-/// What drives an element's current between two intervals, in grains.
-fn drive_between(from: Interval, to: Interval, push: i128) -> Interval
+/// What drives an element's current, in grains, between two intervals of potentials in grains and by its voltage in
+/// nanovolts.
+pub(crate) fn drive_between(from: Interval, to: Interval, volts: i64) -> Interval
     requires from { IsWithin most_guess from.lo from.hi }
     requires to { IsWithin most_guess to.lo to.hi }
-    requires push { unsigned_abs push ≤ 2 ^ 82 }
-    ensures low { result.lo ≡ from.lo -ℤ to.hi +ℤ push }
-    ensures high { result.hi ≡ from.hi -ℤ to.lo +ℤ push }
+    requires volts { unsigned_abs volts ≤ most_volts }
+    ensures low { result.lo ≡ drive_of from.lo to.hi volts }
+    ensures high { result.hi ≡ drive_of from.hi to.lo volts }
+    ensures holds { (p q : ℤ) (denominator : ℕ) →
+        Encloses from.lo from.hi (pos (2 ^ 36) *ℤ p) denominator →
+        Encloses to.lo to.hi (pos (2 ^ 36) *ℤ q) denominator →
+        Encloses result.lo result.hi (pos (2 ^ 36) *ℤ (p -ℤ q +ℤ pos denominator *ℤ volts)) denominator }
     ensures small { IsWithin (2 ^ 98) result.lo result.hi }
 {
+    let push = in_grains(volts);
     Interval::new(drive(from.lo, to.hi, push), drive(from.hi, to.lo, push))
 }
 
@@ -53,29 +59,20 @@ fn over_ohms(product: Interval, divisor: Divisor) -> Interval
     }
 }
 
-/// The current in nanoamperes, rounded outward, of an element with this many parallel paths of this resistance, from the
-/// potentials of its ends in grains and its voltage in nanovolts.
-pub(crate) fn ohms_law(
-    times: u8,
-    divisor: Divisor,
-    from: Interval,
-    to: Interval,
-    volts: i64,
-) -> Interval
+/// The current in nanoamperes, rounded outward, of an element with this many parallel paths of this resistance, by what
+/// drives it in grains.
+pub(crate) fn ohms_law(times: u8, divisor: Divisor, drive: Interval) -> Interval
     requires times { times ≤ 3 }
     requires resistance { 1000 ≤ divisor }
-    requires from { IsWithin most_guess from.lo from.hi }
-    requires to { IsWithin most_guess to.lo to.hi }
-    requires volts { unsigned_abs volts ≤ most_volts }
-    ensures low { result.lo ≡ current_low times divisor (drive_of from.lo to.hi volts) }
-    ensures high { result.hi ≡ current_high times divisor (drive_of from.hi to.lo volts) }
-    ensures holds { (p q current : ℤ) (denominator : ℕ) →
-        Encloses from.lo from.hi (pos (2 ^ 36) *ℤ p) denominator →
-        Encloses to.lo to.hi (pos (2 ^ 36) *ℤ q) denominator →
-        OhmsLaw times divisor p q volts current denominator →
+    requires drive { IsWithin (2 ^ 98) drive.lo drive.hi }
+    ensures low { result.lo ≡ current_low times divisor drive.lo }
+    ensures high { result.hi ≡ current_high times divisor drive.hi }
+    ensures holds { (nanovolts current : ℤ) (denominator : ℕ) →
+        Encloses drive.lo drive.hi (pos (2 ^ 36) *ℤ nanovolts) denominator →
+        OhmsLaw times divisor nanovolts current →
         Encloses result.lo result.hi current denominator }
     ensures small { IsWithin (2 ^ 80) result.lo result.hi }
 {
-    let product = raised(drive_between(from, to, in_grains(volts)), factor(times));
+    let product = raised(drive, factor(times));
     over_ohms(product, divisor).div_out(GRAINS)
 }

@@ -20,7 +20,8 @@ pub fn potential_mv(potentials: &Potentials, node: NodeId) -> Interval
     requires { node.0 < length potentials.now }
     ensures low { result.lo ≡ floor_div (low_at potentials.now node.0) (pos millivolt) }
     ensures high { result.hi ≡ ceil_div (high_at potentials.now node.0) (pos millivolt) }
-    ensures holds { (s : Solution) → HoldsAt potentials.now s node.0 → Encloses result.lo result.hi (s.potential node.0) (1000000 * s.denominator) }
+    ensures holds { (s : Solution) → HoldsAt potentials.now s node.0 →
+        Encloses result.lo result.hi (s.potential node.0) (1000000 * s.denominator) }
 {
     potentials.get(node).div_out(1_000_000 * GRAINS)
 }

@@ -19,6 +19,7 @@ use crate::current::{current_na, milli};
 use crate::effective::signed_effective;
 use crate::potential::potential_mv;
 use crate::winding::winding_current;
+use crate::winding_currents::WindingCurrents;
 use gic_base::{ElementId, NodeId, OutOfMemory};
 use gic_case::Case;
 use gic_enclose::Potentials;
@@ -54,7 +55,8 @@ pub fn fill_view(case: &Case, net: &Net, volts: &Volts, potentials: &Potentials,
 
     // Where the potentials are sharp for a width, no interval of the view is more than one wider.
     ensures narrow { (width wider : ℕ) → width < wider →
-        IsSharp (standing net.now) (number_at volts.now) (low_at potentials.now) (high_at potentials.now) width → IsNarrowView case.now wider out.new }
+        IsSharp (standing net.now) (number_at volts.now) (low_at potentials.now) (high_at potentials.now) width →
+        IsNarrowView case.now wider out.new }
     ensures small { (t : ℕ) → t < length out.new.effective → IsWithin (2 ^ 113) (effective_at out.new t).low (effective_at out.new t).high }
     ensures lengths { HasViewLengths case.now out.new }
     ensures stays { IsSameStep out.old out.new }
@@ -95,8 +97,9 @@ fn element_interval(
     }
 }
 
-/// The interval of a transformer in the view.
-fn effective_interval(
+/// The interval of a transformer in the view: its signed effective current in milliamperes per phase, in which an open
+/// winding counts as 0, with no end beyond 2^113 either way.
+pub fn effective_interval(
     case: &Case,
     net: &Net,
     volts: &Volts,
@@ -114,13 +117,19 @@ fn effective_interval(
     let first = winding_current(net, volts, potentials, weights.first);
     let second = winding_current(net, volts, potentials, weights.second);
     let third = winding_current(net, volts, potentials, weights.third);
-    signed_effective(&weights, first, second, third)
+    let currents = WindingCurrents {
+        first,
+        second,
+        third,
+    };
+    signed_effective(&weights, &currents)
 }
 
 fn fill_nodes(net: &Net, potentials: &Potentials, out: &mut StepView)
     requires potentials { length potentials.now ≡ net.now.network.nodes }
     requires space { length out.old.nodes ≡ net.now.network.nodes }
-    ensures shown { (volts : ℕ → ℤ) (k : ℕ) → k < length out.new.nodes → IsShownNode (standing net.now) volts potentials.now k (node_at out.new k) }
+    ensures shown { (volts : ℕ → ℤ) (k : ℕ) → k < length out.new.nodes →
+        IsShownNode (standing net.now) volts potentials.now k (node_at out.new k) }
     ensures rest { out.new ≡ record out.old { nodes = out.new.nodes } }
     ensures count { length out.new.nodes ≡ length out.old.nodes }
 {

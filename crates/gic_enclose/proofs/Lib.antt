@@ -12,6 +12,7 @@ pub mod RowsOfNetwork
 pub mod Near
 pub mod Intervals
 pub mod Cuts
+pub mod Rounds
 pub mod Turns
 pub mod Widths
 pub mod Bounds

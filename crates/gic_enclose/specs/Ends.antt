@@ -5,6 +5,7 @@ use Rattle.gic_fixed.specs.Encloses.{IsWithin}
 use Rattle.gic_fixed.specs.declared.interval.Interval.{Interval}
 use Rattle.gic_fixed.specs.Ends.{Ends, zero_ends}
 use Rattle.gic_model.specs.Guess.{most_guess}
+use Rattle.gic_sweep.specs.ResidualEnds.{ResidualEnds, node_count}
 
 -- the ends at the node k, and each of them
 abbrev pub potential_ends : List Ends → ℕ → Ends
@@ -20,8 +21,7 @@ high_at potentials k = (potential_ends potentials k).high
 abbrev pub AreSmall : List Interval → Type 0
 AreSmall intervals = All (λ interval. IsWithin most_guess interval.lo interval.hi) intervals
 
--- what potentials keep: small intervals, and space for as many residuals
-pub record AreIntervals (intervals : List Interval) (low high : List ℤ) : Type 0 where
+-- what potentials keep: small intervals, and space for the residuals of as many nodes
+pub record AreIntervals (intervals : List Interval) (residuals : ResidualEnds) : Type 0 where
   pub small : AreSmall intervals
-  pub low_space : length low ≡ length intervals
-  pub high_space : length high ≡ length intervals
+  pub space : node_count residuals ≡ length intervals

@@ -10,7 +10,8 @@ ghost use Rattle.gic_bound.specs.Entries.{IsBoundWithin};
 ghost use Rattle.gic_enclose.specs.Ends.{potential_ends, low_at, high_at};
 ghost use Rattle.gic_fixed.specs.Ends.{ends_of};
 ghost use Rattle.gic_enclose.specs.Together.{BelongTogether};
-ghost use Rattle.gic_enclose.specs.Certain.{AreCertain, AreTight, IsCertainAt, IsNarrow, IsTight};
+ghost use Rattle.gic_enclose.specs.Certain.{AreCertain, AreTight, IsNarrow};
+ghost use Rattle.gic_enclose.specs.Round.{IsRoundGuess};
 
 use crate::laws::potential_bound_law;
 use crate::potentials::Potentials;
@@ -62,10 +63,9 @@ fn around(guess: i128, radius: i128) -> Interval
     )
 }
 
-/// The interval at a node.
+/// The interval at a node: round its guess, by the reach for each unit of its entry, and the point 0 at a dead node.
 fn interval_at(
     net: &Net,
-    volts: &Volts,
     solver: &Solver,
     bound: &BoundVector,
     reach: u128,
@@ -74,20 +74,11 @@ fn interval_at(
     requires nodes { length solver.now ≡ net.now.network.nodes }
     requires entries { length bound.now ≡ net.now.network.nodes }
     requires node { node.0 < net.now.network.nodes }
-    requires bound { IsBoundWithin (standing net.now) MOST_WALK (slice_index bound.now) }
+    requires entry { slice_index bound.now node.0 ≤ MOST_WALK }
     requires reach { reach ≤ 2 ^ 99 }
-    requires settled { IsSettledWithin (standing net.now) (number_at volts.now) (number_at solver.now) reach }
-    ensures certain { IsCertainAt (standing net.now) (number_at volts.now) node.0 (ends_of result) }
+    ensures round { IsRoundGuess (standing net.now) (number_at solver.now) (slice_index bound.now) reach node.0 (ends_of result) }
     ensures small { IsWithin most_guess result.lo result.hi }
-    ensures narrow { reach ≤ 2 ^ 30 → IsNarrow (ends_of result) }
-    ensures tight { reach ≤ 2 ^ 19 → IsTight (ends_of result) }
-    ensures middle { reach ≤ 2 ^ 30 → IsLive (standing net.now) node.0 → unsigned_abs (number_at solver.now node.0) ≤ 2 ^ 95 →
-        result.lo +ℤ result.hi ≡ pos 2 *ℤ number_at solver.now node.0 }
 {
-    certificate_law();
-    potential_bound_law();
-    volts.within_limit();
-    net.within_limits();
     if net.live(node) {
         around(solver.guess(node), radius(bound.entry(node), reach))
     } else {
@@ -118,9 +109,13 @@ pub fn enclose(net: &Net, volts: &Volts, solver: &Solver, bound: &BoundVector, o
 
     ensures same_length { length out.new ≡ length out.old }
 {
+    certificate_law();
+    potential_bound_law();
+    volts.within_limit();
+    net.within_limits();
     let reach = out.reach(net, volts, solver);
     for node in 0..net.nodes() {
         let node = NodeId(node);
-        out.set(node, interval_at(net, volts, solver, bound, reach, node));
+        out.set(node, interval_at(net, solver, bound, reach, node));
     }
 }

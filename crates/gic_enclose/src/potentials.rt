@@ -3,16 +3,15 @@ use gic_base::{NodeId, OutOfMemory};
 use gic_fixed::Interval;
 use gic_model::Volts;
 use gic_net::Net;
-use gic_sweep::{Solver, reach, zeros};
+use gic_sweep::{Residuals, Solver, reach};
 use std::alloc::Global;
 use std::marker::Model;
 
 /// One interval for each node, in grains of 2^-36 nanovolt, each with both ends from -2^96 to 2^96.
 pub struct Potentials {
     intervals: Vec<Interval>,
-    /// The workspace for the residuals, rounded down and up.
-    low: Vec<i128>,
-    high: Vec<i128>,
+    /// The workspace for the residuals.
+    residuals: Residuals,
 }
 
 impl Model for Potentials {
@@ -24,7 +23,7 @@ impl Model for Potentials {
 
     ghost view = { λ p. map ends_of p.intervals.items };
 
-    ghost invariant = { λ p. AreIntervals p.intervals.items p.low.items p.high.items };
+    ghost invariant = { λ p. AreIntervals p.intervals.items p.residuals };
 }
 
 impl Drop for Potentials {
@@ -32,8 +31,7 @@ impl Drop for Potentials {
     fn drop(self) {
         let Potentials {
             intervals: _intervals,
-            low: _low,
-            high: _high,
+            residuals: _residuals,
         } = self;
     }
 }
@@ -52,13 +50,11 @@ impl Potentials {
     pub fn new(alloc: Global, nodes: u16) -> Result<Potentials, OutOfMemory>
         ensures { IfOk result (λ potentials. potentials ≡ replicate nodes zero_ends) }
     {
-        let low = zeros(alloc, nodes)?;
-        let high = zeros(alloc, nodes)?;
+        let residuals = Residuals::new(alloc, nodes)?;
         let intervals = vec![in alloc; Interval::point(0); nodes as usize]?;
         Ok(Potentials {
             intervals,
-            low,
-            high,
+            residuals,
         })
     }
 
@@ -90,8 +86,9 @@ impl Potentials {
         ensures same { self.new ≡ self.old }
         ensures settled { IsSettledWithin (standing net.now) (number_at volts.now) (number_at solver.now) result }
         ensures small { result ≤ 2 ^ 99 }
-        ensures close { (t : ℕ) → IsSettledWithin (standing net.now) (number_at volts.now) (number_at solver.now) t → result ≤ most_reach t }
+        ensures close { (t : ℕ) → IsSettledWithin (standing net.now) (number_at volts.now) (number_at solver.now) t →
+            result ≤ most_reach t }
     {
-        reach(net, volts, solver, &mut self.low, &mut self.high)
+        reach(net, volts, solver, &mut self.residuals)
     }
 }

@@ -24,7 +24,8 @@ fn is_seen_settled(turn: u32, net: &Net, volts: &Volts, solver: &mut Solver) -> 
     requires volts { length volts.now ≡ length net.now.network.list }
     requires nodes { length solver.old ≡ net.now.network.nodes }
     ensures settled { IsTrue result → IsSettled (standing net.now) (number_at volts.now) (number_at solver.old) }
-    ensures seen { turn % LOOK ≡ 0 → IsSettledWithin (standing net.now) (number_at volts.now) (number_at solver.old) (2 ^ 17) → IsTrue result }
+    ensures seen { turn % LOOK ≡ 0 → IsSettledWithin (standing net.now) (number_at volts.now) (number_at solver.old) (2 ^ 17) →
+        IsTrue result }
     ensures same { solver.new ≡ solver.old }
 {
     turn % LOOK == 0 && is_settled(net, volts, solver)

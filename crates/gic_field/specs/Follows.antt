@@ -1,5 +1,5 @@
 -- What follows of a right report of one field.
-use Rattle.std.specs.Prelude.{◌≡◌, ℕ, ◌<◌, List, length, ℤ}
+use Rattle.std.specs.Prelude.{◌≡◌, ℕ, ◌+◌, ◌-◌, ◌<◌, List, length, ℤ}
 use Rattle.gic_case.specs.Lists.{Lists}
 use Rattle.gic_fixed.specs.Encloses.{EnclosesAbsolute}
 use Rattle.gic_fixed.specs.Ends.{IsAtMostWide}
@@ -33,9 +33,15 @@ pub record AreTrueVerdicts (case : Lists) (standing : List Placed) (volts : ℕ 
 -- the absolute intervals of a right report are right
 abbrev pub AbsolutesAreRight : Type 0
 AbsolutesAreRight = (case : Lists) (standing : List Placed) (volts : ℕ → ℤ) (q : Question) (text : List ℕ) (report : ShowsRightView case standing volts q text) →
-    AreRightAbsolutes case standing volts q.width report.view
+    AreRightAbsolutes case standing volts q.criteria.width report.view
 
 -- the verdicts of a right report are true
 abbrev pub FieldVerdictsAreTrue : Type 0
 FieldVerdictsAreTrue = (case : Lists) (standing : List Placed) (volts : ℕ → ℤ) (q : Question) (text : List ℕ) (report : ShowsRightView case standing volts q text) →
-    AreTrueVerdicts case standing volts (threshold_of q.event) report.view
+    AreTrueVerdicts case standing volts (threshold_of q.criteria.event) report.view
+
+-- a right report tells a transformer undecided only where its absolute effective current is within one width of the threshold in every solution: not under it less the width, and under it with the width added
+abbrev pub UndecidedIsNearThreshold : Type 0
+UndecidedIsNearThreshold = (case : Lists) (standing : List Placed) (volts : ℕ → ℤ) (q : Question) (text : List ℕ) (report : ShowsRightView case standing volts q text) →
+    (t : ℕ) → t < length case.transformers → verdict_at case (threshold_of q.criteria.event) report.view t ≡ Undecided → (s : Solution) → IsSolution standing volts s →
+    IsAtLeast case (threshold_of q.criteria.event - q.criteria.width) t s × IsUnder case (threshold_of q.criteria.event + q.criteria.width) t s

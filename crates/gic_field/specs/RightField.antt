@@ -14,20 +14,20 @@ use Rattle.gic_stand.specs.Standing.{standing_of}
 use Rattle.gic_uniform.specs.Uniform.{uniform_volts}
 
 -- the voltages in nanovolts of the field that is asked for, in the elements of the case, by their places
-abbrev pub asked_volts : Inputs → ℕ → ℤ
-asked_volts inputs = uniform_volts inputs.case inputs.question.north inputs.question.east
+abbrev pub asked_volts : Inputs Question → ℕ → ℤ
+asked_volts inputs = uniform_volts inputs.case inputs.question.field.north inputs.question.field.east
 
 -- the text of a report of this view
 abbrev pub field_text : Lists → Question → View → List ℕ
-field_text case q view = lines_text (field_report case q.north q.east q.width (threshold_of q.event) view)
+field_text case q view = lines_text (field_report case q.field.north q.field.east q.criteria.width (threshold_of q.criteria.event) view)
 
 -- the text is that of a view that is right and in which no interval is wider than asked
 pub record ShowsRightView (case : Lists) (standing : List Placed) (volts : ℕ → ℤ) (q : Question) (text : List ℕ) : Type 0 where
   pub view : View
   pub right : IsRightView case standing volts view
-  pub narrow : IsNarrowView case q.width view
+  pub narrow : IsNarrowView case q.criteria.width view
   pub text_is : text ≡ field_text case q view
 
 -- with all switchings in force, in the field, the width and the event that are asked for
-abbrev pub IsRightField : Inputs → List ℕ → Type 0
+abbrev pub IsRightField : Inputs Question → List ℕ → Type 0
 IsRightField inputs = ShowsRightView inputs.case (standing_of inputs.case inputs.switchings) (asked_volts inputs) inputs.question

@@ -32,10 +32,10 @@ fn write_view<S: Sink>(
     ensures { Writes S.written S.faults out.old out.new (field_text case.now question.now view.now) result }
 {
     let setting = Setting {
-        north: question.north,
-        east: question.east,
-        width: question.width,
-        threshold: question.event.threshold(),
+        north: question.field.north,
+        east: question.field.east,
+        width: question.criteria.width,
+        threshold: question.criteria.event.threshold(),
     };
     write_field(case, &setting, view, line, out)
 }
@@ -43,7 +43,7 @@ fn write_view<S: Sink>(
 /// Writes what the case shows in the field that is asked for, with all rows of the switchings in force, where its network
 /// can be solved. Takes no memory.
 pub fn field<S: Sink>(
-    inputs: &Inputs,
+    inputs: &Inputs<Question>,
     workspace: &mut Workspace,
     out: &mut S,
 ) -> Result<(), ReportFault>
@@ -59,7 +59,7 @@ pub fn field<S: Sink>(
         case,
         &workspace.net,
         &workspace.volts,
-        question.width,
+        question.criteria.width,
         &mut workspace.solving,
         &mut workspace.view,
     );

@@ -4,6 +4,7 @@ ghost use Rattle.gic_criteria.specs.Ranges.{IsWithinRanges};
 ghost use Rattle.gic_field.specs.Made.{IsMadeFor};
 
 use gic_base::OutOfMemory;
+use gic_criteria::Question;
 use gic_effective::view_of_case;
 use gic_inputs::Inputs;
 use gic_model::Volts;
@@ -39,16 +40,16 @@ impl Drop for Workspace {
 }
 
 /// The workspace for the network of the case, with all rows of the switchings in force.
-pub fn make_workspace(alloc: Global, inputs: &Inputs) -> Result<Workspace, OutOfMemory>
+pub fn make_workspace(alloc: Global, inputs: &Inputs<Question>) -> Result<Workspace, OutOfMemory>
     requires { IsWithinRanges inputs.now.question }
     ensures { IfOk result (IsMadeFor inputs.now) }
 {
     let line = LineBuilder::new(alloc)?;
     let case = &inputs.case;
-    let question = &inputs.question;
+    let field = &inputs.question.field;
     let elements = elements(alloc, case)?;
     let net = standing_net(alloc, &elements, &inputs.switchings)?;
-    let volts = uniform_volts(alloc, case, &elements, question.north, question.east)?;
+    let volts = uniform_volts(alloc, case, &elements, field.north, field.east)?;
     let view = view_of_case(alloc, case, &net)?;
     let solving = solve_workspace_for(alloc, case, &net)?;
     Ok(Workspace {

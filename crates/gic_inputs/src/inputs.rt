@@ -1,19 +1,20 @@
 //! What a mode is given, and what a mode over a storm is.
 use gic_case::Case;
-use gic_criteria::Question;
+use gic_criteria::Criteria;
 use gic_model::Switching;
 use gic_storm::Storm;
 use gic_switch::Switchings;
 
-/// What a mode is given: the files that are named, read and accepted, and what is asked of the network.
-pub struct Inputs {
+/// What a mode is given: the files that are named, read and accepted, and what is asked of the network, which is what the
+/// mode has a use for: a field, criteria, both, or nothing.
+pub struct Inputs<Q> {
     pub case: Case,
     /// None where the words name no switchings.
     pub switchings: Option<Switchings>,
-    pub question: Question,
+    pub question: Q,
 }
 
-impl Drop for Inputs {
+impl<Q: Drop> Drop for Inputs<Q> {
     /// Lets go of everything, in one step for whoever drops it.
     fn drop(self) {
         let Inputs {
@@ -24,13 +25,13 @@ impl Drop for Inputs {
     }
 }
 
-/// What a mode over a storm is given: the files that are named, read and accepted, and what is asked of the network.
+/// What a mode over a storm is given: the files that are named, read and accepted, and what its report goes by.
 pub struct StormInputs {
     pub case: Case,
     /// None where the words name no switchings.
     pub switchings: Option<Switchings>,
     pub storm: Storm,
-    pub question: Question,
+    pub question: Criteria,
 }
 
 impl Drop for StormInputs {

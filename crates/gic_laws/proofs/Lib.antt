@@ -4,6 +4,7 @@ pub mod Fields
 pub mod Superposed
 pub mod CommonDenominator
 pub mod ShownUnits
+pub mod TrueLosses
 pub mod NearCounts
 pub mod TrueDwells
 pub mod TrueEarthings

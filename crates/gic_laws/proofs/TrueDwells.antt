@@ -27,7 +27,7 @@ use Rattle.gic_study_mode.specs.PeakEnclosure.{AreStepSolutions}
 use Rattle.gic_study_mode.specs.RightStudy.{IsRightStudy}
 use Rattle.gic_study_mode.specs.Roster.{rated_of, roster_of}
 use Rattle.gic_laws.specs.Printed.{HasTrueLines, width_asked}
-use Rattle.gic_laws.specs.Dwells.{IsTrueDwell, effective_current, steps_at_least, threshold_asked}
+use Rattle.gic_laws.specs.Dwells.{IsTrueDwell, effective_current, steps_at_least, storm_threshold}
 use Rattle.gic_laws.proofs.NearCounts.{IsNarrowlyShown, near_are_certain, possible_are_near}
 
 -- the unit at a place of the roster
@@ -46,7 +46,7 @@ module _ (fewest : CertainAreFewest) (most : PossibleAreMost) (inputs : StormInp
   case = inputs.case
 
   abbrev threshold : ℕ
-  threshold = threshold_asked inputs
+  threshold = storm_threshold inputs
 
   abbrev width : ℕ
   width = width_asked inputs

@@ -27,18 +27,18 @@ abbrev pub HasFewSteps : StormInputs → Type 0
 HasFewSteps inputs = length (steps_in inputs.storm.rows) < 2 ^ 64
 
 -- the threshold of the event that is asked for, in mA per phase
-abbrev pub threshold_asked : StormInputs → ℕ
-threshold_asked inputs = threshold_of inputs.question.event
+abbrev pub storm_threshold : StormInputs → ℕ
+storm_threshold inputs = threshold_of inputs.question.event
 
 -- the line has the transformer's name and two counts. Its absolute effective current is the threshold or more at no fewer steps than the first one and at no more than the second one; the first one is no less than the steps at which it is the threshold and a width or more, and the second one no more than those at which it is the threshold less a width or more
 pub record IsTrueDwell (inputs : StormInputs) (solutions : ℕ → Solution) (t : ℕ) (line : List (List ℕ)) : Type 0 where
   pub certain : ℕ
   pub possible : ℕ
   pub line_is : line ≡ codes "dwell" ∷ (transformer_at inputs.case t).name ∷ signed_decimal (pos certain) ∷ signed_decimal (pos possible) ∷ []
-  pub fewest : certain ≤ steps_at_least inputs solutions t (threshold_asked inputs)
-  pub most : HasFewSteps inputs → steps_at_least inputs solutions t (threshold_asked inputs) ≤ possible
-  pub certain_near : HasFewSteps inputs → steps_at_least inputs solutions t (threshold_asked inputs + width_asked inputs) ≤ certain
-  pub possible_near : possible ≤ steps_at_least inputs solutions t (threshold_asked inputs - width_asked inputs)
+  pub fewest : certain ≤ steps_at_least inputs solutions t (storm_threshold inputs)
+  pub most : HasFewSteps inputs → steps_at_least inputs solutions t (storm_threshold inputs) ≤ possible
+  pub certain_near : HasFewSteps inputs → steps_at_least inputs solutions t (storm_threshold inputs + width_asked inputs) ≤ certain
+  pub possible_near : possible ≤ steps_at_least inputs solutions t (storm_threshold inputs - width_asked inputs)
 
 -- a monitor of dwells prints such a line for each transformer of the case, in order
 abbrev pub DwellsAreTrue : Type 0

@@ -1,16 +1,21 @@
--- That the views of a study show the exact currents of its steps as the theorem of losses asks.
-use Rattle.std.specs.Prelude.{◌≡◌, ℕ, suc, ◌<◌, pos, ◌*ℤ◌, List, length, Option}
+-- What the lines of losses of a study say of the exact currents of its steps.
+use Rattle.std.specs.Prelude.{◌≡◌, ℕ, suc, ◌<◌, pos, ◌*ℤ◌, List, length, Option, Some, codes}
+use Rattle.gic_text.specs.Lines.{line_text}
 use Rattle.gic_case.specs.Lists.{Lists}
 use Rattle.gic_case.specs.Sound.{IsSound}
 use Rattle.gic_model.specs.Solution.{Solution, IsSolution}
 use Rattle.gic_view.specs.View.{View}
 use Rattle.gic_effective.specs.Weighted.{effective_numerator, effective_denominator}
 use Rattle.gic_monitor.specs.RosterView.{RosterView}
-use Rattle.gic_monitor.specs.LossBounds.{Currents, numerator_at, ShowsUnits}
+use Rattle.gic_monitor.specs.LossBounds.{Currents, numerator_at, ShowsUnits, IsTotalAtMost, IsTotalAtLeast}
+use Rattle.gic_monitor.specs.LossText.{Total, loss_line, volt_factors, volt_text, table_factors, table_text}
+use Rattle.gic_monitor.specs.declared.loss.table_loss.NamedFactor.{NamedFactor}
 use Rattle.gic_inputs.specs.declared.inputs.StormInputs.{StormInputs}
-use Rattle.gic_course.specs.Steps.{standing_at_step, storm_volts}
+use Rattle.gic_course.specs.Steps.{IsStepOf, standing_at_step, storm_volts}
 use Rattle.gic_course.specs.Views.{view_at}
+use Rattle.gic_study_mode.specs.PeakEnclosure.{AreStepSolutions}
 use Rattle.gic_study_mode.specs.RightStudy.{IsRightStudy}
+use Rattle.gic_study_mode.specs.Roster.{roster_of}
 
 -- these are the transformers' signed effective currents in a solution, in mA per phase: as fractions over their one denominator they are those over each transformer's own
 pub record AreEffectiveCurrents (case : Lists) (s : Solution) (currents : Currents) : Type 0 where
@@ -29,3 +34,33 @@ StudiesShowUnits = (inputs : StormInputs) (detail : Option ℕ) (plans : RosterV
     (s : Solution) → IsSolution (standing_at_step inputs (suc place)) (storm_volts inputs (suc place)) s →
     (currents : Currents) → AreEffectiveCurrents inputs.case s currents →
     ShowsUnits (length inputs.case.transformers) (view_at study.views place) currents
+
+-- these are the currents of the transformers at each step of a storm, by a solution of each
+abbrev pub AreCurrentsOfSteps : StormInputs → (solutions : ℕ → Solution) → (currents : ℕ → Currents) → Type 0
+AreCurrentsOfSteps inputs solutions currents = (number : ℕ) → IsStepOf inputs number → AreEffectiveCurrents inputs.case (solutions number) (currents number)
+
+-- the text is a line with this word and the two ends of a total: the exact total of factor times absolute current is at most the high end at every step, and at least the low end at one
+pub record IsTrueLoss (inputs : StormInputs) (word : List ℕ) (factors : List ℕ) (currents : ℕ → Currents) (text : List ℕ) : Type 0 where
+  pub total : Total
+  pub text_is : text ≡ line_text (loss_line word (Some total))
+  pub most : (number : ℕ) → IsStepOf inputs number → IsTotalAtMost factors total.high (currents number)
+  pub step : ℕ
+  pub own : IsStepOf inputs step
+  pub least : IsTotalAtLeast factors total.low (currents step)
+
+-- the text is such a line, whatever solves the network of each step
+abbrev pub IsTrueLossOfSteps : StormInputs → (word : List ℕ) → (factors : List ℕ) → (text : List ℕ) → Type 0
+IsTrueLossOfSteps inputs word factors text = (solutions : ℕ → Solution) → AreStepSolutions inputs solutions →
+    (currents : ℕ → Currents) → AreCurrentsOfSteps inputs solutions currents → IsTrueLoss inputs word factors currents text
+
+-- what monitors of losses print of the views behind a study: by volts with a scale, and by a table
+pub record AreTrueLosses (inputs : StormInputs) (views : List View) : Type 0 where
+  pub by_volts : (scale : ℕ) → let roster = roster_of inputs.case inputs.question.event in
+      IsTrueLossOfSteps inputs (codes "loss") (volt_factors scale roster) (volt_text scale roster views)
+  pub by_table : (table : List NamedFactor) → let roster = roster_of inputs.case inputs.question.event in
+      IsTrueLossOfSteps inputs (codes "table") (table_factors table roster) (table_text table roster views)
+
+-- it is true of every right study of a sound case whose storm has a step
+abbrev pub LossesAreTrue : Type 0
+LossesAreTrue = (inputs : StormInputs) (detail : Option ℕ) (plans : RosterView → List View → List (List ℕ)) (text : List ℕ) → IsSound inputs.case →
+    IsStepOf inputs 1 → (study : IsRightStudy inputs detail plans text) → AreTrueLosses inputs study.views

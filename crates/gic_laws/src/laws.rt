@@ -2,14 +2,14 @@
 //! the theorems that it joins.
 ghost use Rattle.gic_laws.specs.Dwells.{DwellsAreTrue};
 ghost use Rattle.gic_laws.specs.Earthings.{EarthingsAreTrue};
-ghost use Rattle.gic_laws.specs.Losses.{CurrentsExist, StudiesShowUnits};
+ghost use Rattle.gic_laws.specs.Losses.{CurrentsExist, LossesAreTrue, StudiesShowUnits};
 ghost use Rattle.gic_laws.specs.Orientation.{NoFieldGivesMore, AlignedFieldGivesAsMuch};
 
 use gic_criteria::laws::greatest_over_all_orientations_law;
 use gic_exists::laws::agreement_law;
 use gic_induce::laws::linearity_law;
 use gic_model::laws::superposition_law;
-use gic_monitor::laws::monitors_bound_the_exact_currents_law;
+use gic_monitor::laws::{losses_are_bounded_law, monitors_bound_the_exact_currents_law};
 use gic_winding::laws::limits_law;
 
 /// Whatever solves the network of each step: the exact absolute effective current of a transformer is the threshold or
@@ -30,11 +30,15 @@ pub fn earthings_of_studies_law()
 }
 
 /// The effective currents of the transformers in a solution are numerators over one denominator, and whatever solves the
-/// network of a step, the step's view in a right study shows them as `losses_are_bounded_law` of `gic_monitor` asks.
+/// network of a step, the step's view in a right study shows them as `losses_are_bounded_law` of `gic_monitor` asks. So
+/// the exact total of a line of losses is at most its high end at every step, and at least its low end at one.
 pub fn losses_of_studies_law()
     ensures exist { CurrentsExist }
     ensures shown { StudiesShowUnits }
-{}
+    ensures lines { LossesAreTrue }
+{
+    losses_are_bounded_law();
+}
 
 /// In a sound case whose live nodes are earthed, let a and b be a transformer's signed effective currents in a uniform
 /// field of one strength to the north and to the east. No uniform field of at most that strength gives a current whose

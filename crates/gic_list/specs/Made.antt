@@ -5,5 +5,5 @@ use Rattle.gic_winding.specs.ElementList.{elements_of}
 use Rattle.gic_list.specs.declared.workspace.Workspace.{Workspace}
 
 -- it has the elements of the case
-abbrev pub IsMadeFor : Inputs → Workspace → Type 0
+abbrev pub IsMadeFor : Inputs (Unit {0}) → Workspace → Type 0
 IsMadeFor inputs workspace = workspace.elements ≡ elements_of inputs.case

@@ -11,5 +11,5 @@ abbrev pub list_text : Lists → List ℕ
 list_text case = lines_text (list_report case (elements_of case).nodes (elements_of case).list)
 
 -- the text is that of the case
-abbrev pub IsRightList : Inputs → List ℕ → Type 0
+abbrev pub IsRightList : Inputs (Unit {0}) → List ℕ → Type 0
 IsRightList inputs text = text ≡ list_text inputs.case

@@ -13,7 +13,7 @@ use gic_stand::{ReportFault, ended};
 
 /// Writes the elements of the case. Takes no memory.
 pub fn list<S: Sink>(
-    inputs: &Inputs,
+    inputs: &Inputs<()>,
     workspace: &mut Workspace,
     out: &mut S,
 ) -> Result<(), ReportFault>

@@ -7,7 +7,7 @@ use Rattle.gic_case.specs.declared.item.Substation.{Substation}
 use Rattle.gic_case.specs.declared.course.Course.TheVariants.{One}
 use Rattle.gic_case.specs.declared.item.Bus.{Bus}
 use Rattle.gic_case.specs.declared.item.Line.{Line}
-use Rattle.gic_case.specs.declared.item.Kind.TheVariants.{DeltaWye}
+use Rattle.gic_case.specs.declared.kind.Kind.TheVariants.{DeltaWye}
 use Rattle.gic_case.specs.declared.item.Transformer.{Transformer}
 use Rattle.gic_case.specs.Lists.{Lists, substation_with}
 use Rattle.gic_make.specs.Generator.{states_after, draw}

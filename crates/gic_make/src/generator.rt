@@ -21,7 +21,7 @@ fn next_state(state: u32) -> u32
 }
 
 /// A given number of states behind a seed, each following from the one before.
-pub fn states_after(alloc: Global, seed: u32, count: usize) -> Result<Vec<u32>, OutOfMemory>
+pub(crate) fn states_after(alloc: Global, seed: u32, count: usize) -> Result<Vec<u32>, OutOfMemory>
     ensures { IfOk result (λ states. states.items ≡ states_after seed count) }
 {
     let mut states = Vec::new(alloc);
@@ -34,7 +34,7 @@ pub fn states_after(alloc: Global, seed: u32, count: usize) -> Result<Vec<u32>, 
 }
 
 /// The number below a bound that is drawn from the state at a place.
-pub fn draw(states: &[u32], place: usize, below: u32) -> u32
+pub(crate) fn draw(states: &[u32], place: usize, below: u32) -> u32
     requires place { place < length states.now }
     requires bound { 0 < below }
     ensures value { result ≡ draw states.now place below }

@@ -3,7 +3,8 @@
 ghost use Rattle.std.specs.Prelude.{◌≡◌, [], ◌∷◌};
 ghost use Rattle.gic_make.specs.Determines.{TextDeterminesMake};
 ghost use Rattle.gic_make.specs.Generator.{states_after};
-ghost use Rattle.gic_make.specs.Accepted.{MadeCasesAreSound, MadeCasesHaveTheirRows, MadeCasesHaveTheirSize, MadeNodesAreEarthed, MadeCasesAreNearEarth};
+ghost use Rattle.gic_make.specs.Accepted.{MadeCasesAreSound, MadeCasesHaveTheirRows, MadeCasesHaveTheirSize, MadeNodesAreEarthed};
+ghost use Rattle.gic_make.specs.Accepted.{MadeCasesAreNearEarth};
 ghost use Rattle.gic_make.specs.Worked.{small_case, grounds_of, first_resistance_of, ways_of};
 
 use gic_bound::laws::second_share_law;

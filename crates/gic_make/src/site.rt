@@ -31,7 +31,7 @@ const EAST: usize = 5;
 const NEIGHBOURS: u16 = 8;
 
 /// How many draws come before a site's own.
-pub fn first_draw(site: u16) -> usize
+pub(crate) fn first_draw(site: u16) -> usize
     ensures { result ≡ first_draw site }
 {
     (DRAWS_OF_A_SITE * usize::from(site)).saturating_sub(DRAWS_OF_A_LINE)
@@ -62,7 +62,7 @@ fn numbered(letter: u8, number: u16) -> Name
 }
 
 /// The one zone.
-pub fn zone() -> Zone
+pub(crate) fn zone() -> Zone
     ensures { result ≡ made_zone }
 {
     Zone {
@@ -75,7 +75,7 @@ pub fn zone() -> Zone
 }
 
 /// The substation of a site.
-pub fn substation(states: &[u32], site: u16) -> Substation
+pub(crate) fn substation(states: &[u32], site: u16) -> Substation
     requires { first_draw site < length states.now }
     ensures { result ≡ made_substation states.now site }
 {
@@ -86,7 +86,7 @@ pub fn substation(states: &[u32], site: u16) -> Substation
 }
 
 /// The bus of a site.
-pub fn bus(site: u16) -> Bus
+pub(crate) fn bus(site: u16) -> Bus
     ensures { result ≡ made_bus site }
 {
     Bus {
@@ -96,7 +96,7 @@ pub fn bus(site: u16) -> Bus
 }
 
 /// The transformer of a site.
-pub fn transformer(states: &[u32], site: u16) -> Transformer
+pub(crate) fn transformer(states: &[u32], site: u16) -> Transformer
     requires { first_draw site + 1 < length states.now }
     ensures { result ≡ made_transformer states.now site }
 {
@@ -120,7 +120,7 @@ fn span(states: &[u32], place: usize) -> i32
 }
 
 /// The line of a site behind the first, from the bus of one of the sites before.
-pub fn line(states: &[u32], site: u16) -> Line
+pub(crate) fn line(states: &[u32], site: u16) -> Line
     requires behind { 1 ≤ site }
     requires drawn { first_draw site + 5 < length states.now }
     ensures { result ≡ made_line states.now site }

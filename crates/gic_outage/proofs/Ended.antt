@@ -11,6 +11,7 @@ use Rattle.gic_worst.specs.Rows.{Row, no_screen_row, screen_row_at}
 use Rattle.gic_worst.specs.Screening.{AreScreened}
 use Rattle.gic_stand.specs.declared.fault.NetworkRefusal.{NetworkRefusal}
 use Rattle.gic_stand.specs.declared.fault.NetworkRefusal.TheVariants.{Unearthed, Unresolved}
+use Rattle.gic_criteria.specs.declared.asked.Criteria.{Criteria}
 use Rattle.gic_inputs.specs.declared.inputs.Inputs.{Inputs}
 use Rattle.gic_stand.specs.Needs.{Solved as IsSolved, Fails}
 use Rattle.gic_stand.specs.Standing.{IsSolvable, IsNameOfUnearthed, IsNameOfUnresolved}
@@ -22,7 +23,7 @@ use Rattle.gic_outage.specs.Taking.{worsts_in, AreRaisedBy, HasEnded, outcome_of
 use Rattle.gic_outage.proofs.Taken.{not_raised}
 
 -- the network is refused
-pub refused_ended : (inputs : Inputs) (item : Item) (standing : List Placed) (refusal : NetworkRefusal) (outcome : Outcome) (greatest : List (Option Ends)) → outcome ≡ outcome_of refusal
+pub refused_ended : (inputs : Inputs Criteria) (item : Item) (standing : List Placed) (refusal : NetworkRefusal) (outcome : Outcome) (greatest : List (Option Ends)) → outcome ≡ outcome_of refusal
     → IsTakenOut inputs item → standing ≡ standing_in_outage inputs item → Fails IsSolved inputs.case 1 standing refusal → HasEnded inputs item outcome greatest greatest
 refused_ended inputs item standing (Unearthed step node) outcome greatest is taken_out without fails =
     subst (λ (o : Outcome). HasEnded inputs item o greatest greatest) (sym is) (record {
@@ -38,7 +39,7 @@ refused_ended inputs item standing (Unresolved step node) outcome greatest is ta
     })
 
 -- it is solved
-pub solved_ended : (inputs : Inputs) (item : Item) (standing : List Placed) (north east : ℕ → ℤ) (rows : List Row) (counts : Counts) (old new : List (Option Ends))
+pub solved_ended : (inputs : Inputs Criteria) (item : Item) (standing : List Placed) (north east : ℕ → ℤ) (rows : List Row) (counts : Counts) (old new : List (Option Ends))
     → IsTakenOut inputs item → standing ≡ standing_in_outage inputs item → north ≡ northward_volts inputs → east ≡ eastward_volts inputs
     → IsSolvable standing → AreScreened inputs.case standing north east inputs.question.width rows
     → counts ≡ counts_of (worst_verdicts inputs.case (threshold_asked inputs) (worsts_in rows)) → AreRaisedBy (worsts_in rows) old new → HasEnded inputs item (Solved counts) old new

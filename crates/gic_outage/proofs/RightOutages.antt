@@ -5,6 +5,7 @@ use Rattle.std.proofs.lemmas.List.{ext_get_or, length-map}
 use Rattle.std.proofs.lemmas.List.FromFn.{length-map-range_with_len, get_or-map-range_with_len}
 use Rattle.gic_fixed.specs.Ends.{Ends}
 use Rattle.gic_outage.specs.Plan.{plan_of}
+use Rattle.gic_criteria.specs.declared.asked.Criteria.{Criteria}
 use Rattle.gic_inputs.specs.declared.inputs.Inputs.{Inputs}
 use Rattle.gic_outage.specs.declared.outcome.Outcome.{Outcome}
 use Rattle.gic_outage.specs.declared.outcome.Outcome.TheVariants.{Idle}
@@ -14,7 +15,7 @@ use Rattle.gic_outage.specs.RightOutage.{greatest_over, IsRightOutage}
 use Rattle.gic_outage.specs.Taking.{HasTaken}
 
 -- the text of what was taken is right
-pub right_outages : (inputs : Inputs) (outcomes : List Outcome) (greatest : List (Option Ends)) → length outcomes ≡ length (plan_of inputs.case)
+pub right_outages : (inputs : Inputs Criteria) (outcomes : List Outcome) (greatest : List (Option Ends)) → length outcomes ≡ length (plan_of inputs.case)
     → HasTaken inputs (length (plan_of inputs.case)) outcomes greatest → IsRightOutage inputs (outage_text inputs.case inputs.question outcomes greatest)
 right_outages inputs outcomes greatest count taken =
     let outages = taken.outages in

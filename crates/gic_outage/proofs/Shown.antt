@@ -16,6 +16,7 @@ use Rattle.gic_outage.specs.Plan.{plan_of}
 use Rattle.gic_report.specs.declared.counts.Counts.{Counts}
 use Rattle.gic_worst.specs.RightRows.{IsRightWorst, IsThirdOfRight}
 use Rattle.gic_worst.proofs.RightRows.{third_right}
+use Rattle.gic_criteria.specs.declared.asked.Criteria.{Criteria}
 use Rattle.gic_inputs.specs.declared.inputs.Inputs.{Inputs}
 use Rattle.gic_stand.specs.Standing.{IsSolvable, IsNameOfUnearthed, IsNameOfUnresolved}
 use Rattle.gic_outage.specs.declared.outcome.Outcome.{Outcome}
@@ -43,18 +44,18 @@ not_unresolved case standing node solvable named =
     omega (arith, least, most, named.unresolved.full)
 
 -- the outage of an item that is taken out, where the network without it can be solved, shows right worst intervals
-record SolvedAs (inputs : Inputs) (item : Item) (worsts : List Ends) : Type 0 where
+record SolvedAs (inputs : Inputs Criteria) (item : Item) (worsts : List Ends) : Type 0 where
   counts : Counts
   right : AreRightWorsts inputs item worsts counts
 
-solved_as : (inputs : Inputs) (item : Item) (worsts : List Ends) (outcome : Outcome) → IsTakenOut inputs item → IsSolvable (standing_in_outage inputs item) → EndsAs inputs item worsts outcome → SolvedAs inputs item worsts
+solved_as : (inputs : Inputs Criteria) (item : Item) (worsts : List Ends) (outcome : Outcome) → IsTakenOut inputs item → IsSolvable (standing_in_outage inputs item) → EndsAs inputs item worsts outcome → SolvedAs inputs item worsts
 solved_as inputs item worsts Idle out solvable ends = absurd (grind (arith, out, ends.0))
 solved_as inputs item worsts (Unearthed node) out solvable ends = absurd (not_unearthed inputs.case (standing_in_outage inputs item) node solvable ends.1)
 solved_as inputs item worsts (Unresolved node) out solvable ends = absurd (not_unresolved inputs.case (standing_in_outage inputs item) node solvable ends.1)
 solved_as inputs item worsts (Solved counts) out solvable ends = record { counts = counts; right = ends.1 }
 
 -- so does one that shows a worst interval, and its network can be solved
-record ShownAs (inputs : Inputs) (item : Item) (worsts : List Ends) : Type 0 where
+record ShownAs (inputs : Inputs Criteria) (item : Item) (worsts : List Ends) : Type 0 where
   taken_out : IsTakenOut inputs item
   counts : Counts
   right : AreRightWorsts inputs item worsts counts
@@ -62,7 +63,7 @@ record ShownAs (inputs : Inputs) (item : Item) (worsts : List Ends) : Type 0 whe
 none_shown : {C : Type 0} (worsts : List Ends) (t : ℕ) (e : Ends) → worsts ≡ [] → slice_get worsts t ≡ Some e → C
 none_shown worsts t e none shown = let nothing : None ≡ Some e = sym (ap (λ (xs : List Ends). slice_get xs t) none) ∙ shown in absurd (cc)
 
-shown_as : (inputs : Inputs) (item : Item) (worsts : List Ends) (outcome : Outcome) (t : ℕ) (e : Ends) → slice_get worsts t ≡ Some e → EndsAs inputs item worsts outcome → ShownAs inputs item worsts
+shown_as : (inputs : Inputs Criteria) (item : Item) (worsts : List Ends) (outcome : Outcome) (t : ℕ) (e : Ends) → slice_get worsts t ≡ Some e → EndsAs inputs item worsts outcome → ShownAs inputs item worsts
 shown_as inputs item worsts Idle t e shown ends = none_shown worsts t e ends.1 shown
 shown_as inputs item worsts (Unearthed node) t e shown ends = none_shown worsts t e ends.2 shown
 shown_as inputs item worsts (Unresolved node) t e shown ends = none_shown worsts t e ends.2 shown
@@ -73,26 +74,26 @@ cell_of : (outages : List Outage) (t place : ℕ) → greatest_at (worsts_of out
 cell_of outages t place = get_or-map (λ (o : Outage). slice_get o.worsts t) outages place no_outage
 
 -- an interval is a right worst interval of the network without an item
-abbrev pub IsRightOne : Inputs → Item → (t : ℕ) → Ends → Type 0
+abbrev pub IsRightOne : Inputs Criteria → Item → (t : ℕ) → Ends → Type 0
 IsRightOne inputs item t w = IsRightWorst inputs.case (standing_in_outage inputs item) (northward_volts inputs) (eastward_volts inputs) inputs.question.width t w
 
-pub as_worst : (inputs : Inputs) (item : Item) (t : ℕ) (w : Ends) → IsThirdOfRight inputs.case (standing_in_outage inputs item) (northward_volts inputs) (eastward_volts inputs) inputs.question.width t w → IsRightOne inputs item t w
+pub as_worst : (inputs : Inputs Criteria) (item : Item) (t : ℕ) (w : Ends) → IsThirdOfRight inputs.case (standing_in_outage inputs item) (northward_volts inputs) (eastward_volts inputs) inputs.question.width t w → IsRightOne inputs item t w
 as_worst inputs item t w third = third_right inputs.case (standing_in_outage inputs item) (northward_volts inputs) (eastward_volts inputs) inputs.question.width t w third
 
 -- it is so of the network of one solved outage
-pub record ShownThere (inputs : Inputs) (t : ℕ) (w : Ends) : Type 0 where
+pub record ShownThere (inputs : Inputs Criteria) (t : ℕ) (w : Ends) : Type 0 where
   pub item : Item
   pub solved : IsSolvedOutage inputs item
   pub right : IsRightOne inputs item t w
 
 -- the outage of an item is at one place of those that are shown of a transformer
-pub record Shows (inputs : Inputs) (cells : List (Option Ends)) (t : ℕ) (item : Item) : Type 0 where
+pub record Shows (inputs : Inputs Criteria) (cells : List (Option Ends)) (t : ℕ) (item : Item) : Type 0 where
   pub place : ℕ
   pub w : Ends
   pub shown : greatest_at cells place ≡ Some w
   pub right : IsRightOne inputs item t w
 
-module _ (inputs : Inputs) (outages : List Outage) (are_right : AreRightOutages inputs outages) where
+module _ (inputs : Inputs Criteria) (outages : List Outage) (are_right : AreRightOutages inputs outages) where
   in_plan : (place t : ℕ) (w : Ends) → slice_get (outage_at outages place).worsts t ≡ Some w → place < length (plan_of inputs.case)
   in_plan place t w shown = by (cases_lt place (length (plan_of inputs.case)))
     where

@@ -7,7 +7,7 @@ use Rattle.gic_fixed.specs.Ends.{Ends}
 use Rattle.gic_criteria.specs.declared.criterion.Verdict.{Verdict}
 use Rattle.gic_criteria.specs.Event.{threshold_of, field_of}
 use Rattle.gic_text.specs.Lines.{lines_text}
-use Rattle.gic_criteria.specs.declared.asked.Question.{Question}
+use Rattle.gic_criteria.specs.declared.asked.Criteria.{Criteria}
 use Rattle.gic_outage.specs.Plan.{plan_of}
 use Rattle.gic_report.specs.Counts.{counts_words}
 use Rattle.gic_report.specs.SharedLines.{Words, word_line}
@@ -64,5 +64,5 @@ outage_report case width threshold field outcomes greatest =
     ∷ (outcome_lines (plan_names case) outcomes ++ (greatest_worst_lines threshold case.transformers greatest ++ word_line (codes "end") ∷ []))
 
 -- their text
-abbrev pub outage_text : Lists → Question → List Outcome → List (Option Ends) → List ℕ
-outage_text case q outcomes greatest = lines_text (outage_report case q.width (threshold_of q.event) (field_of q.event) outcomes greatest)
+abbrev pub outage_text : Lists → Criteria → List Outcome → List (Option Ends) → List ℕ
+outage_text case criteria outcomes greatest = lines_text (outage_report case criteria.width (threshold_of criteria.event) (field_of criteria.event) outcomes greatest)

@@ -9,13 +9,14 @@ use Rattle.gic_view.specs.Peaks.{greater}
 use Rattle.gic_winding.specs.InForce.{standing_in}
 use Rattle.gic_outage.specs.Plan.{plan_of}
 use Rattle.gic_outage.specs.Removing.{opening}
+use Rattle.gic_criteria.specs.declared.asked.Criteria.{Criteria}
 use Rattle.gic_inputs.specs.declared.inputs.Inputs.{Inputs}
 use Rattle.gic_inputs.specs.Inputs.{rows_in}
 use Rattle.gic_outage.specs.declared.outcome.Outcome.{Outcome}
 use Rattle.gic_outage.specs.declared.outcome.Outcome.TheVariants.{Idle}
 
 -- the elements that stand without an item: with all switchings in force, and then the item opened
-abbrev pub standing_in_outage : Inputs → Item → List Placed
+abbrev pub standing_in_outage : Inputs Criteria → Item → List Placed
 standing_in_outage inputs item = standing_in inputs.case (rows_in inputs.switchings ++ opening item ∷ [])
 
 -- how the outage of an item ends, and the worst intervals of the transformers meanwhile, which there are only where the network is solved

@@ -7,6 +7,7 @@ use Rattle.gic_view.specs.Peaks.{greater}
 use Rattle.gic_winding.specs.ElementList.{elements_of}
 use Rattle.gic_stand.specs.declared.fault.NetworkRefusal.{NetworkRefusal}
 use Rattle.gic_stand.specs.declared.fault.NetworkRefusal.TheVariants as refusals
+use Rattle.gic_criteria.specs.declared.asked.Criteria.{Criteria}
 use Rattle.gic_inputs.specs.declared.inputs.Inputs.{Inputs}
 use Rattle.gic_stand.specs.Standing.{standing_of}
 use Rattle.gic_worst.specs.declared.fields.FieldVolts.{FieldVolts}
@@ -18,7 +19,7 @@ use Rattle.gic_outage.specs.Outages.{Outage, item_at, outage_at, worsts_of, grea
 use Rattle.gic_outage.specs.RightOutage.{EndsAs}
 
 -- the network of the case with all switchings in force, and the voltages in the field of the event that is asked for
-pub record AreGiven (inputs : Inputs) (net : NetView) (fields : FieldVolts) : Type 0 where
+pub record AreGiven (inputs : Inputs Criteria) (net : NetView) (fields : FieldVolts) : Type 0 where
   pub network : net.network ≡ elements_of inputs.case
   pub stands : standing net ≡ standing_of inputs.case inputs.switchings
   pub volts : AreOfEvent inputs.case inputs.question.event fields
@@ -38,13 +39,13 @@ pub record AreRaisedBy (worsts : List Ends) (old new : List (Option Ends)) : Typ
   pub each : (t : ℕ) → t < length old → greatest_at new t ≡ greater (greatest_at old t) (slice_get worsts t)
 
 -- the outage of an item ended like this, and its worst intervals have raised the greatest ones
-pub record HasEnded (inputs : Inputs) (item : Item) (outcome : Outcome) (old new : List (Option Ends)) : Type 0 where
+pub record HasEnded (inputs : Inputs Criteria) (item : Item) (outcome : Outcome) (old new : List (Option Ends)) : Type 0 where
   pub worsts : List Ends
   pub ends : EndsAs inputs item worsts outcome
   pub raised : AreRaisedBy worsts old new
 
 -- one list of outages is behind the first outcomes, this many, and the greatest intervals of the transformers
-pub record HasTaken (inputs : Inputs) (count : ℕ) (outcomes : List Outcome) (greatest : List (Option Ends)) : Type 0 where
+pub record HasTaken (inputs : Inputs Criteria) (count : ℕ) (outcomes : List Outcome) (greatest : List (Option Ends)) : Type 0 where
   pub outages : List Outage
   pub one_each : length outages ≡ count
   pub ends : (place : ℕ) → place < count → EndsAs inputs (item_at inputs.case place) (outage_at outages place).worsts (outage_at outages place).outcome

@@ -1,7 +1,8 @@
 //! What the text of the mode tells, what follows of a right report, and what taking an item out and bringing it back does
 //! to a network.
 ghost use Rattle.gic_outage.specs.Determines.{TextDeterminesOutage};
-ghost use Rattle.gic_outage.specs.Follows.{GreatestWorstIsEnclosed, GreatestWorstIsNarrow, NoneIsWithoutSolvedOutage, GreatestVerdictIsTrue, WorstVerdictIsTrue, UndecidedAreAtMostNear};
+ghost use Rattle.gic_outage.specs.Follows.{GreatestWorstIsEnclosed, GreatestWorstIsNarrow, NoneIsWithoutSolvedOutage};
+ghost use Rattle.gic_outage.specs.Follows.{GreatestVerdictIsTrue, GreatestUndecidedIsNear, WorstVerdictIsTrue, UndecidedAreAtMostNear};
 ghost use Rattle.gic_outage.specs.RemovingLaws.{IdleWhereNotStanding, OthersStandAsBefore, ComesBack, IsLastRow};
 
 use gic_criteria::laws::{verdict_law, worst_verdict_law};
@@ -13,12 +14,14 @@ pub fn text_determines_outage_law()
 
 /// Over right outages the greatest worst interval of a transformer encloses its greatest worst current, and is no wider
 /// than asked; there is none only where no outage is solved. Of a sound case the verdicts on these intervals are true, as
-/// are those on the worst intervals of each outage, and no more are counted undecided than are near the threshold.
+/// are those on the worst intervals of each outage; `undecided` is said only within one width of the threshold, and no more
+/// are counted so than are near it.
 pub fn right_outages_law()
     ensures enclosed { GreatestWorstIsEnclosed }
     ensures narrow { GreatestWorstIsNarrow }
     ensures none { NoneIsWithoutSolvedOutage }
     ensures verdicts { GreatestVerdictIsTrue }
+    ensures near { GreatestUndecidedIsNear }
     ensures each_verdict { WorstVerdictIsTrue }
     ensures undecided_most { UndecidedAreAtMostNear }
 {

@@ -1,6 +1,6 @@
 //! The report of the mode.
 ghost use Rattle.gic_base.specs.Writes.{Writes};
-ghost use Rattle.gic_criteria.specs.Ranges.{IsWithinRanges};
+ghost use Rattle.gic_criteria.specs.Ranges.{IsWithinCriteria};
 ghost use Rattle.gic_stand.specs.Needs.{Solved};
 ghost use Rattle.gic_stand.specs.Serves.{Serves, shown};
 ghost use Rattle.gic_stand.specs.Standing.{steps_of};
@@ -14,6 +14,7 @@ use crate::run::take_items;
 use crate::text::write_outage;
 use crate::workspace::Workspace;
 use gic_base::{Sink, WriteFailed};
+use gic_criteria::Criteria;
 use gic_inputs::Inputs;
 use gic_stand::{ReportFault, ended};
 use gic_text::LineBuilder;
@@ -22,7 +23,7 @@ use gic_worst::setting_of;
 
 /// Writes the report of these outcomes and greatest intervals.
 fn write_report<S: Sink>(
-    inputs: &Inputs,
+    inputs: &Inputs<Criteria>,
     outcomes: &[Outcome],
     greatest: &Greatest,
     line: &mut LineBuilder,
@@ -46,11 +47,11 @@ fn write_report<S: Sink>(
 /// each outage ends and the greatest worst interval of each transformer over them, where the network with all its items can
 /// be solved. Takes no memory.
 pub fn outage<S: Sink>(
-    inputs: &Inputs,
+    inputs: &Inputs<Criteria>,
     workspace: &mut Workspace,
     out: &mut S,
 ) -> Result<(), ReportFault>
-    requires ranges { IsWithinRanges inputs.now.question }
+    requires ranges { IsWithinCriteria inputs.now.question }
     requires workspace { IsMadeFor inputs.now workspace.old }
     ensures { Serves Solved inputs.now.case (steps_of inputs.now) (IsRightOutage inputs.now)
         (shown S.written S.faults out.old) (shown S.written S.faults out.new) result }
@@ -58,20 +59,10 @@ pub fn outage<S: Sink>(
     let solving = &mut workspace.screening.solving;
     expect_solvable(&inputs.case, &workspace.net, solving)?;
     workspace.intact.copy_from(&solving.vector);
-    let outcomes = workspace.outcomes.as_mut_slice();
-    take_items(
-        inputs,
-        &workspace.plan,
-        &mut workspace.net,
-        &workspace.volts,
-        &workspace.intact,
-        &mut workspace.screening,
-        outcomes,
-        &mut workspace.greatest,
-    );
+    take_items(inputs, workspace);
     let writing = write_report(
         inputs,
-        outcomes,
+        &workspace.outcomes,
         &workspace.greatest,
         &mut workspace.line,
         out,

@@ -73,7 +73,8 @@ pub(crate) fn take_out(net: &mut Net, item: Item) -> Removed
 pub(crate) fn restore(net: &mut Net, removed: Removed)
     requires { IsFalse (stands net.old removed) }
     ensures net { net.new ≡ switched_net net.old removed false }
-    ensures undone { (before : NetView) → IsFalse (is_idle (standing before) removed) → net.old ≡ net_without before removed → net.new ≡ before }
+    ensures undone { (before : NetView) → IsFalse (is_idle (standing before) removed) →
+        net.old ≡ net_without before removed → net.new ≡ before }
 {
     let Removed { item } = removed;
     net.switch(item, false);

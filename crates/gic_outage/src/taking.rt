@@ -3,7 +3,7 @@ ghost use Rattle.std.specs.Prelude.{◌≡◌, length};
 ghost use Rattle.gic_case.specs.Lists.{Lists};
 ghost use Rattle.gic_model.specs.declared.parts.Item.{Item};
 ghost use Rattle.gic_net.specs.Net.{standing};
-ghost use Rattle.gic_criteria.specs.Ranges.{IsWithinRanges};
+ghost use Rattle.gic_criteria.specs.Ranges.{IsWithinCriteria};
 ghost use Rattle.gic_worst.specs.Screening.{AreOfEvent, IsScreenWorkspaceFor};
 ghost use Rattle.gic_winding.specs.ElementList.{elements_of};
 ghost use Rattle.gic_outage.specs.Outages.{standing_in_outage};
@@ -16,6 +16,7 @@ use crate::outcome::Outcome;
 use crate::raising::{Greatest, raise_all};
 use crate::removing::{idle, restore, take_out};
 use gic_bound::BoundVector;
+use gic_criteria::Criteria;
 use gic_inputs::Inputs;
 use gic_model::Item;
 use gic_net::Net;
@@ -35,7 +36,7 @@ fn outcome_of(refusal: &NetworkRefusal) -> Outcome
 /// Screens the network as it stands without an item: its answer says how the outage of that item ends. Where the network
 /// is solved, the greatest intervals are raised by its worst ones. Takes no memory.
 fn screen_without(
-    inputs: &Inputs,
+    inputs: &Inputs<Criteria>,
     net: &Net,
     volts: &FieldVolts,
     workspace: &mut ScreenWorkspace,
@@ -43,7 +44,7 @@ fn screen_without(
 ) -> Outcome
     requires net { net.now.network ≡ elements_of inputs.now.case }
     requires volts { AreOfEvent inputs.now.case inputs.now.question.event volts.now }
-    requires ranges { IsWithinRanges inputs.now.question }
+    requires ranges { IsWithinCriteria inputs.now.question }
     requires workspace { IsScreenWorkspaceFor inputs.now.case workspace.old }
     requires greatest { length greatest.old ≡ length inputs.now.case.transformers }
     ensures ended { (item : Item) → IsTakenOut inputs.now item → standing net.now ≡ standing_in_outage inputs.now item →
@@ -72,7 +73,7 @@ fn begin_at(vector: &BoundVector, workspace: &mut ScreenWorkspace)
 /// Takes an item out of the network, screens it and brings the item back; one of which no element stands is idle. A look
 /// begins at the vector of the intact network. Takes no memory.
 pub(crate) fn take_item(
-    inputs: &Inputs,
+    inputs: &Inputs<Criteria>,
     item: Item,
     net: &mut Net,
     volts: &FieldVolts,
@@ -81,7 +82,7 @@ pub(crate) fn take_item(
     greatest: &mut Greatest,
 ) -> Outcome
     requires given { AreGiven inputs.now net.old volts.now }
-    requires ranges { IsWithinRanges inputs.now.question }
+    requires ranges { IsWithinCriteria inputs.now.question }
     requires intact { length intact.now ≡ (elements_of inputs.now.case).nodes }
     requires workspace { IsScreenWorkspaceFor inputs.now.case workspace.old }
     requires greatest { length greatest.old ≡ length inputs.now.case.transformers }

@@ -166,7 +166,8 @@ pub(crate) fn write_outage<S: Sink>(
     out: &mut S,
 ) -> Result<(), WriteFailed>
     ensures { Writes S.written S.faults out.old out.new
-        (lines_text (outage_report case.now setting.now.width setting.now.threshold setting.now.field outcomes.now (map optional_ends greatest.now))) result }
+        (lines_text (outage_report case.now setting.now.width setting.now.threshold setting.now.field
+        outcomes.now (map optional_ends greatest.now))) result }
 {
     write_word(b"outage", line, out)?;
     write_setting(setting, line, out)?;

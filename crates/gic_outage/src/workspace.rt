@@ -7,6 +7,7 @@ use crate::planning::plan;
 use crate::raising::Greatest;
 use gic_base::OutOfMemory;
 use gic_bound::BoundVector;
+use gic_criteria::Criteria;
 use gic_inputs::Inputs;
 use gic_model::Item;
 use gic_net::Net;
@@ -55,7 +56,7 @@ fn make_outcomes(alloc: Global, count: usize) -> Result<Vec<Outcome>, OutOfMemor
 
 /// The workspace for the network of the case, with all rows of the switchings in force.
 #[tactic(auto, using(gic_stand::proofs::Repeated::repeated_length))]
-pub fn make_workspace(alloc: Global, inputs: &Inputs) -> Result<Workspace, OutOfMemory>
+pub fn make_workspace(alloc: Global, inputs: &Inputs<Criteria>) -> Result<Workspace, OutOfMemory>
     ensures { IfOk result (IsMadeFor inputs.now) }
 {
     let line = LineBuilder::new(alloc)?;

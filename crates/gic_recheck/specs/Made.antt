@@ -13,7 +13,7 @@ use Rattle.gic_recheck.specs.RightRecheck.{potentials_of}
 use Rattle.gic_recheck.specs.declared.workspace.Workspace.{Workspace}
 
 -- it has the network with all switchings in force, and the voltages and the intervals of a certificate of its nodes
-pub record IsMadeFor (inputs : Inputs) (workspace : Workspace) : Type 0 where
+pub record IsMadeFor (inputs : Inputs (Unit {0})) (workspace : Workspace) : Type 0 where
   pub network : workspace.net.network ≡ elements_of inputs.case
   pub stands : standing workspace.net ≡ standing_of inputs.case inputs.switchings
   pub nodes : HasNodes workspace.net.network.nodes (standing workspace.net) workspace.cert
@@ -22,5 +22,5 @@ pub record IsMadeFor (inputs : Inputs) (workspace : Workspace) : Type 0 where
   pub intervals : map optional_ends workspace.intervals.items ≡ potentials_of workspace.cert
 
 -- the certificate is what these bytes are
-abbrev pub IsReadFrom : Inputs → (bytes : List ℕ) → Workspace → Type 0
+abbrev pub IsReadFrom : Inputs (Unit {0}) → (bytes : List ℕ) → Workspace → Type 0
 IsReadFrom inputs bytes workspace = cert_of (certificate_nodes inputs.case (standing_of inputs.case inputs.switchings)) bytes ≡ Ok workspace.cert

@@ -1,21 +1,18 @@
 -- What a report of a certificate has to say, and how the call ends that writes it.
-use Rattle.std.specs.Prelude.{◌≡◌, ℕ, ◌<◌, List, [], ◌∷◌, Option, option_map, Ok, Err, Result, length, map, pos}
+use Rattle.std.specs.Prelude.{◌≡◌, ℕ, List, [], ◌∷◌, Option, option_map, Ok, Err, Result, length, map, pos}
 use Rattle.std.specs.List.{range_with_len}
 use Rattle.std.specs.Io.KnownBytes.{Keeps}
-use Rattle.gic_case.specs.Lists.{Lists, node_names}
+use Rattle.gic_case.specs.Lists.{Lists}
 use Rattle.gic_fixed.specs.Ends.{Ends}
 use Rattle.gic_fixed.specs.Rounding.{floor_div, ceil_div}
 use Rattle.gic_model.specs.Sharp.{millivolt}
 use Rattle.gic_model.specs.Sums.{Placed}
 use Rattle.gic_cert.specs.Written.{Certificate, interval_of}
-use Rattle.gic_effective.specs.RightView.{IsRightNode}
-use Rattle.gic_exists.specs.Exists.{HasSolution}
 use Rattle.gic_stand.specs.Needs.{Nothing}
 use Rattle.gic_stand.specs.Serves.{Shown, Serves}
 use Rattle.gic_stand.specs.Standing.{standing_of}
 use Rattle.gic_inputs.specs.declared.inputs.Inputs.{Inputs}
 use Rattle.gic_text.specs.Lines.{lines_text}
-use Rattle.gic_uniform.specs.Uniform.{uniform_volts}
 use Rattle.gic_recheck.specs.Accepted.{IsAccepted, IsRefused}
 use Rattle.gic_recheck.specs.RecheckText.{recheck_report}
 use Rattle.gic_recheck.specs.declared.fault.RecheckFault.{RecheckFault}
@@ -37,17 +34,14 @@ potentials_of c = map (potential_of c) (range_with_len 0 (length c.nodes))
 abbrev pub recheck_text : Lists → Certificate → List ℕ
 recheck_text case c = lines_text (recheck_report case c.north c.east (potentials_of c))
 
--- the text is that of a certificate that is accepted, and whoever made it, each interval holds its node's potential in every solution, of which there is one at least
+-- the text is that of a certificate that is accepted, whoever made it
 pub record ShowsAccepted (case : Lists) (standing : List Placed) (bytes : List ℕ) (text : List ℕ) : Type 0 where
   pub certificate : Certificate
   pub accepted : IsAccepted case standing bytes certificate
-  pub solved : HasSolution standing (uniform_volts case certificate.north certificate.east)
-  pub holds : (k : ℕ) → k < length (node_names case) →
-      IsRightNode standing (uniform_volts case certificate.north certificate.east) k (potential_of certificate k)
   pub text_is : text ≡ recheck_text case certificate
 
 -- with all switchings in force
-abbrev pub IsRightRecheck : Inputs → (bytes : List ℕ) → List ℕ → Type 0
+abbrev pub IsRightRecheck : Inputs (Unit {0}) → (bytes : List ℕ) → List ℕ → Type 0
 IsRightRecheck inputs bytes = ShowsAccepted inputs.case (standing_of inputs.case inputs.switchings) bytes
 
 -- how the call ends over this standing network: as a mode that needs nothing of it, or with the refusal of the certificate and nothing written
@@ -57,5 +51,5 @@ ServesCertificate case standing bytes before now (Err (Report fault)) = Serves N
 ServesCertificate case standing bytes before now (Err (Refused refusal)) = IsRefused case standing bytes refusal × Keeps before.bytes now.bytes
 
 -- how it ends with all switchings in force
-abbrev pub ServesRecheck : Inputs → (bytes : List ℕ) → (before now : Shown) → Result (Unit {0}) RecheckFault → Type 0
+abbrev pub ServesRecheck : Inputs (Unit {0}) → (bytes : List ℕ) → (before now : Shown) → Result (Unit {0}) RecheckFault → Type 0
 ServesRecheck inputs = ServesCertificate inputs.case (standing_of inputs.case inputs.switchings)

@@ -19,8 +19,6 @@ use crate::workspace::Workspace;
 use gic_base::{Sink, WriteFailed};
 use gic_case::Case;
 use gic_cert::Cert;
-use gic_cert::laws::passing_law;
-use gic_claims::laws::bound_networks_are_solved_law;
 use gic_fixed::Interval;
 use gic_inputs::Inputs;
 use gic_model::Volts;
@@ -57,9 +55,6 @@ fn show<S: Sink>(
         ServesCertificate case.now (standing net.now) bytes
         (shown S.written S.faults out.old) (shown S.written S.faults out.new) result }
 {
-    passing_law();
-    bound_networks_are_solved_law();
-    net.within_limits();
     match expect_passing(case, net, volts, cert) {
         Err(refusal) => Err(RecheckFault::Refused(refusal)),
         Ok(()) => {
@@ -72,7 +67,7 @@ fn show<S: Sink>(
 /// Writes the potentials that the certificate in the workspace shows, where it is accepted over the network of the
 /// case, with all rows of the switchings in force; it may come from anybody. Takes no memory.
 pub fn recheck<S: Sink>(
-    inputs: &Inputs,
+    inputs: &Inputs<()>,
     workspace: &mut Workspace,
     out: &mut S,
 ) -> Result<(), RecheckFault>

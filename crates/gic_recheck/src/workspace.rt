@@ -45,7 +45,7 @@ impl Drop for Workspace {
 /// for its check.
 pub fn make_workspace(
     alloc: Global,
-    inputs: &Inputs,
+    inputs: &Inputs<()>,
     bytes: &[u8],
 ) -> Result<Workspace, WorkspaceFault>
     ensures made { IfOk result (IsMadeFor inputs.now) }

@@ -35,7 +35,7 @@ fn cell_at(listed: Listed, view: &StepView, place: u16) -> Option<Interval>
 
 /// The intervals of the nodes from one on, in mV, or those of the elements, in mA; it is seen as their list.
 #[derive(Drop)]
-pub struct Cells<'a> {
+pub(crate) struct Cells<'a> {
     source: &'a StepView,
     listed: Listed,
     next: u16,
@@ -90,7 +90,7 @@ impl<'a> Cells<'a> {
 
 /// The signed intervals of the transformers from one on, in mA per phase; it is seen as their list.
 #[derive(Drop)]
-pub struct EffectiveCells<'a> {
+pub(crate) struct EffectiveCells<'a> {
     source: &'a StepView,
     next: u16,
 }

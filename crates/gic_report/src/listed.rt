@@ -2,7 +2,7 @@
 
 /// Those of its nodes, or those of its elements.
 #[derive(Clone, Copy)]
-pub enum Listed {
+pub(crate) enum Listed {
     Nodes,
     Elements,
 }

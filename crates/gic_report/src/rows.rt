@@ -40,7 +40,7 @@ impl ItemRow {
 /// The rows of the items of a case from one on: grounds, lines, windings and neutral devices, each in the order of their
 /// lists.
 #[derive(Drop)]
-pub struct ItemRows<'a> {
+pub(crate) struct ItemRows<'a> {
     grounds: &'a [Substation],
     lines: &'a [Line],
     /// The second winding of a transformer whose first one was the last row.

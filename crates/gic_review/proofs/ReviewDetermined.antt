@@ -9,15 +9,16 @@ use Rattle.gic_text.proofs.Injective.{lines_injective}
 use Rattle.gic_text.proofs.Words.{word_from_test, word_decimal, word_signed, word_name, signed_decimal_injective_wide}
 use Rattle.gic_review.specs.declared.findings.finding.Finding.{Finding}
 use Rattle.gic_review.specs.declared.findings.finding.Finding.TheVariants.{Ungrounded, Part, Closure, Value, Volts, Outside}
-use Rattle.gic_review.specs.declared.findings.finding.CaseList.{CaseList}
-use Rattle.gic_review.specs.declared.findings.finding.CaseList.TheVariants as lists
+use Rattle.gic_case.specs.declared.case_list.CaseList.{CaseList}
+use Rattle.gic_case.specs.declared.case_list.CaseList.TheVariants as lists
 use Rattle.gic_review.specs.declared.findings.finding.Side.{Side}
 use Rattle.gic_review.specs.declared.findings.finding.Side.TheVariants.{High, Low, Third}
 use Rattle.gic_review.specs.declared.findings.measured.Quantity.{Quantity}
 use Rattle.gic_review.specs.declared.findings.measured.Quantity.TheVariants as values
 use Rattle.gic_report.specs.SharedLines.{Words, word_line}
 use Rattle.gic_report.proofs.WordsDetermined.{word_at, same_long}
-use Rattle.gic_review.specs.FindingText.{list_word, field_word, side_word, finding_line}
+use Rattle.gic_case.specs.ListWord.{list_word}
+use Rattle.gic_review.specs.FindingText.{field_word, side_word, finding_line}
 use Rattle.gic_review.specs.ReviewText.{findings_line, review_report}
 use Rattle.gic_review.specs.Determines.{CanBeTold}
 
@@ -29,14 +30,18 @@ tag w = get_or w 0 0 * 65536 + (get_or w 1 0 * 256 + get_or w 5 0)
 
 abbrev list_of : ℕ → CaseList
 list_of n =
-    if n == tag (codes "zone") then lists.Zone
+    if n == tag (codes "case") then lists.Document
+    else if n == tag (codes "zone") then lists.Zone
     else if n == tag (codes "substation") then lists.Substation
+    else if n == tag (codes "bus") then lists.Bus
     else if n == tag (codes "line") then lists.Line
     else lists.Transformer
 
 list_read : (l : CaseList) → list_of (tag (list_word l)) ≡ l
+list_read lists.Document = refl
 list_read lists.Zone = refl
 list_read lists.Substation = refl
+list_read lists.Bus = refl
 list_read lists.Line = refl
 list_read lists.Transformer = refl
 
@@ -92,8 +97,10 @@ same_field : (m n : Quantity) → field_word m ≡ field_word n → m ≡ n
 same_field m n e = sym (field_read m) ∙ ap (λ (w : List ℕ). quantity_of (tag w)) e ∙ field_read n
 
 list_is_word : (l : CaseList) → IsWord (list_word l)
+list_is_word lists.Document = word_from_test (codes "case") refl
 list_is_word lists.Zone = word_from_test (codes "zone") refl
 list_is_word lists.Substation = word_from_test (codes "substation") refl
+list_is_word lists.Bus = word_from_test (codes "bus") refl
 list_is_word lists.Line = word_from_test (codes "line") refl
 list_is_word lists.Transformer = word_from_test (codes "transformer") refl
 

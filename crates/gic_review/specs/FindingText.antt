@@ -3,20 +3,12 @@ use Rattle.std.specs.Prelude.{ℕ, List, [], ◌∷◌, codes, decimal}
 use Rattle.std.specs.Fmt.{signed_decimal}
 use Rattle.gic_review.specs.declared.findings.finding.Finding.{Finding}
 use Rattle.gic_review.specs.declared.findings.finding.Finding.TheVariants.{Ungrounded, Part, Closure, Value, Volts, Outside}
-use Rattle.gic_review.specs.declared.findings.finding.CaseList.{CaseList}
-use Rattle.gic_review.specs.declared.findings.finding.CaseList.TheVariants as lists
+use Rattle.gic_case.specs.ListWord.{list_word}
 use Rattle.gic_review.specs.declared.findings.finding.Side.{Side}
 use Rattle.gic_review.specs.declared.findings.finding.Side.TheVariants.{High, Low, Third}
 use Rattle.gic_review.specs.declared.findings.measured.Quantity.{Quantity}
 use Rattle.gic_review.specs.declared.findings.measured.Quantity.TheVariants as values
 use Rattle.gic_report.specs.SharedLines.{Words}
-
--- the word of a list
-abbrev pub list_word : CaseList → List ℕ
-list_word lists.Zone = codes "zone"
-list_word lists.Substation = codes "substation"
-list_word lists.Line = codes "line"
-list_word lists.Transformer = codes "transformer"
 
 -- what is measured goes by the key of a case, or by a word of its own
 abbrev pub field_word : Quantity → List ℕ

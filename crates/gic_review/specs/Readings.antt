@@ -13,8 +13,8 @@ use Rattle.gic_case.specs.declared.winding.WindingRole.TheVariants as roles
 use Rattle.gic_case.specs.declared.winding.Winding.{Winding}
 use Rattle.gic_case.specs.Lists.{Lists, has_effect}
 use Rattle.gic_case.specs.Windings.{windings_of, has_windings}
-use Rattle.gic_review.specs.declared.findings.finding.CaseList.{CaseList}
-use Rattle.gic_review.specs.declared.findings.finding.CaseList.TheVariants as lists
+use Rattle.gic_case.specs.declared.case_list.CaseList.{CaseList}
+use Rattle.gic_case.specs.declared.case_list.CaseList.TheVariants as lists
 use Rattle.gic_review.specs.declared.findings.finding.Finding.{Finding}
 use Rattle.gic_review.specs.declared.findings.finding.Finding.TheVariants.{Value}
 use Rattle.gic_review.specs.declared.findings.measured.Quantity.{Quantity}

@@ -7,7 +7,7 @@ use Rattle.gic_review.specs.ReviewText.{review_report}
 use Rattle.gic_inputs.specs.declared.inputs.Inputs.{Inputs}
 
 -- the text tells what is found in the case, and nothing else
-pub record IsRightReview (inputs : Inputs) (text : List ℕ) : Type 0 where
+pub record IsRightReview (inputs : Inputs (Unit {0})) (text : List ℕ) : Type 0 where
   pub findings : List Finding
   pub of_case : AreFindingsOf inputs.case findings
   pub text_is : text ≡ lines_text (review_report findings)

@@ -7,12 +7,12 @@ use Rattle.gic_case.specs.declared.course.Course.{Course}
 use Rattle.gic_case.specs.declared.course.Course.TheVariants.{One, Several}
 use Rattle.gic_case.specs.declared.item.Bus.{Bus}
 use Rattle.gic_case.specs.declared.item.Line.{Line}
-use Rattle.gic_case.specs.declared.item.Third.{Third}
-use Rattle.gic_case.specs.declared.item.Kind.{Kind}
-use Rattle.gic_case.specs.declared.item.Kind.TheVariants as kinds
+use Rattle.gic_case.specs.declared.kind.Third.{Third}
+use Rattle.gic_case.specs.declared.kind.Kind.{Kind}
+use Rattle.gic_case.specs.declared.kind.Kind.TheVariants as kinds
 use Rattle.gic_case.specs.declared.item.Transformer.{Transformer}
 use Rattle.gic_case.specs.Lists.{Lists, substation_with}
-use Rattle.gic_review.specs.declared.findings.finding.CaseList.TheVariants as lists
+use Rattle.gic_case.specs.declared.case_list.CaseList.TheVariants as lists
 use Rattle.gic_review.specs.declared.findings.finding.Side.TheVariants as sides
 use Rattle.gic_review.specs.declared.findings.finding.Finding.{Finding}
 use Rattle.gic_review.specs.declared.findings.finding.Finding.TheVariants as findings
@@ -32,7 +32,7 @@ abbrev pub line : List ℕ → (from to : ℕ) → Course → (blocked : Bool) �
 line name from to course blocked = record { name = name; from = from; to = to; course = course; resistance = 3000000; blocked = blocked }
 
 -- a unit without a neutral device
-abbrev pub unit_of : List ℕ → (high_volts : ℕ) → Kind → Transformer
+abbrev pub unit_of : List ℕ → (high_volts : ℕ) → Kind ℕ → Transformer
 unit_of name high_volts kind = record { name = name; high_volts = high_volts; kind = kind; neutral = None }
 
 -- a delta-wye unit
@@ -103,7 +103,7 @@ abbrev pub levels_findings : List Finding
 levels_findings = findings.Volts (codes "T3") sides.High 310499 345000 ∷ findings.Volts (codes "T5") sides.High 383334 345000 ∷ []
 
 -- a third winding
-abbrev pub third : (bus volts resistance : ℕ) → Third
+abbrev pub third : (bus volts resistance : ℕ) → Third ℕ
 third bus volts resistance = record { bus = bus; volts = volts; resistance = resistance }
 
 -- a zone by its scale, a line in two parts and one beside it, and two units with third windings at the bus of a reactor

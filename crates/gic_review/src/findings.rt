@@ -15,6 +15,6 @@ mod span;
 mod ungrounded;
 mod union;
 
-pub use finding::{CaseList, Finding, Side};
+pub use finding::{Finding, Side};
 pub use gathered::findings;
 pub use measured::Quantity;

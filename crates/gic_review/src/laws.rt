@@ -5,7 +5,8 @@ ghost use Rattle.gic_winding.specs.ElementList.{elements_of};
 ghost use Rattle.gic_review.specs.Findings.{findings_with};
 ghost use Rattle.gic_review.specs.FindingsLaws.{PartsAreOne, FindingsAreOne};
 ghost use Rattle.gic_review.specs.PartSizes.{sizes_of};
-ghost use Rattle.gic_review.specs.Worked.{ungrounded_case, ungrounded_findings, turned_case, turned_findings, parted_case, parted_findings, levels_case, levels_findings, third_case, third_findings};
+ghost use Rattle.gic_review.specs.Worked.{ungrounded_case, ungrounded_findings, turned_case, turned_findings, parted_case, parted_findings};
+ghost use Rattle.gic_review.specs.Worked.{levels_case, levels_findings, third_case, third_findings};
 
 /// Texts that are equal tell the same findings.
 pub fn text_determines_findings_law()

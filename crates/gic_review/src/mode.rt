@@ -13,7 +13,7 @@ use gic_stand::{ReportFault, ended};
 
 /// Writes what is found in the case. Takes no memory.
 pub fn review<S: Sink>(
-    inputs: &Inputs,
+    inputs: &Inputs<()>,
     workspace: &mut Workspace,
     out: &mut S,
 ) -> Result<(), ReportFault>

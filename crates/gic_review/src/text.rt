@@ -2,12 +2,14 @@
 ghost use Rattle.std.specs.Prelude.{◌≡◌, ◌≤◌, ◌+◌, [], ◌∷◌, length, map};
 ghost use Rattle.gic_base.specs.Writes.{Writes};
 ghost use Rattle.gic_text.specs.Lines.{with_words, line_text, lines_text};
-ghost use Rattle.gic_review.specs.FindingText.{list_word, field_word, finding_line};
+ghost use Rattle.gic_case.specs.ListWord.{list_word};
+ghost use Rattle.gic_review.specs.FindingText.{field_word, finding_line};
 ghost use Rattle.gic_review.specs.ReviewText.{findings_line, review_report};
 
-use crate::findings::{CaseList, Finding, Quantity};
-use crate::words::{field_word, list_word, side_word};
+use crate::findings::{Finding, Quantity};
+use crate::words::{field_word, side_word};
 use gic_base::{Name, Sink, WriteFailed, write_all};
+use gic_case::CaseList;
 use gic_report::write_word;
 use gic_text::LineBuilder;
 
@@ -18,7 +20,7 @@ fn add_value(list: CaseList, name: &Name, measured: Quantity, line: &mut LineBui
     ensures words { line.new ≡ with_words line.old (list_word list ∷ name.now ∷ field_word measured ∷ []) }
     ensures size { length line.new.bytes ≤ length line.old.bytes + 69 }
 {
-    line.word(list_word(list).as_bytes());
+    line.word(list.word().as_bytes());
     line.word(name.as_bytes());
     line.word(field_word(measured).as_bytes());
 }

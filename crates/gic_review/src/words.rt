@@ -1,21 +1,8 @@
 //! How a report calls what findings speak of.
 ghost use Rattle.std.specs.Prelude.{◌≡◌, ◌≤◌, length};
-ghost use Rattle.gic_review.specs.FindingText.{list_word, field_word, side_word};
+ghost use Rattle.gic_review.specs.FindingText.{field_word, side_word};
 
-use crate::findings::{CaseList, Quantity, Side};
-
-/// The word of a list.
-pub(crate) fn list_word(list: CaseList) -> &'static str
-    ensures word { result.now ≡ list_word list }
-    ensures size { length result.now ≤ 17 }
-{
-    match list {
-        CaseList::Zone => "zone",
-        CaseList::Substation => "substation",
-        CaseList::Line => "line",
-        CaseList::Transformer => "transformer",
-    }
-}
+use crate::findings::{Quantity, Side};
 
 /// The word of what is measured of a row.
 pub(crate) fn field_word(measured: Quantity) -> &'static str

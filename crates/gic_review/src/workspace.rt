@@ -16,7 +16,7 @@ pub struct Workspace {
 }
 
 /// The workspace for what is found in the case: all of it is found here.
-pub fn make_workspace(alloc: Global, inputs: &Inputs) -> Result<Workspace, OutOfMemory>
+pub fn make_workspace(alloc: Global, inputs: &Inputs<()>) -> Result<Workspace, OutOfMemory>
     ensures { IfOk result (IsMadeFor inputs.now) }
 {
     let line = LineBuilder::new(alloc)?;

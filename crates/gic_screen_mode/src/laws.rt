@@ -1,6 +1,6 @@
 //! What the text of the mode tells, and what follows of a right report.
 ghost use Rattle.gic_screen_mode.specs.Determines.{TextDeterminesScreen};
-ghost use Rattle.gic_screen_mode.specs.Follows.{ScreenVerdictsAreTrue};
+ghost use Rattle.gic_screen_mode.specs.Follows.{ScreenVerdictsAreTrue, UndecidedIsNearThreshold};
 
 use gic_criteria::laws::{verdict_law, worst_verdict_law};
 
@@ -15,4 +15,11 @@ pub fn screen_verdicts_law()
 {
     verdict_law();
     worst_verdict_law();
+}
+
+/// In a right report, `undecided` is said only of a worst current within one width of the threshold.
+pub fn undecided_in_screen_law()
+    ensures { UndecidedIsNearThreshold }
+{
+    verdict_law();
 }

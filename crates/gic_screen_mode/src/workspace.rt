@@ -3,6 +3,7 @@ ghost use Rattle.std.specs.Prelude.{IfOk};
 ghost use Rattle.gic_screen_mode.specs.Made.{IsMadeFor};
 
 use gic_base::OutOfMemory;
+use gic_criteria::Criteria;
 use gic_inputs::Inputs;
 use gic_net::Net;
 use gic_stand::standing_net;
@@ -33,7 +34,7 @@ impl Drop for Workspace {
 }
 
 /// The workspace for the network of the case, with all rows of the switchings in force.
-pub fn make_workspace(alloc: Global, inputs: &Inputs) -> Result<Workspace, OutOfMemory>
+pub fn make_workspace(alloc: Global, inputs: &Inputs<Criteria>) -> Result<Workspace, OutOfMemory>
     ensures { IfOk result (IsMadeFor inputs.now) }
 {
     let line = LineBuilder::new(alloc)?;

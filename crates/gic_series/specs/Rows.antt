@@ -1,7 +1,6 @@
 -- What the mode shows of a step, with its interval as its two ends.
 use Rattle.std.specs.Prelude.{ℕ, List, slice_index_or}
 use Rattle.gic_fixed.specs.Ends.{Ends, ends_of, zero_ends}
-use Rattle.gic_view.specs.View.{View, effective_at}
 use Rattle.gic_series.specs.declared.rows.SeriesRow.{SeriesRow}
 
 -- the step's number and its time in seconds, and the transformer's signed effective current in mA per phase
@@ -20,7 +19,3 @@ no_series_row = record { number = 0; time = 0; effective = zero_ends }
 -- the row at this place; past the last one that of number and time 0
 abbrev pub series_row_at : List Row → ℕ → Row
 series_row_at rows place = slice_index_or rows place no_series_row
-
--- what a view shows of the transformer at a place
-abbrev pub shown_row : View → (transformer : ℕ) → Row
-shown_row view transformer = record { number = view.number; time = view.time; effective = effective_at view transformer }

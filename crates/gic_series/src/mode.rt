@@ -1,7 +1,7 @@
 //! The report of the mode.
 ghost use Rattle.std.specs.Prelude.{◌≡◌, ◌<◌, length};
 ghost use Rattle.gic_base.specs.Writes.{Writes};
-ghost use Rattle.gic_criteria.specs.Ranges.{IsWithinRanges};
+ghost use Rattle.gic_criteria.specs.Ranges.{IsWithinCriteria};
 ghost use Rattle.gic_stand.specs.Needs.{Solved};
 ghost use Rattle.gic_stand.specs.Serves.{Serves, shown};
 ghost use Rattle.gic_storm.specs.Steps.{steps_in};
@@ -45,7 +45,7 @@ pub fn series<S: Sink>(
     workspace: &mut Workspace,
     out: &mut S,
 ) -> Result<(), ReportFault>
-    requires ranges { IsWithinRanges inputs.now.question }
+    requires ranges { IsWithinCriteria inputs.now.question }
     requires transformer { transformer < length inputs.now.case.transformers }
     requires workspace { IsMadeFor inputs.now workspace.old }
     ensures { Serves Solved inputs.now.case (storm_steps inputs.now)
@@ -57,7 +57,6 @@ pub fn series<S: Sink>(
         inputs,
         transformer,
         &mut workspace.course,
-        &mut workspace.view,
         &mut workspace.rows,
     );
     let writing = write_rows(

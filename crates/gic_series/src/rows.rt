@@ -1,10 +1,6 @@
 //! What the mode shows of each step.
-ghost use Rattle.std.specs.Prelude.{◌<◌, ◌≡◌, length};
-ghost use Rattle.gic_series.specs.Rows.{series_row_of, shown_row};
-
 use gic_base::OutOfMemory;
 use gic_fixed::Interval;
-use gic_view::StepView;
 use std::alloc::Global;
 use std::marker::Model;
 
@@ -15,18 +11,6 @@ pub(crate) struct SeriesRow {
     pub(crate) number: u32,
     pub(crate) time: u32,
     pub(crate) effective: Interval,
-}
-
-/// What a view shows of the transformer at this place.
-pub(crate) fn shown_row(view: &StepView, transformer: u16) -> SeriesRow
-    requires { transformer < length view.now.effective }
-    ensures { series_row_of result ≡ shown_row view.now transformer }
-{
-    SeriesRow {
-        number: view.number(),
-        time: view.time(),
-        effective: view.effective(transformer),
-    }
 }
 
 /// The rows of the steps of a storm, in their order.

@@ -8,15 +8,12 @@ use gic_base::OutOfMemory;
 use gic_course::Course;
 use gic_inputs::StormInputs;
 use gic_text::LineBuilder;
-use gic_view::StepView;
 use std::alloc::Global;
 
 /// All that a series takes memory for. It is made before any step is looked at.
 pub struct Workspace {
     pub(crate) line: LineBuilder,
     pub(crate) course: Course,
-    /// The view of each step in turn.
-    pub(crate) view: StepView,
     /// A row for each step.
     pub(crate) rows: SeriesRows,
 }
@@ -27,7 +24,6 @@ impl Drop for Workspace {
         let Workspace {
             line: _line,
             course: _course,
-            view: _view,
             rows: _rows,
         } = self;
     }
@@ -41,12 +37,6 @@ pub fn make_workspace(alloc: Global, inputs: &StormInputs) -> Result<Workspace, 
 {
     let line = LineBuilder::new(alloc)?;
     let course = Course::new(alloc, inputs)?;
-    let view = course.blank_view(alloc, inputs)?;
     let rows = SeriesRows::new(alloc, inputs.storm.steps())?;
-    Ok(Workspace {
-        line,
-        course,
-        view,
-        rows,
-    })
+    Ok(Workspace { line, course, rows })
 }

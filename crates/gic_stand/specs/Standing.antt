@@ -15,7 +15,7 @@ abbrev pub standing_of : Lists → Option (List Switching) → List Placed
 standing_of case switchings = standing_in case (rows_in switchings)
 
 -- the elements that stand at each step of a run, in order: a run without a storm has one step, with all switchings in force
-abbrev pub steps_of : Inputs → List (List Placed)
+abbrev pub steps_of : {Q : Type 0} → Inputs Q → List (List Placed)
 steps_of inputs = standing_of inputs.case inputs.switchings ∷ []
 
 -- a node of the case by its name, which is the first live one that is not earthed

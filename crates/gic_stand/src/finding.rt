@@ -1,13 +1,13 @@
 //! Some bound vector, from what the vector was or from a proposal.
-ghost use Rattle.std.specs.Prelude.{◌≡◌, ℕ, ◌<◌, ◌≤◌, ◌↔◌, slice_index, IsOk, OnOk, OnErr, IfErr};
+ghost use Rattle.std.specs.Prelude.{◌↔◌, slice_index, IsOk, OnOk, OnErr, IfErr};
 ghost use Rattle.gic_model.specs.Bound.{IsEarthedWithin, IsLeastCappedVector};
 ghost use Rattle.gic_net.specs.Net.{standing};
-ghost use Rattle.gic_bound.specs.Entries.{IsBoundWithin};
+ghost use Rattle.gic_bound.specs.Entries.{IsBoundWithin, IsFirstFull};
 ghost use Rattle.gic_stand.specs.ForNodes.{IsStartForNodes};
 
 use crate::proposing::propose;
 use crate::start::Start;
-use gic_base::limits::{FULL_WALK, MOST_WALK};
+use gic_base::limits::MOST_WALK;
 use gic_bound::{BoundVector, Unresolved, some_bound};
 use gic_net::Net;
 
@@ -21,12 +21,8 @@ pub fn find_bound(net: &Net, out: &mut BoundVector, start: &mut Start) -> Result
     requires { IsStartForNodes net.now.network.nodes out.old start.old }
     ensures earthed { IsOk result ↔ IsEarthedWithin (standing net.now) MOST_WALK }
     ensures bound { OnOk result (IsBoundWithin (standing net.now) MOST_WALK (slice_index out.new)) }
-
-    // The named node has the entry `FULL_WALK` in the least capped vector, and no node before it has.
     ensures least { OnErr result (IsLeastCappedVector (standing net.now) (slice_index out.new)) }
-    ensures full { IfErr result (λ refusal. slice_index out.new refusal.node.0 ≡ FULL_WALK) }
-    ensures first { IfErr result (λ refusal. (k : ℕ) → k < refusal.node.0 → slice_index out.new k ≤ MOST_WALK) }
-
+    ensures first { IfErr result (λ refusal. IsFirstFull (slice_index out.new) refusal.node.0) }
     ensures workspace { IsStartForNodes net.now.network.nodes out.new start.new }
 {
     if out.walk() <= NOTHING_KNOWN {

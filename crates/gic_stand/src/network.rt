@@ -1,5 +1,5 @@
 //! The network of a case that stands, whether it is earthed, and whether it can be solved.
-ghost use Rattle.std.specs.Prelude.{◌≡◌, length, slice_index, IfOk, IfErr, OnOk};
+ghost use Rattle.std.specs.Prelude.{◌≡◌, slice_index, IfOk, IfErr, OnOk};
 ghost use Rattle.gic_base.specs.declared.limits.TheConstants.{MOST_WALK};
 ghost use Rattle.gic_model.specs.Bound.{IsEarthedWithin};
 ghost use Rattle.gic_model.specs.Earthing.{AreEarthed};
@@ -8,6 +8,7 @@ ghost use Rattle.gic_net.specs.Net.{standing, net_after};
 ghost use Rattle.gic_bound.specs.Entries.{IsBoundWithin};
 ghost use Rattle.gic_winding.specs.ElementList.{elements_of};
 ghost use Rattle.gic_inputs.specs.Inputs.{rows_in};
+ghost use Rattle.gic_stand.specs.ForNodes.{IsStartForNodes};
 ghost use Rattle.gic_stand.specs.Needs.{Earthed, Solved, Fails};
 
 use crate::fault::NetworkRefusal;
@@ -90,14 +91,12 @@ pub fn expect_resolved(
     start: &mut Start,
 ) -> Result<(), NetworkRefusal>
     requires network { net.now.network ≡ elements_of case.now }
-    requires entries { length vector.old ≡ net.now.network.nodes }
-    requires start { start.old ≡ net.now.network.nodes }
+    requires workspace { IsStartForNodes net.now.network.nodes vector.old start.old }
     requires earthed { AreEarthed (standing net.now) }
     ensures within { OnOk result (IsEarthedWithin (standing net.now) MOST_WALK) }
     ensures bound { OnOk result (IsBoundWithin (standing net.now) MOST_WALK (slice_index vector.new)) }
     ensures err { IfErr result (Fails Solved case.now step (standing net.now)) }
-    ensures entries { length vector.new ≡ length vector.old }
-    ensures start { start.new ≡ start.old }
+    ensures workspace { IsStartForNodes net.now.network.nodes vector.new start.new }
 {
     match find_bound(net, vector, start) {
         Ok(()) => Ok(()),

@@ -2,7 +2,6 @@
 use gic_base::OutOfMemory;
 use gic_bound::Workspace;
 use gic_precondition::RoughSolver;
-use gic_sweep::zeros;
 use std::alloc::Global;
 use std::marker::Model;
 
@@ -44,7 +43,7 @@ impl Start {
         ensures { IfOk result (λ start. start ≡ nodes) }
     {
         let rough_solver = RoughSolver::new(alloc, nodes, elements)?;
-        let conductances = zeros(alloc, nodes)?;
+        let conductances = vec![in alloc; 0; nodes as usize]?;
         let workspace = Workspace::new(alloc, nodes)?;
         Ok(Start {
             rough_solver,

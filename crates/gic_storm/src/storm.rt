@@ -34,7 +34,8 @@ impl Model for Storm {
 
     ghost view = { λ s. record { zones = s.zones; rows = s.rows.items } };
 
-    ghost invariant = { λ s. IsStorm (record { zones = s.zones; rows = s.rows.items }) × (s.starts.items ≡ starts_from 0 None s.rows.items) };
+    ghost invariant = { λ s. IsStorm (record { zones = s.zones; rows = s.rows.items })
+        × (s.starts.items ≡ starts_from 0 None s.rows.items) };
 }
 
 impl Drop for Storm {

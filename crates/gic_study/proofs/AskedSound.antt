@@ -12,12 +12,12 @@ use Rattle.gic_words.specs.Requests.{request_of}
 use Rattle.gic_words.specs.declared.request.Request.{Request}
 use Rattle.gic_words.specs.declared.request.Request.TheVariants as request
 use Rattle.gic_ask.specs.Contents.{Contents}
-use Rattle.gic_ask.specs.Outcome.{Outcome, Accepts, ◌>>=◌, reading, handing, reading_case, reading_storm, reading_switchings, reading_certificate, reading_inputs, reading_network, reading_after_storm, reading_over, transformer_asked, asking, asking_study, asking_recheck, asking_series, outcome}
+use Rattle.gic_ask.specs.Outcome.{Outcome, Accepts, ◌>>=◌, reading, handing, reading_case, reading_storm, reading_switchings, reading_certificate, reading_inputs, reading_network, reading_after_storm, reading_over, transformer_asked, asking, asking_study, asking_recheck, asking_series, outcome, recheck_given, series_given, study_given}
 use Rattle.gic_ask.specs.declared.fault.File.TheVariants as file
 use Rattle.gic_ask.specs.declared.fault.InputRefusal.TheVariants as refusals
 use Rattle.gic_inputs.specs.declared.inputs.Inputs.{Inputs}
 use Rattle.gic_inputs.specs.declared.inputs.StormInputs.{StormInputs}
-use Rattle.gic_criteria.specs.declared.asked.Question.{Question}
+use Rattle.gic_criteria.specs.declared.asked.Criteria.{Criteria}
 use Rattle.gic_ask.specs.declared.request.Asked.{Asked}
 use Rattle.gic_ask.specs.declared.request.Asked.TheVariants.{Volts, List as ListAsked, Check, Field, Screen, Certify, Outage, Study, Make, Recheck, Series, Review}
 use Rattle.gic_study.specs.Laws.{case_asked, AskedCasesAreSound}
@@ -29,7 +29,7 @@ case_or_refusal : AcceptedCasesAreSound → (bytes : List ℕ) (r : Result Lists
 case_or_refusal accepted bytes (Ok case) is = accepted bytes case is
 case_or_refusal accepted bytes (Err refusal) is = tt
 
-abbrev IsOverSound : Inputs → Type 0
+abbrev IsOverSound : {Q : Type 0} → Inputs Q → Type 0
 IsOverSound inputs = IsSound inputs.case
 
 abbrev IsStormOverSound : StormInputs → Type 0
@@ -45,39 +45,40 @@ module _ (accepted : AcceptedCasesAreSound) (made : MadeCasesAreSound) (contents
       then_holds Any IsSound (handing file.Case (contents file.Case)) (λ bytes. reading refusals.Case (case_of bytes)) (anyway (handing file.Case (contents file.Case)))
       (λ bytes any. reading_holds IsSound refusals.Case (case_of bytes) (case_or_refusal accepted bytes (case_of bytes) refl))
 
-  network_sound : (switch : Option (List ℕ)) (question : Question) → Holds IsOverSound (reading_network switch question contents)
+  network_sound : {Q : Type 0} (switch : Option (List ℕ)) (question : Q) → Holds IsOverSound (reading_network switch question contents)
   network_sound switch question =
       then_holds IsSound IsOverSound (reading_case (contents file.Case)) (λ case. reading_inputs switch question case contents) case_sound
       (λ case sound. made_holds Any IsOverSound (reading_switchings switch case contents) _ (anyway (reading_switchings switch case contents)) (λ rows any. sound))
 
-  over_sound : (switch : Option (List ℕ)) (question : Question) (case : Lists) → IsSound case → Holds IsStormOverSound (reading_over switch question case contents)
+  over_sound : (switch : Option (List ℕ)) (question : Criteria) (case : Lists) → IsSound case → Holds IsStormOverSound (reading_over switch question case contents)
   over_sound switch question case sound =
       then_holds Any IsStormOverSound (reading_storm case (contents file.Storm)) (λ storm. reading_after_storm switch question case storm contents) (anyway (reading_storm case (contents file.Storm)))
       (λ storm any. made_holds Any IsStormOverSound (reading_switchings switch case contents) _ (anyway (reading_switchings switch case contents)) (λ rows other. sound))
 
-  over_network : (switch : Option (List ℕ)) (question : Question) (make : Inputs → Asked) → ((inputs : Inputs) → IsOverSound inputs → IsAskedSound (make inputs))
+  over_network : {Q : Type 0} (switch : Option (List ℕ)) (question : Q) (make : Inputs Q → Asked) → ((inputs : Inputs Q) → IsOverSound inputs → IsAskedSound (make inputs))
       → Holds IsAskedSound (reading_network switch question contents >>= (λ i. Accepts (make i)))
   over_network switch question make h = made_holds IsOverSound IsAskedSound (reading_network switch question contents) make (network_sound switch question) h
 
   asking_sound : (r : Request) → CanBeMade r → Holds IsAskedSound (asking r contents)
-  asking_sound (request.Volts case field) can = over_network None _ Volts (λ inputs sound. sound)
+  asking_sound (request.Volts r) can = over_network None _ Volts (λ inputs sound. sound)
   asking_sound (request.List case) can = over_network None _ ListAsked (λ inputs sound. sound)
-  asking_sound (request.Check case switch) can = over_network switch _ Check (λ inputs sound. sound)
-  asking_sound (request.Field case switch field criteria) can = over_network switch _ Field (λ inputs sound. sound)
-  asking_sound (request.Screen case switch criteria) can = over_network switch _ Screen (λ inputs sound. sound)
-  asking_sound (request.Certify case switch field) can = over_network switch _ Certify (λ inputs sound. sound)
-  asking_sound (request.Outage case switch criteria) can = over_network switch _ Outage (λ inputs sound. sound)
-  asking_sound (request.Study case storm switch criteria detail) can =
-      then_holds IsSound IsAskedSound (reading_case (contents file.Case)) (λ lists. asking_study switch criteria detail lists contents) case_sound
-      (λ lists sound. made_holds IsStormOverSound IsAskedSound _ (λ inputs. Study inputs detail) (over_sound switch _ lists sound) (λ inputs is_sound. is_sound))
-  asking_sound (request.Make seed size) can = made seed size (omega (arith, can.seed_fits)) can.size_fits.least can.size_fits.most
-  asking_sound (request.Recheck case switch cert) can =
-      then_holds IsOverSound IsAskedSound (reading_network switch _ contents) (λ inputs. asking_recheck inputs contents) (network_sound switch _)
-      (λ inputs sound. made_holds Any IsAskedSound (reading_certificate (contents file.Certificate)) (Recheck inputs) (anyway (reading_certificate (contents file.Certificate))) (λ certificate any. sound))
-  asking_sound (request.Series case storm switch width transformer) can =
-      then_holds IsSound IsAskedSound (reading_case (contents file.Case)) (λ lists. asking_series switch width transformer lists contents) case_sound
-      (λ lists sound. then_holds Any IsAskedSound (reading (λ refusal. refusal) (transformer_asked lists transformer)) _ (anyway (reading (λ refusal. refusal) (transformer_asked lists transformer)))
-      (λ place any. made_holds IsStormOverSound IsAskedSound _ (λ inputs. Series inputs place) (over_sound switch _ lists sound) (λ inputs is_sound. is_sound)))
+  asking_sound (request.Check r) can = over_network r.switch _ Check (λ inputs sound. sound)
+  asking_sound (request.Field r) can = over_network r.switch _ Field (λ inputs sound. sound)
+  asking_sound (request.Screen r) can = over_network r.switch _ Screen (λ inputs sound. sound)
+  asking_sound (request.Certify r) can = over_network r.switch _ Certify (λ inputs sound. sound)
+  asking_sound (request.Outage r) can = over_network r.switch _ Outage (λ inputs sound. sound)
+  asking_sound (request.Study r) can =
+      then_holds IsSound IsAskedSound (reading_case (contents file.Case)) (λ lists. asking_study r lists contents) case_sound
+      (λ lists sound. made_holds IsStormOverSound IsAskedSound _ (study_given r) (over_sound r.switch _ lists sound) (λ inputs is_sound. is_sound))
+  asking_sound (request.Make r) can = made r.seed r.size (omega (arith, can.seed_fits)) can.size_fits.least can.size_fits.most
+  asking_sound (request.Recheck r) can =
+      then_holds IsOverSound IsAskedSound (reading_network r.switch _ contents) (λ inputs. asking_recheck inputs contents) (network_sound r.switch _)
+      (λ inputs sound. made_holds Any IsAskedSound (reading_certificate (contents file.Certificate)) (recheck_given inputs)
+      (anyway (reading_certificate (contents file.Certificate))) (λ certificate any. sound))
+  asking_sound (request.Series r) can =
+      then_holds IsSound IsAskedSound (reading_case (contents file.Case)) (λ lists. asking_series r lists contents) case_sound
+      (λ lists sound. then_holds Any IsAskedSound (reading (λ refusal. refusal) (transformer_asked lists r.transformer)) _ (anyway (reading (λ refusal. refusal) (transformer_asked lists r.transformer)))
+      (λ place any. made_holds IsStormOverSound IsAskedSound _ (series_given r place) (over_sound r.switch _ lists sound) (λ inputs is_sound. is_sound)))
   asking_sound (request.Review case) can = over_network None _ Review (λ inputs sound. sound)
 
 outcome_sound : MadeInRange → AcceptedCasesAreSound → MadeCasesAreSound → (words : List (List ℕ)) (contents : Contents) → Holds IsAskedSound (outcome words contents)

@@ -11,12 +11,12 @@ use Rattle.gic_words.specs.Requests.{request_of}
 use Rattle.gic_words.specs.declared.request.Request.{Request}
 use Rattle.gic_words.specs.declared.request.Request.TheVariants as request
 use Rattle.gic_ask.specs.Contents.{Contents}
-use Rattle.gic_ask.specs.Outcome.{Outcome, Accepts, ◌>>=◌, reading, handing, reading_case, reading_storm, reading_switchings, reading_certificate, reading_network, reading_after_storm, reading_over, transformer_asked, asking, asking_study, asking_recheck, asking_series, outcome}
+use Rattle.gic_ask.specs.Outcome.{Outcome, Accepts, ◌>>=◌, reading, handing, reading_case, reading_storm, reading_switchings, reading_certificate, reading_network, reading_after_storm, reading_over, transformer_asked, asking, asking_study, asking_recheck, asking_series, outcome, recheck_given, series_given, study_given}
 use Rattle.gic_ask.specs.declared.fault.File.TheVariants as file
 use Rattle.gic_ask.specs.declared.fault.InputRefusal.TheVariants as refusals
 use Rattle.gic_inputs.specs.declared.inputs.Inputs.{Inputs}
 use Rattle.gic_inputs.specs.declared.inputs.StormInputs.{StormInputs}
-use Rattle.gic_criteria.specs.declared.asked.Question.{Question}
+use Rattle.gic_criteria.specs.declared.asked.Criteria.{Criteria}
 use Rattle.gic_ask.specs.declared.request.Asked.{Asked}
 use Rattle.gic_ask.specs.declared.request.Asked.TheVariants.{Volts, List as ListAsked, Check, Field, Screen, Certify, Outage, Study, Make, Recheck, Series, Review}
 use Rattle.gic_study.specs.Laws.{StormHasStep, AskedStormsHaveSteps}
@@ -42,34 +42,35 @@ module _ (accepted : AcceptedStormsHaveSteps) (contents : Contents) where
       (λ bytes any. reading_holds IsStepped refusals.Storm (storm_of (zone_names case.zones) bytes)
       (storm_or_refusal accepted (zone_names case.zones) bytes (storm_of (zone_names case.zones) bytes) refl))
 
-  over_stepped : (switch : Option (List ℕ)) (question : Question) (case : Lists) → Holds IsOverStepped (reading_over switch question case contents)
+  over_stepped : (switch : Option (List ℕ)) (question : Criteria) (case : Lists) → Holds IsOverStepped (reading_over switch question case contents)
   over_stepped switch question case =
       then_holds IsStepped IsOverStepped (reading_storm case (contents file.Storm)) (λ storm. reading_after_storm switch question case storm contents) (storm_stepped case)
       (λ storm stepped. made_holds Any IsOverStepped (reading_switchings switch case contents) _ (anyway (reading_switchings switch case contents)) (λ rows any. stepped))
 
   -- of a network alone
-  no_storm : (o : Outcome Inputs) (make : Inputs → Asked) → ((inputs : Inputs) → StormHasStep (make inputs)) → Holds StormHasStep (o >>= (λ i. Accepts (make i)))
+  no_storm : {Q : Type 0} (o : Outcome (Inputs Q)) (make : Inputs Q → Asked) → ((inputs : Inputs Q) → StormHasStep (make inputs)) → Holds StormHasStep (o >>= (λ i. Accepts (make i)))
   no_storm o make h = made_holds Any StormHasStep o make (anyway o) (λ inputs any. h inputs)
 
   asking_stepped : (r : Request) → Holds StormHasStep (asking r contents)
-  asking_stepped (request.Volts case field) = no_storm _ Volts (λ inputs. tt)
+  asking_stepped (request.Volts r) = no_storm _ Volts (λ inputs. tt)
   asking_stepped (request.List case) = no_storm _ ListAsked (λ inputs. tt)
-  asking_stepped (request.Check case switch) = no_storm _ Check (λ inputs. tt)
-  asking_stepped (request.Field case switch field criteria) = no_storm _ Field (λ inputs. tt)
-  asking_stepped (request.Screen case switch criteria) = no_storm _ Screen (λ inputs. tt)
-  asking_stepped (request.Certify case switch field) = no_storm _ Certify (λ inputs. tt)
-  asking_stepped (request.Outage case switch criteria) = no_storm _ Outage (λ inputs. tt)
-  asking_stepped (request.Study case storm switch criteria detail) =
-      then_holds Any StormHasStep (reading_case (contents file.Case)) (λ lists. asking_study switch criteria detail lists contents) (anyway (reading_case (contents file.Case)))
-      (λ lists any. made_holds IsOverStepped StormHasStep _ (λ inputs. Study inputs detail) (over_stepped switch _ lists) (λ inputs some. record { least = omega arith; most = some }))
-  asking_stepped (request.Make seed size) = tt
-  asking_stepped (request.Recheck case switch cert) =
-      then_holds Any StormHasStep (reading_network switch _ contents) (λ inputs. asking_recheck inputs contents) (anyway (reading_network switch _ contents))
-      (λ inputs any. made_holds Any StormHasStep (reading_certificate (contents file.Certificate)) (Recheck inputs) (anyway (reading_certificate (contents file.Certificate))) (λ certificate other. tt))
-  asking_stepped (request.Series case storm switch width transformer) =
-      then_holds Any StormHasStep (reading_case (contents file.Case)) (λ lists. asking_series switch width transformer lists contents) (anyway (reading_case (contents file.Case)))
-      (λ lists any. then_holds Any StormHasStep (reading (λ refusal. refusal) (transformer_asked lists transformer)) _ (anyway (reading (λ refusal. refusal) (transformer_asked lists transformer)))
-      (λ place other. made_holds IsOverStepped StormHasStep _ (λ inputs. Series inputs place) (over_stepped switch _ lists) (λ inputs some. record { least = omega arith; most = some })))
+  asking_stepped (request.Check r) = no_storm _ Check (λ inputs. tt)
+  asking_stepped (request.Field r) = no_storm _ Field (λ inputs. tt)
+  asking_stepped (request.Screen r) = no_storm _ Screen (λ inputs. tt)
+  asking_stepped (request.Certify r) = no_storm _ Certify (λ inputs. tt)
+  asking_stepped (request.Outage r) = no_storm _ Outage (λ inputs. tt)
+  asking_stepped (request.Study r) =
+      then_holds Any StormHasStep (reading_case (contents file.Case)) (λ lists. asking_study r lists contents) (anyway (reading_case (contents file.Case)))
+      (λ lists any. made_holds IsOverStepped StormHasStep _ (study_given r) (over_stepped r.switch _ lists) (λ inputs some. record { least = omega arith; most = some }))
+  asking_stepped (request.Make r) = tt
+  asking_stepped (request.Recheck r) =
+      then_holds Any StormHasStep (reading_network r.switch _ contents) (λ inputs. asking_recheck inputs contents) (anyway (reading_network r.switch _ contents))
+      (λ inputs any. made_holds Any StormHasStep (reading_certificate (contents file.Certificate)) (recheck_given inputs)
+      (anyway (reading_certificate (contents file.Certificate))) (λ certificate other. tt))
+  asking_stepped (request.Series r) =
+      then_holds Any StormHasStep (reading_case (contents file.Case)) (λ lists. asking_series r lists contents) (anyway (reading_case (contents file.Case)))
+      (λ lists any. then_holds Any StormHasStep (reading (λ refusal. refusal) (transformer_asked lists r.transformer)) _ (anyway (reading (λ refusal. refusal) (transformer_asked lists r.transformer)))
+      (λ place other. made_holds IsOverStepped StormHasStep _ (series_given r place) (over_stepped r.switch _ lists) (λ inputs some. record { least = omega arith; most = some })))
   asking_stepped (request.Review case) = no_storm _ Review (λ inputs. tt)
 
 outcome_stepped : AcceptedStormsHaveSteps → (words : List (List ℕ)) (contents : Contents) → Holds StormHasStep (outcome words contents)

@@ -33,11 +33,11 @@ begins plans (Field inputs) text right = ap mode_begun right.text_is
 begins plans (Screen inputs) text right = ap mode_begun right.text_is
 begins plans (Certify inputs) text right = ap mode_begun right.text_is
 begins plans (Outage inputs) text right = ap mode_begun right.text_is
-begins plans (Study inputs detail) text right = ap mode_begun right.text_is
-begins plans (Make seed size) text right = ap mode_begun right.text_is
-begins plans (Series inputs transformer) text right = ap mode_begun right.text_is
+begins plans (Study asked) text right = ap mode_begun right.text_is
+begins plans (Make r) text right = ap mode_begun right.text_is
+begins plans (Series asked) text right = ap mode_begun right.text_is
 begins plans (Review inputs) text right = ap mode_begun right.text_is
-begins plans (Recheck inputs certificate) text right = ap mode_begun right.text_is
+begins plans (Recheck asked) text right = ap mode_begun right.text_is
 
 same_mode : (m n : Mode) → Some m ≡ Some n → m ≡ n
 same_mode m n e = grind (arith, e)
@@ -57,11 +57,11 @@ refused_or_accepted never (Field inputs) refusal refused accepted = refused
 refused_or_accepted never (Screen inputs) refusal refused accepted = refused
 refused_or_accepted never (Certify inputs) refusal refused accepted = refused
 refused_or_accepted never (Outage inputs) refusal refused accepted = refused
-refused_or_accepted never (Study inputs detail) refusal refused accepted = refused
-refused_or_accepted never (Make seed size) refusal refused accepted = refused
-refused_or_accepted never (Series inputs transformer) refusal refused accepted = refused
+refused_or_accepted never (Study asked) refusal refused accepted = refused
+refused_or_accepted never (Make r) refusal refused accepted = refused
+refused_or_accepted never (Series asked) refusal refused accepted = refused
 refused_or_accepted never (Review inputs) refusal refused accepted = refused
-refused_or_accepted never (Recheck inputs certificate) refusal refused accepted = never inputs.case (standing_of inputs.case inputs.switchings) certificate accepted.0 refusal accepted.1 refused
+refused_or_accepted never (Recheck asked) refusal refused accepted = never asked.inputs.case (standing_of asked.inputs.case asked.inputs.switchings) asked.certificate accepted.0 refusal accepted.1 refused
 
 -- what is right of a certificate shows that it is accepted
 pub right_accepts : (plans : Plans) (asked : Asked) (text : List ℕ) → IsRightText plans asked text → AcceptsCertificate asked
@@ -72,11 +72,11 @@ right_accepts plans (Field inputs) text right = tt
 right_accepts plans (Screen inputs) text right = tt
 right_accepts plans (Certify inputs) text right = tt
 right_accepts plans (Outage inputs) text right = tt
-right_accepts plans (Study inputs detail) text right = tt
-right_accepts plans (Make seed size) text right = tt
-right_accepts plans (Series inputs transformer) text right = tt
+right_accepts plans (Study asked) text right = tt
+right_accepts plans (Make r) text right = tt
+right_accepts plans (Series asked) text right = tt
 right_accepts plans (Review inputs) text right = tt
-right_accepts plans (Recheck inputs certificate) text right = (right.certificate, right.accepted)
+right_accepts plans (Recheck asked) text right = (right.certificate, right.accepted)
 
 -- where a certificate is asked to be checked, nothing is needed of the network
 pub refused_needs_nothing : (asked : Asked) (refusal : CertificateRefusal) (network : NetworkRefusal) → RefusesCertificate asked refusal → ¬ IsUnmet (need_of asked) (case_asked asked) (steps_asked asked) network
@@ -87,8 +87,8 @@ refused_needs_nothing (Field inputs) refusal network refused unmet = refused
 refused_needs_nothing (Screen inputs) refusal network refused unmet = refused
 refused_needs_nothing (Certify inputs) refusal network refused unmet = refused
 refused_needs_nothing (Outage inputs) refusal network refused unmet = refused
-refused_needs_nothing (Study inputs detail) refusal network refused unmet = refused
-refused_needs_nothing (Make seed size) refusal network refused unmet = refused
-refused_needs_nothing (Series inputs transformer) refusal network refused unmet = refused
+refused_needs_nothing (Study asked) refusal network refused unmet = refused
+refused_needs_nothing (Make r) refusal network refused unmet = refused
+refused_needs_nothing (Series asked) refusal network refused unmet = refused
 refused_needs_nothing (Review inputs) refusal network refused unmet = refused
-refused_needs_nothing (Recheck inputs certificate) refusal network refused unmet = unmet_or_met Nothing inputs.case (steps_of inputs) network unmet (met_nothing (steps_of inputs))
+refused_needs_nothing (Recheck asked) refusal network refused unmet = unmet_or_met Nothing asked.inputs.case (steps_of asked.inputs) network unmet (met_nothing (steps_of asked.inputs))

@@ -1,24 +1,20 @@
 -- What is asked for was served, by the call of its mode.
 use Rattle.std.proofs.Common.{◌≡◌, ℕ, ◌<◌, List, length, Option, Result, Ok, Err, sym, subst}
-use Rattle.std.specs.Prelude.{IsErrAnd}
+use Rattle.std.specs.Prelude.{IfOk, IsErrAnd}
 use Rattle.gic_base.proofs.Parts.{keeps-refl}
-use Rattle.gic_inputs.specs.declared.inputs.Inputs.{Inputs}
 use Rattle.gic_stand.specs.Serves.{Shown}
-use Rattle.gic_stand.specs.Standing.{standing_of}
 use Rattle.gic_stand.specs.declared.fault.ReportFault.{ReportFault}
 use Rattle.gic_stand.specs.declared.fault.ReportFault.TheVariants.{Refused, CannotWrite}
 use Rattle.gic_ask.specs.declared.request.Asked.{Asked}
+use Rattle.gic_ask.specs.declared.request.RecheckAsked.{RecheckAsked}
+use Rattle.gic_ask.specs.declared.request.StudyAsked.{StudyAsked}
 use Rattle.gic_ask.specs.declared.request.Asked.TheVariants.{Study, Recheck}
 use Rattle.gic_inputs.proofs.Answered.{answered}
-use Rattle.gic_inputs.specs.declared.inputs.StormInputs.{StormInputs}
 use Rattle.gic_monitor.specs.RosterView.{RosterView}
 use Rattle.gic_view.specs.View.{View}
 use Rattle.gic_recheck.specs.RightRecheck.{ServesRecheck}
 use Rattle.gic_recheck.specs.declared.fault.RecheckFault.{RecheckFault}
 use Rattle.gic_recheck.specs.declared.fault.RecheckFault.TheVariants as recheck
-use Rattle.gic_recheck.specs.declared.fault.WorkspaceFault.{WorkspaceFault}
-use Rattle.gic_recheck.specs.declared.fault.WorkspaceFault.TheVariants as workspace
-use Rattle.gic_recheck.specs.Told.{IsFaultOf}
 use Rattle.gic_study_mode.specs.RightStudy.{IsRightStudy}
 use Rattle.gic_study_mode.specs.Roster.{roster_of}
 use Rattle.gic_study_mode.specs.ServesStudy.{ServesStudy}
@@ -26,10 +22,19 @@ use Rattle.gic_study_mode.specs.declared.fault.StudyFault.{StudyFault}
 use Rattle.gic_study_mode.specs.declared.fault.StudyFault.TheVariants as study
 use Rattle.gic_study_mode.proofs.RightStudies.{by_plans}
 use Rattle.gic_study.specs.Concluding.{Answer, ServesMeaning, Concludes}
-use Rattle.gic_study.specs.ModeCalls.{reported, studied, rechecked, without_workspace}
+use Rattle.gic_study.specs.ModeCalls.{reported, studied, rechecked}
 use Rattle.gic_study.specs.declared.fault.Fault.TheVariants.{Memory}
 use Rattle.gic_study.specs.declared.fault.Wanting.TheVariants.{Workspace}
 use Rattle.gic_study.specs.Modes.{Plans, meaning_of}
+
+-- what is said of a workspace that was made
+pub of_made : {W E : Type 0} (made : Result W E) (workspace : W) (Holds : W → Type 0) → made ≡ Ok workspace → IfOk made Holds → Holds workspace
+of_made made workspace Holds is holds = subst (λ m. IfOk m Holds) is holds
+
+-- what follows of it
+pub on_made : {W E : Type 0} (made : Result W E) (Holds Follows : W → Type 0) → ((workspace : W) → Holds workspace → Follows workspace) → IfOk made Holds → IfOk made Follows
+on_made (Ok workspace) Holds Follows follows holds = follows workspace holds
+on_made (Err e) Holds Follows follows holds = tt
 
 -- what is asked for ended so
 pub of_asked : (plans : Plans) (asked is_asked : Asked) (before now : Shown) (answer : Answer) → asked ≡ is_asked → Concludes plans is_asked before now answer → Concludes plans asked before now answer
@@ -41,60 +46,43 @@ concludes_reported : (plans : Plans) (asked : Asked) (before now : Shown) (answe
 concludes_reported plans asked before now (Ok done) served = served
 concludes_reported plans asked before now (Err fault) served = served
 
--- that this is asked for ended so
-abbrev ConcludesSo : Plans → (before now : Shown) → Answer → Asked → Type 0
-ConcludesSo plans before now answer asked = Concludes plans asked before now answer
-
 pub by_report : (plans : Plans) (asked : Asked) (before now : Shown) (answer : Result (Unit {0}) ReportFault) (whole : Answer)
     → ServesMeaning (meaning_of asked) plans before now answer → whole ≡ reported answer → Concludes plans asked before now whole
 by_report plans asked before now answer whole served ends = subst (Concludes plans asked before now) (sym ends) (concludes_reported plans asked before now answer served)
 
 -- by the plans of monitors that have begun
-concludes_studied : (plans : Plans) (inputs : StormInputs) (detail : Option ℕ) (outlooks : List View → List (List ℕ)) (monitors : ℕ) (before now : Shown) (answer : Result (Unit {0}) StudyFault)
-    → ((views : List View) → outlooks views ≡ plans (roster_of inputs.case inputs.question.event) views)
+concludes_studied : (plans : Plans) (given : StudyAsked) (outlooks : List View → List (List ℕ)) (monitors : ℕ) (before now : Shown) (answer : Result (Unit {0}) StudyFault)
+    → ((views : List View) → outlooks views ≡ plans (roster_of given.inputs.case given.inputs.question.event) views)
     → ((roster : RosterView) (views : List View) → length (plans roster views) ≡ monitors)
-    → ServesStudy inputs monitors (IsRightStudy inputs detail (λ roster views. outlooks views)) before now answer → Concludes plans (Study inputs detail) before now (studied answer)
-concludes_studied plans inputs detail outlooks monitors before now (Ok done) same count served =
-    record { met = served.met; text = served.text; right = by_plans inputs detail outlooks plans same served.text served.right; written = served.written }
-concludes_studied plans inputs detail outlooks monitors before now (Err (study.Report CannotWrite)) same count served =
-    record { met = served.met; text = served.text; right = by_plans inputs detail outlooks plans same served.text served.right; part = served.part; cause = served.cause }
-concludes_studied plans inputs detail outlooks monitors before now (Err (study.Report (Refused refusal))) same count served = served
-concludes_studied plans inputs detail outlooks monitors before now (Err study.Memory) same count served =
+    → ServesStudy given.inputs monitors (IsRightStudy given.inputs given.detail (λ roster views. outlooks views)) before now answer → Concludes plans (Study given) before now (studied answer)
+concludes_studied plans given outlooks monitors before now (Ok done) same count served =
+    record { met = served.met; text = served.text; right = by_plans given.inputs given.detail outlooks plans same served.text served.right; written = served.written }
+concludes_studied plans given outlooks monitors before now (Err (study.Report CannotWrite)) same count served =
+    record { met = served.met; text = served.text; right = by_plans given.inputs given.detail outlooks plans same served.text served.right; part = served.part; cause = served.cause }
+concludes_studied plans given outlooks monitors before now (Err (study.Report (Refused refusal))) same count served = served
+concludes_studied plans given outlooks monitors before now (Err study.Memory) same count served =
     ((λ roster views. subst (λ n. 0 < n) (sym (count roster views)) served.0, served.1.0), served.1.1)
 
-pub over_storm : (plans : Plans) (asked : Asked) (inputs : StormInputs) (detail : Option ℕ) (outlooks : List View → List (List ℕ)) (monitors : ℕ) (before now : Shown) (answer : Result (Unit {0}) StudyFault) (whole : Answer) → asked ≡ Study inputs detail
-    → ((views : List View) → outlooks views ≡ plans (roster_of inputs.case inputs.question.event) views)
+pub over_storm : (plans : Plans) (given : StudyAsked) (outlooks : List View → List (List ℕ)) (monitors : ℕ) (before now : Shown) (answer : Result (Unit {0}) StudyFault) (whole : Answer)
+    → ((views : List View) → outlooks views ≡ plans (roster_of given.inputs.case given.inputs.question.event) views)
     → ((roster : RosterView) (views : List View) → length (plans roster views) ≡ monitors)
-    → ServesStudy inputs monitors (IsRightStudy inputs detail (λ roster views. outlooks views)) before now answer → whole ≡ studied answer
-    → Concludes plans asked before now whole
-over_storm plans asked inputs detail outlooks monitors before now answer whole is same count served ends =
-    subst (ConcludesSo plans before now whole) (sym is) (subst (Concludes plans (Study inputs detail) before now) (sym ends) (concludes_studied plans inputs detail outlooks monitors before now answer same count served))
+    → ServesStudy given.inputs monitors (IsRightStudy given.inputs given.detail (λ roster views. outlooks views)) before now answer → whole ≡ studied answer
+    → Concludes plans (Study given) before now whole
+over_storm plans given outlooks monitors before now answer whole same count served ends =
+    subst (Concludes plans (Study given) before now) (sym ends) (concludes_studied plans given outlooks monitors before now answer same count served)
 
 -- how a call of `recheck` ends
-concludes_rechecked : (plans : Plans) (inputs : Inputs) (certificate : List ℕ) (before now : Shown) (answer : Result (Unit {0}) RecheckFault)
-    → ServesRecheck inputs certificate before now answer → Concludes plans (Recheck inputs certificate) before now (rechecked answer)
-concludes_rechecked plans inputs certificate before now (Ok done) served = served
-concludes_rechecked plans inputs certificate before now (Err (recheck.Report fault)) served = served
-concludes_rechecked plans inputs certificate before now (Err (recheck.Refused refusal)) served = served
+concludes_rechecked : (plans : Plans) (given : RecheckAsked) (before now : Shown) (answer : Result (Unit {0}) RecheckFault)
+    → ServesRecheck given.inputs given.certificate before now answer → Concludes plans (Recheck given) before now (rechecked answer)
+concludes_rechecked plans given before now (Ok done) served = served
+concludes_rechecked plans given before now (Err (recheck.Report fault)) served = served
+concludes_rechecked plans given before now (Err (recheck.Refused refusal)) served = served
 
-pub over_certificate : (plans : Plans) (asked : Asked) (inputs : Inputs) (certificate : List ℕ) (before now : Shown) (answer : Result (Unit {0}) RecheckFault) (whole : Answer) → asked ≡ Recheck inputs certificate
-    → ServesRecheck inputs certificate before now answer → whole ≡ rechecked answer
-    → Concludes plans asked before now whole
-over_certificate plans asked inputs certificate before now answer whole is served ends =
-    subst (ConcludesSo plans before now whole) (sym is) (subst (Concludes plans (Recheck inputs certificate) before now) (sym ends) (concludes_rechecked plans inputs certificate before now answer served))
+pub over_certificate : (plans : Plans) (given : RecheckAsked) (before now : Shown) (answer : Result (Unit {0}) RecheckFault) (whole : Answer)
+    → ServesRecheck given.inputs given.certificate before now answer → whole ≡ rechecked answer → Concludes plans (Recheck given) before now whole
+over_certificate plans given before now answer whole served ends =
+    subst (Concludes plans (Recheck given) before now) (sym ends) (concludes_rechecked plans given before now answer served)
 
 -- nothing was written, since memory ran out for a workspace
 pub lacking_workspace : (plans : Plans) (asked : Asked) (s : Shown) (whole : Answer) → IsErrAnd whole (λ e. e ≡ Memory Workspace) → Concludes plans asked s s whole
 lacking_workspace plans asked s whole h = subst (Concludes plans asked s s) (sym (answered whole (Memory Workspace) h)) (tt, keeps-refl s.bytes)
-
--- or since a certificate could not be read
-concludes_without : (plans : Plans) (inputs : Inputs) (certificate : List ℕ) (s : Shown) (fault : WorkspaceFault) → IsFaultOf inputs.case (standing_of inputs.case inputs.switchings) certificate fault
-    → Concludes plans (Recheck inputs certificate) s s (Err (without_workspace fault))
-concludes_without plans inputs certificate s (workspace.Refused refusal) h = (h, keeps-refl s.bytes)
-concludes_without plans inputs certificate s workspace.Memory h = (tt, keeps-refl s.bytes)
-
-pub without_certificate : (plans : Plans) (asked : Asked) (inputs : Inputs) (certificate : List ℕ) (s : Shown) (fault : WorkspaceFault) (whole : Answer) → asked ≡ Recheck inputs certificate
-    → IsFaultOf inputs.case (standing_of inputs.case inputs.switchings) certificate fault → IsErrAnd whole (λ e. e ≡ without_workspace fault)
-    → Concludes plans asked s s whole
-without_certificate plans asked inputs certificate s fault whole is h ends =
-    subst (ConcludesSo plans s s whole) (sym is) (subst (Concludes plans (Recheck inputs certificate) s s) (sym (answered whole (without_workspace fault) ends)) (concludes_without plans inputs certificate s fault h))

@@ -30,7 +30,7 @@ HasMonitors plans = (roster : RosterView) (views : List View) → 0 < length (pl
 -- where memory may be wanting: for the workspace of any mode, always; for texts in a study alone, which has monitors, and whose network meets its need at each step
 abbrev pub MayLackMemory : Plans → Wanting → Asked → Type 0
 MayLackMemory plans Workspace asked = ⊤
-MayLackMemory plans Texts (Study inputs detail) = HasMonitors plans × IsMet Solved (storm_steps inputs)
+MayLackMemory plans Texts (Study asked) = HasMonitors plans × IsMet Solved (storm_steps asked.inputs)
 MayLackMemory plans Texts _ = ⊥
 
 -- how the call for what is asked for ends: by its report, or without a byte

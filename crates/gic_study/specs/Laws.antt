@@ -1,4 +1,4 @@
--- What holds of what is asked for, of how a call ended and of right texts. No reader of the headline needs these.
+-- What holds of what is asked for, of how a call ended and of right texts. The headline cites `need_of`, `case_asked`, `steps_asked`, `AcceptsCertificate` and `Finds`, and no other.
 use Rattle.std.specs.Prelude.{◌≡◌, ◌≢◌, ℕ, List, Some, Ok, Err, ◌⊎◌, ⊤}
 use Rattle.std.specs.Io.KnownBytes.{Keeps}
 use Rattle.gic_base.specs.Causes.{Rose}
@@ -29,6 +29,7 @@ use Rattle.gic_ask.specs.declared.request.Asked.TheVariants.{Volts, List as List
 use Rattle.gic_course.specs.Steps.{IsStepOf}
 use Rattle.gic_stand.specs.Needs.{Need, IsMet, IsUnmet}
 use Rattle.gic_stand.specs.Standing.{standing_of}
+use Rattle.gic_criteria.specs.declared.asked.UniformField.{UniformField}
 use Rattle.gic_inputs.specs.declared.inputs.Inputs.{Inputs}
 use Rattle.gic_stand.specs.declared.fault.NetworkRefusal.{NetworkRefusal}
 use Rattle.gic_stand.specs.declared.fault.NetworkRefusal.TheVariants.{Unearthed, Unresolved}
@@ -50,10 +51,10 @@ mode_asked (Field inputs) = mode.Field
 mode_asked (Screen inputs) = mode.Screen
 mode_asked (Certify inputs) = mode.Certify
 mode_asked (Outage inputs) = mode.Outage
-mode_asked (Study inputs detail) = mode.Study
-mode_asked (Make seed size) = mode.Make
-mode_asked (Recheck inputs certificate) = mode.Recheck
-mode_asked (Series inputs transformer) = mode.Series
+mode_asked (Study asked) = mode.Study
+mode_asked (Make r) = mode.Make
+mode_asked (Recheck asked) = mode.Recheck
+mode_asked (Series asked) = mode.Series
 mode_asked (Review inputs) = mode.Review
 
 abbrev pub need_of : Asked → Need
@@ -67,7 +68,7 @@ steps_asked asked = (meaning_of asked).steps
 
 -- the certificate that is asked to be checked is accepted, where one is
 abbrev pub AcceptsCertificate : Asked → Type 0
-AcceptsCertificate (Recheck inputs certificate) = (c : Certificate) × IsAccepted inputs.case (standing_of inputs.case inputs.switchings) certificate c
+AcceptsCertificate (Recheck asked) = (c : Certificate) × IsAccepted asked.inputs.case (standing_of asked.inputs.case asked.inputs.switchings) asked.certificate c
 AcceptsCertificate _ = ⊤
 
 -- its case is sound
@@ -76,8 +77,8 @@ AskedCasesAreSound = (call : Call) (asked : Asked) → AsksFor call (Ok asked) �
 
 -- the storm that is asked about has a step, where one is
 abbrev pub StormHasStep : Asked → Type 0
-StormHasStep (Study inputs detail) = IsStepOf inputs 1
-StormHasStep (Series inputs transformer) = IsStepOf inputs 1
+StormHasStep (Study asked) = IsStepOf asked.inputs 1
+StormHasStep (Series asked) = IsStepOf asked.inputs 1
 StormHasStep _ = ⊤
 
 -- its storm has a step
@@ -150,5 +151,5 @@ TextsTellModes = (plans others : Plans) (asked other : Asked) (text : List ℕ) 
 
 -- what is a right text of `certify` is accepted by `recheck`, over the same case and the same switchings
 abbrev pub CertifiedIsAccepted : Type 0
-CertifiedIsAccepted = (inputs other : Inputs) (text : List ℕ) → IsSound inputs.case → other.case ≡ inputs.case → other.switchings ≡ inputs.switchings →
-    IsRightCertify inputs text → AcceptsCertificate (Recheck other text)
+CertifiedIsAccepted = (inputs : Inputs UniformField) (other : Inputs (Unit {0})) (text : List ℕ) → IsSound inputs.case → other.case ≡ inputs.case → other.switchings ≡ inputs.switchings →
+    IsRightCertify inputs text → AcceptsCertificate (Recheck (record { inputs = other; certificate = text }))

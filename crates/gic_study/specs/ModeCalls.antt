@@ -1,5 +1,5 @@
 -- What the calls of single modes say, in the words of the whole. No reader of the headline needs these.
-use Rattle.std.specs.Prelude.{Ok, Err, Result}
+use Rattle.std.specs.Prelude.{◌≡◌, ◌≢◌, Ok, Err, Result}
 use Rattle.gic_recheck.specs.declared.fault.RecheckFault.{RecheckFault}
 use Rattle.gic_recheck.specs.declared.fault.RecheckFault.TheVariants as recheck
 use Rattle.gic_recheck.specs.declared.fault.WorkspaceFault.{WorkspaceFault}
@@ -35,3 +35,10 @@ abbrev pub rechecked : Result (Unit {0}) RecheckFault → Answer
 rechecked (Ok done) = Ok done
 rechecked (Err (recheck.Report fault)) = Err (Report fault)
 rechecked (Err (recheck.Refused refusal)) = Err (Certificate refusal)
+
+-- ---- memory
+
+-- out of memory is told for the workspace only where it wasn't made, and where it wasn't, this is told
+abbrev pub TellsMaking : {W E : Type 0} → (told : E → Fault) → Result W E → Answer → Type 0
+TellsMaking told (Ok workspace) answer = answer ≢ Err (Memory Workspace)
+TellsMaking told (Err e) answer = answer ≡ Err (told e)

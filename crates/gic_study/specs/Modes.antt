@@ -40,7 +40,7 @@ pub record Meaning : Type 1 where
   pub IsRight : Plans → (text : List ℕ) → Type 0
 
 -- of the network of a case, with all its switchings in force
-abbrev over_network : Need → (Inputs → (text : List ℕ) → Type 0) → Inputs → Meaning
+abbrev over_network : {Q : Type 0} → Need → (Inputs Q → (text : List ℕ) → Type 0) → Inputs Q → Meaning
 over_network need IsRight inputs = record { need = need; case = inputs.case; steps = steps_of inputs; IsRight = λ plans. IsRight inputs }
 
 -- of a storm over the network of a case
@@ -56,10 +56,10 @@ meaning_of (Field inputs) = over_network Solved IsRightField inputs
 meaning_of (Screen inputs) = over_network Solved IsRightScreen inputs
 meaning_of (Certify inputs) = over_network Solved IsRightCertify inputs
 meaning_of (Outage inputs) = over_network Solved IsRightOutage inputs
-meaning_of (Study inputs detail) = over_storm inputs (IsRightStudy inputs detail)
-meaning_of (Make seed size) = record { need = Nothing; case = made_case seed size; steps = standing_of (made_case seed size) None ∷ []; IsRight = λ plans. IsRightMake seed size }
-meaning_of (Recheck inputs certificate) = over_network Nothing (λ i. IsRightRecheck i certificate) inputs
-meaning_of (Series inputs transformer) = over_storm inputs (λ plans. IsRightSeries inputs transformer)
+meaning_of (Study asked) = over_storm asked.inputs (IsRightStudy asked.inputs asked.detail)
+meaning_of (Make r) = record { need = Nothing; case = made_case r.seed r.size; steps = standing_of (made_case r.seed r.size) None ∷ []; IsRight = λ plans. IsRightMake r.seed r.size }
+meaning_of (Recheck asked) = over_network Nothing (λ i. IsRightRecheck i asked.certificate) asked.inputs
+meaning_of (Series asked) = over_storm asked.inputs (λ plans. IsRightSeries asked.inputs asked.transformer)
 meaning_of (Review inputs) = over_network Nothing IsRightReview inputs
 
 -- a text is a right report of what is asked for
@@ -68,5 +68,5 @@ IsRightText plans asked = (meaning_of asked).IsRight plans
 
 -- the certificate that is asked to be checked is refused for this reason
 abbrev pub RefusesCertificate : Asked → CertificateRefusal → Type 0
-RefusesCertificate (Recheck inputs certificate) refusal = IsRefused inputs.case (standing_of inputs.case inputs.switchings) certificate refusal
+RefusesCertificate (Recheck asked) refusal = IsRefused asked.inputs.case (standing_of asked.inputs.case asked.inputs.switchings) asked.certificate refusal
 RefusesCertificate _ refusal = ⊥

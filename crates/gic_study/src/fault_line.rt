@@ -3,12 +3,15 @@ ghost use Rattle.std.specs.Prelude.{◌≡◌, ◌∷◌, ◌++◌, [], map, cod
 ghost use Rattle.gic_base.specs.Writes.{Writes};
 ghost use Rattle.gic_text.specs.Words.{spaced};
 ghost use Rattle.gic_storm.specs.declared.refusal.StormRefusal.TheVariants.{Number};
-ghost use Rattle.gic_study.specs.Faults.{usage_words, case_words, column_word, record_words, storm_words, switch_words, input_words, network_words, certificate_words, memory_words, file_word, part_word, row_words, field_words, node_words, told_line, line_of_fault};
+ghost use Rattle.gic_study.specs.Faults.{usage_words, case_words, column_word, record_words, storm_words, switch_words, input_words};
+ghost use Rattle.gic_study.specs.Faults.{network_words, certificate_words, memory_words, file_word, row_words, field_words, node_words};
+ghost use Rattle.gic_study.specs.Faults.{told_line, line_of_fault};
 
 use crate::fault::Fault;
 use gic_ask::{File, InputFault, InputRefusal};
 use gic_base::{Name, Sink, WriteFailed, write_all};
-use gic_case_reader::{CaseRefusal, Field, Part};
+use gic_case::CaseList;
+use gic_case_reader::{CaseRefusal, Field};
 use gic_recheck::CertificateRefusal;
 use gic_stand::{NetworkRefusal, ReportFault};
 use gic_storm::{StormField, StormRefusal};
@@ -63,20 +66,6 @@ fn file_word(file: File) -> &'static str
     }
 }
 
-/// How a fault line names a list of the case.
-fn part_word(list: Part) -> &'static str
-    ensures { result.now ≡ part_word list }
-{
-    match list {
-        Part::Case => "case",
-        Part::Zone => "zone",
-        Part::Substation => "substation",
-        Part::Bus => "bus",
-        Part::Line => "line",
-        Part::Transformer => "transformer",
-    }
-}
-
 /// Writes the line of a fault of the words.
 fn write_usage<E: Sink>(usage: Usage, err: &mut E) -> Result<(), WriteFailed>
     ensures { Writes E.written E.faults err.old err.new (told_line (codes "usage:" ∷ usage_words usage)) result }
@@ -92,17 +81,22 @@ fn write_usage<E: Sink>(usage: Usage, err: &mut E) -> Result<(), WriteFailed>
 }
 
 /// Writes the line of words, a list and a row.
-fn write_row<E: Sink>(words: &[&str], list: Part, row: u32, err: &mut E) -> Result<(), WriteFailed>
+fn write_row<E: Sink>(
+    words: &[&str],
+    list: CaseList,
+    row: u32,
+    err: &mut E,
+) -> Result<(), WriteFailed>
     ensures { Writes E.written E.faults err.old err.new (told_line (row_words (map (λ w. w.now) words.entry.now) list row)) result }
 {
     let mut buffer = itoa::Buffer::new();
-    write_joined(words, &[part_word(list), "row", buffer.format(row)], err)
+    write_joined(words, &[list.word(), "row", buffer.format(row)], err)
 }
 
 /// Writes the line of words, a list, a row and a field.
 fn write_field<E: Sink>(
     words: &[&str],
-    list: Part,
+    list: CaseList,
     row: u32,
     field: Field,
     err: &mut E,
@@ -110,13 +104,7 @@ fn write_field<E: Sink>(
     ensures { Writes E.written E.faults err.old err.new (told_line (field_words (map (λ w. w.now) words.entry.now) list row field)) result }
 {
     let mut buffer = itoa::Buffer::new();
-    let place = [
-        part_word(list),
-        "row",
-        buffer.format(row),
-        "field",
-        field.key(),
-    ];
+    let place = [list.word(), "row", buffer.format(row), "field", field.key()];
     write_joined(words, &place, err)
 }
 
@@ -149,7 +137,7 @@ fn write_case<E: Sink>(refusal: CaseRefusal, err: &mut E) -> Result<(), WriteFai
             write_field(&["case:", "value", "in"], list, row, field, err)
         }
         CaseRefusal::TooMany { list } => {
-            write_line(&["case:", "too", "many", "in", part_word(list)], err)
+            write_line(&["case:", "too", "many", "in", list.word()], err)
         }
         CaseRefusal::Duplicate { list, row } => {
             write_row(&["case:", "duplicate", "name", "in"], list, row, err)
@@ -161,12 +149,12 @@ fn write_case<E: Sink>(refusal: CaseRefusal, err: &mut E) -> Result<(), WriteFai
             write_row(&["case:", "same", "ends", "in"], list, row, err)
         }
         CaseRefusal::Apart { row } => {
-            write_row(&["case:", "apart", "in"], Part::Transformer, row, err)
+            write_row(&["case:", "apart", "in"], CaseList::Transformer, row, err)
         }
         CaseRefusal::VoltageOrder { row } => {
             write_row(
                 &["case:", "voltage", "order", "in"],
-                Part::Transformer,
+                CaseList::Transformer,
                 row,
                 err,
             )

@@ -1,5 +1,7 @@
 //! What holds of what is asked for, of how a call ended and of right texts.
-ghost use Rattle.gic_study.specs.Laws.{AskedCasesAreSound, AskedStormsHaveSteps, RefusalsAreAnswered, LackedFilesAreOutOfMemory, UnmetNeedsAreAnswered, RefusedCertificatesAreAnswered, AcceptedIsReported, StatusesSay, TextsTellModes, CertifiedIsAccepted};
+ghost use Rattle.gic_study.specs.Laws.{AskedCasesAreSound, AskedStormsHaveSteps, RefusalsAreAnswered, LackedFilesAreOutOfMemory};
+ghost use Rattle.gic_study.specs.Laws.{UnmetNeedsAreAnswered, RefusedCertificatesAreAnswered, AcceptedIsReported, StatusesSay};
+ghost use Rattle.gic_study.specs.Laws.{TextsTellModes, CertifiedIsAccepted};
 
 use gic_ask::laws::answers_of_files_law;
 use gic_case_reader::laws::accepted_law;

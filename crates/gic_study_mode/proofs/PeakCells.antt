@@ -1,5 +1,5 @@
 -- The peaks of narrow views are narrow.
-use Rattle.std.proofs.Common.{◌≡◌, ℕ, ◌<◌, List, map, length, Option, Some, None, sym, subst, arith}
+use Rattle.std.proofs.Common.{◌≡◌, ℕ, ◌<◌, List, map, length, Option, Some, None, pos, ◌≤ℤ◌, sym, subst, arith}
 use Rattle.std.specs.Prelude.{All, IfSome}
 use Rattle.std.proofs.lemmas.List.{get_or-map, length-map}
 use Rattle.std.proofs.lemmas.List.Elements.{All-get_or, All-from_get_or}
@@ -10,9 +10,9 @@ use Rattle.gic_view.specs.View.{View, node_at, element_at, effective_at}
 use Rattle.gic_view.specs.Kept.{blank_view}
 use Rattle.gic_effective.specs.Narrow.{IsNoWider, IsNarrowView}
 use Rattle.gic_effective.specs.ViewLengths.{HasViewLengths}
-use Rattle.gic_view.specs.Peaks.{peak_of, IsPeaksOf}
+use Rattle.gic_view.specs.Peaks.{peak_of, shown_of_transformer, IsPeaksOf}
 use Rattle.gic_view.specs.Absolute.{absolute_ends}
-use Rattle.gic_view.specs.PeakLaws.{IsNoWiderThan, PeakIsNoWider, TransformerPeakIsPeak}
+use Rattle.gic_view.specs.PeakLaws.{IsNoWiderThan, PeakIsNoWider, PeakIsNotNegative, TransformerPeakIsPeak}
 use Rattle.gic_course.specs.Views.{AreNarrowViews, view_at}
 
 cell_narrow : (width : ℕ) (cell : Option Ends) → IsNoWider width cell → IfSome cell (λ e. IsNoWiderThan width (absolute_ends e))
@@ -49,3 +49,9 @@ narrow_peaks law is_peak case width views peaks narrow peaks_are lengths some =
       effective = λ t within. subst (IsNoWider width) (is_peak views peaks t peaks_are some (omega (arith, within, lengths.transformers)))
           (narrow_peak law width (λ view. Some (effective_at view t)) views (λ place inside. (each place inside).effective t within));
     }
+
+-- the peak of a transformer doesn't begin below 0
+pub not_negative_peaks : PeakIsNotNegative → TransformerPeakIsPeak → (case : Lists) (views : List View) (peaks : View) → IsPeaksOf views peaks → HasViewLengths case peaks → 0 < length views
+    → (t : ℕ) → t < length case.transformers → pos 0 ≤ℤ (effective_at peaks t).low
+not_negative_peaks not_negative is_peak case views peaks peaks_are lengths some t within =
+    subst (λ (cell : Option Ends). IfSome cell (λ peak. pos 0 ≤ℤ peak.low)) (is_peak views peaks t peaks_are some (omega (arith, within, lengths.transformers))) (not_negative (shown_of_transformer views t))

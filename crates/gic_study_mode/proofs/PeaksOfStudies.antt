@@ -9,12 +9,12 @@ use Rattle.gic_effective.specs.ViewLengths.{HasViewLengths}
 use Rattle.gic_criteria.specs.Event.{threshold_of}
 use Rattle.gic_criteria.specs.VerdictLaws.{BelowIsUnder, ReachesIsAtLeast, UndecidedIsAcross}
 use Rattle.gic_view.specs.Peaks.{HasLengthsOf, IsPeaksOf}
-use Rattle.gic_view.specs.PeakLaws.{PeakEnclosesGreatest, TransformerPeakIsPeak, PeakIsNoWider}
+use Rattle.gic_view.specs.PeakLaws.{PeakEnclosesGreatest, TransformerPeakIsPeak, PeakIsNotNegative, PeakIsNoWider}
 use Rattle.gic_course.specs.Views.{AreNarrowViews}
-use Rattle.gic_study_mode.specs.Follows.{PeaksAreNarrow, PeaksEnclose, PeakVerdictsAreTrue}
+use Rattle.gic_study_mode.specs.Follows.{PeaksAreNarrow, PeaksEnclose, PeakVerdictsAreTrue, UndecidedPeaksAreNear}
 use Rattle.gic_study_mode.proofs.EnclosedPeaks.{enclosing}
-use Rattle.gic_study_mode.proofs.TrueVerdicts.{true_verdicts}
-use Rattle.gic_study_mode.proofs.PeakCells.{narrow_peaks}
+use Rattle.gic_study_mode.proofs.TrueVerdicts.{true_verdicts, undecided_near}
+use Rattle.gic_study_mode.proofs.PeakCells.{narrow_peaks, not_negative_peaks}
 
 -- the peaks are as long as any of the views, which are as long as the case asks
 peak_lengths : (case : Lists) (width : ℕ) (views : List View) (peaks : View) → AreNarrowViews case width views → IsPeaksOf views peaks → 0 < length views → HasViewLengths case peaks
@@ -44,3 +44,12 @@ pub verdicts_true : PeakEnclosesGreatest → TransformerPeakIsPeak → BelowIsUn
 verdicts_true encloses is_peak below reaches undecided inputs detail plans text first report sound =
     true_verdicts below reaches undecided inputs (threshold_of inputs.question.event) report.peaks sound
     (peaks_enclose encloses is_peak inputs detail plans text first report)
+
+pub undecided_peaks_near : PeakEnclosesGreatest → TransformerPeakIsPeak → PeakIsNoWider → PeakIsNotNegative → UndecidedIsAcross → UndecidedPeaksAreNear
+undecided_peaks_near encloses is_peak no_wider not_negative undecided inputs detail plans text first report sound =
+    let some : 0 < length report.views = omega (arith, first.most, report.right.one_each) in
+    undecided_near undecided inputs inputs.question.width (threshold_of inputs.question.event) report.peaks sound
+    (peaks_enclose encloses is_peak inputs detail plans text first report)
+    (peaks_narrow no_wider is_peak inputs detail plans text first report)
+    (not_negative_peaks not_negative is_peak inputs.case report.views report.peaks report.peaks_are
+    (peak_lengths inputs.case inputs.question.width report.views report.peaks report.narrow report.peaks_are some) some)

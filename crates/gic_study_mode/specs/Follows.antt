@@ -13,7 +13,7 @@ use Rattle.gic_inputs.specs.declared.inputs.StormInputs.{StormInputs}
 use Rattle.gic_course.specs.Steps.{IsStepOf}
 use Rattle.gic_study_mode.specs.RightStudy.{IsRightStudy}
 use Rattle.gic_study_mode.specs.PeakEnclosure.{AreStepSolutions, AreEnclosing}
-use Rattle.gic_study_mode.specs.PeakVerdicts.{AreTruePeakVerdicts}
+use Rattle.gic_study_mode.specs.PeakVerdicts.{AreTruePeakVerdicts, AreUndecidedNear}
 
 -- every accepted storm has a step
 abbrev pub AcceptedStormsHaveSteps : Type 0
@@ -35,3 +35,7 @@ PeaksEnclose = HoldsOfPeaks (λ inputs peaks. (solutions : ℕ → Solution) →
 -- in a sound case the verdicts on them, by the threshold of the event that is asked for, are true
 abbrev pub PeakVerdictsAreTrue : Type 0
 PeakVerdictsAreTrue = HoldsOfPeaks (λ inputs peaks. IsSound inputs.case → AreTruePeakVerdicts inputs (threshold_of inputs.question.event) peaks)
+
+-- and `undecided` is said only within one width of that threshold
+abbrev pub UndecidedPeaksAreNear : Type 0
+UndecidedPeaksAreNear = HoldsOfPeaks (λ inputs peaks. IsSound inputs.case → AreUndecidedNear inputs inputs.question.width (threshold_of inputs.question.event) peaks)

@@ -1,5 +1,5 @@
 -- What the verdicts on peaks say, whatever solution is taken of each step.
-use Rattle.std.specs.Prelude.{◌≡◌, ℕ, ◌<◌, length}
+use Rattle.std.specs.Prelude.{◌≡◌, ℕ, ◌+◌, ◌-◌, ◌<◌, length}
 use Rattle.gic_case.specs.Lists.{Lists}
 use Rattle.gic_model.specs.Solution.{Solution}
 use Rattle.gic_view.specs.View.{View, effective_at}
@@ -30,3 +30,9 @@ pub record AreTruePeakVerdicts (inputs : StormInputs) (threshold : ℕ) (peaks :
       (solutions : ℕ → Solution) → AreStepSolutions inputs solutions → IsAtLeastOnce inputs threshold t solutions
   pub undecided : (t : ℕ) → t < length inputs.case.transformers → peak_verdict inputs.case threshold peaks t ≡ Undecided →
       IsAcross threshold (effective_at peaks t)
+
+-- a transformer is told undecided only where its greatest absolute effective current is within one width of the threshold: at a step not under it less the width, and at every step under it with the width added
+abbrev pub AreUndecidedNear : (inputs : StormInputs) (width threshold : ℕ) (peaks : View) → Type 0
+AreUndecidedNear inputs width threshold peaks = (t : ℕ) → t < length inputs.case.transformers → peak_verdict inputs.case threshold peaks t ≡ Undecided →
+    (solutions : ℕ → Solution) → AreStepSolutions inputs solutions →
+    IsAtLeastOnce inputs (threshold - width) t solutions × ((number : ℕ) → IsStepOf inputs number → IsUnder inputs.case (threshold + width) t (solutions number))

@@ -31,6 +31,13 @@ AreRaisedBy view old new = (views : List View) → IsPeaksOf views old → IsPea
 abbrev pub AreShown : View → (before now : List View → List (List ℕ)) → Type 0
 AreShown view before now = (views : List View) → now views ≡ before (view ∷ views)
 
+-- one view was shown: it is solved for the step, and behind the peaks and the texts; there is space in the peaks as before
+pub record IsSeen (inputs : StormInputs) (number : ℕ) (view : View) (before now : List View → List (List ℕ)) (old new : View) : Type 0 where
+  pub own : IsViewOf inputs number view
+  pub raised : AreRaisedBy view old new
+  pub texts : AreShown view before now
+  pub lengths : HasViewLengths inputs.case new
+
 -- whether the step is the asked one
 abbrev pub is_asked : (asked : Option ℕ) → (number : ℕ) → Bool
 is_asked None number = false

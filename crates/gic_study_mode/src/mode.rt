@@ -1,6 +1,6 @@
 //! The report of the mode.
 ghost use Rattle.std.specs.Prelude.{◌≡◌, length, map};
-ghost use Rattle.gic_criteria.specs.Ranges.{IsWithinRanges};
+ghost use Rattle.gic_criteria.specs.Ranges.{IsWithinCriteria};
 ghost use Rattle.gic_stand.specs.Serves.{shown};
 ghost use Rattle.gic_monitor.specs.OnBoard.{monitors_of};
 ghost use Rattle.gic_study_mode.specs.Made.{IsMadeFor};
@@ -39,10 +39,11 @@ fn study_steps<S: Sink>(
     board: &mut Board,
     out: &mut S,
 ) -> Result<(), StudyFault>
-    requires ranges { IsWithinRanges inputs.now.question }
+    requires ranges { IsWithinCriteria inputs.now.question }
     requires workspace { IsMadeFor inputs.now detail workspace.old }
     ensures { ServesStudy inputs.now (length (monitors_of board.old))
-        (IsRightStudy inputs.now detail (λ roster views. map (λ m. (⟦<dyn Monitor as Monitor>⟧ m.vtable).outlook m.value views) (monitors_of board.old)))
+        (IsRightStudy inputs.now detail (λ roster views.
+        map (λ m. (⟦<dyn Monitor as Monitor>⟧ m.vtable).outlook m.value views) (monitors_of board.old)))
         (shown S.written S.faults out.old) (shown S.written S.faults out.new) result }
 {
     let asked = asked_step(inputs, detail);
@@ -77,10 +78,11 @@ pub fn study<S: Sink>(
     workspace: &mut Workspace,
     out: &mut S,
 ) -> Result<(), StudyFault>
-    requires ranges { IsWithinRanges inputs.now.question }
+    requires ranges { IsWithinCriteria inputs.now.question }
     requires workspace { IsMadeFor inputs.now detail workspace.old.steps }
     ensures { ServesStudy inputs.now (length (monitors_of workspace.old.board))
-        (IsRightStudy inputs.now detail (λ roster views. map (λ m. (⟦<dyn Monitor as Monitor>⟧ m.vtable).outlook m.value views) (monitors_of workspace.old.board)))
+        (IsRightStudy inputs.now detail (λ roster views.
+        map (λ m. (⟦<dyn Monitor as Monitor>⟧ m.vtable).outlook m.value views) (monitors_of workspace.old.board)))
         (shown S.written S.faults out.old) (shown S.written S.faults out.new) result }
 {
     study_steps(

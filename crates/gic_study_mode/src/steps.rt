@@ -2,12 +2,12 @@
 ghost use Rattle.std.specs.Prelude.{◌≡◌, [], map, length};
 ghost use Rattle.gic_effective.specs.ViewLengths.{HasViewLengths};
 ghost use Rattle.gic_view.specs.Peaks.{IsPeaksOf};
-ghost use Rattle.gic_criteria.specs.Ranges.{IsWithinRanges};
+ghost use Rattle.gic_criteria.specs.Ranges.{IsWithinCriteria};
 ghost use Rattle.gic_storm.specs.Steps.{steps_in};
 ghost use Rattle.gic_course.specs.CourseOf.{CanShow};
 ghost use Rattle.gic_course.specs.Steps.{IsStepOf};
 ghost use Rattle.gic_monitor.specs.OnBoard.{monitors_of};
-ghost use Rattle.gic_study_mode.specs.Seen.{IsSpaceForViews, IsViewOf, AreRaisedBy, AreShown, HasShown, HasSeen, is_asked};
+ghost use Rattle.gic_study_mode.specs.Seen.{IsSpaceForViews, IsSeen, HasShown, HasSeen, is_asked};
 
 use crate::views::Views;
 use gic_course::Course;
@@ -34,16 +34,16 @@ fn see_step(
     peaks: &mut Peaks,
     board: &mut Board,
 )
-    requires ranges { IsWithinRanges inputs.now.question }
+    requires ranges { IsWithinCriteria inputs.now.question }
     requires shows { CanShow inputs.now course.old }
     requires step { IsStepOf inputs.now number }
     requires view { HasViewLengths inputs.now.case view.old }
     requires peaks { HasViewLengths inputs.now.case peaks.old }
     ensures shows { CanShow inputs.now course.new }
-    ensures view { IsViewOf inputs.now number view.new }
-    ensures raised { AreRaisedBy view.new peaks.old peaks.new }
-    ensures lengths { HasViewLengths inputs.now.case peaks.new }
-    ensures texts { AreShown view.new (λ views. map (λ m. (⟦<dyn Monitor as Monitor>⟧ m.vtable).outlook m.value views) (monitors_of board.old)) (λ views. map (λ m. (⟦<dyn Monitor as Monitor>⟧ m.vtable).outlook m.value views) (monitors_of board.new)) }
+    ensures seen { IsSeen inputs.now number view.new
+        (λ rest. map (λ m. (⟦<dyn Monitor as Monitor>⟧ m.vtable).outlook m.value rest) (monitors_of board.old))
+        (λ rest. map (λ m. (⟦<dyn Monitor as Monitor>⟧ m.vtable).outlook m.value rest) (monitors_of board.new))
+        peaks.old peaks.new }
 {
     let width = inputs.question.width;
     course.show(inputs, number, width, view);
@@ -60,12 +60,15 @@ fn see_next(
     views: &mut Views,
     board: &mut Board,
 )
-    requires ranges { IsWithinRanges inputs.now.question }
+    requires ranges { IsWithinCriteria inputs.now.question }
     requires shows { CanShow inputs.now course.old }
     requires step { IsStepOf inputs.now number }
     requires space { IsSpaceForViews inputs.now.case views.old }
     ensures shows { CanShow inputs.now course.new }
-    ensures shown { HasShown inputs.now asked number (λ rest. map (λ m. (⟦<dyn Monitor as Monitor>⟧ m.vtable).outlook m.value rest) (monitors_of board.old)) (λ rest. map (λ m. (⟦<dyn Monitor as Monitor>⟧ m.vtable).outlook m.value rest) (monitors_of board.new)) views.old views.new }
+    ensures shown { HasShown inputs.now asked number
+        (λ rest. map (λ m. (⟦<dyn Monitor as Monitor>⟧ m.vtable).outlook m.value rest) (monitors_of board.old))
+        (λ rest. map (λ m. (⟦<dyn Monitor as Monitor>⟧ m.vtable).outlook m.value rest) (monitors_of board.new))
+        views.old views.new }
 {
     if is_asked(asked, number) {
         see_step(
@@ -97,11 +100,14 @@ pub(crate) fn see_steps(
     views: &mut Views,
     board: &mut Board,
 )
-    requires ranges { IsWithinRanges inputs.now.question }
+    requires ranges { IsWithinCriteria inputs.now.question }
     requires shows { CanShow inputs.now course.old }
     requires space { IsSpaceForViews inputs.now.case views.old }
     requires of_none { IsPeaksOf [] views.old.peaks }
-    ensures seen { HasSeen inputs.now asked (length (steps_in inputs.now.storm.rows)) (λ rest. map (λ m. (⟦<dyn Monitor as Monitor>⟧ m.vtable).outlook m.value rest) (monitors_of board.old)) (λ rest. map (λ m. (⟦<dyn Monitor as Monitor>⟧ m.vtable).outlook m.value rest) (monitors_of board.new)) views.new }
+    ensures seen { HasSeen inputs.now asked (length (steps_in inputs.now.storm.rows))
+        (λ rest. map (λ m. (⟦<dyn Monitor as Monitor>⟧ m.vtable).outlook m.value rest) (monitors_of board.old))
+        (λ rest. map (λ m. (⟦<dyn Monitor as Monitor>⟧ m.vtable).outlook m.value rest) (monitors_of board.new))
+        views.new }
 {
     for place in 0..inputs.storm.steps() {
         see_next(inputs, asked, place + 1, course, views, board);

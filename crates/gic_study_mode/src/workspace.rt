@@ -91,7 +91,8 @@ pub fn make_workspace(
     requires { IsStormOf inputs.now }
     ensures made { IfOk result (λ workspace. IsMadeFor inputs.now detail workspace.steps) }
     ensures count { IfOk result (λ workspace. length (monitors_of workspace.board) ≡ length monitors.items) }
-    ensures plans { IfOk result (λ workspace. (views : List View) → map (λ m. (⟦<dyn Monitor as Monitor>⟧ m.vtable).outlook m.value views) (monitors_of workspace.board)
+    ensures plans { IfOk result (λ workspace. (views : List View) →
+        map (λ m. (⟦<dyn Monitor as Monitor>⟧ m.vtable).outlook m.value views) (monitors_of workspace.board)
         ≡ map (λ m. plan m (roster_of inputs.now.case inputs.now.question.event) views) monitors.items) }
 {
     let steps = make_steps_workspace(alloc, inputs, detail)?;

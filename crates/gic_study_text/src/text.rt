@@ -3,7 +3,8 @@ ghost use Rattle.std.specs.Prelude.{◌≡◌, ◌+◌, ◌<◌, map, length};
 ghost use Rattle.gic_base.specs.Writes.{Writes};
 ghost use Rattle.gic_induce.specs.Fields.{field_at};
 ghost use Rattle.gic_text.specs.Lines.{line_text, lines_text};
-ghost use Rattle.gic_study_text.specs.StudyText.{study_setting_line, detail_step_line, zone_line, zone_lines, detail_lines, detail_block, peak_lines, study_lines, monitor_line, monitor_text, monitor_texts, study_text};
+ghost use Rattle.gic_study_text.specs.StudyText.{study_setting_line, detail_step_line, zone_line, zone_lines, detail_lines, detail_block};
+ghost use Rattle.gic_study_text.specs.StudyText.{peak_lines, study_lines, monitor_line, monitor_text, monitor_texts, study_text};
 ghost use Rattle.gic_study_text.specs.Given.{lent, lent_detail, HasZonesOf, HasZones};
 
 use gic_base::{Name, Sink, WriteFailed, write_all};

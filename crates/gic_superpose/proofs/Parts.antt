@@ -8,7 +8,7 @@ use Rattle.gic_fixed.specs.Ends.{Ends}
 use Rattle.gic_fixed.specs.Encloses.{IsWithin}
 use Rattle.gic_induce.specs.Fields.{IsField, field_at}
 use Rattle.gic_superpose.specs.Superposed.{ZoneEnds, zone_at, low_part, high_part, zone_low, zone_high, sum_low, sum_high}
-use Rattle.gic_superpose.specs.Compact.{most_compact}
+use Rattle.gic_superpose.specs.Compact.{most_sum, most_compact}
 use Rattle.gic_superpose.proofs.Sums.{sum_below-ordered}
 
 least_within : (x y : ℤ) (b : ℕ) → unsigned_abs x ≤ b → unsigned_abs y ≤ b → unsigned_abs (int_min x y) ≤ b
@@ -72,7 +72,7 @@ sums_ordered fields row =
 pub fits_wide : (z : ℤ) → unsigned_abs z ≤ 40000 * 2 ^ 81 → FitsSigned w128 z
 fits_wide z h = fits_signed_from_abs w128 z (omega (arith, h))
 
-pub fits_compact : (z : ℤ) (m : ℕ) → unsigned_abs z ≤ m → m ≤ 2 ^ 63 - 1 → FitsSigned w64 z
+pub fits_compact : (z : ℤ) (m : ℕ) → unsigned_abs z ≤ m → m ≤ most_sum → FitsSigned w64 z
 fits_compact z m h k = fits_signed_from_abs w64 z (omega (arith, h, k))
 
 -- a sum over the first n zones and what one zone more adds
@@ -86,16 +86,16 @@ pub next_fits : (s p : ℤ) (n : ℕ) → n < 256 → unsigned_abs s ≤ n * (40
 next_fits s p n few h k = fits_signed_from_abs w128 (s +ℤ p) (omega (arith, ints, h, k, few))
 
 -- the sizes that 64 bits serve for
-pub compact_whole : (zones : ℕ) → zones * (40000 * most_compact zones) ≤ 2 ^ 63 - 1
-compact_whole zones = let most = mul-div-le (2 ^ 63 - 1) (40000 * zones) in omega (arith, most)
+pub compact_whole : (zones : ℕ) → zones * (40000 * most_compact zones) ≤ most_sum
+compact_whole zones = let most = mul-div-le most_sum (40000 * zones) in omega (arith, most)
 
-pub compact_part : (zones n : ℕ) → n ≤ zones → n * (40000 * most_compact zones) ≤ 2 ^ 63 - 1
+pub compact_part : (zones n : ℕ) → n ≤ zones → n * (40000 * most_compact zones) ≤ most_sum
 compact_part zones n less =
     let more : n * (40000 * most_compact zones) ≤ zones * (40000 * most_compact zones) = mul-le-mul less (omega arith) in
     let most = compact_whole zones in
     omega (arith, more, most)
 
-pub compact_zone : (zones : ℕ) → 0 < zones → 40000 * most_compact zones ≤ 2 ^ 63 - 1
+pub compact_zone : (zones : ℕ) → 0 < zones → 40000 * most_compact zones ≤ most_sum
 compact_zone zones some = let most = compact_part zones 1 some in omega (arith, most)
 
 pub within_one : (zones : ℕ) (lo hi : ℤ) → 0 < zones → IsWithin (most_compact zones) lo hi → IsWithin (most_compact 1) lo hi

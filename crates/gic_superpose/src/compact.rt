@@ -1,20 +1,31 @@
 //! A superposed interval, computed in 64 bits where these serve.
-ghost use Rattle.std.specs.Prelude.{◌≡◌, ℕ, ◌-◌, ◌*◌, ◌<◌, ◌≤◌, ◌^◌, ◌+ℤ◌, ◌*ℤ◌, ◌≤ℤ◌, length, unsigned_abs, pos, All, FitsSigned, IsTrue, IsFalse, ◌⊎◌};
+ghost use Rattle.std.specs.Prelude.{◌≡◌, ℕ, ◌*◌, ◌<◌, ◌≤◌, ◌^◌, ◌+ℤ◌, ◌*ℤ◌, ◌≤ℤ◌, ◌⊎◌};
+ghost use Rattle.std.specs.Prelude.{length, unsigned_abs, pos, All, FitsSigned, IsTrue, IsFalse};
 ghost use Rattle.std.specs.Int.{w64};
 ghost use Rattle.gic_base.specs.declared.limits.TheConstants.{MOST_FIELD};
 ghost use Rattle.gic_fixed.specs.Encloses.{IsWithin};
 ghost use Rattle.gic_fixed.specs.Ends.{ends_of};
 ghost use Rattle.gic_fixed.specs.Rounding.{floor_div, ceil_div};
 ghost use Rattle.gic_induce.specs.Fields.{field_at};
-ghost use Rattle.gic_superpose.specs.Superposed.{zone_at, low_part, high_part, zone_low, zone_high, sum_low, sum_high, sums_in_milli, superposed};
+ghost use Rattle.gic_superpose.specs.Superposed.{zone_at, low_part, high_part, zone_low, zone_high};
+ghost use Rattle.gic_superpose.specs.Superposed.{sum_low, sum_high, sums_in_milli, superposed};
 ghost use Rattle.gic_superpose.specs.Pairs.{row_of};
-ghost use Rattle.gic_superpose.specs.Compact.{most_compact, IsCompact, IsBeyond};
+ghost use Rattle.gic_superpose.specs.Compact.{most_sum, most_compact, IsCompact, IsBeyond};
 
 use crate::pairs::ZonePair;
 use crate::superposing::pair_at;
 use gic_base::limits::MOST_FIELD;
 use gic_fixed::Interval;
 use gic_induce::Fields;
+
+/// The most that a sum may be, either way, that is divided in 64 bits.
+const MOST_SUM: i64 = 1 << 62;
+
+/// What sums are divided by for millivolts or milliamperes.
+const SUMS_IN_MILLI: u64 = MOST_FIELD as u64 * 1_000_000;
+
+/// How many times `SUMS_IN_MILLI` a sum is raised before it is divided. No sum is below 0 then.
+const TIMES_RAISED: u64 = MOST_SUM as u64 / SUMS_IN_MILLI + 1;
 
 /// A low end and a high end in 64 bits, or sums of such.
 #[derive(Clone, Copy)]
@@ -28,7 +39,7 @@ fn most_compact(zones: u16) -> i64
     requires { 0 < zones }
     ensures { result ≡ pos (most_compact zones) }
 {
-    i64::MAX / (2 * MOST_FIELD as i64 * zones as i64)
+    MOST_SUM / (2 * MOST_FIELD as i64 * zones as i64)
 }
 
 /// Whether both ends of an interval are within this.
@@ -107,7 +118,7 @@ fn whole(fields: &Fields, row: &[ZonePair]) -> CompactEnds
     requires compact { All (IsCompact (length fields.now)) row.now }
     ensures low { result.low ≡ sum_low fields.now (row_of row.now) }
     ensures high { result.high ≡ sum_high fields.now (row_of row.now) }
-    ensures small { IsWithin (2 ^ 63 - 1) result.low result.high }
+    ensures small { IsWithin most_sum result.low result.high }
 {
     let mut sum = CompactEnds { low: 0, high: 0 };
     for zone in 0..fields.zones() {
@@ -116,15 +127,27 @@ fn whole(fields: &Fields, row: &[ZonePair]) -> CompactEnds
     sum
 }
 
+/// A sum in millivolts or milliamperes, rounded down. A sum below 0 takes the same steps as another one, so that there is
+/// no branch which a processor can't guess.
+#[inline(always)]
+fn floor_milli(sum: i64) -> i64
+    requires { unsigned_abs sum ≤ most_sum }
+    ensures { result ≡ floor_div sum (pos sums_in_milli) }
+{
+    let raised = (sum as i128 + (TIMES_RAISED * SUMS_IN_MILLI) as i128) as u64;
+    (raised / SUMS_IN_MILLI) as i64 - TIMES_RAISED as i64
+}
+
 /// Sums in millivolts or milliamperes, rounded outward.
+#[inline(always)]
 fn milli(sums: CompactEnds) -> Interval
     requires ordered { sums.low ≤ℤ sums.high }
-    requires small { IsWithin (2 ^ 63 - 1) sums.low sums.high }
+    requires small { IsWithin most_sum sums.low sums.high }
     ensures low { result.lo ≡ floor_div sums.low (pos sums_in_milli) }
     ensures high { result.hi ≡ ceil_div sums.high (pos sums_in_milli) }
 {
-    let low = sums.low.div_euclid(MOST_FIELD as i64 * 1_000_000);
-    let turned = (-sums.high).div_euclid(MOST_FIELD as i64 * 1_000_000);
+    let low = floor_milli(sums.low);
+    let turned = floor_milli(-sums.high);
     Interval {
         lo: low as i128,
         hi: -(turned as i128),
@@ -132,6 +155,7 @@ fn milli(sums: CompactEnds) -> Interval
 }
 
 /// The interval that `superpose` gives, from intervals that 64 bits serve for.
+#[inline(always)]
 pub(crate) fn superpose_compact(fields: &Fields, row: &[ZonePair]) -> Interval
     requires row { length row.now ≡ length fields.now }
     requires compact { All (IsCompact (length fields.now)) row.now }

@@ -30,6 +30,7 @@ fn are_compact(pairs: &[ZonePair], zones: u16) -> bool
 }
 
 /// The superposed interval of a row, in 64 bits or in 128.
+#[inline(always)]
 fn superpose_row(fields: &Fields, row: &[ZonePair], in_64_bits: bool) -> Interval
     requires few { length fields.now ≤ MOST_ZONES }
     requires row { length row.now ≡ length fields.now }
@@ -40,7 +41,9 @@ fn superpose_row(fields: &Fields, row: &[ZonePair], in_64_bits: bool) -> Interva
     if in_64_bits {
         superpose_compact(fields, row)
     } else {
-        superpose(fields, row)
+        // Taken apart, since `superpose` leaves it in memory: so what is computed in 64 bits stays in registers.
+        let Interval { lo, hi } = superpose(fields, row);
+        Interval { lo, hi }
     }
 }
 
@@ -99,7 +102,8 @@ impl PairRows {
         requires zone { zone < self.old.zones }
         requires small { IsSmallPair pair }
         ensures set { zone_at (row_at self.new place) zone ≡ zone_of pair }
-        ensures others { (p z : ℕ) → z < self.old.zones → (p ≢ place) ⊎ (z ≢ zone) → zone_at (row_at self.new p) z ≡ zone_at (row_at self.old p) z }
+        ensures others { (p z : ℕ) → z < self.old.zones → (p ≢ place) ⊎ (z ≢ zone) →
+            zone_at (row_at self.new p) z ≡ zone_at (row_at self.old p) z }
         ensures shape { AreRowsOf self.old.places self.old.zones self.new }
     {
         self.pairs[place as usize * self.zones as usize + zone as usize] = pair;
@@ -116,6 +120,7 @@ impl PairRows {
     /// The interval in millivolts or milliamperes that the fields of the zones make of the row at a place: the sum over
     /// the zones of what the field of each makes of its two intervals, a MOST_FIELD-th of it, rounded outward once. No end
     /// is beyond 2^113 either way.
+    #[inline(always)]
     pub fn superposed(&self, fields: &Fields, place: u16) -> Interval
         requires fields { length fields.now ≡ self.now.zones }
         requires place { place < self.now.places }

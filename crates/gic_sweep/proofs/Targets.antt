@@ -1,8 +1,26 @@
 -- Where a sweep moves a guess to.
-use Rattle.std.proofs.Common.{◌≡◌, ℕ, ◌+◌, ◌*◌, ◌^◌, ◌≤◌, ℤ, pos, ◌+ℤ◌, ◌-ℤ◌, ◌*ℤ◌, ◌≤ℤ◌, ◌<ℤ◌, unsigned_abs, arith, ap, sym}
+use Rattle.std.proofs.Common.{◌≡◌, ℕ, ◌+◌, ◌*◌, ◌^◌, ◌≤◌, ℤ, pos, ◌+ℤ◌, ◌-ℤ◌, ◌*ℤ◌, ◌≤ℤ◌, ◌<ℤ◌, unsigned_abs, arith, ap, sym, List, ⊎_elim}
+use Rattle.std.proofs.lemmas.Int.{ints, clamps}
+use Rattle.std.proofs.lemmas.Bool.{cases_Bool}
 use lib.IntN.{*ℤ_comm}
 use Rattle.gic_fixed.proofs.Integers.{linear, *ℤ-≤ℤ, *ℤ_assoc}
+use Rattle.gic_model.specs.Guess.{most_guess, cut}
+use Rattle.gic_model.specs.Standing.{is_live}
+use Rattle.gic_model.specs.Sums.{Placed}
+use Rattle.gic_sweep.specs.Guesses.{AreCut}
+use Rattle.gic_sweep.specs.Sweep.{IsSweptTo}
 use Rattle.gic_sweep.proofs.Falls.{target_is}
+
+-- what a sweep makes of guesses within their limit is within it
+pub swept_small : (standing : List Placed) (volts x : ℕ → ℤ) (k : ℕ) (z : ℤ) → AreCut x → IsSweptTo standing volts x k z → unsigned_abs z ≤ most_guess
+swept_small standing volts x k z before swept =
+    ⊎_elim
+    (λ live. let to = swept.live live in omega (arith, cut_small to.0, ap unsigned_abs to.2))
+    (λ dead. omega (arith, before k, ap unsigned_abs (swept.dead dead)))
+    (cases_Bool (is_live standing k))
+  where
+    cut_small : (t : ℤ) → unsigned_abs (cut t) ≤ most_guess
+    cut_small t = omega (arith, ints, clamps)
 
 -- d is the diagonal, den the product of the resistances and res the residual over it, which the rounded residuals low and high hold; the guess g falls by m to t
 module _ (d den h : ℕ) (low high m g t res : ℤ)

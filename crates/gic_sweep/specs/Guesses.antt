@@ -6,9 +6,7 @@ use Rattle.gic_model.specs.Guess.{most_guess}
 abbrev pub AreCut : (ℕ → ℤ) → Type 0
 AreCut x = (k : ℕ) → unsigned_abs (x k) ≤ most_guess
 
--- a solver has as much space again for the guesses before a writing and for residuals, and a rough solver for as many nodes
-pub record IsSpaceForGuesses (guesses before low high : List ℤ) (rough : ℕ) : Type 0 where
-  pub space : length before ≡ length guesses
-  pub low_space : length low ≡ length guesses
-  pub high_space : length high ≡ length guesses
+-- a solver has a workspace for as many nodes as there are guesses, and a rough solver for as many
+pub record IsSpaceForGuesses (guesses : List ℤ) (workspace rough : ℕ) : Type 0 where
+  pub space : workspace ≡ length guesses
   pub rough_solver : rough ≡ length guesses

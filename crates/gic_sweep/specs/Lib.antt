@@ -1,5 +1,5 @@
 pub mod Guesses
 pub mod Sweep
+pub mod ResidualEnds
 pub mod Passes
 pub mod Residuals
-pub mod ResidualEnds

@@ -10,6 +10,7 @@ use Rattle.gic_model.specs.Guess.{part_times_ohms}
 use Rattle.gic_model.specs.Sums.{Placed, sum_of}
 use Rattle.gic_model.specs.Voltages.{number_at}
 use Rattle.gic_net.specs.Net.{NetView, stands}
+use Rattle.gic_sweep.specs.Guesses.{AreCut}
 
 -- one element's part of the residual at the node k in units of 2^-44 nanoampere, rounded down
 abbrev pub part_down : (ℕ → ℤ) → (ℕ → ℤ) → ℕ → Placed → ℤ
@@ -33,3 +34,9 @@ pub record IsCarriedOn (net : NetView) (part : ℕ → Placed → ℤ) (place : 
   pub sums : (k : ℕ) → (number_at new k +ℤ sum_of (part k) (left_at net (place + 1) k)) ≡ (number_at old k +ℤ sum_of (part k) (left_at net place k))
   pub small : (k : ℕ) →
       unsigned_abs (number_at new k) + sum_by (λ p. conductance_up p.1) (left_at net (place + 1) k) * 2 ^ 86 ≤ unsigned_abs (number_at old k) + sum_by (λ p. conductance_up p.1) (left_at net place k) * 2 ^ 86
+
+-- voltages are of the net's elements and guesses of its nodes, and no guess is beyond its limit
+pub record AreOfNet (net : NetView) (volts guesses : List ℤ) : Type 0 where
+  pub volt_count : length volts ≡ length net.network.list
+  pub guess_count : length guesses ≡ net.network.nodes
+  pub cut : AreCut (number_at guesses)

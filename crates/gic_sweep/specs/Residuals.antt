@@ -5,10 +5,11 @@ use Rattle.gic_model.specs.Sums.{Placed}
 use Rattle.gic_model.specs.Voltages.{number_at}
 use Rattle.gic_net.specs.Net.{NetView, standing}
 use Rattle.gic_sweep.specs.Guesses.{AreCut}
+use Rattle.gic_sweep.specs.ResidualEnds.{ResidualEnds}
 
 -- at each node the ends hold the residual
-abbrev pub HoldResiduals : List Placed → (ℕ → ℤ) → (ℕ → ℤ) → List ℤ → List ℤ → Type 0
-HoldResiduals standing volts x low high = (k : ℕ) → HoldsResidual standing volts x k (number_at low k) (number_at high k)
+abbrev pub HoldResiduals : List Placed → (ℕ → ℤ) → (ℕ → ℤ) → ResidualEnds → Type 0
+HoldResiduals standing volts x ends = (k : ℕ) → HoldsResidual standing volts x k (number_at ends.low k) (number_at ends.high k)
 
 -- t grains within which guesses are settled, and what the rounding of residuals and conductances adds to them at most: a 1048th and 5 grains
 abbrev pub most_reach : ℕ → ℕ

@@ -80,7 +80,7 @@ fn part(volts: &Volts, guesses: &[i128], node: NodeId, place: ElementId, element
 
 /// An element's part of the residual at a node in units of 2^-44 nanoampere, rounded down and up.
 #[inline(always)]
-pub fn current(
+pub(crate) fn current(
     volts: &Volts,
     guesses: &[i128],
     node: NodeId,

@@ -46,7 +46,7 @@ fn rest_above(a: i128, whole: i128, d: u64) -> u64
 }
 
 /// `4096 * low / d`, rounded down, with no product that could leave the type.
-pub fn fall(low: i128, d: u64) -> i128
+pub(crate) fn fall(low: i128, d: u64) -> i128
     requires diagonal { 0 < d }
     requires most { d ≤ 2 ^ 40 }
     requires low { unsigned_abs low ≤ d * 2 ^ 86 }

@@ -1,6 +1,5 @@
 //! The guesses themselves. Only `fill` writes to them, and it ticks; `clear` makes them 0.
 use crate::steps::Steps;
-use crate::zeros;
 use gic_base::{NodeId, OutOfMemory};
 use std::alloc::Global;
 use std::marker::Model;
@@ -8,7 +7,7 @@ use std::sync::ledger::Ledger;
 
 /// One guess for each of fewer than 2^16 nodes, in grains of 2^-36 nanovolt, each from -2^96 to 2^96.
 #[derive(Drop)]
-pub struct Guesses {
+pub(crate) struct Guesses {
     list: Vec<i128>,
 }
 
@@ -32,22 +31,22 @@ impl Guesses {
     ghost use Rattle.gic_sweep.specs.Guesses.{AreCut};
 
     /// For a given number of nodes; all guesses are 0.
-    pub fn new(alloc: Global, nodes: u16) -> Result<Guesses, OutOfMemory>
+    pub(crate) fn new(alloc: Global, nodes: u16) -> Result<Guesses, OutOfMemory>
         ensures { IfOk result (λ guesses. guesses ≡ replicate nodes (pos 0)) }
     {
-        let list = zeros(alloc, nodes)?;
+        let list = vec![in alloc; 0; nodes as usize]?;
         Ok(Guesses { list })
     }
 
     /// Makes all guesses 0.
-    pub fn clear(&mut self)
+    pub(crate) fn clear(&mut self)
         ensures { self.new ≡ replicate (length self.old) (pos 0) }
     {
         self.list.fill(0);
     }
 
     /// The guesses, by their nodes.
-    pub fn as_slice(&self) -> &[i128]
+    pub(crate) fn as_slice(&self) -> &[i128]
         ensures value { result.now ≡ self.now }
         ensures cut { AreCut (number_at self.now) }
     {
@@ -55,7 +54,11 @@ impl Guesses {
     }
 
     /// Makes each node's guess the closure's answer for that node, and ticks once.
-    pub fn fill<L: Ledger, F: Fn(NodeId) -> i128>(&mut self, grains: &F, steps: &mut Steps<L>)
+    pub(crate) fn fill<L: Ledger, F: Fn(NodeId) -> i128>(
+        &mut self,
+        grains: &F,
+        steps: &mut Steps<L>,
+    )
         requires callable { (node : NodeId) → node.0 < length self.old → F.pre grains.now node }
         requires small { (node : NodeId) (z : ℤ) → node.0 < length self.old → F.post grains.now node z → unsigned_abs z ≤ most_guess }
         ensures each { (node : NodeId) → node.0 < length self.old → F.post grains.now node (number_at self.new node.0) }
@@ -64,6 +67,54 @@ impl Guesses {
     {
         write_all(grains, &mut self.list);
         steps.tick();
+    }
+}
+
+/// The guesses as they were before they are written, for as many nodes.
+#[derive(Drop)]
+pub(crate) struct FormerGuesses {
+    list: Vec<i128>,
+}
+
+impl Model for FormerGuesses {
+    ghost use Rattle.std.specs.Prelude.{List, ℤ};
+    ghost use Rattle.gic_model.specs.Voltages.{number_at};
+    ghost use Rattle.gic_sweep.specs.Guesses.{AreCut};
+
+    ghost Value = { List ℤ };
+
+    ghost view = { λ f. f.list.items };
+
+    ghost invariant = { λ f. AreCut (number_at f.list.items) };
+}
+
+impl FormerGuesses {
+    ghost use Rattle.std.specs.Prelude.{◌≡◌, length, IfOk, replicate, pos};
+    ghost use Rattle.gic_model.specs.Voltages.{number_at};
+    ghost use Rattle.gic_sweep.specs.Guesses.{AreCut};
+
+    /// For a given number of nodes; all are 0.
+    pub(crate) fn new(alloc: Global, nodes: u16) -> Result<FormerGuesses, OutOfMemory>
+        ensures { IfOk result (λ former. former ≡ replicate nodes (pos 0)) }
+    {
+        let list = vec![in alloc; 0; nodes as usize]?;
+        Ok(FormerGuesses { list })
+    }
+
+    /// Makes them those of these guesses, which are for as many nodes.
+    pub(crate) fn copy_from(&mut self, guesses: &Guesses)
+        requires { length self.old ≡ length guesses.now }
+        ensures { self.new ≡ guesses.now }
+    {
+        self.list.copy_from_slice(guesses.as_slice());
+    }
+
+    /// The guesses as they were, by their nodes.
+    pub(crate) fn as_slice(&self) -> &[i128]
+        ensures value { result.now ≡ self.now }
+        ensures cut { AreCut (number_at self.now) }
+    {
+        self.list.as_slice()
     }
 }
 

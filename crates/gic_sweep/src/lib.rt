@@ -9,14 +9,18 @@ mod improving;
 mod node_sums;
 mod passing;
 mod reaching;
+mod residuals;
 mod settling;
 mod solver;
 mod steps;
+mod sums;
 mod sweeping;
+mod workspace;
 
 pub use driving::{GRAINS, drive, in_grains, micro_paths};
 pub use node_sums::{conductance, rounded_residual};
+pub use residuals::Residuals;
 pub use solver::{
-    Improvement, MOST_ROUNDS, Solver, improve, is_settled, reach, residual, residuals, sweep, zeros,
+    Improvement, MOST_ROUNDS, Solver, find_residuals, improve, is_settled, reach, residual, sweep,
 };
 pub use steps::Steps;

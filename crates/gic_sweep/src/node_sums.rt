@@ -34,7 +34,7 @@ pub fn rounded_residual(net: &Net, volts: &Volts, guesses: &[i128], node: NodeId
 }
 
 /// The diagonal of a node, its conductance in units of 2^-20 siemens, each element's part rounded up.
-pub fn diagonal(net: &Net, node: NodeId) -> u64
+pub(crate) fn diagonal(net: &Net, node: NodeId) -> u64
     requires node { node.0 < net.now.network.nodes }
     ensures value { result ≡ diagonal_at (standing net.now) node.0 }
     ensures most { result ≤ 2 ^ 40 }

@@ -1,5 +1,5 @@
 //! How far guesses are from being settled, as their residuals show.
-ghost use Rattle.std.specs.Prelude.{◌≡◌, ℕ, ℤ, ◌+◌, ◌*◌, ◌/◌, ◌^◌, ◌<◌, ◌≤◌, ◌⊎◌, length, unsigned_abs};
+ghost use Rattle.std.specs.Prelude.{◌≡◌, ℕ, ℤ, ◌+◌, ◌*◌, ◌/◌, ◌^◌, ◌<◌, ◌≤◌};
 ghost use Rattle.gic_model.specs.Standing.{IsLive};
 ghost use Rattle.gic_model.specs.Voltages.{number_at};
 ghost use Rattle.gic_model.specs.Guess.{IsSettledWithin, IsSettledAt, HoldsResidual};
@@ -8,6 +8,7 @@ ghost use Rattle.gic_sweep.specs.ResidualEnds.{AreEndsFor};
 ghost use Rattle.gic_sweep.specs.Residuals.{HoldResiduals, most_reach};
 
 use crate::node_sums::conductance;
+use crate::residuals::Residuals;
 use gic_base::NodeId;
 use gic_model::laws::{diagonal_law, settled_law};
 use gic_net::Net;
@@ -26,64 +27,42 @@ fn quotient_up(most: u128, conductance: u64) -> u128
     4096 * whole + (4096 * rest).div_ceil(conductance as u128)
 }
 
-/// The ends of the intervals that hold the residuals, by nodes, as `residuals` leaves them.
-#[derive(Clone, Copy)]
-pub struct ResidualEnds<'a> {
-    pub low: &'a [i128],
-    pub high: &'a [i128],
-}
-
-/// The greater absolute value of the two ends of the interval at a node.
-fn greatest_at(ends: &ResidualEnds, node: NodeId) -> u128
-    requires low { node.0 < length ends.now.low.now }
-    requires high { node.0 < length ends.now.high.now }
-    ensures either { (result ≡ unsigned_abs (number_at ends.now.low.now node.0)) ⊎
-        (result ≡ unsigned_abs (number_at ends.now.high.now node.0)) }
-    ensures low { unsigned_abs (number_at ends.now.low.now node.0) ≤ result }
-    ensures high { unsigned_abs (number_at ends.now.high.now node.0) ≤ result }
-{
-    let place = node.0 as usize;
-    ends.low[place]
-        .unsigned_abs()
-        .max(ends.high[place].unsigned_abs())
-}
-
 /// The grains within which guesses are settled at a live node, whose residual lies between these ends.
-fn reach_at(net: &Net, ends: &ResidualEnds, node: NodeId) -> u128
-    requires ends { AreEndsFor net.now ends.now }
+fn reach_at(net: &Net, residuals: &Residuals, node: NodeId) -> u128
+    requires residuals { AreEndsFor net.now residuals.now }
     requires node { node.0 < net.now.network.nodes }
     requires live { IsLive (standing net.now) node.0 }
     ensures settled { (volts x : ℕ → ℤ) →
-        HoldsResidual (standing net.now) volts x node.0 (number_at ends.now.low.now node.0) (number_at ends.now.high.now node.0) →
+        HoldsResidual (standing net.now) volts x node.0 (number_at residuals.now.low node.0) (number_at residuals.now.high node.0) →
         IsSettledAt (standing net.now) volts x result node.0 }
     ensures small { result ≤ 2 ^ 99 }
     ensures close { (volts x : ℕ → ℤ) (t : ℕ) →
-        HoldsResidual (standing net.now) volts x node.0 (number_at ends.now.low.now node.0) (number_at ends.now.high.now node.0) →
+        HoldsResidual (standing net.now) volts x node.0 (number_at residuals.now.low node.0) (number_at residuals.now.high node.0) →
         IsSettledAt (standing net.now) volts x t node.0 → result ≤ most_reach t }
 {
     settled_law();
     diagonal_law();
     net.within_limits();
-    let most = greatest_at(ends, node);
+    let most = residuals.greatest(node);
     quotient_up(most, conductance(net, node))
 }
 
 /// The greater of a number of grains and those within which guesses are settled at the node.
-fn greater_reach(net: &Net, ends: &ResidualEnds, node: NodeId, most: u128) -> u128
-    requires ends { AreEndsFor net.now ends.now }
+fn greater_reach(net: &Net, residuals: &Residuals, node: NodeId, most: u128) -> u128
+    requires residuals { AreEndsFor net.now residuals.now }
     requires node { node.0 < net.now.network.nodes }
     requires small { most ≤ 2 ^ 99 }
     ensures grows { most ≤ result }
     ensures settled { (volts x : ℕ → ℤ) →
-        HoldsResidual (standing net.now) volts x node.0 (number_at ends.now.low.now node.0) (number_at ends.now.high.now node.0) →
+        HoldsResidual (standing net.now) volts x node.0 (number_at residuals.now.low node.0) (number_at residuals.now.high node.0) →
         IsLive (standing net.now) node.0 → IsSettledAt (standing net.now) volts x result node.0 }
     ensures small { result ≤ 2 ^ 99 }
     ensures close { (volts x : ℕ → ℤ) (t : ℕ) →
-        HoldsResidual (standing net.now) volts x node.0 (number_at ends.now.low.now node.0) (number_at ends.now.high.now node.0) →
+        HoldsResidual (standing net.now) volts x node.0 (number_at residuals.now.low node.0) (number_at residuals.now.high node.0) →
         IsSettledWithin (standing net.now) volts x t → most ≤ most_reach t → result ≤ most_reach t }
 {
     if net.live(node) {
-        let here = reach_at(net, ends, node);
+        let here = reach_at(net, residuals, node);
         if here < most { most } else { here }
     } else {
         most
@@ -91,17 +70,17 @@ fn greater_reach(net: &Net, ends: &ResidualEnds, node: NodeId, most: u128) -> u1
 }
 
 /// The grains within which guesses are settled, whose residuals lie between these ends.
-pub fn reach_between(net: &Net, ends: &ResidualEnds) -> u128
-    requires { AreEndsFor net.now ends.now }
-    ensures settled { (volts x : ℕ → ℤ) → HoldResiduals (standing net.now) volts x ends.now.low.now ends.now.high.now →
+pub(crate) fn reach_between(net: &Net, residuals: &Residuals) -> u128
+    requires { AreEndsFor net.now residuals.now }
+    ensures settled { (volts x : ℕ → ℤ) → HoldResiduals (standing net.now) volts x residuals.now →
         IsSettledWithin (standing net.now) volts x result }
     ensures small { result ≤ 2 ^ 99 }
-    ensures close { (volts x : ℕ → ℤ) (t : ℕ) → HoldResiduals (standing net.now) volts x ends.now.low.now ends.now.high.now →
+    ensures close { (volts x : ℕ → ℤ) (t : ℕ) → HoldResiduals (standing net.now) volts x residuals.now →
         IsSettledWithin (standing net.now) volts x t → result ≤ most_reach t }
 {
     let mut most: u128 = 0;
     for node in 0..net.nodes() {
-        most = greater_reach(net, ends, NodeId(node), most);
+        most = greater_reach(net, residuals, NodeId(node), most);
     }
     most
 }

@@ -4,9 +4,10 @@ ghost use Rattle.gic_model.specs.Voltages.{number_at};
 ghost use Rattle.gic_model.specs.Guess.{IsSettled, IsSettledWithin};
 ghost use Rattle.gic_net.specs.Net.{standing};
 ghost use Rattle.gic_sweep.specs.Guesses.{AreCut};
+ghost use Rattle.gic_sweep.specs.ResidualEnds.{node_count};
 
-use crate::passing::residuals_into;
-use crate::reaching::{ResidualEnds, reach_between};
+use crate::reaching::reach_between;
+use crate::residuals::Residuals;
 use gic_model::Volts;
 use gic_model::laws::rounded_residual_law;
 use gic_net::Net;
@@ -15,26 +16,23 @@ use gic_net::Net;
 const SETTLED: u128 = 1 << 18;
 
 /// Whether the residuals show that the guesses are settled, as they do where the guesses are settled within half of the
-/// grains. `low` and `high` are space for the residuals.
-pub fn are_settled(
+/// grains. `residuals` is space for them.
+pub(crate) fn are_settled(
     net: &Net,
     volts: &Volts,
     guesses: &[i128],
-    low: &mut [i128],
-    high: &mut [i128],
+    residuals: &mut Residuals,
 ) -> bool
     requires volts { length volts.now ≡ length net.now.network.list }
     requires nodes { length guesses.now ≡ net.now.network.nodes }
     requires guesses { AreCut (number_at guesses.now) }
-    requires low_count { length low.old ≡ net.now.network.nodes }
-    requires high_count { length high.old ≡ net.now.network.nodes }
+    requires count { node_count residuals.old ≡ net.now.network.nodes }
     ensures settled { IsTrue result → IsSettled (standing net.now) (number_at volts.now) (number_at guesses.now) }
     ensures seen { IsSettledWithin (standing net.now) (number_at volts.now) (number_at guesses.now) (2 ^ 17) → IsTrue result }
-    ensures low_count { length low.new ≡ length low.old }
-    ensures high_count { length high.new ≡ length high.old }
+    ensures count { node_count residuals.new ≡ node_count residuals.old }
 {
     rounded_residual_law();
     net.within_limits();
-    residuals_into(net, volts, guesses, low, high);
-    reach_between(net, &ResidualEnds { low, high }) <= SETTLED
+    residuals.find(net, volts, guesses);
+    reach_between(net, residuals) <= SETTLED
 }

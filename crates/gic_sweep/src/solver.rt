@@ -1,12 +1,10 @@
 //! Guesses of the potentials.
 use crate::guesses::Guesses;
-use crate::improving::propose_all;
 use crate::node_sums::rounded_residual;
-use crate::passing::residuals_into;
-use crate::reaching::{ResidualEnds, reach_between};
-use crate::settling::are_settled;
+use crate::reaching::reach_between;
+use crate::residuals::Residuals;
 use crate::steps::Steps;
-use crate::sweeping::sweep_over;
+use crate::workspace::Workspace;
 use gic_base::{NodeId, OutOfMemory};
 use gic_fixed::Interval;
 use gic_model::Volts;
@@ -20,11 +18,7 @@ use std::sync::ledger::Ledger;
 /// One guess for each node, in grains of 2^-36 nanovolt, each from -2^96 to 2^96.
 pub struct Solver {
     guesses: Guesses,
-    /// The workspace for the guesses as they were before they are written.
-    before: Vec<i128>,
-    /// The workspace for the residuals, rounded down and up.
-    low: Vec<i128>,
-    high: Vec<i128>,
+    workspace: Workspace,
     rough_solver: RoughSolver,
 }
 
@@ -36,7 +30,7 @@ impl Model for Solver {
 
     ghost view = { λ s. s.guesses };
 
-    ghost invariant = { λ s. IsSpaceForGuesses s.guesses s.before.items s.low.items s.high.items s.rough_solver };
+    ghost invariant = { λ s. IsSpaceForGuesses s.guesses s.workspace s.rough_solver };
 }
 
 impl Drop for Solver {
@@ -44,9 +38,7 @@ impl Drop for Solver {
     fn drop(self) {
         let Solver {
             guesses: _guesses,
-            before: _before,
-            low: _low,
-            high: _high,
+            workspace: _workspace,
             rough_solver: _rough_solver,
         } = self;
     }
@@ -60,6 +52,7 @@ ghost use Rattle.gic_model.specs.Guess.{most_guess, HoldsResidual, IsSettled, Is
 ghost use Rattle.gic_model.specs.Voltages.{number_at};
 ghost use Rattle.gic_net.specs.Net.{standing, row_at};
 ghost use Rattle.gic_sweep.specs.Guesses.{AreCut};
+ghost use Rattle.gic_sweep.specs.ResidualEnds.{AreEndsFor, node_count};
 ghost use Rattle.gic_sweep.specs.Residuals.{HoldResiduals, most_reach};
 ghost use Rattle.gic_sweep.specs.Sweep.{IsSweep};
 ghost use Rattle.gic_precondition.specs.declared.gradients.TheConstants.{MOST_PASSES};
@@ -70,15 +63,11 @@ impl Solver {
         ensures { IfOk result (λ solver. solver ≡ replicate nodes (pos 0)) }
     {
         let guesses = Guesses::new(alloc, nodes)?;
-        let before = zeros(alloc, nodes)?;
-        let low = zeros(alloc, nodes)?;
-        let high = zeros(alloc, nodes)?;
+        let workspace = Workspace::new(alloc, nodes)?;
         let rough_solver = RoughSolver::new(alloc, nodes, elements)?;
         Ok(Solver {
             guesses,
-            before,
-            low,
-            high,
+            workspace,
             rough_solver,
         })
     }
@@ -132,15 +121,7 @@ impl Solver {
         ensures same_length { length self.new ≡ length self.old }
         ensures tick { steps.new ≡ steps.old + 1 }
     {
-        sweep_over(
-            net,
-            volts,
-            &mut self.guesses,
-            &mut self.before,
-            &mut self.low,
-            &mut self.high,
-            steps,
-        );
+        self.workspace.sweep(net, volts, &mut self.guesses, steps);
     }
 
     /// Makes the rough solver ready for a net.
@@ -162,20 +143,10 @@ impl Solver {
         ensures no_tick { IfNone result (steps.new ≡ steps.old) }
         ensures same { IfNone result (self.new ≡ self.old) }
     {
-        residuals_into(
-            net,
-            volts,
-            self.guesses.as_slice(),
-            &mut self.low,
-            &mut self.high,
-        );
-        let passes = self.rough_solver.correct(self.low.as_slice())?;
-        propose_all(
-            &self.rough_solver,
-            &mut self.guesses,
-            &mut self.before,
-            steps,
-        );
+        self.workspace.find_residuals(net, volts, &self.guesses);
+        let passes = self.rough_solver.correct(self.workspace.low_residuals())?;
+        self.workspace
+            .propose(&self.rough_solver, &mut self.guesses, steps);
         Some(passes)
     }
 
@@ -187,22 +158,8 @@ impl Solver {
         ensures seen { IsSettledWithin (standing net.now) (number_at volts.now) (number_at self.old) (2 ^ 17) → IsTrue result }
         ensures same { self.new ≡ self.old }
     {
-        are_settled(
-            net,
-            volts,
-            self.guesses.as_slice(),
-            &mut self.low,
-            &mut self.high,
-        )
+        self.workspace.are_settled(net, volts, &self.guesses)
     }
-}
-
-/// A zero for each of a given number of nodes.
-pub fn zeros(alloc: Global, nodes: u16) -> Result<Vec<i128>, OutOfMemory>
-    ensures { IfOk result (λ list. list.items ≡ replicate nodes (pos 0)) }
-{
-    let list = vec![in alloc; 0; nodes as usize]?;
-    Ok(list)
 }
 
 /// One sweep over the guesses, which ticks once: the guess at each live node moves to within `2 + 4096 * h / d` grains
@@ -295,38 +252,32 @@ pub fn residual(net: &Net, volts: &Volts, solver: &Solver, node: NodeId) -> Inte
     rounded_residual(net, volts, solver.guesses(), node)
 }
 
-/// The ends of an interval as `residual` gives it at each node, the low ends in `low` and the high ends in `high`. The
-/// voltages and the guesses are those of the net's elements and nodes, and there is space for as many.
-pub fn residuals(net: &Net, volts: &Volts, solver: &Solver, low: &mut [i128], high: &mut [i128])
+/// The ends of an interval as `residual` gives it, at each node. The voltages, the guesses and the residuals are those of
+/// the net's elements and nodes.
+pub fn find_residuals(net: &Net, volts: &Volts, solver: &Solver, residuals: &mut Residuals)
     requires volts { length volts.now ≡ length net.now.network.list }
     requires nodes { length solver.now ≡ net.now.network.nodes }
-    requires low_count { length low.old ≡ net.now.network.nodes }
-    requires high_count { length high.old ≡ net.now.network.nodes }
-    ensures holds { HoldResiduals (standing net.now) (number_at volts.now) (number_at solver.now) low.new high.new }
-    ensures narrow { (k : ℕ) → IsAtMostWide (length (row_at net.now k)) (number_at low.new k) (number_at high.new k) }
-    ensures small { (k : ℕ) → IsWithin (diagonal (standing net.now) k * 2 ^ 86) (number_at low.new k) (number_at high.new k) }
-    ensures low_count { length low.new ≡ net.now.network.nodes }
-    ensures high_count { length high.new ≡ net.now.network.nodes }
+    requires space { node_count residuals.old ≡ net.now.network.nodes }
+    ensures holds { HoldResiduals (standing net.now) (number_at volts.now) (number_at solver.now) residuals.new }
+    ensures ends { AreEndsFor net.now residuals.new }
 {
     rounded_residual_law();
     net.within_limits();
-    residuals_into(net, volts, solver.guesses(), low, high);
+    residuals.find(net, volts, solver.guesses());
 }
 
 /// The grains within which the guesses are settled, as their residuals show: for each unit of a bound vector no
 /// solution is further from the guess at a node. They are hardly more than those within which the guesses are settled
-/// indeed. `low` and `high` are space for the residuals.
-pub fn reach(net: &Net, volts: &Volts, solver: &Solver, low: &mut [i128], high: &mut [i128]) -> u128
+/// indeed. `residuals` is space for the residuals.
+pub fn reach(net: &Net, volts: &Volts, solver: &Solver, residuals: &mut Residuals) -> u128
     requires volts { length volts.now ≡ length net.now.network.list }
     requires nodes { length solver.now ≡ net.now.network.nodes }
-    requires low_count { length low.old ≡ net.now.network.nodes }
-    requires high_count { length high.old ≡ net.now.network.nodes }
-    ensures low_count { length low.new ≡ length low.old }
-    ensures high_count { length high.new ≡ length high.old }
+    requires space { node_count residuals.old ≡ net.now.network.nodes }
+    ensures space { node_count residuals.new ≡ node_count residuals.old }
     ensures settled { IsSettledWithin (standing net.now) (number_at volts.now) (number_at solver.now) result }
     ensures small { result ≤ 2 ^ 99 }
     ensures close { (t : ℕ) → IsSettledWithin (standing net.now) (number_at volts.now) (number_at solver.now) t → result ≤ most_reach t }
 {
-    residuals(net, volts, solver, low, high);
-    reach_between(net, &ResidualEnds { low, high })
+    find_residuals(net, volts, solver, residuals);
+    reach_between(net, residuals)
 }

@@ -2,7 +2,6 @@
 ghost use Rattle.std.specs.Prelude.{◌≡◌, ◌+◌, ◌^◌, ◌<◌, ◌≤◌, length, unsigned_abs};
 ghost use Rattle.gic_model.specs.Standing.{IsLive};
 ghost use Rattle.gic_model.specs.Voltages.{number_at};
-ghost use Rattle.gic_model.specs.Guess.{most_guess};
 ghost use Rattle.gic_net.specs.Net.{standing};
 ghost use Rattle.gic_sweep.specs.Residuals.{AreRoundedDown};
 ghost use Rattle.gic_sweep.specs.Sweep.{IsTarget, IsSweptTo, IsSweep};
@@ -10,7 +9,6 @@ ghost use Rattle.gic_sweep.specs.Sweep.{IsTarget, IsSweptTo, IsSweep};
 use crate::fall::fall;
 use crate::guesses::Guesses;
 use crate::node_sums::diagonal;
-use crate::passing::residuals_into;
 use crate::steps::Steps;
 use gic_base::NodeId;
 use gic_model::laws::rounded_residual_law;
@@ -37,8 +35,7 @@ fn target(net: &Net, volts: &Volts, guesses: &[i128], low: &[i128], node: NodeId
 fn next_guess(net: &Net, volts: &Volts, guesses: &[i128], low: &[i128], node: NodeId) -> i128
     requires residuals { AreRoundedDown net.now volts.now guesses.now low.now }
     requires node { node.0 < net.now.network.nodes }
-    ensures swept { IsSweptTo (standing net.now) (number_at volts.now) (number_at guesses.now) node.0 result }
-    ensures small { unsigned_abs result ≤ most_guess }
+    ensures { IsSweptTo (standing net.now) (number_at volts.now) (number_at guesses.now) node.0 result }
 {
     if net.live(node) {
         cut_guess(target(net, volts, guesses, low, node))
@@ -47,8 +44,8 @@ fn next_guess(net: &Net, volts: &Volts, guesses: &[i128], low: &[i128], node: No
     }
 }
 
-/// One sweep, from the old guesses and their residuals rounded down.
-fn sweep_from<L: Ledger>(
+/// One sweep, from the old guesses and their residuals rounded down, which ticks once.
+pub(crate) fn sweep_from<L: Ledger>(
     net: &Net,
     volts: &Volts,
     old: &[i128],
@@ -66,36 +63,7 @@ fn sweep_from<L: Ledger>(
     let moved = |node: NodeId| -> i128
         requires residuals { AreRoundedDown net.now volts.now old.now low.now }
         requires node { node.0 < net.now.network.nodes }
-        ensures swept { IsSweptTo (standing net.entry.now) (number_at volts.entry.now) (number_at old.entry.now) node.0 result }
-        ensures small { unsigned_abs result ≤ most_guess }
+        ensures { IsSweptTo (standing net.entry.now) (number_at volts.entry.now) (number_at old.entry.now) node.0 result }
     { next_guess(net, volts, old, low, node) };
     guesses.fill(&moved, steps);
-}
-
-/// One sweep over the guesses, which ticks once. `old` is space for the guesses as they were, and `low` and `high` for
-/// their residuals.
-pub fn sweep_over<L: Ledger>(
-    net: &Net,
-    volts: &Volts,
-    guesses: &mut Guesses,
-    old: &mut [i128],
-    low: &mut [i128],
-    high: &mut [i128],
-    steps: &mut Steps<L>,
-)
-    requires volts { length volts.now ≡ length net.now.network.list }
-    requires nodes { length guesses.old ≡ net.now.network.nodes }
-    requires space { length old.old ≡ net.now.network.nodes }
-    requires low_count { length low.old ≡ net.now.network.nodes }
-    requires high_count { length high.old ≡ net.now.network.nodes }
-    ensures sweep { IsSweep (standing net.now) (number_at volts.now) (number_at guesses.old) (number_at guesses.new) }
-    ensures same_length { length guesses.new ≡ length guesses.old }
-    ensures space { length old.new ≡ length old.old }
-    ensures low_count { length low.new ≡ length low.old }
-    ensures high_count { length high.new ≡ length high.old }
-    ensures tick { steps.new ≡ steps.old + 1 }
-{
-    old.copy_from_slice(guesses.as_slice());
-    residuals_into(net, volts, old, low, high);
-    sweep_from(net, volts, old, low, guesses, steps);
 }

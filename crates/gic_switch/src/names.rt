@@ -15,7 +15,8 @@ use std::collections::HashMap;
 
 /// Enters what a name stands for, unless the name is there already.
 fn enter(named: &mut HashMap<Name, Item>, name: Name, item: Item) -> Result<(), AllocError>
-    ensures { IfOk result (λ done. (q : List ℕ) → get same named.new q ≡ option_or (get same named.old q) (if same name q then Some item else None)) }
+    ensures { IfOk result (λ done. (q : List ℕ) → get same named.new q
+        ≡ option_or (get same named.old q) (if same name q then Some item else None)) }
 {
     if !named.contains_key(&name) {
         named.insert(name, item)?;
@@ -26,7 +27,8 @@ fn enter(named: &mut HashMap<Name, Item>, name: Name, item: Item) -> Result<(), 
 /// Enters the lines.
 fn enter_lines(named: &mut HashMap<Name, Item>, lines: &[Line]) -> Result<(), AllocError>
     requires { length lines.now ≤ MOST_LINES }
-    ensures { IfOk result (λ done. (q : List ℕ) → get same named.new q ≡ option_or (get same named.old q) (option_map items.Line (place_in (map (λ l. l.name) lines.now) q))) }
+    ensures { IfOk result (λ done. (q : List ℕ) → get same named.new q
+        ≡ option_or (get same named.old q) (option_map items.Line (place_in (map (λ l. l.name) lines.now) q))) }
 {
     for (place, line) in lines.iter().enumerate() {
         enter(named, line.name, Item::Line(place as u16))?;
@@ -40,7 +42,8 @@ fn enter_transformers(
     transformers: &[Transformer],
 ) -> Result<(), AllocError>
     requires { length transformers.now ≤ MOST_TRANSFORMERS }
-    ensures { IfOk result (λ done. (q : List ℕ) → get same named.new q ≡ option_or (get same named.old q) (option_map items.Transformer (place_in (map (λ t. t.name) transformers.now) q))) }
+    ensures { IfOk result (λ done. (q : List ℕ) → get same named.new q
+        ≡ option_or (get same named.old q) (option_map items.Transformer (place_in (map (λ t. t.name) transformers.now) q))) }
 {
     for (place, transformer) in transformers.iter().enumerate() {
         enter(named, transformer.name, Item::Transformer(place as u16))?;
@@ -54,7 +57,8 @@ fn enter_substations(
     substations: &[Substation],
 ) -> Result<(), AllocError>
     requires { length substations.now ≤ MOST_SUBSTATIONS }
-    ensures { IfOk result (λ done. (q : List ℕ) → get same named.new q ≡ option_or (get same named.old q) (option_map items.Ground (place_in (map (λ s. s.name) substations.now) q))) }
+    ensures { IfOk result (λ done. (q : List ℕ) → get same named.new q
+        ≡ option_or (get same named.old q) (option_map items.Ground (place_in (map (λ s. s.name) substations.now) q))) }
 {
     for (place, substation) in substations.iter().enumerate() {
         enter(named, substation.name, Item::Ground(place as u16))?;

@@ -1,7 +1,7 @@
 //! Effective currents and a worst current, worked by hand.
 use gic_base::ElementId;
 use gic_criteria::worst;
-use gic_effective::signed_effective;
+use gic_effective::{WindingCurrents, signed_effective};
 use gic_fixed::Interval;
 use gic_winding::Weights;
 
@@ -14,9 +14,12 @@ fn effective_wye_wye(rt: HostRuntime) {
         third: None,
         high_volts: 345_000,
     };
-    let high = Interval::point(30_000_000_000);
-    let low = Interval::point(-60_000_000_000);
-    let effective = signed_effective(&weights, high, low, Interval::point(0));
+    let currents = WindingCurrents {
+        first: Interval::point(30_000_000_000),
+        second: Interval::point(-60_000_000_000),
+        third: Interval::point(0),
+    };
+    let effective = signed_effective(&weights, &currents);
     assert_eq!(rt; (effective.lo, effective.hi), (2_000, 2_000));
 }
 
@@ -29,9 +32,12 @@ fn effective_auto(rt: HostRuntime) {
         third: None,
         high_volts: 500_000,
     };
-    let series = Interval::point(100_000_000_000);
-    let common = Interval::point(40_000_000_000);
-    let effective = signed_effective(&weights, series, common, Interval::point(0));
+    let currents = WindingCurrents {
+        first: Interval::point(100_000_000_000),
+        second: Interval::point(40_000_000_000),
+        third: Interval::point(0),
+    };
+    let effective = signed_effective(&weights, &currents);
     assert_eq!(rt; (effective.lo, effective.hi), (19_533, 19_534));
 }
 

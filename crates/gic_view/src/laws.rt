@@ -1,6 +1,7 @@
 //! Theorems over the definitions, each the contract of a function that does nothing: a function whose proof rests on a
 //! theorem calls it.
-ghost use Rattle.gic_view.specs.PeakLaws.{PeakEnclosesGreatest, TransformerPeakIsPeak, BelowIsUnderThroughout, ReachesIsAtLeastOnce, PeakIsNotNegative, NotNegativeIsAbsolute, AbsoluteIsNoWider, PeakIsNoWider};
+ghost use Rattle.gic_view.specs.PeakLaws.{PeakEnclosesGreatest, TransformerPeakIsPeak, BelowIsUnderThroughout, ReachesIsAtLeastOnce};
+ghost use Rattle.gic_view.specs.PeakLaws.{PeakIsNotNegative, NotNegativeIsAbsolute, AbsoluteIsNoWider, PeakIsNoWider};
 
 /// Where each interval that a view shows encloses that view's number, the peak encloses the greatest of their absolute
 /// values over these views. Where it ends under a threshold, each of them is under the threshold; where it begins at the

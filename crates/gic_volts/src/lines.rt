@@ -1,12 +1,12 @@
 //! The voltages of the lines of a case.
 ghost use Rattle.std.specs.Prelude.{◌≡◌, length, IfOk};
 ghost use Rattle.gic_induce.specs.LineVolts.{all_line_volts};
-ghost use Rattle.gic_criteria.specs.Ranges.{IsWithinRanges};
+ghost use Rattle.gic_criteria.specs.Ranges.{IsWithinField};
 ghost use Rattle.gic_volts.specs.RightVolts.{line_volts};
 
 use gic_base::OutOfMemory;
 use gic_case::Case;
-use gic_criteria::Question;
+use gic_criteria::UniformField;
 use gic_induce::Fields;
 use std::alloc::{AllocError, Global};
 
@@ -27,13 +27,13 @@ fn all_line_volts(alloc: Global, case: &Case, fields: &Fields) -> Result<Vec<i64
 pub(crate) fn line_volts(
     alloc: Global,
     case: &Case,
-    question: &Question,
+    field: &UniformField,
 ) -> Result<Vec<i64>, OutOfMemory>
-    requires { IsWithinRanges question.now }
-    ensures { IfOk result (λ lines. lines.items ≡ line_volts case.now question.now.north question.now.east) }
+    requires { IsWithinField field.now }
+    ensures { IfOk result (λ lines. lines.items ≡ line_volts case.now field.now.north field.now.east) }
 {
     let zones = case.zones().len() as u16;
-    let fields = Fields::uniform(alloc, zones, question.north, question.east)?;
+    let fields = Fields::uniform(alloc, zones, field.north, field.east)?;
     let volts = all_line_volts(alloc, case, &fields)?;
     Ok(volts)
 }

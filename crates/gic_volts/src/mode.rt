@@ -12,7 +12,7 @@ use crate::text::write_volts;
 use crate::workspace::Workspace;
 use gic_base::{Sink, WriteFailed};
 use gic_case::Case;
-use gic_criteria::Question;
+use gic_criteria::UniformField;
 use gic_inputs::Inputs;
 use gic_stand::{ReportFault, ended};
 use gic_text::LineBuilder;
@@ -20,27 +20,20 @@ use gic_text::LineBuilder;
 /// Writes the report of these voltages.
 fn write_lines<S: Sink>(
     case: &Case,
-    question: &Question,
+    field: &UniformField,
     nanovolts: &[i64],
     line: &mut LineBuilder,
     out: &mut S,
 ) -> Result<(), WriteFailed>
     ensures { Writes S.written S.faults out.old out.new
-        (lines_text (volts_report case.now.lines question.now.north question.now.east nanovolts.now)) result }
+        (lines_text (volts_report case.now.lines field.now.north field.now.east nanovolts.now)) result }
 {
-    write_volts(
-        case.lines(),
-        question.north,
-        question.east,
-        nanovolts,
-        line,
-        out,
-    )
+    write_volts(case.lines(), field.north, field.east, nanovolts, line, out)
 }
 
 /// Writes the voltage of each line in nanovolts, in the field that is asked for. Takes no memory.
 pub fn volts<S: Sink>(
-    inputs: &Inputs,
+    inputs: &Inputs<UniformField>,
     workspace: &mut Workspace,
     out: &mut S,
 ) -> Result<(), ReportFault>

@@ -2,7 +2,7 @@
 use Rattle.std.specs.Prelude.{ℕ, List, [], ◌∷◌, slice_index_or, None, if◌then◌else◌}
 use Rattle.std.specs.List.{filter, enumerate_from}
 use Rattle.gic_base.specs.declared.id.ElementId.{ElementId}
-use Rattle.gic_case.specs.declared.item.Kind.TheVariants as kinds
+use Rattle.gic_case.specs.declared.kind.Kind.TheVariants as kinds
 use Rattle.gic_case.specs.declared.item.Transformer.{Transformer}
 use Rattle.gic_case.specs.declared.winding.Winding.{Winding}
 use Rattle.gic_case.specs.Lists.{Lists, has_effect}

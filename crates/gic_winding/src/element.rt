@@ -7,7 +7,7 @@ use gic_case::WindingRole;
 use gic_model::{Element, End, Item, Role};
 
 /// The earthing of the substation at a place: one path from its node to earth.
-pub fn earthing(place: u16, micro_ohm: u32) -> Element
+pub(crate) fn earthing(place: u16, micro_ohm: u32) -> Element
     ensures { result ≡ earthing place micro_ohm }
 {
     Element {
@@ -21,7 +21,7 @@ pub fn earthing(place: u16, micro_ohm: u32) -> Element
 }
 
 /// The line at a place: a path for each of the three phases, from one bus to another.
-pub fn line(place: u16, from: NodeId, to: NodeId, micro_ohm: u32) -> Element
+pub(crate) fn line(place: u16, from: NodeId, to: NodeId, micro_ohm: u32) -> Element
     ensures { result ≡ line place from.0 to.0 micro_ohm }
 {
     Element {
@@ -35,7 +35,7 @@ pub fn line(place: u16, from: NodeId, to: NodeId, micro_ohm: u32) -> Element
 }
 
 /// A winding of the transformer at a place: a path for each of the three phases.
-pub fn winding(place: u16, role: Role, from: NodeId, to: NodeId, micro_ohm: u32) -> Element
+pub(crate) fn winding(place: u16, role: Role, from: NodeId, to: NodeId, micro_ohm: u32) -> Element
     ensures { result ≡ winding place role from.0 to.0 micro_ohm }
 {
     Element {
@@ -62,7 +62,7 @@ pub fn role_of(role: WindingRole) -> Role
 }
 
 /// The neutral resistor of the transformer at a place: one path from its neutral node to the ground grid.
-pub fn resistor(place: u16, neutral: NodeId, grid: NodeId, micro_ohm: u32) -> Element
+pub(crate) fn resistor(place: u16, neutral: NodeId, grid: NodeId, micro_ohm: u32) -> Element
     ensures { result ≡ resistor place neutral.0 grid.0 micro_ohm }
 {
     Element {

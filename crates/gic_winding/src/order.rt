@@ -9,7 +9,7 @@ use gic_model::{Element, Item};
 
 /// The place of the first element that does not come before the windings of a transformer, in a list in which those that
 /// do come before them stand in front.
-pub fn first_winding(list: &[Element], transformer: u16) -> u16
+pub(crate) fn first_winding(list: &[Element], transformer: u16) -> u16
     requires { length list.now ≤ MOST_ELEMENTS }
     ensures inside { result ≤ length list.now }
     ensures parted { (prefix suffix : List Element) → list.now ≡ prefix ++ suffix →

@@ -19,7 +19,7 @@ fn bus_node(case: &Case, place: u16) -> NodeId
 }
 
 /// The earthing of a substation, if it has one.
-pub fn push_earthing(
+pub(crate) fn push_earthing(
     list: &mut Vec<Element>,
     place: u16,
     ground: Option<u32>,
@@ -33,7 +33,7 @@ pub fn push_earthing(
 }
 
 /// A line, if it is not blocked.
-pub fn push_line(
+pub(crate) fn push_line(
     list: &mut Vec<Element>,
     case: &Case,
     place: u16,
@@ -74,7 +74,7 @@ fn winding_element(case: &Case, place: u16, neutral: NodeId, row: &Winding) -> E
 }
 
 /// The windings of a transformer.
-pub fn push_windings(
+pub(crate) fn push_windings(
     list: &mut Vec<Element>,
     case: &Case,
     place: u16,
@@ -107,7 +107,7 @@ fn push_elements(
 }
 
 /// The resistor in a transformer's neutral, if it has one.
-pub fn push_resistor(
+pub(crate) fn push_resistor(
     list: &mut Vec<Element>,
     case: &Case,
     place: u16,

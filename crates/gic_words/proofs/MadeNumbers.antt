@@ -1,22 +1,22 @@
 -- The numbers of a made case that words give lie in their ranges.
 use Rattle.std.proofs.Common.{◌≡◌, ℕ, ◌≤◌, ℤ, pos, negsuc, ◌≤ℤ◌, Bool, true, false, ◌&&◌, cond, List, [], ◌∷◌, Option, Some, None, Result, refl, arith}
-use Rattle.std.specs.Prelude.{IfOk, IfSome, int_le, ok_or, option_map, option_and_then, unsigned_abs, ⊤}
+use Rattle.std.specs.Prelude.{Ok, Err, IfOk, IfSome, int_le, ok_or, option_map, option_and_then, unsigned_abs}
 use Rattle.std.proofs.lemmas.Int.{ints}
 use Rattle.clap.specs.Words.{Kinds, Row}
 use Rattle.gic_base.specs.Passes.{◌>>=◌}
 use Rattle.gic_text.specs.Decimal.{within, whole_of, read_decimal}
-use Rattle.gic_words.specs.Accepted.{CanBeMade, MadeInRange}
+use Rattle.gic_words.specs.Accepted.{AreOfMade, CanBeMade, MadeInRange}
 use Rattle.gic_words.specs.Command.{faults_of, matches_of_words, given}
-use Rattle.gic_words.specs.Requests.{count_given, text_of, first_fault, request_by, unless_refused, request_in_mode, mode_in, unless_faulty, request_of}
+use Rattle.gic_words.specs.Requests.{as_request, count_given, make_request, first_fault, request_by, unless_refused, request_in_mode, mode_in, unless_faulty, request_of}
 use Rattle.gic_words.specs.Table.{ModeRow, all_options}
 use Rattle.gic_words.specs.Values.{number_in}
 use Rattle.gic_words.specs.declared.mode.Mode.{Mode}
 use Rattle.gic_words.specs.declared.mode.Mode.TheVariants as mode
 use Rattle.gic_words.specs.declared.option.Opt.{Opt}
-use Rattle.gic_words.specs.declared.option.Opt.TheVariants.{Case, Storm, Seed, Size, Cert, Transformer}
+use Rattle.gic_words.specs.declared.option.Opt.TheVariants.{Seed, Size}
 use Rattle.gic_words.specs.declared.request.Request.{Request}
+use Rattle.gic_words.specs.declared.request.Request.TheVariants as request
 use Rattle.gic_words.specs.declared.fault.Usage.{Usage}
-use Rattle.gic_words.specs.declared.fault.Usage.TheVariants as usage
 
 -- ---- a number that words give lies in its range
 
@@ -50,33 +50,38 @@ numbers_in_range least most number None h = tt
 numbers_in_range least most number (Some text) h = counts_in_range least most (number text) (h text)
 
 -- where an option lacks, nothing is asked for
-lacking_or : {A : Type 0} (P : A → Type 0) (value : Option A) (u : Usage) (next : A → Result Request Usage) → IfSome value P → ((a : A) → P a → IfOk (next a) CanBeMade) → IfOk (ok_or value u >>= next) CanBeMade
-lacking_or P None u next h more = tt
-lacking_or P (Some a) u next h more = more a h
+lacking_or : {A B : Type 0} (P : A → Type 0) (Q : B → Type 0) (value : Option A) (u : Usage) (next : A → Result B Usage) → IfSome value P → ((a : A) → P a → IfOk (next a) Q) → IfOk (ok_or value u >>= next) Q
+lacking_or P Q None u next h more = tt
+lacking_or P Q (Some a) u next h more = more a h
 
-text_or : (rows : List Row) (o : Opt) (next : List ℕ → Result Request Usage) → ((text : List ℕ) → IfOk (next text) CanBeMade) → IfOk (text_of rows o >>= next) CanBeMade
-text_or rows o next more = lacking_or (λ text. ⊤) (given rows o) (usage.Missing o) next (any_some (given rows o)) (λ text any. more text)
-  where
-    any_some : (value : Option (List ℕ)) → IfSome value (λ text. ⊤)
-    any_some None = tt
-    any_some (Some text) = tt
+as_made : {A : Type 0} (make : A → Request) (asked : Result A Usage) → IfOk asked (λ a. CanBeMade (make a)) → IfOk (as_request make asked) CanBeMade
+as_made make (Ok a) h = h
+as_made make (Err u) h = tt
+
+-- what has no numbers of a made case
+as_other : {A : Type 0} (make : A → Request) (asked : Result A Usage) → ((a : A) → CanBeMade (make a)) → IfOk (as_request make asked) CanBeMade
+as_other make (Ok a) h = h a
+as_other make (Err u) h = tt
+
+make_in_range : (rows : List Row) → IfOk (make_request rows) (λ r. AreOfMade r.seed r.size)
+make_in_range rows =
+    lacking_or (λ n. (0 ≤ n) × (n ≤ 4294967295)) _ (count_given rows Seed) _ _ (numbers_in_range 0 4294967295 (number_in Seed) (given rows Seed) (λ text. read_in_range text (pos 0) (pos 4294967295)))
+    (λ seed fits. lacking_or (λ n. (2 ≤ n) × (n ≤ 1000)) _ (count_given rows Size) _ _ (numbers_in_range 2 1000 (number_in Size) (given rows Size) (λ text. read_in_range text (pos 2) (pos 1000)))
+    (λ size within. record { seed_fits = fits.1; size_fits = record { least = within.0; most = within.1 } }))
 
 made_by : (m : Mode) (rows : List Row) → IfOk (request_by m rows) CanBeMade
-made_by mode.Volts rows = text_or rows Case _ (λ case. tt)
-made_by mode.List rows = text_or rows Case _ (λ case. tt)
-made_by mode.Check rows = text_or rows Case _ (λ case. tt)
-made_by mode.Field rows = text_or rows Case _ (λ case. tt)
-made_by mode.Screen rows = text_or rows Case _ (λ case. tt)
-made_by mode.Certify rows = text_or rows Case _ (λ case. tt)
-made_by mode.Outage rows = text_or rows Case _ (λ case. tt)
-made_by mode.Study rows = text_or rows Case _ (λ case. text_or rows Storm _ (λ storm. tt))
-made_by mode.Make rows =
-    lacking_or (λ n. (0 ≤ n) × (n ≤ 4294967295)) (count_given rows Seed) _ _ (numbers_in_range 0 4294967295 (number_in Seed) (given rows Seed) (λ text. read_in_range text (pos 0) (pos 4294967295)))
-    (λ seed fits. lacking_or (λ n. (2 ≤ n) × (n ≤ 1000)) (count_given rows Size) _ _ (numbers_in_range 2 1000 (number_in Size) (given rows Size) (λ text. read_in_range text (pos 2) (pos 1000)))
-    (λ size within. record { seed_fits = fits.1; size_fits = record { least = within.0; most = within.1 } }))
-made_by mode.Recheck rows = text_or rows Case _ (λ case. text_or rows Cert _ (λ cert. tt))
-made_by mode.Series rows = text_or rows Case _ (λ case. text_or rows Storm _ (λ storm. text_or rows Transformer _ (λ transformer. tt)))
-made_by mode.Review rows = text_or rows Case _ (λ case. tt)
+made_by mode.Volts rows = as_other request.Volts _ (λ r. tt)
+made_by mode.List rows = as_other request.List _ (λ case. tt)
+made_by mode.Check rows = as_other request.Check _ (λ r. tt)
+made_by mode.Field rows = as_other request.Field _ (λ r. tt)
+made_by mode.Screen rows = as_other request.Screen _ (λ r. tt)
+made_by mode.Certify rows = as_other request.Certify _ (λ r. tt)
+made_by mode.Outage rows = as_other request.Outage _ (λ r. tt)
+made_by mode.Study rows = as_other request.Study _ (λ r. tt)
+made_by mode.Make rows = as_made request.Make _ (make_in_range rows)
+made_by mode.Recheck rows = as_other request.Recheck _ (λ r. tt)
+made_by mode.Series rows = as_other request.Series _ (λ r. tt)
+made_by mode.Review rows = as_other request.Review _ (λ case. tt)
 
 made_unless : (asked : Result Request Usage) (u : Option Usage) → IfOk asked CanBeMade → IfOk (unless_refused u asked) CanBeMade
 made_unless asked None h = h

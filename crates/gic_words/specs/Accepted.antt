@@ -5,9 +5,10 @@ use Rattle.gic_criteria.specs.Ranges.{IsWidth, IsWithinCriteria, IsWithinField}
 use Rattle.gic_words.specs.Command.{given}
 use Rattle.gic_words.specs.Requests.{first_fault, mode_in, number_given, request_by, request_of}
 use Rattle.gic_words.specs.Table.{all_options}
+use Rattle.gic_words.specs.Values.{event_of}
 use Rattle.gic_words.specs.declared.mode.Mode.{Mode}
 use Rattle.gic_words.specs.declared.mode.Mode.TheVariants as mode
-use Rattle.gic_words.specs.declared.option.Opt.TheVariants.{Case, Storm, Seed, Size, Cert, Transformer}
+use Rattle.gic_words.specs.declared.option.Opt.TheVariants.{Case, Storm, Seed, Size, Event, Cert, Transformer}
 use Rattle.gic_words.specs.declared.request.Request.{Request}
 use Rattle.gic_words.specs.declared.request.Request.TheVariants as request
 
@@ -26,9 +27,18 @@ HasRequiredOf mode.Recheck rows = IsSome (given rows Case) × IsSome (given rows
 HasRequiredOf mode.Series rows = IsSome (given rows Case) × (IsSome (given rows Storm) × IsSome (given rows Transformer))
 HasRequiredOf mode.Review rows = IsSome (given rows Case)
 
+-- an event that is given is one by its name
+abbrev pub NamesEvent : List Row → Type 0
+NamesEvent rows = IfSome (given rows Event) (λ text. IsSome (event_of text))
+
 -- matches without a fault have all that their mode's request is made of
+pub record IsGivenAll (mode : Mode) (rows : List Row) : Type 0 where
+  pub required : HasRequiredOf mode rows
+  pub event : NamesEvent rows
+  pub made : IsOk (request_by mode rows)
+
 abbrev pub RequiredIsGiven : List Row → Type 0
-RequiredIsGiven rows = IfSome (mode_in rows) (λ r. first_fault r rows all_options ≡ None → HasRequiredOf r.mode rows × IsOk (request_by r.mode rows))
+RequiredIsGiven rows = IfSome (mode_in rows) (λ r. first_fault r rows all_options ≡ None → IsGivenAll r.mode rows)
 
 -- a number of sites that a made case may have
 pub record IsSize (n : ℕ) : Type 0 where
@@ -42,7 +52,7 @@ pub record AreOfMade (seed size : ℕ) : Type 0 where
 
 -- a request for a made case has them in their ranges
 abbrev pub CanBeMade : Request → Type 0
-CanBeMade (request.Make seed size) = AreOfMade seed size
+CanBeMade (request.Make r) = AreOfMade r.seed r.size
 CanBeMade _ = ⊤
 
 -- accepted words ask for none out of them
@@ -51,12 +61,12 @@ MadeInRange = (words : List (List ℕ)) → IfOk (request_of words) CanBeMade
 
 -- the numbers are in their ranges
 abbrev pub AreWithinRanges : Request → Type 0
-AreWithinRanges (request.Volts case field) = IsWithinField field
-AreWithinRanges (request.Field case switch field criteria) = IsWithinField field × IsWithinCriteria criteria
-AreWithinRanges (request.Screen case switch criteria) = IsWithinCriteria criteria
-AreWithinRanges (request.Certify case switch field) = IsWithinField field
-AreWithinRanges (request.Outage case switch criteria) = IsWithinCriteria criteria
-AreWithinRanges (request.Study case storm switch criteria detail) = IsWithinCriteria criteria
-AreWithinRanges (request.Make seed size) = IsSize size
-AreWithinRanges (request.Series case storm switch width transformer) = IsWidth width
+AreWithinRanges (request.Volts r) = IsWithinField r.field
+AreWithinRanges (request.Field r) = IsWithinField r.field × IsWithinCriteria r.criteria
+AreWithinRanges (request.Screen r) = IsWithinCriteria r.criteria
+AreWithinRanges (request.Certify r) = IsWithinField r.field
+AreWithinRanges (request.Outage r) = IsWithinCriteria r.criteria
+AreWithinRanges (request.Study r) = IsWithinCriteria r.criteria
+AreWithinRanges (request.Make r) = IsSize r.size
+AreWithinRanges (request.Series r) = IsWidth r.width
 AreWithinRanges _ = ⊤

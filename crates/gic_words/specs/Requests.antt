@@ -14,6 +14,15 @@ use Rattle.gic_words.specs.declared.option.Form.TheVariants as form
 use Rattle.gic_words.specs.declared.mode.Mode.{Mode}
 use Rattle.gic_words.specs.declared.mode.Mode.TheVariants as mode
 use Rattle.gic_words.specs.declared.request.Request.{Request}
+use Rattle.gic_words.specs.declared.request.VoltsRequest.{VoltsRequest}
+use Rattle.gic_words.specs.declared.request.CheckRequest.{CheckRequest}
+use Rattle.gic_words.specs.declared.request.FieldRequest.{FieldRequest}
+use Rattle.gic_words.specs.declared.request.WorstRequest.{WorstRequest}
+use Rattle.gic_words.specs.declared.request.CertifyRequest.{CertifyRequest}
+use Rattle.gic_words.specs.declared.request.StudyRequest.{StudyRequest}
+use Rattle.gic_words.specs.declared.request.MakeRequest.{MakeRequest}
+use Rattle.gic_words.specs.declared.request.RecheckRequest.{RecheckRequest}
+use Rattle.gic_words.specs.declared.request.SeriesRequest.{SeriesRequest}
 use Rattle.gic_words.specs.declared.request.Request.TheVariants as request
 use Rattle.gic_criteria.specs.Questions.{no_field, usual_criteria}
 use Rattle.gic_criteria.specs.declared.asked.Criteria.{Criteria}
@@ -93,49 +102,76 @@ text_of rows o = ok_or (given rows o) (usage.Missing o)
 abbrev pub count_of : List Row → Opt → Result ℕ Usage
 count_of rows o = ok_or (count_given rows o) (usage.Missing o)
 
--- what is asked for; one row a mode
-abbrev pub request_by : Mode → List Row → Result Request Usage
-request_by mode.Volts rows = do
+-- what each mode is asked
+abbrev pub volts_request : List Row → Result VoltsRequest Usage
+volts_request rows = do
   case ← text_of rows Case
-  Ok (request.Volts case (field_given rows))
-request_by mode.List rows = do
+  Ok (record { case = case; field = field_given rows })
+
+abbrev pub check_request : List Row → Result CheckRequest Usage
+check_request rows = do
   case ← text_of rows Case
-  Ok (request.List case)
-request_by mode.Check rows = do
+  Ok (record { case = case; switch = given rows Switch })
+
+abbrev pub field_request : List Row → Result FieldRequest Usage
+field_request rows = do
   case ← text_of rows Case
-  Ok (request.Check case (given rows Switch))
-request_by mode.Field rows = do
+  Ok (record { case = case; switch = given rows Switch; field = field_given rows; criteria = criteria_given rows })
+
+abbrev pub worst_request : List Row → Result WorstRequest Usage
+worst_request rows = do
   case ← text_of rows Case
-  Ok (request.Field case (given rows Switch) (field_given rows) (criteria_given rows))
-request_by mode.Screen rows = do
+  Ok (record { case = case; switch = given rows Switch; criteria = criteria_given rows })
+
+abbrev pub certify_request : List Row → Result CertifyRequest Usage
+certify_request rows = do
   case ← text_of rows Case
-  Ok (request.Screen case (given rows Switch) (criteria_given rows))
-request_by mode.Certify rows = do
-  case ← text_of rows Case
-  Ok (request.Certify case (given rows Switch) (field_given rows))
-request_by mode.Outage rows = do
-  case ← text_of rows Case
-  Ok (request.Outage case (given rows Switch) (criteria_given rows))
-request_by mode.Study rows = do
+  Ok (record { case = case; switch = given rows Switch; field = field_given rows })
+
+abbrev pub study_request : List Row → Result StudyRequest Usage
+study_request rows = do
   case ← text_of rows Case
   storm ← text_of rows Storm
-  Ok (request.Study case storm (given rows Switch) (criteria_given rows) (count_given rows Detail))
-request_by mode.Make rows = do
+  Ok (record { case = case; storm = storm; switch = given rows Switch; criteria = criteria_given rows; detail = count_given rows Detail })
+
+abbrev pub make_request : List Row → Result MakeRequest Usage
+make_request rows = do
   seed ← count_of rows Seed
   size ← count_of rows Size
-  Ok (request.Make seed size)
-request_by mode.Recheck rows = do
+  Ok (record { seed = seed; size = size })
+
+abbrev pub recheck_request : List Row → Result RecheckRequest Usage
+recheck_request rows = do
   case ← text_of rows Case
   cert ← text_of rows Cert
-  Ok (request.Recheck case (given rows Switch) cert)
-request_by mode.Series rows = do
+  Ok (record { case = case; switch = given rows Switch; cert = cert })
+
+abbrev pub series_request : List Row → Result SeriesRequest Usage
+series_request rows = do
   case ← text_of rows Case
   storm ← text_of rows Storm
   transformer ← text_of rows Transformer
-  Ok (request.Series case storm (given rows Switch) (width_given rows) transformer)
-request_by mode.Review rows = do
-  case ← text_of rows Case
-  Ok (request.Review case)
+  Ok (record { case = case; storm = storm; switch = given rows Switch; width = width_given rows; transformer = transformer })
+
+-- what is asked for, where it is asked rightly
+abbrev pub as_request : {A : Type 0} → (A → Request) → Result A Usage → Result Request Usage
+as_request make (Ok a) = Ok (make a)
+as_request make (Err u) = Err u
+
+-- what is asked for; one row a mode
+abbrev pub request_by : Mode → List Row → Result Request Usage
+request_by mode.Volts rows = as_request request.Volts (volts_request rows)
+request_by mode.List rows = as_request request.List (text_of rows Case)
+request_by mode.Check rows = as_request request.Check (check_request rows)
+request_by mode.Field rows = as_request request.Field (field_request rows)
+request_by mode.Screen rows = as_request request.Screen (worst_request rows)
+request_by mode.Certify rows = as_request request.Certify (certify_request rows)
+request_by mode.Outage rows = as_request request.Outage (worst_request rows)
+request_by mode.Study rows = as_request request.Study (study_request rows)
+request_by mode.Make rows = as_request request.Make (make_request rows)
+request_by mode.Recheck rows = as_request request.Recheck (recheck_request rows)
+request_by mode.Series rows = as_request request.Series (series_request rows)
+request_by mode.Review rows = as_request request.Review (text_of rows Case)
 
 -- ---- the words
 

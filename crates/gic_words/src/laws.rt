@@ -20,7 +20,7 @@ pub fn required_law()
 {}
 
 /// Words without a fault give all that their mode's request is made of, so no request is refused for what is missing but by
-/// the first fault.
+/// the first fault, and an event that they give is one by its name.
 pub fn required_given_law()
     ensures { (rows : List Row) → RequiredIsGiven rows }
 {}
@@ -43,14 +43,14 @@ pub fn refused_words_law()
 /// What some words ask for that are accepted.
 pub fn accepted_words_law()
     ensures both_fields { request_of (codes "volts" ∷ codes "--case=p" ∷ codes "--north=-500" ∷ codes "--east" ∷ codes "7" ∷ [])
-        ≡ Ok (request.Volts (codes "p") (record { north = negsuc 499; east = pos 7 })) }
+        ≡ Ok (request.Volts (record { case = codes "p"; field = record { north = negsuc 499; east = pos 7 } })) }
     ensures whole_field { request_of (codes "field" ∷ codes "--case=p" ∷ codes "--north=8000" ∷ codes "--east=-1" ∷ codes "--switch=s" ∷ codes "--width=10" ∷ codes "--event=supplemental" ∷ [])
-        ≡ Ok (request.Field (codes "p") (Some (codes "s")) (record { north = pos 8000; east = negsuc 0 }) (record { width = 10; event = Supplemental })) }
+        ≡ Ok (request.Field (record { case = codes "p"; switch = Some (codes "s"); field = record { north = pos 8000; east = negsuc 0 }; criteria = record { width = 10; event = Supplemental } })) }
     ensures studied { request_of (codes "study" ∷ codes "--case=p" ∷ codes "--storm=s" ∷ codes "--switch=w" ∷ codes "--width=10" ∷ codes "--detail=20000" ∷ [])
-        ≡ Ok (request.Study (codes "p") (codes "s") (Some (codes "w")) (record usual_criteria { width = 10 }) (Some 20000)) }
-    ensures made { request_of (codes "make" ∷ codes "--seed=0" ∷ codes "--size=1000" ∷ []) ≡ Ok (request.Make 0 1000) }
+        ≡ Ok (request.Study (record { case = codes "p"; storm = codes "s"; switch = Some (codes "w"); criteria = record usual_criteria { width = 10 }; detail = Some 20000 })) }
+    ensures made { request_of (codes "make" ∷ codes "--seed=0" ∷ codes "--size=1000" ∷ []) ≡ Ok (request.Make (record { seed = 0; size = 1000 })) }
     ensures rechecked { request_of (codes "recheck" ∷ codes "--case=p" ∷ codes "--cert=" ∷ codes "--switch=s" ∷ [])
-        ≡ Ok (request.Recheck (codes "p") (Some (codes "s")) []) }
+        ≡ Ok (request.Recheck (record { case = codes "p"; switch = Some (codes "s"); cert = [] })) }
     ensures whole_series { request_of (codes "series" ∷ codes "--transformer=TA" ∷ codes "--width=10" ∷ codes "--switch=w" ∷ codes "--storm=s" ∷ codes "--case=p" ∷ [])
-        ≡ Ok (request.Series (codes "p") (codes "s") (Some (codes "w")) 10 (codes "TA")) }
+        ≡ Ok (request.Series (record { case = codes "p"; storm = codes "s"; switch = Some (codes "w"); width = 10; transformer = codes "TA" })) }
 {}

@@ -3,10 +3,13 @@ ghost use Rattle.std.specs.Prelude.{◌≡◌, ◌≤◌, IfOk, IfSome, IsSome, 
 ghost use Rattle.clap.specs.Words.{rows_of, found_of};
 ghost use Rattle.gic_base.specs.declared.limits.TheConstants.{MOST_FIELD};
 ghost use Rattle.gic_criteria.specs.Ranges.{IsWidth, IsWithinCriteria, IsWithinField};
-ghost use Rattle.gic_words.specs.Accepted.{AreWithinRanges, HasRequiredOf, IsSize};
+ghost use Rattle.gic_words.specs.Accepted.{AreWithinRanges, HasRequiredOf, IsSize, NamesEvent};
 ghost use Rattle.gic_words.specs.Command.{given};
 ghost use Rattle.gic_words.specs.Within.{IsWithinOption};
-ghost use Rattle.gic_words.specs.Requests.{number_given, count_given, part_given, field_given, width_given, event_given, criteria_given, mode_in};
+ghost use Rattle.gic_words.specs.Requests.{number_given, count_given, part_given, field_given, width_given, event_given, criteria_given};
+ghost use Rattle.gic_words.specs.Requests.{mode_in};
+ghost use Rattle.gic_words.specs.Requests.{volts_request, check_request, field_request, worst_request, certify_request, study_request};
+ghost use Rattle.gic_words.specs.Requests.{make_request, recheck_request, series_request};
 ghost use Rattle.gic_words.specs.Requests.{request_by, request_of, request_of_rows};
 ghost use Rattle.gic_words.specs.Reads.{ReadsWords, KeepsTaken};
 ghost use Rattle.gic_words.specs.Seen.{row_seen};
@@ -21,80 +24,130 @@ use clap::ArgMatches;
 use gic_criteria::{Criteria, Event, UniformField};
 use std::alloc::{AllocError, Global};
 
-/// What words ask for: a mode, and what that mode is given. `case`, `storm`, `switch` and `cert` are the names of the files
-/// of the case, of the storm, of the switchings and of the certificate.
+/// What `volts` is asked.
+#[derive(Drop)]
+pub struct VoltsRequest {
+    /// The name of the case's file.
+    pub case: FileName,
+    pub field: UniformField,
+}
+
+/// What `check` is asked.
+#[derive(Drop)]
+pub struct CheckRequest {
+    /// The name of the case's file.
+    pub case: FileName,
+    /// The name of the switchings' file.
+    pub switch: Option<FileName>,
+}
+
+/// What `field` is asked.
+#[derive(Drop)]
+pub struct FieldRequest {
+    /// The name of the case's file.
+    pub case: FileName,
+    /// The name of the switchings' file.
+    pub switch: Option<FileName>,
+    pub field: UniformField,
+    pub criteria: Criteria,
+}
+
+/// What a mode is asked that looks for the worst orientation of an event's field: `screen` or `outage`.
+#[derive(Drop)]
+pub struct WorstRequest {
+    /// The name of the case's file.
+    pub case: FileName,
+    /// The name of the switchings' file.
+    pub switch: Option<FileName>,
+    pub criteria: Criteria,
+}
+
+/// What `certify` is asked.
+#[derive(Drop)]
+pub struct CertifyRequest {
+    /// The name of the case's file.
+    pub case: FileName,
+    /// The name of the switchings' file.
+    pub switch: Option<FileName>,
+    pub field: UniformField,
+}
+
+/// What `study` is asked.
+#[derive(Drop)]
+pub struct StudyRequest {
+    /// The name of the case's file.
+    pub case: FileName,
+    /// The name of the storm's file.
+    pub storm: FileName,
+    /// The name of the switchings' file.
+    pub switch: Option<FileName>,
+    pub criteria: Criteria,
+    /// The step that is shown in detail, from 1 to 20000.
+    pub detail: Option<u32>,
+}
+
+/// What `make` is asked.
+#[derive(Clone, Copy, Debug)]
+pub struct MakeRequest {
+    /// What the case is drawn from.
+    pub seed: u32,
+    /// How many sites it has, from 2 to 1000.
+    pub size: u16,
+}
+
+/// What `recheck` is asked.
+#[derive(Drop)]
+pub struct RecheckRequest {
+    /// The name of the case's file.
+    pub case: FileName,
+    /// The name of the switchings' file.
+    pub switch: Option<FileName>,
+    /// The name of the certificate's file.
+    pub cert: FileName,
+}
+
+/// What `series` is asked.
+#[derive(Drop)]
+pub struct SeriesRequest {
+    /// The name of the case's file.
+    pub case: FileName,
+    /// The name of the storm's file.
+    pub storm: FileName,
+    /// The name of the switchings' file.
+    pub switch: Option<FileName>,
+    /// The width of an interval, from 10 to 10000 mA.
+    pub width: u32,
+    /// The name of a transformer of the case.
+    pub transformer: Text,
+}
+
+/// What words ask for: a mode, and what that mode is asked.
 #[derive(Drop)]
 pub enum Request {
     /// The voltage of each line in one field.
-    Volts {
-        case: FileName,
-        field: UniformField,
-    },
-    /// The elements of the direct-current network.
-    List {
-        case: FileName,
-    },
+    Volts(VoltsRequest),
+    /// The elements of the direct-current network of the case of this file.
+    List(FileName),
     /// The live and the dead nodes, where each live one is earthed.
-    Check {
-        case: FileName,
-        switch: Option<FileName>,
-    },
+    Check(CheckRequest),
     /// Potentials and currents in one field, with verdicts.
-    Field {
-        case: FileName,
-        switch: Option<FileName>,
-        field: UniformField,
-        criteria: Criteria,
-    },
+    Field(FieldRequest),
     /// The worst orientation of the event's uniform field for each transformer, with verdicts.
-    Screen {
-        case: FileName,
-        switch: Option<FileName>,
-        criteria: Criteria,
-    },
+    Screen(WorstRequest),
     /// A certificate of the potentials in one field.
-    Certify {
-        case: FileName,
-        switch: Option<FileName>,
-        field: UniformField,
-    },
+    Certify(CertifyRequest),
     /// The worst orientations once more without each line and without each transformer.
-    Outage {
-        case: FileName,
-        switch: Option<FileName>,
-        criteria: Criteria,
-    },
-    /// A storm over the network of a case. `detail` is the step that is shown in detail, from 1 to 20000.
-    Study {
-        case: FileName,
-        storm: FileName,
-        switch: Option<FileName>,
-        criteria: Criteria,
-        detail: Option<u32>,
-    },
-    /// A summary of the made case of a seed and a number of sites, from 2 to 1000.
-    Make {
-        seed: u32,
-        size: u16,
-    },
+    Outage(WorstRequest),
+    /// A storm over the network of a case.
+    Study(StudyRequest),
+    /// A summary of a made case.
+    Make(MakeRequest),
     /// The potentials that a certificate shows.
-    Recheck {
-        case: FileName,
-        switch: Option<FileName>,
-        cert: FileName,
-    },
-    /// One transformer at each step of a storm: its name in the case, and the width of an interval, from 10 to 10000 mA.
-    Series {
-        case: FileName,
-        storm: FileName,
-        switch: Option<FileName>,
-        width: u32,
-        transformer: Text,
-    },
-    /// What the case says that its writer may not have meant.
-    Review {
-        case: FileName,
-    },
+    Recheck(RecheckRequest),
+    /// One transformer at each step of a storm.
+    Series(SeriesRequest),
+    /// What the case of this file says that its writer may not have meant.
+    Review(FileName),
 }
 
 /// The text of an option that is given.
@@ -188,19 +241,18 @@ fn width(matches: &ArgMatches<'_>) -> u32
 
 /// The event that transformers are screened for.
 fn event(matches: &ArgMatches<'_>) -> Event
+    requires { NamesEvent (rows_of (found_of matches.now)) }
     ensures { result ≡ event_given (rows_of (found_of matches.now)) }
 {
     match value_of(matches, Opt::Event) {
-        Some(text) => match read_event(text) {
-            Some(event) => event,
-            None => Event::Benchmark,
-        },
+        Some(text) => read_event(text).unwrap(),
         None => Event::Benchmark,
     }
 }
 
 /// The criteria of a report.
 fn criteria(matches: &ArgMatches<'_>) -> Criteria
+    requires { NamesEvent (rows_of (found_of matches.now)) }
     ensures value { result ≡ criteria_given (rows_of (found_of matches.now)) }
     ensures within { IsWithinCriteria result }
 {
@@ -237,71 +289,151 @@ fn size(matches: &ArgMatches<'_>) -> u16
     number(matches, Opt::Size).unwrap() as u16
 }
 
+/// What `volts` is asked.
+fn volts_request(alloc: Global, matches: &ArgMatches<'_>) -> Result<VoltsRequest, AllocError>
+    requires { IsSome (given (rows_of (found_of matches.now)) Opt.Case) }
+    ensures value { IfOk result (λ r. volts_request (rows_of (found_of matches.now)) ≡ Ok r) }
+    ensures within { IfOk result (λ r. IsWithinField r.field) }
+{
+    Ok(VoltsRequest {
+        case: file(alloc, matches, Opt::Case)?,
+        field: field(matches),
+    })
+}
+
+/// What `check` is asked.
+fn check_request(alloc: Global, matches: &ArgMatches<'_>) -> Result<CheckRequest, AllocError>
+    requires { IsSome (given (rows_of (found_of matches.now)) Opt.Case) }
+    ensures { IfOk result (λ r. check_request (rows_of (found_of matches.now)) ≡ Ok r) }
+{
+    Ok(CheckRequest {
+        case: file(alloc, matches, Opt::Case)?,
+        switch: switchings_file(alloc, matches)?,
+    })
+}
+
+/// What `field` is asked.
+fn field_request(alloc: Global, matches: &ArgMatches<'_>) -> Result<FieldRequest, AllocError>
+    requires case { IsSome (given (rows_of (found_of matches.now)) Opt.Case) }
+    requires event { NamesEvent (rows_of (found_of matches.now)) }
+    ensures value { IfOk result (λ r. field_request (rows_of (found_of matches.now)) ≡ Ok r) }
+    ensures within { IfOk result (λ r. IsWithinField r.field × IsWithinCriteria r.criteria) }
+{
+    Ok(FieldRequest {
+        case: file(alloc, matches, Opt::Case)?,
+        switch: switchings_file(alloc, matches)?,
+        field: field(matches),
+        criteria: criteria(matches),
+    })
+}
+
+/// What `screen` or `outage` is asked.
+fn worst_request(alloc: Global, matches: &ArgMatches<'_>) -> Result<WorstRequest, AllocError>
+    requires case { IsSome (given (rows_of (found_of matches.now)) Opt.Case) }
+    requires event { NamesEvent (rows_of (found_of matches.now)) }
+    ensures value { IfOk result (λ r. worst_request (rows_of (found_of matches.now)) ≡ Ok r) }
+    ensures within { IfOk result (λ r. IsWithinCriteria r.criteria) }
+{
+    Ok(WorstRequest {
+        case: file(alloc, matches, Opt::Case)?,
+        switch: switchings_file(alloc, matches)?,
+        criteria: criteria(matches),
+    })
+}
+
+/// What `certify` is asked.
+fn certify_request(alloc: Global, matches: &ArgMatches<'_>) -> Result<CertifyRequest, AllocError>
+    requires { IsSome (given (rows_of (found_of matches.now)) Opt.Case) }
+    ensures value { IfOk result (λ r. certify_request (rows_of (found_of matches.now)) ≡ Ok r) }
+    ensures within { IfOk result (λ r. IsWithinField r.field) }
+{
+    Ok(CertifyRequest {
+        case: file(alloc, matches, Opt::Case)?,
+        switch: switchings_file(alloc, matches)?,
+        field: field(matches),
+    })
+}
+
+/// What `study` is asked.
+fn study_request(alloc: Global, matches: &ArgMatches<'_>) -> Result<StudyRequest, AllocError>
+    requires case { IsSome (given (rows_of (found_of matches.now)) Opt.Case) }
+    requires storm { IsSome (given (rows_of (found_of matches.now)) Opt.Storm) }
+    requires event { NamesEvent (rows_of (found_of matches.now)) }
+    ensures value { IfOk result (λ r. study_request (rows_of (found_of matches.now)) ≡ Ok r) }
+    ensures within { IfOk result (λ r. IsWithinCriteria r.criteria) }
+{
+    Ok(StudyRequest {
+        case: file(alloc, matches, Opt::Case)?,
+        storm: file(alloc, matches, Opt::Storm)?,
+        switch: switchings_file(alloc, matches)?,
+        criteria: criteria(matches),
+        detail: detail(matches),
+    })
+}
+
+/// What `recheck` is asked.
+fn recheck_request(alloc: Global, matches: &ArgMatches<'_>) -> Result<RecheckRequest, AllocError>
+    requires case { IsSome (given (rows_of (found_of matches.now)) Opt.Case) }
+    requires cert { IsSome (given (rows_of (found_of matches.now)) Opt.Cert) }
+    ensures { IfOk result (λ r. recheck_request (rows_of (found_of matches.now)) ≡ Ok r) }
+{
+    Ok(RecheckRequest {
+        case: file(alloc, matches, Opt::Case)?,
+        switch: switchings_file(alloc, matches)?,
+        cert: file(alloc, matches, Opt::Cert)?,
+    })
+}
+
+/// What `series` is asked.
+fn series_request(alloc: Global, matches: &ArgMatches<'_>) -> Result<SeriesRequest, AllocError>
+    requires case { IsSome (given (rows_of (found_of matches.now)) Opt.Case) }
+    requires storm { IsSome (given (rows_of (found_of matches.now)) Opt.Storm) }
+    requires transformer { IsSome (given (rows_of (found_of matches.now)) Opt.Transformer) }
+    ensures value { IfOk result (λ r. series_request (rows_of (found_of matches.now)) ≡ Ok r) }
+    ensures within { IfOk result (λ r. IsWidth r.width) }
+{
+    Ok(SeriesRequest {
+        case: file(alloc, matches, Opt::Case)?,
+        storm: file(alloc, matches, Opt::Storm)?,
+        switch: switchings_file(alloc, matches)?,
+        width: width(matches),
+        transformer: transformer(alloc, matches)?,
+    })
+}
+
+/// What `make` is asked.
+fn make_request(matches: &ArgMatches<'_>) -> MakeRequest
+    requires seed { IsSome (number_given (rows_of (found_of matches.now)) Opt.Seed) }
+    requires size { IsSome (number_given (rows_of (found_of matches.now)) Opt.Size) }
+    ensures value { make_request (rows_of (found_of matches.now)) ≡ Ok result }
+    ensures within { IsSize result.size }
+{
+    MakeRequest {
+        seed: seed(matches),
+        size: size(matches),
+    }
+}
+
 /// What the matches of a mode ask for, which give all that the mode requires.
 fn request_by(alloc: Global, mode: Mode, matches: &ArgMatches<'_>) -> Result<Request, AllocError>
-    requires { HasRequiredOf mode (rows_of (found_of matches.now)) }
+    requires required { HasRequiredOf mode (rows_of (found_of matches.now)) }
+    requires event { NamesEvent (rows_of (found_of matches.now)) }
     ensures value { IfOk result (λ r. request_by mode (rows_of (found_of matches.now)) ≡ Ok r) }
     ensures within { IfOk result AreWithinRanges }
 {
     match mode {
-        Mode::Volts => Ok(Request::Volts {
-            case: file(alloc, matches, Opt::Case)?,
-            field: field(matches),
-        }),
-        Mode::List => Ok(Request::List {
-            case: file(alloc, matches, Opt::Case)?,
-        }),
-        Mode::Check => Ok(Request::Check {
-            case: file(alloc, matches, Opt::Case)?,
-            switch: switchings_file(alloc, matches)?,
-        }),
-        Mode::Field => Ok(Request::Field {
-            case: file(alloc, matches, Opt::Case)?,
-            switch: switchings_file(alloc, matches)?,
-            field: field(matches),
-            criteria: criteria(matches),
-        }),
-        Mode::Screen => Ok(Request::Screen {
-            case: file(alloc, matches, Opt::Case)?,
-            switch: switchings_file(alloc, matches)?,
-            criteria: criteria(matches),
-        }),
-        Mode::Certify => Ok(Request::Certify {
-            case: file(alloc, matches, Opt::Case)?,
-            switch: switchings_file(alloc, matches)?,
-            field: field(matches),
-        }),
-        Mode::Outage => Ok(Request::Outage {
-            case: file(alloc, matches, Opt::Case)?,
-            switch: switchings_file(alloc, matches)?,
-            criteria: criteria(matches),
-        }),
-        Mode::Study => Ok(Request::Study {
-            case: file(alloc, matches, Opt::Case)?,
-            storm: file(alloc, matches, Opt::Storm)?,
-            switch: switchings_file(alloc, matches)?,
-            criteria: criteria(matches),
-            detail: detail(matches),
-        }),
-        Mode::Make => Ok(Request::Make {
-            seed: seed(matches),
-            size: size(matches),
-        }),
-        Mode::Recheck => Ok(Request::Recheck {
-            case: file(alloc, matches, Opt::Case)?,
-            switch: switchings_file(alloc, matches)?,
-            cert: file(alloc, matches, Opt::Cert)?,
-        }),
-        Mode::Series => Ok(Request::Series {
-            case: file(alloc, matches, Opt::Case)?,
-            storm: file(alloc, matches, Opt::Storm)?,
-            switch: switchings_file(alloc, matches)?,
-            width: width(matches),
-            transformer: transformer(alloc, matches)?,
-        }),
-        Mode::Review => Ok(Request::Review {
-            case: file(alloc, matches, Opt::Case)?,
-        }),
+        Mode::Volts => Ok(Request::Volts(volts_request(alloc, matches)?)),
+        Mode::List => Ok(Request::List(file(alloc, matches, Opt::Case)?)),
+        Mode::Check => Ok(Request::Check(check_request(alloc, matches)?)),
+        Mode::Field => Ok(Request::Field(field_request(alloc, matches)?)),
+        Mode::Screen => Ok(Request::Screen(worst_request(alloc, matches)?)),
+        Mode::Certify => Ok(Request::Certify(certify_request(alloc, matches)?)),
+        Mode::Outage => Ok(Request::Outage(worst_request(alloc, matches)?)),
+        Mode::Study => Ok(Request::Study(study_request(alloc, matches)?)),
+        Mode::Make => Ok(Request::Make(make_request(matches))),
+        Mode::Recheck => Ok(Request::Recheck(recheck_request(alloc, matches)?)),
+        Mode::Series => Ok(Request::Series(series_request(alloc, matches)?)),
+        Mode::Review => Ok(Request::Review(file(alloc, matches, Opt::Case)?)),
     }
 }
 

@@ -87,9 +87,12 @@ impl ScreenRows {
 pub(crate) fn fill_rows(north: &StepView, east: &StepView, rows: &mut ScreenRows)
     requires north_count { length rows.old ≡ length north.now.effective }
     requires east_count { length rows.old ≡ length east.now.effective }
-    requires north_small { (t : ℕ) → t < length rows.old → IsWithin (2 ^ 52) (effective_at north.now t).low (effective_at north.now t).high }
-    requires east_small { (t : ℕ) → t < length rows.old → IsWithin (2 ^ 52) (effective_at east.now t).low (effective_at east.now t).high }
-    ensures filled { (t : ℕ) → t < length rows.new → IsRowOf (effective_at north.now t) (effective_at east.now t) (screen_row_at rows.new t) }
+    requires north_small { (t : ℕ) → t < length rows.old →
+        IsWithin (2 ^ 52) (effective_at north.now t).low (effective_at north.now t).high }
+    requires east_small { (t : ℕ) → t < length rows.old →
+        IsWithin (2 ^ 52) (effective_at east.now t).low (effective_at east.now t).high }
+    ensures filled { (t : ℕ) → t < length rows.new →
+        IsRowOf (effective_at north.now t) (effective_at east.now t) (screen_row_at rows.new t) }
     ensures count { length rows.new ≡ length rows.old }
 {
     let (_, _, count) = north.sizes();

@@ -1,5 +1,6 @@
 //! The transformers of a network, screened in two fields.
-ghost use Rattle.std.specs.Prelude.{◌≡◌, ◌/◌, ◌≤◌, length, IfErr, IfOk, OnOk};
+ghost use Rattle.std.specs.Prelude.{◌≡◌, ◌/◌, length, IfErr, IfOk, OnOk};
+ghost use Rattle.gic_criteria.specs.Ranges.{IsWidth};
 ghost use Rattle.gic_model.specs.Voltages.{number_at};
 ghost use Rattle.gic_net.specs.Net.{standing};
 ghost use Rattle.gic_winding.specs.ElementList.{elements_of};
@@ -79,10 +80,10 @@ pub fn screen_net(
 ) -> Result<(), NetworkRefusal>
     requires net { net.now.network ≡ elements_of case.now }
     requires volts { AreVoltsFor (length net.now.network.list) volts.now }
-    requires least { 10 ≤ width }
-    requires most { width ≤ 10000 }
+    requires width { IsWidth width }
     requires workspace { IsScreenWorkspaceFor case.now workspace.old }
-    ensures right { OnOk result (AreScreened case.now (standing net.now) (number_at volts.now.north) (number_at volts.now.east) width workspace.new.rows) }
+    ensures right { OnOk result (AreScreened case.now (standing net.now) (number_at volts.now.north) (number_at volts.now.east)
+        width workspace.new.rows) }
     ensures solvable { OnOk result (IsSolvable (standing net.now)) }
     ensures err { IfErr result (Fails Solved case.now 1 (standing net.now)) }
     ensures workspace { IsScreenWorkspaceFor case.now workspace.new }

@@ -6,7 +6,7 @@ ghost use Rattle.gic_text.specs.Lines.{line_text};
 ghost use Rattle.gic_worst.specs.Setting.{event_setting_line};
 
 use gic_base::{Sink, WriteFailed, write_all};
-use gic_criteria::Question;
+use gic_criteria::Criteria;
 use gic_text::LineBuilder;
 
 /// What is asked: the width of intervals in mA, the threshold in mA per phase, and the strength of the field in mV/km.
@@ -18,15 +18,15 @@ pub struct Setting {
 }
 
 /// The width that is asked for, and the threshold and the field of the event that is asked for.
-pub fn setting_of(question: &Question) -> Setting
-    ensures width { result.width ≡ question.now.width }
-    ensures threshold { result.threshold ≡ threshold_of question.now.event }
-    ensures field { result.field ≡ field_of question.now.event }
+pub fn setting_of(criteria: &Criteria) -> Setting
+    ensures width { result.width ≡ criteria.now.width }
+    ensures threshold { result.threshold ≡ threshold_of criteria.now.event }
+    ensures field { result.field ≡ field_of criteria.now.event }
 {
     Setting {
-        width: question.width,
-        threshold: question.event.threshold(),
-        field: question.event.field(),
+        width: criteria.width,
+        threshold: criteria.event.threshold(),
+        field: criteria.event.field(),
     }
 }
 

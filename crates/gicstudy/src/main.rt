@@ -1,7 +1,7 @@
 //! The program `gicstudy`: geomagnetically induced currents in a transmission network, with proved bounds.
 #![tactic(auto)]
 
-use gic_study::run;
+use gic_headline::run;
 use gic_system::{FileLibrary, StreamSink, SystemFiles};
 use std::alloc::Global;
 use std::process::ExitCode;

@@ -46,9 +46,6 @@ class Line:
     zones: set[str] = dataclasses.field(default_factory=set)
     stations: set[str] = dataclasses.field(default_factory=set)
 
-    def ask(self, kind: str, column: str | None, words: str, ways: str) -> None:
-        self.questions.ask(f"{kind}:{self.at.text('name')}", self.at, column, words, ways)
-
     def rows(self) -> list[Row]:
         """Its rows in the case, one for each name."""
         ends = [self.tables.refer(self.at, column, BUSES) for column in ("from", "to")]
@@ -126,7 +123,7 @@ class Line:
         for column, here, there in zip(("north_km", "east_km"), span, mapped):
             if abs(here - there) > SPAN_FROM_MAP_M:
                 words = f"it is {here / 1000:g}, and by the coordinates {there / 1000:g}"
-                self.ask("span", column, words, "look at its sign, and at from and to")
+                self.questions.ask_of_row("span", self.at, column, words, "look at its sign, and at from and to")
         return span
 
     def span_of_map(self, mapped: Span) -> Span | None:
@@ -141,7 +138,7 @@ class Line:
         """Asks about ends at one place, and about ohm per km."""
         if abs(span[0]) + abs(span[1]) < SHORT_M:
             ways = "look at the coordinates of both substations"
-            self.ask("span", None, f"its ends lie less than {SHORT_M} m apart", ways)
+            self.questions.ask_of_row("span", self.at, None, f"its ends lie less than {SHORT_M} m apart", ways)
             return
         found = unusual_line(ohm, math.hypot(*span), kilovolts)
         column = "per_unit" if self.at.text("per_unit") else "ohm"
@@ -185,18 +182,18 @@ class Line:
         crossed = crossed_zones(way)
         if zone and crossed and zone not in crossed:
             words = f"it is {zone}, and by the polygons the line lies in {' and '.join(sorted(crossed))}"
-            self.ask("zone", "zone", words, "write its zone, or leave the cell empty")
+            self.questions.ask_of_row("zone", self.at, "zone", words, "write its zone, or leave the cell empty")
         elif zone and len(crossed) > 1 and not self.at.text("capacitor"):
             parts = pieces_text(pieces_of([stretch for stretch in way if stretch.zones]), span)
             words = f"it is {zone}, and by the polygons the line crosses borders: {parts}; all of it is in {zone} here"
-            self.questions.tell(self.at, "zone", f"{words}: leave the cell empty for parts")
+            self.questions.notes.append(self.at.finding(f"{words}: leave the cell empty for parts", "zone"))
         return [Piece(zone)] if zone else []
 
     def in_parts(self, way: Sequence[Stretch], span: Span | None) -> list[Piece]:
         pieces = pieces_of(way)
         parts = pieces_text(pieces, span)
         words = f"it is empty, and the line crosses borders: {parts}; it has {len(pieces)} parts"
-        self.questions.tell(self.at, "zone", words)
+        self.questions.notes.append(self.at.finding(words, "zone"))
         return pieces
 
     def fields(self, pieces: Sequence[Piece], ohm: Number, span: Span) -> list[Field]:

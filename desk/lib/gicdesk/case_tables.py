@@ -47,12 +47,13 @@ class Questions:
         by = {name, name.partition(":")[0]}.intersection(self.accepted)
         self.taken |= by
         if by:
-            self.notes.append(Finding(at.file, f"{words} (accepted)", at.line, column))
+            self.notes.append(at.finding(f"{words} (accepted)", column))
         else:
-            self.findings.append(Finding(at.file, f"{words}; {ways}, or give --accept={name}", at.line, column))
+            self.findings.append(at.finding(f"{words}; {ways}, or give --accept={name}", column))
 
-    def tell(self, at: Record, column: str | None, words: str) -> None:
-        self.notes.append(Finding(at.file, words, at.line, column))
+    def ask_of_row(self, kind: str, at: Record, column: str | None, words: str, ways: str) -> None:
+        """A finding of this kind at a row that has a name."""
+        self.ask(f"{kind}:{at.text('name')}", at, column, words, ways)
 
     def ask_unusual(self, name: str, at: Record, column: str, found: tuple[str, str] | None) -> None:
         """A finding where a resistance is one that few of its kind have."""

@@ -44,9 +44,6 @@ class Unit:
     buses: set[str] = dataclasses.field(default_factory=set)
     earthed: set[str] = dataclasses.field(default_factory=set)  # the substations where its windings are
 
-    def ask(self, kind: str, column: str | None, words: str, ways: str) -> None:
-        self.questions.ask(f"{kind}:{self.at.text('name')}", self.at, column, words, ways)
-
     def rows(self) -> list[Row]:
         """Its row in the case; none where it isn't one."""
         kind = self.at.text("kind")
@@ -71,7 +68,7 @@ class Unit:
         if kind == "wye-wye" and high is not None and low is not None and len(set(map(self.at.text, ends))) > 1:
             words = two_transmission_voltages(high, low)
             if words is not None:
-                self.ask("vector", "kind", words, "write kind auto with series_ohm and common_ohm")
+                self.questions.ask_of_row("vector", self.at, "kind", words, "write kind auto with series_ohm and common_ohm")
         fields = [Field("kind", kind)]
         for end in ends:
             fields += self.side(end, end, volts[end], bool(KINDS[kind]))
@@ -112,7 +109,7 @@ class Unit:
         elif kind == "delta-wye" and is_earthed_below(letters):
             words = f"{group} is earthed on its low side, so high is its low bus here, and its verdict means nothing"
             ways = f"write kind {REACTOR}, which has no verdict, without high_kv and vector_group"
-            self.ask("vector", "vector_group", words, ways)
+            self.questions.ask_of_row("vector", self.at, "vector_group", words, ways)
         elif kind not in (kinds := kinds_of(letters, has_third)):
             self.at.wrong("vector_group", self.vector_words(group, kind, kinds, letters, has_third))
         elif letters[0] == "Y" and "A" in letters and has_third:
@@ -160,7 +157,7 @@ class Unit:
         bus = self.kilovolts.get(self.at.text(end))
         if kilovolts is not None and bus is not None and abs(kilovolts - bus) > RATED_FROM_BUS * bus:
             words = f"it is {bare(self.at.text(column))}, at a bus of {short(bus)} kV"
-            self.ask("volts", column, words, "a rated voltage is within a tenth of its bus: mend one of the two")
+            self.questions.ask_of_row("volts", self.at, column, words, "a rated voltage is within a tenth of its bus: mend one of the two")
         return kilovolts
 
     def side(self, end: str, key: str, kilovolts: Number | None, has_bus: bool) -> list[Field]:

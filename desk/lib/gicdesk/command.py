@@ -18,8 +18,9 @@ from .psse_half import HALF
 from .program import BUILT, Program, find_program
 from .stops import Stopped, signals_taken
 from .study import FILES, OPTIONS, Request, make_study, study_text
-from .study_files import files_of, page_of
+from .study_files import WORKBOOK, files_of, page_of
 from .tell import tell
+from .workbook import LIBRARIES
 from .zone_scales import FORMULA, WAYS
 
 DONE, REFUSED, USAGE, INTERRUPTED = 0, 1, 2, 130
@@ -45,9 +46,35 @@ def show(text: str) -> None:
     sys.stdout.buffer.flush()
 
 
+def add_force(words: argparse.ArgumentParser, help_text: str) -> None:
+    words.add_argument("--force", action="store_true", help=help_text)
+
+
 def add_output(words: argparse.ArgumentParser, help_text: str) -> None:
     words.add_argument("--out", metavar="FILE", help=help_text)
-    words.add_argument("--force", action="store_true", help="replace what is there already under the name of --out")
+    add_force(words, "replace what is there already under the name of --out")
+
+
+def add_new_file(words: argparse.ArgumentParser, name: str, help_text: str) -> None:
+    """The file of --out, which must be given."""
+    words.add_argument("--out", metavar=name, required=True, help=help_text)
+    add_force(words, "replace what is there already under this name")
+
+
+def add_case_file(words: argparse.ArgumentParser) -> None:
+    words.add_argument("case", metavar="CASE", help="the file of the case")
+
+
+def add_program(words: argparse.ArgumentParser) -> None:
+    words.add_argument("--program", metavar="FILE", help="the built program, in place of the one of this repository")
+
+
+def add_event(words: argparse.ArgumentParser) -> None:
+    words.add_argument("--event", metavar="WORD", help="benchmark or supplemental, as screen takes it")
+
+
+def add_width(words: argparse.ArgumentParser) -> None:
+    words.add_argument("--width", metavar="NUMBER", help="how wide an interval may be, in mA, as screen takes it")
 
 
 def add_comma(words: argparse.ArgumentParser) -> None:
@@ -121,7 +148,10 @@ def run_study(options: argparse.Namespace) -> None:
         program_and_copies(options, FILES) as (program, copies),
     ):
         made = make_study(Request(program, copies, options.case, **given))
-        out.publish(files_of(made, options.comma))
+        files = files_of(made, options.comma, options.xlsx)
+        out.publish(files)
+    if options.xlsx and WORKBOOK not in files:
+        tell(f"{WORKBOOK} isn't made, since no library that writes it is there ({LIBRARIES}); the tables are CSV alone")
     show(study_text(made, page_of(options.out)))
 
 
@@ -140,17 +170,17 @@ def run_losses(options: argparse.Namespace) -> None:
 
 def add_losses(commands: Any) -> None:
     words = commands.add_parser("losses", help="losses by unit, bus and direction, and as loads for a power flow")
-    words.add_argument("case", metavar="CASE", help="the file of the case")
+    add_case_file(words)
     words.add_argument("--factors", metavar="FILE", required=True, help="a table transformer,mvar_per_ampere,at_kv")
     words.add_argument("--names", metavar="FILE", help="the table of names that psse has written, for loads of a .raw")
     words.add_argument("--storm", metavar="FILE", help="a storm, for losses by step")
     words.add_argument("--switch", metavar="FILE", help="switchings: by their times in a storm; else in force")
-    words.add_argument("--event", metavar="WORD", help="benchmark or supplemental, as screen takes it")
-    words.add_argument("--width", metavar="NUMBER", help="how wide an interval may be, in mA")
-    words.add_argument("--program", metavar="FILE", help="the built program, in place of the one of this repository")
+    add_event(words)
+    add_width(words)
+    add_program(words)
     words.add_argument("--out", metavar="FOLDER", required=True, help="a new folder for the tables")
     add_comma(words)
-    words.add_argument("--force", action="store_true", help="replace these tables in a folder that is there already")
+    add_force(words, "replace these tables in a folder that is there already")
     words.set_defaults(run=run_losses)
 
 
@@ -177,37 +207,37 @@ def add_from_powermodels(commands: Any) -> None:
     words = commands.add_parser("from-powermodels", help="a case from GMD data of PowerModels, as JSON, in two fields")
     words.add_argument("north", metavar="NORTH.json", help="the data with voltages in 1 V/km to the north")
     words.add_argument("east", metavar="EAST.json", help="the data with voltages in 1 V/km to the east")
-    words.add_argument("--out", metavar="CASE", required=True, help="a new file for the case")
-    words.add_argument("--force", action="store_true", help="replace what is there already under this name")
+    add_new_file(words, "CASE", "a new file for the case")
     words.set_defaults(run=run_from_powermodels)
 
 
 def add_powermodels(commands: Any) -> None:
     words = commands.add_parser("powermodels", help="a case as GMD data of PowerModels, as JSON, in one field")
-    words.add_argument("case", metavar="CASE", help="the file of the case")
+    add_case_file(words)
     words.add_argument("--north", metavar="NUMBER", type=int, default=1000, help="the field to the north in mV/km; it is 1000")
     words.add_argument("--east", metavar="NUMBER", type=int, default=0, help="the field to the east in mV/km; it is 0")
     words.add_argument("--names", metavar="FILE", help="the table of names that psse has written, for numbers of buses")
     words.add_argument("--places", metavar="FILE", help="a table with name, latitude and longitude, for bus_gmd")
-    words.add_argument("--program", metavar="FILE", help="the built program, in place of the one of this repository")
-    words.add_argument("--out", metavar="FILE", required=True, help="a new file for the data")
-    words.add_argument("--force", action="store_true", help="replace what is there already under this name")
+    add_program(words)
+    add_new_file(words, "FILE", "a new file for the data")
     words.set_defaults(run=run_powermodels)
 
 
 def add_study(commands: Any) -> None:
     words = commands.add_parser("study", help="the whole study of a case: every report, each as a table, and one page")
-    words.add_argument("case", metavar="CASE", help="the file of the case")
+    add_case_file(words)
     words.add_argument("--storm", metavar="FILE", help="a storm, for study and for the series of units")
     words.add_argument("--switch", metavar="FILE", help="switchings: by their times in a storm; else in all reports")
+    words.add_argument("--waveform", metavar="FILE", help="a waveform time,north,east, for GIC(t) of units that are assessed")
     words.add_argument("--factors", metavar="FILE", help="a table transformer,mvar_per_ampere,at_kv, for losses")
     words.add_argument("--events", metavar="FILE", help="a table event,item,action of outages of several items")
     words.add_argument("--places", metavar="FILE", help="a table with name, latitude and longitude, for the map")
-    words.add_argument("--width", metavar="NUMBER", help="how wide an interval may be, in mA")
-    words.add_argument("--program", metavar="FILE", help="the built program, in place of the one of this repository")
+    add_width(words)
+    add_program(words)
     words.add_argument("--out", metavar="FOLDER", required=True, help="a new folder for all of it")
+    words.add_argument("--xlsx", action="store_true", help="the tables as one workbook too, where a library is there that writes it")
     add_comma(words)
-    words.add_argument("--force", action="store_true", help="replace an earlier study in that folder")
+    add_force(words, "replace an earlier study in that folder")
     words.set_defaults(run=run_study)
 
 
@@ -237,9 +267,7 @@ def run_case(options: argparse.Namespace) -> None:
 def add_case(commands: Any) -> None:
     words = commands.add_parser("case", help="a case from tables of ohm, kilovolts, kilometres and degrees")
     words.add_argument("tables", metavar="TABLES", help="a folder with zones, substations, buses, lines, transformers")
-    words.add_argument(
-        "--alpha", metavar="WAY", default=FORMULA, help=WAYS
-    )
+    words.add_argument("--alpha", metavar="WAY", default=FORMULA, help=WAYS)
     words.add_argument(
         "--accept",
         metavar="NAME",
@@ -247,13 +275,16 @@ def add_case(commands: Any) -> None:
         default=[],
         help=f"take all findings of a kind as they are: {', '.join(case_tables.KINDS)}; or that of one row, as winding:T1",
     )
-    words.add_argument("--out", metavar="CASE", required=True, help="a new file for the case")
-    words.add_argument("--force", action="store_true", help="replace what is there already under this name")
+    add_new_file(words, "CASE", "a new file for the case")
     words.set_defaults(run=run_case)
 
 
 def command_words() -> argparse.ArgumentParser:
-    words = Words(prog="gicdesk", description="What a planner does before and after gicstudy; see desk/README.md.")
+    told = (
+        "What a planner does before and after gicstudy: data in from the files .raw and .gic of a power-flow program, from tables "
+        "of Excel as CSV or from PowerModels; answers out as a page, as tables and as loads. See desk/README.md."
+    )
+    words = Words(prog="gicdesk", description=told)
     commands = words.add_subparsers(dest="command", required=True, metavar="COMMAND", parser_class=Words)
 
     one = commands.add_parser("csv", help="any report as CSV, in amperes and volts")
@@ -271,15 +302,15 @@ def command_words() -> argparse.ArgumentParser:
     two.set_defaults(run=run_compare)
 
     three = commands.add_parser("outages", help="outages of several items, or of each one: the worst of each unit")
-    three.add_argument("case", metavar="CASE", help="the file of the case")
+    add_case_file(three)
     three.add_argument("--events", metavar="FILE", help="a table event,item,action; without it each single item is out")
     three.add_argument("--switch", metavar="FILE", help="switchings that are in force whatever the event")
-    three.add_argument("--event", metavar="WORD", help="benchmark or supplemental, as screen takes it")
-    three.add_argument("--width", metavar="NUMBER", help="how wide an interval may be, in mA, as screen takes it")
-    three.add_argument("--program", metavar="FILE", help="the built program, in place of the one of this repository")
+    add_event(three)
+    add_width(three)
+    add_program(three)
     three.add_argument("--out", metavar="FOLDER", help="a new folder for the tables units, events and currents")
     add_comma(three)
-    three.add_argument("--force", action="store_true", help="replace these tables in a folder that is there already")
+    add_force(three, "replace these tables in a folder that is there already")
     three.set_defaults(run=run_outages)
 
     add_study(commands)
@@ -306,7 +337,7 @@ def command_words() -> argparse.ArgumentParser:
     four.add_argument("--ungrounded", metavar="RG", action="append", default=[], help=none)
     four.add_argument("--vector", choices=("volts", "buses"), help="in which order the letters of vector groups stand")
     four.add_argument("--out", metavar="CASE", required=True, help="a new file for the case, with its names beside")
-    four.add_argument("--force", action="store_true", help="replace what is there already under these names")
+    add_force(four, "replace what is there already under these names")
     four.set_defaults(run=run_psse)
 
     add_case(commands)

@@ -14,3 +14,8 @@ def shifted(number: int, places: int) -> str:
 def signed(number: int, places: int) -> str:
     """The same with its sign in any case but for 0, as of a difference."""
     return ("+" if number > 0 else "") + shifted(number, places)
+
+
+def middle_text(low: int, high: int, places: int) -> str:
+    """The middle of two numbers, exactly: by one more digit, which is 0 or 5."""
+    return shifted(5 * (low + high), places + 1)

@@ -15,7 +15,7 @@ from .records import read_table
 HEADS = ["transformer", "mvar_per_ampere", "at_kv"]
 USUAL_KV = 500
 MOST = 100  # Mvar an ampere; a factor in var is far beyond
-MILLI = decimal.Decimal("0.001")
+THOUSANDTH = decimal.Decimal("0.001")
 
 
 @dataclasses.dataclass(frozen=True)
@@ -27,8 +27,8 @@ class Factor:
 
     def mvar(self, milliamperes: float | decimal.Decimal) -> decimal.Decimal:
         """What the unit draws at this current."""
-        amperes = decimal.Decimal(milliamperes) * MILLI
-        return self.given * amperes * self.volts * MILLI / self.at_kv
+        amperes = decimal.Decimal(milliamperes) * THOUSANDTH
+        return self.given * amperes * self.volts * THOUSANDTH / self.at_kv
 
     def mvar_within(self, current: Interval) -> list[decimal.Decimal]:
         """The same at both ends of a current, rounded outward to thousandths."""
@@ -36,7 +36,7 @@ class Factor:
         for end, rounding in ((current.low, decimal.ROUND_FLOOR), (current.high, decimal.ROUND_CEILING)):
             with decimal.localcontext() as context:
                 context.rounding = rounding
-                ends.append(self.mvar(end).quantize(MILLI))
+                ends.append(self.mvar(end).quantize(THOUSANDTH))
         return ends
 
     @property

@@ -32,12 +32,16 @@ LONGEST_LINE = 120  # of a line that is shown whole
 NUMBERS = ("NUMBER", "OTHER", "COUNT")
 
 
-@dataclasses.dataclass(frozen=True)
+@dataclasses.dataclass(frozen=True, slots=True)
 class Interval:
     """Two whole numbers; the exact value lies from the one to the other, both included."""
 
     low: int
     high: int
+
+    @property
+    def middle(self) -> float:
+        return (self.low + self.high) / 2
 
     def __sub__(self, other: "Interval") -> "Interval":
         """An interval that holds the difference of any two values of the two."""

@@ -8,7 +8,7 @@ reports can stand below each other. The columns of a layout are fixed by the mod
 import dataclasses
 from collections.abc import Callable, Sequence
 
-from .decimals import MICRO, MILLI, NANO, shifted
+from .decimals import MICRO, MILLI, NANO, middle_text, shifted
 from .findings import refuse
 from .forms import Interval, Values, read_line
 from .reports import (
@@ -58,12 +58,18 @@ class Layout:
     all_kinds: str = ""
 
 
+def interval_heads(head: str, unit: str) -> str:
+    """The heads of an interval: its low end, its high end and its middle."""
+    before = f"{head}_" if head else ""
+    return " ".join(f"{before}{place}_{unit}" for place in ("low", "high", "middle"))
+
+
 def ends(head: str, unit: str, value: Interval | None, places: int = MILLI) -> Cells:
-    """The two ends of an interval under heads with their unit; nothing where there is none."""
+    """The two ends of an interval and its middle under heads with their unit; nothing where there is none."""
     if value is None:
         return {}
-    before = f"{head}_" if head else ""
-    return {f"{before}low_{unit}": shifted(value.low, places), f"{before}high_{unit}": shifted(value.high, places)}
+    texts = (shifted(value.low, places), shifted(value.high, places), middle_text(value.low, value.high, places))
+    return dict(zip(interval_heads(head, unit).split(" "), texts))
 
 
 def event_cells(report: Screen | Outage) -> Cells:
@@ -245,10 +251,9 @@ def study_rows(report: Study) -> list[Cells]:
     return [row | asked for row in rows]
 
 
-AMPERES = "low_A high_A"
-EACH_PHASE = "low_A_per_phase high_A_per_phase"
+VOLTS, AMPERES, EACH_PHASE, VAR = (interval_heads("", unit) for unit in ("V", "A", "A_per_phase", "var"))
 ITEM_KINDS = {
-    "node": "name low_V high_V state",
+    "node": f"name {VOLTS} state",
     "ground": f"name {AMPERES} state",
     "line": f"name {AMPERES} state",
     "winding": f"name winding {AMPERES} state",
@@ -258,8 +263,8 @@ ITEM_KINDS = {
 }
 COUNTS = " ".join(VERDICTS)
 EVENT = "threshold_A_per_phase field_V_per_km width_A"
-WORST = "worst_low_A_per_phase worst_high_A_per_phase"
-ITEMS = f"name winding low_V high_V {AMPERES} {EACH_PHASE} state verdict"
+NORTH, EAST, WORST = (interval_heads(head, "A_per_phase") for head in ("north", "east", "worst"))
+ITEMS = f"name winding {VOLTS} {AMPERES} {EACH_PHASE} state verdict"
 ZONE_FIELD = "north_V_per_km east_V_per_km"
 
 LAYOUTS: dict[str, Layout] = {
@@ -273,8 +278,7 @@ LAYOUTS: dict[str, Layout] = {
         f"kind {ZONE_FIELD} threshold_A_per_phase width_V_or_A",
     ),
     "screen": Layout(
-        "transformer north_low_A_per_phase north_high_A_per_phase east_low_A_per_phase east_high_A_per_phase "
-        f"{WORST} verdict {EVENT}",
+        f"transformer {NORTH} {EAST} {WORST} verdict {EVENT}",
         {},
         screen_rows,
     ),
@@ -286,15 +290,15 @@ LAYOUTS: dict[str, Layout] = {
     ),
     "series": Layout(f"transformer step time_s {EACH_PHASE} width_A", {}, series_rows),
     "study": Layout(
-        f"block kind step time_s monitor {ITEMS} {ZONE_FIELD} certain_steps possible_steps low_var high_var text "
+        f"block kind step time_s monitor {ITEMS} {ZONE_FIELD} certain_steps possible_steps {VAR} text "
         "threshold_A_per_phase steps width_V_or_A",
         ITEM_KINDS
         | {
             "zone": f"name {ZONE_FIELD}",
             "dwell": "monitor name certain_steps possible_steps",
             "earth": f"monitor name {AMPERES} state",
-            "loss": "monitor step low_var high_var state",
-            "table": "monitor step low_var high_var state",
+            "loss": f"monitor step {VAR} state",
+            "table": f"monitor step {VAR} state",
             "text": "monitor text",
         },
         study_rows,
@@ -302,7 +306,7 @@ LAYOUTS: dict[str, Layout] = {
     ),
     "make": Layout(f"seed size nodes elements walk {COUNTS}", {}, make_rows),
     "certificate": Layout(f"node state entry guess_grains radius_grains {ZONE_FIELD}", {}, certificate_rows),
-    "recheck": Layout(f"node low_V high_V {ZONE_FIELD}", {}, recheck_rows),
+    "recheck": Layout(f"node {VOLTS} {ZONE_FIELD}", {}, recheck_rows),
     "review": Layout(
         "kind list name field number unit other north_m east_m",
         {

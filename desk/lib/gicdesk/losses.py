@@ -11,6 +11,7 @@ from collections.abc import Iterable, Mapping, Sequence
 
 from .compare import ends_or_nothing
 from .decimals import MILLI, shifted
+from .directions import current_at
 from .factors import Factor, read_factors
 from .findings import Finding, Refused, refuse
 from .forms import Interval
@@ -18,7 +19,7 @@ from .network import network_of
 from .progress import Progress
 from .records import read_table
 from .reports import Elements, Screen, ScreenUnit, Series
-from .study import Request, Runs, current_at, storm_words
+from .study import Request, Runs, storm_words
 from .tables import Table
 
 UNITS, BUSES, STEPS = "losses.csv", "buses.csv", "steps.csv"

@@ -13,6 +13,9 @@ STRIP_WIDTH, STRIP_HEIGHT = 1000.0, 60.0
 LEAST_EXTENT = 1000.0  # of what the map shows, in metres
 ASIDE = (0.0, 3.0, -3.0, 6.0)  # how far parallel lines stand aside; more aren't drawn
 LABEL = 13.0  # the height of a name on the map
+MANY = 100  # stations; more are drawn smaller
+WIDEST, WIDEST_OF_MANY = 7.0, 3.5  # lines
+LEAST_ARROW, LEAST_ARROW_OF_MANY = 0.15, 0.5  # the share of the greatest current from which on a line has an arrow
 COLUMNS = 500  # of a strip; what lies within one is drawn from its least to its greatest value
 
 
@@ -81,6 +84,14 @@ class Station:
     name: str
     class_: str
     current: float  # the greatest worst current of its units, in milliamperes
+    title: str
+
+
+@dataclasses.dataclass(frozen=True)
+class Flow:
+    """How a line is drawn that carries a current: its share of the greatest one, with its sign, and what is told of it."""
+
+    share: float
     title: str
 
 
@@ -163,7 +174,7 @@ def scale_bar(to: Projection) -> Markup:
 
 def disc(current: float, greatest: float, many: int) -> float:
     """The radius of a station's disc; its area goes with the current, and it is smaller where there are many."""
-    least, most = (2.5, 13.0) if many <= 100 else (1.5, 6.0)
+    least, most = (2.5, 13.0) if many <= MANY else (1.5, 6.0)
     return max(least, most * math.sqrt(current / max(greatest, 1.0)))
 
 
@@ -227,11 +238,16 @@ def labels(drawn: Sequence[Drawn], taken: list[Box], ground: Ground, size: float
 
 
 def network_map(
-    places: Mapping[str, Place], links: Sequence[Link], stations: Sequence[Station], most_named: int
+    places: Mapping[str, Place],
+    links: Sequence[Link],
+    stations: Sequence[Station],
+    most_named: int,
+    flows: Mapping[str, Flow] | None = None,
 ) -> Markup:
-    """Lines from station to station, and a disc for each station; so many of them have their names, with the greatest
-    currents."""
+    """Lines from station to station, as wide as their flows are great, and a disc for each station; so many of them have their
+    names, with the greatest currents."""
     to = projection(places.values())
+    pen = Pen(WIDEST, LEAST_ARROW) if len(stations) <= MANY else Pen(WIDEST_OF_MANY, LEAST_ARROW_OF_MANY)
     pieces: list[Markup] = []
     lines: list[Segment] = []
     beside: dict[Segment, int] = {}
@@ -240,7 +256,9 @@ def network_map(
             line = to(places[min(link.start, link.end)]), to(places[max(link.start, link.end)])
             turn = beside[line] = beside.get(line, -1) + 1
             if turn < len(ASIDE):
-                pieces.append(line_between(line, ASIDE[turn], link))
+                flow = (flows or {}).get(link.name)
+                drawn_line = Aside(line, ASIDE[turn], is_turned=link.start > link.end)
+                pieces.append(line_between(drawn_line, link, flow, pen))
                 lines.append(line)
     greatest = max((station.current for station in stations), default=1.0)
     drawn = [
@@ -258,29 +276,73 @@ def network_map(
     return svg(MAP_WIDTH, to.height, *pieces, class_="map")
 
 
-def line_between(line: Segment, aside: float, link: Link) -> Markup:
-    """A line of the map; one beside others between the same stations is moved aside."""
-    start, end = line
+@dataclasses.dataclass(frozen=True)
+class Pen:
+    """How lines are drawn by their currents: the width of the greatest, and the share of it from which on there is an arrow."""
+
+    widest: float
+    least_arrow: float
+
+
+@dataclasses.dataclass(frozen=True)
+class Aside:
+    """A line of the map, and how far it stands aside, beside others between the same stations; its segment goes from the
+    station whose name comes first, and that is the line's end where it is turned."""
+
+    line: Segment
+    aside: float
+    is_turned: bool
+
+    @property
+    def moved(self) -> Segment:
+        (x, y), (other_x, other_y) = self.line
+        across, down = other_x - x, other_y - y
+        length = math.hypot(across, down) or 1.0
+        move_x, move_y = -down / length * self.aside, across / length * self.aside
+        return (x + move_x, y + move_y), (other_x + move_x, other_y + move_y)
+
+
+def line_between(drawn: Aside, link: Link, flow: Flow | None, pen: Pen) -> Markup:
+    """A line of the map, with an arrow in its middle where it carries much."""
+    start, end = drawn.moved
+    words = tag("title", link.name if flow is None else flow.title)
+    path = f"M{start[0]:.1f} {start[1]:.1f}L{end[0]:.1f} {end[1]:.1f}"
+    if flow is None:
+        return tag("path", words, d=path, class_="link blocked" if link.blocked else "link")
+    width = 1 + (pen.widest - 1) * abs(flow.share)
+    line = tag("path", words, d=path, class_="link", stroke_width=width)
+    if abs(flow.share) < pen.least_arrow:
+        return line
+    is_forward = (flow.share > 0) != drawn.is_turned
+    return Markup(line + arrow(*((start, end) if is_forward else (end, start)), width))
+
+
+def arrow(start: tuple[float, float], end: tuple[float, float], width: float) -> Markup:
+    """The head of an arrow in the middle of a line; none where the line is shorter than the head."""
     across, down = end[0] - start[0], end[1] - start[1]
-    length = math.hypot(across, down) or 1.0
-    x, y = -down / length * aside, across / length * aside
-    return tag(
-        "path",
-        tag("title", link.name),
-        d=f"M{start[0] + x:.1f} {start[1] + y:.1f}L{end[0] + x:.1f} {end[1] + y:.1f}",
-        class_="link blocked" if link.blocked else "link",
+    length, size = math.hypot(across, down), 4 + 1.2 * width
+    if length < 2 * size:
+        return Markup("")
+    x, y = (start[0] + end[0]) / 2, (start[1] + end[1]) / 2
+    along, aside = (across / length * size, down / length * size), (-down / length * size / 2, across / length * size / 2)
+    corners = (
+        (x + along[0], y + along[1]),
+        (x - along[0] / 2 + aside[0], y - along[1] / 2 + aside[1]),
+        (x - along[0] / 2 - aside[0], y - along[1] / 2 - aside[1]),
     )
+    return tag("polygon", points=" ".join(f"{a:.1f},{b:.1f}" for a, b in corners), class_="arrow")
 
 
 @dataclasses.dataclass(frozen=True)
 class Axis:
-    """Times to places on a strip."""
+    """Times to places on a strip, or on what else is so wide."""
 
     first: int
     last: int
+    width: float = STRIP_WIDTH
 
     def __call__(self, time: float) -> float:
-        return STRIP_WIDTH * (time - self.first) / max(self.last - self.first, 1)
+        return self.width * (time - self.first) / max(self.last - self.first, 1)
 
 
 def thinned(axis: Axis, points: Sequence[tuple[int, float]]) -> list[tuple[float, float]]:
@@ -289,7 +351,7 @@ def thinned(axis: Axis, points: Sequence[tuple[int, float]]) -> list[tuple[float
         return [(axis(time), value) for time, value in points]
     columns: dict[int, list[tuple[int, float]]] = {}
     for point in points:
-        columns.setdefault(int(axis(point[0]) * COLUMNS / STRIP_WIDTH), []).append(point)
+        columns.setdefault(int(axis(point[0]) * COLUMNS / axis.width), []).append(point)
     kept: list[tuple[int, float]] = []
     for column in columns.values():
         ends = {column[0], min(column, key=lambda one: one[1]), max(column, key=lambda one: one[1]), column[-1]}

@@ -14,6 +14,7 @@ from typing import Any
 from .findings import Finding, Refused, refuse
 from .losses import bus_numbers
 from .network import read_degrees
+from .powermodels_form import CONFIGS, WINDINGS
 from .progress import Progress
 from .reports import Element, Elements, Volts
 from .study import Request, Runs
@@ -21,16 +22,8 @@ from .study import Request, Runs
 Row = dict[str, int | float | str]
 Table = dict[str, Row]
 
-# What a unit's windings are called there, by the kind of the case.
-CONFIGS = {
-    "delta-wye": "gwye-delta",
-    "wye-wye": "gwye-gwye",
-    "wye-wye-wye": "gwye-gwye",
-    "auto": "gwye-gwye-auto",
-    "auto-wye": "gwye-gwye-auto",
-    "delta-delta": "delta-delta",
-}
-WINDINGS = {"high": "gmd_br_hi", "low": "gmd_br_lo", "series": "gmd_br_series", "common": "gmd_br_common"}
+# A third winding is a branch alone.
+THREE_WINDINGS = {"wye-wye-wye": "wye-wye", "auto-wye": "auto"}
 NONE = -1
 
 
@@ -107,8 +100,9 @@ def data_of(
     of_winding = {(one.name, one.role): place for place, one in enumerate(branches, 1)}
     units: list[Row] = []
     for unit in case.get("transformer", []):
-        if unit["kind"] in CONFIGS:
-            row: Row = {"name": unit["name"], "type": "xfmr", "config": CONFIGS[unit["kind"]]}
+        kind = THREE_WINDINGS.get(unit["kind"], unit["kind"])
+        if kind in CONFIGS:
+            row: Row = {"name": unit["name"], "type": "xfmr", "config": CONFIGS[kind]}
             row |= {key: of_winding.get((unit["name"], role), NONE) for role, key in WINDINGS.items()}
             row |= {f"{end[:2]}_kv": unit[f"{end}_volts"] / 1000 for end in ("high", "low") if f"{end}_volts" in unit}
             ends = {"hi_bus": unit.get("high", ""), "lo_bus": unit.get("low", "")}

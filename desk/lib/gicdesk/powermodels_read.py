@@ -13,15 +13,15 @@ from collections.abc import Mapping
 from .cases import Case, Field, Names, Row, short_enough
 from .files import read_text
 from .findings import Finding, Refused, refuse
+from .powermodels_form import CONFIGS, WINDINGS, WINDINGS_OF
 
 STATUS = {"gmd_bus": "status", "gmd_branch": "br_status", "branch_gmd": "br_status"}  # of the tables that are read
-SAME = ("name", "f_bus", "t_bus", "br_r")  # of a branch in both files
-KINDS = {"gwye-delta": "delta-wye", "gwye-gwye": "wye-wye", "gwye-gwye-auto": "auto", "delta-delta": "delta-delta"}
-WINDINGS: dict[str, dict[str, str]] = {
-    "delta-wye": {"high": "gmd_br_hi"},
-    "wye-wye": {"high": "gmd_br_hi", "low": "gmd_br_lo"},
-    "auto": {"series": "gmd_br_series", "common": "gmd_br_common"},
-    "delta-delta": {},
+KINDS = {config: kind for kind, config in CONFIGS.items()}
+# What both files have alike of each table; the status of each row is looked at by itself.
+SAME = {
+    "gmd_bus": ("name", "g_gnd"),
+    "gmd_branch": ("name", "f_bus", "t_bus", "br_r"),
+    "branch_gmd": ("name", "config", "hi_kv", "lo_kv", *WINDINGS.values()),
 }
 MOST_SCALE, MOST_METRES, MICRO = 1500, 1_000_000, 1_000_000
 
@@ -132,9 +132,9 @@ class Making:
             at.wrong(f"its config is none of {', '.join(KINDS)}; write one of these")
             return None
         kind = KINDS[config]
-        windings = {winding: at.index_in(key, self.branches) for winding, key in WINDINGS[kind].items()}
+        windings = {winding: at.index_in(WINDINGS[winding], self.branches) for winding in WINDINGS_OF[kind]}
         if not all(windings.values()):
-            at.wrong(f"a winding has no row of gmd_branch; write {' and '.join(WINDINGS[kind].values())}")
+            at.wrong(f"a winding has no row of gmd_branch; write {' and '.join(WINDINGS[winding] for winding in windings)}")
             return None
         pairs = [self.ends(self.branches[index]) for index in windings.values()]
         for index in windings.values():
@@ -180,7 +180,7 @@ class Making:
             if node in ends:
                 del self.lines[index]
                 self.look_for_volts(index)
-                self.neutrals[node] = [Field("neutral", round(MICRO * at.number("br_r")), "br_r: ohm to the ground grid")]
+                self.neutrals[node] = [self.resistance(at, "neutral", "br_r: ohm to the ground grid", 1)]
                 return ends[1] if ends[0] == node else ends[0]
         return ""
 
@@ -207,11 +207,13 @@ class Making:
         for unit, name in units:
             self.case.lists["transformer"].append(self.unit_row(unit, name, buses))
 
-    def resistance(self, at: Entry, key: str) -> Field:
-        ohm = 3 * at.number("br_r")
+    def resistance(self, at: Entry, key: str, note: str = "3 times br_r: ohm per phase", phases: int = 3) -> Field:
+        """A resistance of the case: of a phase, or of a neutral as it is."""
+        ohm = phases * at.number("br_r")
         if not 0.001 <= ohm <= 1000:
-            at.wrong(f"br_r is a third of {ohm:g} ohm, and a phase of a case has 0.001 to 1000")
-        return Field(key, round(ohm * MICRO), "3 times br_r: ohm per phase")
+            whole = f"br_r is a third of {ohm:g} ohm, and a phase" if phases == 3 else f"br_r is {ohm:g} ohm, and a neutral resistor"
+            at.wrong(f"{whole} of a case has 0.001 to 1000")
+        return Field(key, round(ohm * MICRO), note)
 
     def line(self, index: str, at: Entry, buses: Mapping[str, str], scales: dict[int, str]) -> None:
         start, end = (buses.get(node, "") for node in self.ends(at))
@@ -238,9 +240,9 @@ class Making:
         return Row(name, [*fields, *self.neutrals.get(unit.earthed, [])])
 
 
-def differing(north: Table, east: Table) -> list[str]:
-    """The indices of branches that aren't the same in both files, but for their voltages."""
-    one, other = ({index: [row.values.get(key) for key in SAME] for index, row in table.items()} for table in (north, east))
+def differing(table: str, north: Table, east: Table) -> list[str]:
+    """The indices of the rows that aren't alike in both files."""
+    one, other = ({index: [row.values.get(key) for key in SAME[table]] for index, row in rows.items()} for rows in (north, east))
     return [index for index in {**one, **other} if one.get(index) != other.get(index)]
 
 
@@ -248,9 +250,10 @@ def make_case(north_file: str, east_file: str) -> str:
     """The case of two files; all that is wrong with any of them is told at once."""
     findings: list[Finding] = []
     north, east = read_data(north_file, findings), read_data(east_file, findings)
-    odd = differing(north["gmd_branch"], east["gmd_branch"])
-    if odd:
-        raise refuse(east_file, f"its branches aren't those of {north_file}, as gmd_branch {odd[0]}; write both of one network")
+    for table in SAME:
+        odd = differing(table, north[table], east[table])
+        if odd:
+            raise refuse(east_file, f"its {table} isn't that of {north_file}, as row {odd[0]}; write both of one network")
     making = Making(north, east["gmd_branch"])
     if not findings:
         making.make()

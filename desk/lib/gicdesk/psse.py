@@ -76,11 +76,8 @@ class Making:
         self.units = 0  # with a winding in the network
         self.without: set[int] = set()  # buses that were told to be in no substation
 
-    def tell(self, at: Record, words: str) -> None:
-        self.notes.append(Finding(at.file, words, at.line))
-
-    def tell_at(self, at: Record, column: str, words: str) -> None:
-        self.notes.append(Finding(at.file, words, at.line, column))
+    def tell(self, at: Record, words: str, column: str | None = None) -> None:
+        self.notes.append(at.finding(words, column))
 
     def add(
         self,
@@ -140,7 +137,7 @@ class Making:
 
     def tell_unusual(self, at: Record, column: str, found: tuple[str, str] | None) -> None:
         if found is not None:
-            self.tell_at(at, column, "".join(found))
+            self.tell(at, "".join(found), column)
 
     def known(self, at: Record, buses: Sequence[int]) -> bool:
         """Whether each bus stands in both files; what is missing is told once."""

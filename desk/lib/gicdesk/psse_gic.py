@@ -99,7 +99,7 @@ def read_substation(at: Record, stations: Mapping[int, Station], notes: list[Fin
         name = at.text("NAME") or station.name
         ground = at.number("RG") if at.text("RG") else station.ground
         words = f"it has no place here: that of the power flow is taken{'' if at.text('RG') else ', and its SRG'}"
-        notes.append(Finding(at.file, words, at.line))
+        notes.append(at.finding(words))
         return Substation(station.number, name, station.latitude, station.longitude, ground, at)
     unit = at.whole("UNIT", 0)
     if unit != 0:
@@ -111,7 +111,7 @@ def read_substation(at: Record, stations: Mapping[int, Station], notes: list[Fin
             at.wrong(column, f"it is {at.text(column)}, and not {-most} to {most} degrees")
     if station is not None and any(abs(one - other) > APART for one, other in zip((latitude, longitude), station.place)):
         words = f"it lies at {latitude:f}, {longitude:f}, and in the power flow at"
-        notes.append(Finding(at.file, f"{words} {station.latitude:f}, {station.longitude:f}; look at both", at.line))
+        notes.append(at.finding(f"{words} {station.latitude:f}, {station.longitude:f}; look at both"))
     return Substation(at.whole("I"), at.text("NAME"), latitude, longitude, ground, at)
 
 

@@ -23,7 +23,7 @@ class Grounds:
         given = substation.ground
 
         def tell(words: str) -> None:
-            notes.append(Finding(substation.record.file, f"{name}: {words}", substation.record.line))
+            notes.append(substation.record.finding(f"{name}: {words}"))
 
         if given is None and self.blank is not None:
             tell(f"RG is empty: {self.blank:f} ohm are taken, by --blank-ground")

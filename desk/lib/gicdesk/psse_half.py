@@ -43,4 +43,4 @@ class Shares:
 
     def tell(self, at: Record, column: str, ohm: decimal.Decimal, what: str) -> None:
         words = f"it is 0: {float(ohm):.6g} ohm are taken, half of R1-2 of the power flow {what}"
-        self.notes.append(Finding(at.file, words, at.line, column))
+        self.notes.append(at.finding(words, column))

@@ -70,7 +70,7 @@ def whole_lines(
             words = f"the line {'-'.join(map(str, grouping.ends))} '{grouping.circuit}' has {len(whole.sections)} sections"
             between = ", ".join(map(str, grouping.between))
             told = f"it is one line, and the buses {between} between them are left out"
-            notes.append(Finding(grouping.record.file, f"{words}: {told}", grouping.record.line))
+            notes.append(grouping.record.finding(f"{words}: {told}"))
     sections = {id(section) for whole in wholes for section in whole.sections}
     for branch in branches:
         is_live = branch.in_service and not any(bus in buses and buses[bus].isolated for bus in branch.ends)

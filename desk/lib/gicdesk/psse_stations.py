@@ -1,7 +1,8 @@
 """Substations as files `.raw` have them from version 35 on: places, grounds, and the buses at their nodes.
 
-Behind the record of a substation stand its nodes, each with its bus. A node is told from a substation by the bus and the
-status in its third and fourth field: a number of a bus that is there, and 0 or 1.
+Behind the record of a substation stand its nodes, each with its bus. Where lines `@!` name the columns of nodes, these say
+what is one. Else a node is told from a substation by the bus and the status in its third and fourth field, a number of a bus
+that is there and 0 or 1; and a substation at whole degrees that read so by its ground in the fifth field, which is its last.
 """
 
 import dataclasses
@@ -40,8 +41,9 @@ class Stations:
 
 
 def is_node(fields: Sequence[str], buses: Container[int]) -> bool:
-    """Whether a line is a node: behind its name stand a bus of the file and a status, which is 0 or 1."""
-    if len(fields) < 4 or fields[3] not in ("0", "1"):
+    """Whether a line without names of columns is a node: behind its name stand a bus of the file and a status, which is 0 or 1,
+    and then nothing or its voltage in two fields."""
+    if len(fields) < len(NODE) or fields[3] not in ("0", "1") or (len(fields) == len(STATION) and fields[-1]):
         return False
     return WHOLE.fullmatch(fields[2]) is not None and int(fields[2]) in buses
 
@@ -50,8 +52,9 @@ def read_stations(
     file: str, lines: Sequence[SectionLine], buses: Container[int], findings: list[Finding]
 ) -> Stations:
     found, last = Stations(), 0
+    are_named = any(NODE[0] in line.named for line in lines)
     for line in lines:
-        if is_node(line.fields, buses) and last:
+        if last and (NODE[0] in line.named if are_named else is_node(line.fields, buses)):
             found.station_of[Record(file, line.number, line.fields, NODE, findings).bus("I")] = last
             continue
         at = Record(file, line.number, line.fields, STATION, findings)

@@ -93,12 +93,17 @@ def read_sections(
     sections: dict[str, list[SectionLine]] = {name: [] for name in layout.order}
     place, section = 0, layout.order[0]
     named: list[str] = []
+    is_begun = False  # a row of lines of names
     for number, line in enumerate(lines[first - 1 :], first):
         if line.lstrip().startswith("@!"):
-            named = named or column_names(line)  # of several in a row the first names the first line of a record
+            names = column_names(line)
+            # Of several in a row the first names the first line of a record; one word is a title.
+            if len(names) > 1 and not is_begun:
+                named, is_begun = names, True
             continue
         if not line.strip() or line.lstrip().startswith("/"):
             continue
+        is_begun = False
         fields = fields_of(line)
         if fields is None:
             words = f"{shown(line.strip())} has no fields that can be read; look at its quotes, two for each string"

@@ -51,7 +51,7 @@ class Beyond:
             at.wrong(None, f"{words} has no key in a case of format 2; {ways}")
         else:
             told = "left out" if self.choice == "leave" else f"{written}, in a case of format 3"
-            self.notes.append(Finding(at.file, f"{words} is {told}", at.line))
+            self.notes.append(at.finding(f"{words} is {told}"))
         return self.choice == "model"
 
 
@@ -121,7 +121,7 @@ def windings_of(
         kilovolts.append(rated if rated > 0 else own)
         if abs(kilovolts[-1] - own) > RATED_FROM_BUS * own:
             words = f"a winding rated at {kilovolts[-1]:f} kV is at the bus {bus} of {own:f} kV; look at both"
-            notes.append(Finding(unit.record.file, words, unit.record.line))
+            notes.append(unit.record.finding(words))
     of_buses = dict(zip(unit.buses, kilovolts))
     vector_at, named = (data.record, data.sides) if data.vector else (unit.record, unit.buses)
     letters = letters_by_bus(vector_at, data.vector or unit.vector, {bus: of_buses[bus] for bus in named}, order)
@@ -130,7 +130,7 @@ def windings_of(
     out = unit.out
     if out is not None and "A" in letters.values():
         if out == by_volts(kilovolts)[0] or letters[unit.buses[out]] == "A":
-            notes.append(Finding(unit.record.file, OPEN_AUTO, unit.record.line))
+            notes.append(unit.record.finding(OPEN_AUTO))
             return []
     windings = []
     for place in by_volts(kilovolts):
@@ -156,11 +156,11 @@ class Unit:
     note: str = ""
 
     def tell(self, words: str) -> None:
-        self.beyond.notes.append(Finding(self.at.file, words, self.at.line))
+        self.beyond.notes.append(self.at.finding(words))
 
     def tell_unusual(self, column: str, found: tuple[str, str] | None) -> None:
         if found is not None:
-            self.beyond.notes.append(Finding(self.data_at.file, "".join(found), self.data_at.line, column))
+            self.beyond.notes.append(self.data_at.finding("".join(found), column))
 
     def resistance(self, key: str, winding: Winding) -> Field:
         """The resistance of a winding, of which it is told where few have it."""

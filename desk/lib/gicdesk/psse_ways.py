@@ -24,7 +24,7 @@ class Ways:
         self.stations_of: dict[str, set[int]] = {}  # of zones, those that its whole lines join
 
     def tell(self, at: Record, words: str, column: str | None = None) -> None:
-        self.notes.append(Finding(at.file, words, at.line, column))
+        self.notes.append(at.finding(words, column))
 
     def stations(self, branch: Branch) -> list[int]:
         return [self.gic.substation_of[bus] for bus in branch.ends]

@@ -27,8 +27,12 @@ class Record:
     findings: list[Finding]
     point: str = "."  # between the whole part of a number and the rest
 
+    def finding(self, words: str, column: str | None = None) -> Finding:
+        """What is told of the line, or of a field of it."""
+        return Finding(self.file, words, self.line, column)
+
     def wrong(self, column: str | None, words: str) -> None:
-        self.findings.append(Finding(self.file, words, self.line, column))
+        self.findings.append(self.finding(words, column))
 
     def text(self, column: str) -> str:
         """The field of a column; empty where the line has none."""

@@ -37,11 +37,15 @@ def zone_notes(data: bytes, zones: Sequence[str], steps: int) -> list[str]:
     return notes
 
 
+def time_notes(times: Sequence[int], what: str) -> list[str]:
+    """What is told of the times of a storm or a waveform that may be in minutes, or the numbers of its steps."""
+    if len(times) < LEAST_STEPS or any(later - time != 1 for time, later in zip(times, times[1:])):
+        return []
+    return [f"All {len(times)} steps of the {what} are one second apart. Are its times in minutes?"]
+
+
 def field_notes(steps: Sequence[StormStep]) -> list[str]:
-    notes = []
-    times = [step.time for step in steps]
-    if len(times) >= LEAST_STEPS and all(later - time == 1 for time, later in zip(times, times[1:])):
-        notes.append(f"All {len(times)} steps of the storm are one second apart. Are its times in minutes?")
+    notes = time_notes([step.time for step in steps], "storm")
     strongest = max((step.strength for step in steps), default=0.0)
     if strongest < WEAK:
         words = f"The strongest field of the storm is {strongest / 1000:g} V/km, before alpha and beta."

@@ -2,16 +2,17 @@
 
 import dataclasses
 import datetime
-import math
 from collections.abc import Iterable, Iterator, Mapping
 from typing import TypeVar
 
 from . import outages
 from .counts import plural
-from .events import BaseSwitchings, Event, Items, read_events
+from .directions import STEP, bearing_of, current_at, direction_counts, parts_of
+from .events import BaseSwitchings, Event, Items, one_event, read_events
 from .factors import Factor, read_factors, size, total
 from .findings import Finding, Refused, collected, refuse, visible
 from .forms import Interval
+from .gict import GicT, Maker, Subject
 from .inputs import Copies, Input
 from .network import Degrees, Network, Place, in_metres, laid_out, network_of, read_degrees
 from .outages import Asked, Outages, Result, Worst, worst_of
@@ -35,14 +36,18 @@ from .reports import (
 from .reports import Study as StormReport
 from .spans import Compared, compared
 from .storms import Seconds, StormStep, SwitchingRow, seconds_above, storm_steps, switching_rows
-from .storm_notes import factor_notes, field_notes, switching_notes, zone_notes
+from .storm_notes import factor_notes, field_notes, switching_notes, time_notes, zone_notes
 from .together import together
+from .waveforms import Waveform, read_waveform
 
 Kind = TypeVar("Kind")
-OPTIONS = ("storm", "switch", "factors", "events", "places", "width")
+OPTIONS = ("storm", "switch", "waveform", "factors", "events", "places", "width")
 FILES = ("case", *OPTIONS[:-1])
+EVENT = "event_"  # the report of an event, with its number behind
 SHOWN = 40  # units and questions on the terminal
 MUST = ("reaches", "undecided")  # the verdicts of a unit that must be assessed
+# What brings a unit to the threshold, in the order in which it is looked for.
+BY_EVENT, BY_OUTAGE, BY_LIST, BY_NOTHING = "by the event", "with one item out", "in an event of the list", "no"
 
 
 @dataclasses.dataclass(frozen=True)
@@ -54,6 +59,7 @@ class Request:
     case: str
     storm: str | None = None
     switch: str | None = None
+    waveform: str | None = None
     factors: str | None = None
     events: str | None = None
     places: str | None = None
@@ -131,6 +137,19 @@ class Losses:
 
 
 @dataclasses.dataclass(frozen=True)
+class Flows:
+    """The currents of all lines in a field of one direction."""
+
+    bearing: int
+    field: Field
+
+    @property
+    def lines(self) -> dict[str, Interval]:
+        """Those that carry one, positive from the first end of the line to the other."""
+        return {item.name: item.value for item in self.field.items if item.kind == "line" and item.value is not None}
+
+
+@dataclasses.dataclass(frozen=True)
 class UnitFacts:
     """A transformer in all reports."""
 
@@ -148,14 +167,17 @@ class UnitFacts:
         return self.benchmark.name
 
     @property
-    def verdicts(self) -> list[str]:
-        """Those of the benchmark event: of the whole network, with one item out, and of the worst event."""
-        event = [] if self.worst_event is None else [self.worst_event.unit.verdict]
-        return [self.benchmark.verdict, self.outage.verdict, *event]
+    def assessed(self) -> str:
+        """What brings it to the threshold of the benchmark event, or may."""
+        if self.benchmark.verdict in MUST:
+            return BY_EVENT
+        if self.outage.verdict in MUST:
+            return BY_OUTAGE
+        return BY_LIST if self.worst_event is not None and self.worst_event.unit.verdict in MUST else BY_NOTHING
 
     @property
-    def must_be_assessed(self) -> bool:
-        return any(verdict in MUST for verdict in self.verdicts)
+    def is_assessed(self) -> bool:
+        return self.assessed != BY_NOTHING
 
 
 @dataclasses.dataclass(frozen=True)
@@ -179,6 +201,9 @@ class Study:
     parts: int  # of the network that were set beside the others on the map
     storm: Storm | None
     losses: Losses | None
+    flows: Flows | None = None
+    waveform: Waveform | None = None
+    gict: list[GicT] = dataclasses.field(default_factory=list)  # of the units that are assessed, where there is a waveform
     is_recorded: bool = False  # the program, in the record of a build
     compared: Compared | None = None  # the spans with the places, where there is a table of these
 
@@ -196,8 +221,9 @@ class Study:
 
     @property
     def notes(self) -> list[str]:
-        """What of the storm and of the factors is lawful, and mostly not meant."""
+        """What of the storm, of the waveform and of the factors is lawful, and mostly not meant."""
         notes = [] if self.losses is None else factor_notes(self.losses.factors)
+        notes += [] if self.waveform is None else time_notes(self.waveform.times, "waveform")
         if self.storm is not None:
             data = next((given.data for given in self.inputs if given.role == "storm"), b"time,north,east\n")
             zones = [] if self.network is None else self.network.zones
@@ -212,41 +238,21 @@ class Study:
     @property
     def assessed(self) -> list[UnitFacts]:
         """The units that reach the threshold or may, in the order of `units`."""
-        return [unit for unit in self.units if unit.must_be_assessed]
+        return [unit for unit in self.units if unit.is_assessed]
+
+    def brought(self, by: str) -> list[UnitFacts]:
+        """Those that this brings to the threshold, in the order of `units`."""
+        return [unit for unit in self.units if unit.assessed == by]
 
     @property
     def beyond(self) -> list[UnitFacts]:
         """The others that reach the threshold of the supplemental event or may."""
-        return [unit for unit in self.units if unit.supplemental.verdict in MUST and not unit.must_be_assessed]
+        return [unit for unit in self.units if unit.supplemental.verdict in MUST and not unit.is_assessed]
 
     @property
     def switchings(self) -> list[SwitchingRow]:
         """The rows of --switch."""
         return [row for given in self.inputs if given.role == "switch" for row in switching_rows(given.data)]
-
-
-def middle(value: Interval) -> float:
-    return (value.low + value.high) / 2
-
-
-def bearing_of(row: ScreenUnit) -> int | None:
-    """The direction of the field that is worst, by the middles of the two currents; None where they may be 0."""
-    if row.worst.low <= 0:
-        return None
-    return round(math.degrees(math.atan2(middle(row.east), middle(row.north)))) % 180
-
-
-def current_at(row: ScreenUnit, bearing: float) -> Interval:
-    """The absolute current in the event's field of this bearing, in milliamperes: cosine times the one to the north and
-    sine times the one to the east, with the ends rounded outward."""
-    factors = math.cos(math.radians(bearing)), math.sin(math.radians(bearing))
-    low = high = 0.0
-    for factor, value in zip(factors, (row.north, row.east)):
-        ends = sorted((factor * value.low, factor * value.high))
-        low, high = low + ends[0], high + ends[1]
-    least, most = 0.0 if low <= 0 <= high else min(abs(low), abs(high)), max(abs(low), abs(high))
-    slack = 1e-6 + 1e-12 * most  # for the rounding of the floating-point numbers
-    return Interval(max(0, math.floor(least - slack)), math.ceil(most + slack))
 
 
 def worst_losses(factors: Mapping[str, Factor], screen: Screen) -> int:
@@ -320,14 +326,16 @@ class Tables:
     events: list[Event]
     factors: dict[str, Factor]
     places: dict[str, Degrees]
+    waveform: Waveform | None
 
 
 def read_tables(request: Request, network: Network | None, items: Items) -> Tables:
-    """The tables of events, factors and places; all that is wrong with any of them is told at once."""
+    """The tables of events, factors and places, and the waveform; all that is wrong with any of them is told at once."""
     findings: list[Finding] = []
     events: list[Event] = []
     factors: dict[str, Factor] = {}
     places: dict[str, Degrees] = {}
+    waveform: Waveform | None = None
     unread = "it needs the case, which is in TOML 1.1; write the case without what only TOML 1.1 has"
     with collected(findings):
         if request.events is not None:
@@ -342,9 +350,12 @@ def read_tables(request: Request, network: Network | None, items: Items) -> Tabl
             raise refuse(request.places, unread)
         if request.places is not None and network is not None:
             places = read_degrees(request.places, network.stations, findings, request.data("places"))
+    with collected(findings):
+        if request.waveform is not None:
+            waveform = read_waveform(request.waveform, request.data("waveform"))
     if findings:
         raise Refused(findings)
-    return Tables(events, factors, places)
+    return Tables(events, factors, places, waveform)
 
 
 def worst_outages(runner: outages.Runner, outage: Outage, progress: Progress) -> dict[str, Worst]:
@@ -369,7 +380,7 @@ def event_results(runs: Runs, runner: outages.Runner, events: list[Event], words
     results: list[Result] = []
     findings: list[Finding] = []
     for number, (event, run) in enumerate(runner.runs(events, runs.progress.next), 1):
-        name = f"event_{number}"
+        name = f"{EVENT}{number}"
         runs.keep(name, "screen", (*words, f"--switch=reports/{name}.csv"), run)
         with collected(findings):
             results.append(runner.told(event, run))
@@ -406,15 +417,45 @@ def run_series(runs: Runs, storm: Storm | None, names: Iterable[str]) -> None:
     storm.series.update(zip(words, runs.reports(Series, "series", asked)))
 
 
+def subject_of(unit: UnitFacts, events: Outages | None) -> Subject:
+    """A unit that is assessed, in the network in which it reaches the threshold or may: as it stands, or else with its worst
+    outage, or else in its worst event."""
+    if unit.assessed == BY_OUTAGE and unit.worst_outage is not None:
+        return Subject(unit.worst_outage.unit, one_event(unit.worst_outage.event))
+    if unit.assessed == BY_LIST and unit.worst_event is not None and events is not None:
+        named = {result.event.name: result.event for result in events.results}
+        return Subject(unit.worst_event.unit, named[unit.worst_event.event])
+    return Subject(unit.benchmark, None)
+
+
+def run_gict(runs: Runs, waveform: Waveform | None, screen: Screen, base: BaseSwitchings, subjects: list[Subject]) -> list[GicT]:
+    """The current over the waveform of each of these units."""
+    if waveform is None:
+        return []
+    request = runs.request
+    runs.progress.total += 2 * len(subjects)
+    maker = Maker(waveform, screen.field, base, request.copies.folder, request.run, request.case_word, request.words)
+    return maker.make(subjects, runs.progress.next)
+
+
 def run_losses(runs: Runs, factors: dict[str, Factor], screen: Screen, words: tuple[str, ...]) -> Losses | None:
     if not factors:
         return None
     bearing = worst_losses(factors, screen)
-    north = round(screen.field * math.cos(math.radians(bearing)))
-    east = round(screen.field * math.sin(math.radians(bearing)))
-    return Losses(
-        factors, bearing, runs.report(Field, "field", "field", f"--north={north}", f"--east={east}", *words)
-    )
+    return Losses(factors, bearing, field_at(runs, "field", screen, bearing, words))
+
+
+def field_at(runs: Runs, name: str, screen: Screen, bearing: int, words: tuple[str, ...]) -> Field:
+    """The currents in the event's field of this bearing."""
+    north, east = parts_of(screen.field, bearing)
+    return runs.report(Field, name, "field", f"--north={north}", f"--east={east}", *words)
+
+
+def run_flows(runs: Runs, screen: Screen, words: tuple[str, ...]) -> Flows:
+    """The currents of lines in the direction in which most units are at the threshold."""
+    counts = direction_counts(screen)
+    bearing = STEP * counts.index(max(counts))
+    return Flows(bearing, field_at(runs, "flows", screen, bearing, words))
 
 
 def facts_of(
@@ -509,7 +550,7 @@ def make_study(request: Request) -> Study:
     """Runs all that is asked, in the order in which faults of the files come early."""
     began, commit = datetime.datetime.now().astimezone(), commit_of(request.program.checksum)
     inputs = request.copies.inputs
-    with Progress(7) as progress:
+    with Progress(8) as progress:
         runs = Runs(request, progress)
         basis = look_at_case(runs, inputs["case"])
         network, screen, supplemental = basis.network, basis.screen, basis.supplemental
@@ -519,12 +560,15 @@ def make_study(request: Request) -> Study:
         storm = run_storm(runs, request, inputs, network.zones if network is not None else ["*"])
         outage = runs.report(Outage, "outage", "outage", *request.screen_words)
         look_for_one_case((screen, supplemental, outage, None if storm is None else storm.report))
+        flows = run_flows(runs, screen, request.screen_words)
         losses = run_losses(runs, tables.factors, screen, request.screen_words)
         events, worst = outages_and_worst(runs, basis, base, tables.events, outage)
         units = facts_of(screen, supplemental, outage, worst, events, storm)
         progress.total -= expected
         run_series(runs, storm, [unit.name for unit in units if wants_series(unit) or unit.name in tables.factors])
         units = facts_of(screen, supplemental, outage, worst, events, storm)
+        subjects = [subject_of(unit, events) for unit in units if unit.is_assessed]
+        gict = run_gict(runs, tables.waveform, screen, base, subjects)
     request.program.look_for_change()
     places, parts = ({}, 0) if network is None else laid_out(network, in_metres(tables.places))
     spans = None
@@ -551,18 +595,29 @@ def make_study(request: Request) -> Study:
         parts=parts,
         storm=storm,
         losses=losses,
+        flows=flows,
+        waveform=tables.waveform,
+        gict=gict,
         compared=spans,
     )
 
 
 def wants_series(unit: UnitFacts) -> bool:
     """Whether the unit reaches a threshold or may, in the event or in the storm."""
-    return unit.must_be_assessed or (unit.peak is not None and unit.peak.verdict in MUST)
+    return unit.is_assessed or (unit.peak is not None and unit.peak.verdict in MUST)
 
 
 def shown_current(value: Interval) -> int:
     """The end of an interval that is further from 0, with its sign."""
     return value.high if size(value) == value.high else value.low
+
+
+def count_text(study: Study) -> str:
+    """How many units must be assessed by the event, and how many more something out brings to the threshold."""
+    counts = {by: len(study.brought(by)) for by in (BY_EVENT, BY_OUTAGE, BY_LIST)}
+    more = [f"{many} more {by}" for by, many in counts.items() if by != BY_EVENT and many]
+    by_event = f"{counts[BY_EVENT] or 'None'} of {plural(len(study.units), 'unit')} must be assessed by the benchmark event"
+    return ", and ".join([by_event, *([", ".join(more)] if more else [])])
 
 
 def study_text(study: Study, page: str) -> str:
@@ -572,15 +627,14 @@ def study_text(study: Study, page: str) -> str:
     if len(questions) > SHOWN:
         lines.append(f"and {plural(len(questions) - SHOWN, 'question')} more")
     lines += [f"note: {note}" for note in study.notes]
-    lines.append(f"{len(study.assessed)} of {plural(len(study.units), 'unit')} must be assessed by the benchmark event")
-    whole = [unit.name for unit in study.assessed if unit.benchmark.verdict in MUST]
-    without = [unit.name for unit in study.assessed if unit.benchmark.verdict not in MUST]
-    beyond = [unit.name for unit in study.beyond]
-    for names, when in (
-        (whole, "in the network as it stands"),
-        (without, "with something out, and not before"),
-        (beyond, "more by the supplemental event alone"),
+    lines.append(count_text(study))
+    for units, when in (
+        (study.brought(BY_EVENT), BY_EVENT),
+        (study.brought(BY_OUTAGE), f"more {BY_OUTAGE}"),
+        (study.brought(BY_LIST), f"more {BY_LIST}"),
+        (study.beyond, "more by the supplemental event alone"),
     ):
+        names = [unit.name for unit in units]
         more = [f"and {len(names) - SHOWN} more"] if len(names) > SHOWN else []
         if names:
             lines.append(f"{len(names)} {when}: {' '.join([*names[:SHOWN], *more])}")

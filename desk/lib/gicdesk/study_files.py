@@ -4,9 +4,9 @@ run."""
 import hashlib
 import os
 import shlex
-from collections.abc import Mapping
+from collections.abc import Iterable, Iterator, Mapping
 
-from . import earlier, outages
+from . import earlier, gict, outages
 from .compare import ends_or_nothing
 from .decimals import MILLI, shifted
 from .files import bytes_of
@@ -14,11 +14,14 @@ from .findings import visible
 from .forms import Interval
 from .layouts import table_of
 from .outages import Worst
-from .study import Study, UnitFacts
+from .study import EVENT, Study, UnitFacts
+from .study_gict import picture_file
 from .study_page import page
 from .tables import Table
+from .workbook import workbook
 
-PAGE, UNITS, LOSSES, COMMANDS = "study.html", "units.csv", "losses.csv", "commands.txt"
+PAGE, COMMANDS, WORKBOOK = "study.html", "commands.txt", "tables.xlsx"
+UNITS, LOSSES = "units", "losses"  # tables
 
 
 def interval_heads(name: str) -> list[str]:
@@ -58,7 +61,7 @@ def unit_cells(study: Study, unit: UnitFacts) -> list[str]:
         *ends_or_nothing(peak),
         "" if unit.peak is None else unit.peak.verdict,
         *(("", "") if unit.seconds is None else (str(unit.seconds.certain), str(unit.seconds.possible))),
-        "yes" if unit.must_be_assessed else "no",
+        unit.assessed,
     ]
 
 
@@ -103,10 +106,15 @@ def commands_text(study: Study) -> str:
     lines = []
     for kept in study.kept:
         told = f"  # {visible(kept.run.line)}" if kept.run.line else ""
-        words = " ".join(map(shell_word, ("gicstudy", *kept.words)))
-        lines.append(f"{kept.run.status} {kept.name} {words}{told}")
-    heads = "# status, report, words; files in reports/ lie in this folder, and others are named as they were given"
+        lines.append(f"{kept.run.status} {kept.name} {words_text(kept.words)}{told}")
+    for one in study.gict:
+        lines += [f"0 {kind}_{one.name} {words_text(curve.words)}" for kind, curve in one.curves.items()]
+    heads = "# status, report, words; files in reports/ and gict/ lie in this folder, and others are named as they were given"
     return "\n".join([heads, *lines]) + "\n"
+
+
+def words_text(words: Iterable[str]) -> str:
+    return " ".join(map(shell_word, ("gicstudy", *words)))
 
 
 def shell_word(word: str) -> str:
@@ -118,23 +126,63 @@ def shell_word(word: str) -> str:
     return "$'" + "".join(one if one.isprintable() else other for one, other in zip(letters, numbers)) + "'"
 
 
-def files_of(study: Study, comma: bool) -> dict[str, str | bytes]:
-    """The files by their names in the folder."""
-    files: dict[str, str | bytes] = {PAGE: page(study), COMMANDS: commands_text(study)}
-    files[UNITS] = units_table(study).csv(comma)
+def tables_of(study: Study) -> dict[str, Table]:
+    """The tables by the names of their files, without the ending."""
+    tables = {UNITS: units_table(study)}
     if study.losses is not None:
-        files[LOSSES] = losses_table(study).csv(comma)
+        tables[LOSSES] = losses_table(study)
+    if study.gict:
+        tables[gict.SUMMARY] = gict.summary_table(study.gict, study.screen.threshold)
+    for kept in study.kept:
+        if kept.report is not None:
+            tables[f"tables/{kept.name}"] = table_of(kept.name, kept.mode, kept.report)
+    if study.events is not None:
+        tables["tables/events"] = outages.events_table(study.events)
+    return tables
+
+
+def sheets_of(study: Study, tables: Mapping[str, Table]) -> dict[str, Table]:
+    """The tables of the workbook by the names of their sheets: all but the series and the screens of events, which may be
+    many."""
+    many = {f"tables/{kept.name}" for kept in study.kept if kept.mode == "series" or kept.name.startswith(EVENT)}
+    return {name.removeprefix("tables/").replace("/", " "): table for name, table in tables.items() if name not in many}
+
+
+def files_of(study: Study, comma: bool, has_workbook: bool = False) -> dict[str, str | bytes]:
+    """The files by their names in the folder; the workbook is one where it is asked for and a library is there."""
+    files: dict[str, str | bytes] = {PAGE: page(study), COMMANDS: commands_text(study)}
+    tables = tables_of(study)
+    files |= {f"{name}.csv": table.csv(comma) for name, table in tables.items()}
+    book = workbook(sheets_of(study, tables)) if has_workbook else None
+    if book is not None:
+        files[WORKBOOK] = book
     for kept in study.kept:
         if kept.report is not None:
             files[f"reports/{kept.name}.txt"] = kept.run.report
-            files[f"tables/{kept.name}.csv"] = table_of(kept.name, kept.mode, kept.report).csv(comma)
     if study.events is not None:
         base = study.request.asked.base
         for number, result in enumerate(study.events.results, 1):
-            files[f"reports/event_{number}.csv"] = base.with_event(result.event)
-        files["tables/events.csv"] = outages.events_table(study.events).csv(comma)
+            files[f"reports/{EVENT}{number}.csv"] = base.with_event(result.event)
+    files |= gict_files(study, comma)
     sums = checksums_text(files)
     return files | {earlier.SUMS: sums, earlier.MARKER: earlier.marker_text(sums.encode())}
+
+
+def gict_files(study: Study, comma: bool) -> Iterator[tuple[str, str | bytes]]:
+    """Of GIC(t) the field as it was given, and of each unit a table, a picture, the reports as they came, and what its runs had read."""
+    if not study.gict:
+        return
+    threshold = study.screen.threshold
+    yield gict.GIVEN_FIELD, study.gict[0].given.field.text
+    for one in study.gict:
+        subject = one.subject
+        yield subject.file("table", "csv"), gict.gict_table(one).csv(comma)
+        yield subject.file("picture", "svg"), picture_file(one, threshold)
+        yield subject.file("turned_field", "csv"), one.turned.field.text
+        if one.switchings is not None:
+            yield subject.file("switch", "csv"), one.switchings
+        for kind, curve in one.curves.items():
+            yield subject.file(kind, "txt"), curve.report
 
 
 def checksums_text(files: Mapping[str, str | bytes]) -> str:

@@ -2,6 +2,7 @@
 
 from . import pictures
 from .counts import plural
+from .decimals import MILLI, shifted
 from .markup import Markup, tag
 from .study import MUST, Study, UnitFacts
 from .study_words import amperes, made, section, station_of
@@ -24,7 +25,7 @@ def station_class(here: list[UnitFacts]) -> str:
     for word in MUST:
         if word in verdicts:
             return word
-    if any(unit.must_be_assessed for unit in here):
+    if any(unit.is_assessed for unit in here):
         return "outage"
     return "below" if "below" in verdicts else "none"
 
@@ -41,6 +42,38 @@ def map_stations(study: Study) -> list[pictures.Station]:
         title = f"{name}: {told or 'no unit'}"
         stations.append(pictures.Station(name, station_class(here), max(judged, default=0), title))
     return stations
+
+
+def map_flows(study: Study) -> dict[str, pictures.Flow]:
+    """How much each line carries, by the middles of the intervals."""
+    network, flows = study.network, study.flows
+    if network is None or flows is None:
+        return {}
+    lines = flows.lines
+    greatest = max((abs(value.middle) for value in lines.values()), default=0.0) or 1.0
+    drawn = {}
+    for link in network.links:
+        value = lines.get(link.name)
+        if value is not None:
+            start, end = (link.start, link.end) if value.middle >= 0 else (link.end, link.start)
+            words = f"{link.name}: {amperes(value).removeprefix('-')} A from {start} to {end}"
+            drawn[link.name] = pictures.Flow(value.middle / greatest, words)
+    return drawn
+
+
+def flows_text(study: Study) -> str:
+    """What the lines of the map show."""
+    if study.flows is None:
+        return ""
+    field = study.flows.field
+    greatest = max(study.flows.lines.items(), key=lambda line: abs(line[1].middle), default=None)
+    most = "" if greatest is None else f" The greatest is {amperes(greatest[1]).removeprefix('-')} A, in {greatest[0]}."
+    return (
+        f" A line is as wide as its current goes in a field of {shifted(study.screen.field, MILLI)} V/km at "
+        f"{study.flows.bearing}°, the first direction in which most units are at the threshold, and an arrow says which way, in a "
+        f"field the other way the other one: of the three phases together, by the middles of field --north={field.north} "
+        f"--east={field.east}, the report flows.{most}"
+    )
 
 
 def places_text(study: Study) -> str:
@@ -75,6 +108,7 @@ def map_section(study: Study) -> Markup:
     words += " The area of a disc goes with the greatest worst current of its units that are judged."
     if len(stations) > named:
         words += f" Of {len(stations)} stations the {named} with the greatest have their names, as far as there is room."
+    words += flows_text(study)
     key = [tag("li", tag("i", style=style), meaning) for style, meaning in KEY.items()]
-    drawn = pictures.network_map(study.places, network.links, stations, named)
+    drawn = pictures.network_map(study.places, network.links, stations, named, map_flows(study))
     return section("map", tag("ul", *key, class_="key"), tag("div", drawn, class_="scroll map"), made(words))

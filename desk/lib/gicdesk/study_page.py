@@ -11,13 +11,13 @@ from .findings import visible
 from .markup import Markup, joined, table, tag
 from .outages import Worst
 from .reports import Screen, ScreenUnit
-from .study import MUST, Study, UnitFacts
+from .study import BY_EVENT, BY_LIST, BY_OUTAGE, EVENT, MUST, Kept, Study, UnitFacts, count_text
+from .study_gict import gict_section
 from .study_map import map_section
 from .study_storm import losses_section, storm_section
 from .study_style import STYLE
 from .study_units import directions_section, units_section
 from .study_words import (
-    ABSENT,
     TITLES,
     amperes,
     made,
@@ -47,12 +47,17 @@ UNSOLVED = {
 }
 KEPT_NOTE = (
     "Each of these commands was run, and where its status is 0 its report stands beside this page as it came, in "
-    "reports/, and as a table in tables/; checksums.txt has the sha256 of each file in full, and commands.txt all words."
+    "reports/, and as a table in tables/; commands.txt has all words."
 )
+SUMS_NOTE = "The sha256 of what was read and of each report of these commands; checksums.txt has those of all files of the folder."
 PROVED_NOTE = (
     "What the program proves holds from the bytes of the case to its reports: each interval holds the exact value. Nothing "
     "of this page is proved. Each of its numbers is one that the program printed, with its point moved, or is said to be "
     "made of such."
+)
+OUTAGE_NOTE = (
+    "NERC's criterion of 75 A asks for the network as it stands. What has something out is a step beyond that, and what comes "
+    "of it is yours to decide."
 )
 UNKNOWN_NOTE = " Whether the program that was run is a proved one isn't known here: there is no record of a build with its sum."
 UNTOLD_NOTE = " Of which commit the program is that was run isn't known here, though there is a record of a build with its sum."
@@ -96,13 +101,22 @@ def asked_section(study: Study) -> Markup:
         "Width of intervals": f"{shifted(study.screen.width, MILLI)} A at most",
         "Switchings": switch_text(study),
     }
-    rows = [(given.role, visible(given.name), str(len(given.data)), given.checksum) for given in study.inputs]
-    rows.append(("program", visible(study.request.program.path), "", study.program_checksum))
+    rows = [(given.role, visible(given.name), str(len(given.data))) for given in study.inputs]
+    rows.append(("program", visible(study.request.program.path), ""))
     return section(
         "asked",
         tag("table", *[tag("tr", tag("td", name, class_="name"), tag("td", words)) for name, words in facts.items()]),
-        table(("file", "name", "bytes", "sha256"), rows, ("name", "wrap", "n", "sum")),
+        table(("file", "name", "bytes"), rows, ("name", "wrap", "n")),
     )
+
+
+def sums_section(study: Study) -> Markup:
+    rows = [(given.role, given.checksum) for given in study.inputs]
+    rows.append(("program", study.program_checksum))
+    for kept in listed_runs(study):
+        if kept.report is not None:
+            rows.append((f"reports/{kept.name}.txt", hashlib.sha256(kept.run.report).hexdigest()))
+    return section("sums", tag("p", SUMS_NOTE), table(("file", "sha256"), rows, ("name", "sum")))
 
 
 def questions_section(study: Study) -> Markup:
@@ -156,9 +170,8 @@ def lead_text(study: Study) -> str:
     end = f"{outside} {'is' if outside == 1 else 'are'} outside of the assessment."
     if study.assessed:
         return (
-            f"{len(study.assessed)} of {units} must be assessed by the benchmark event: in some direction of a uniform "
-            f"field of {field} V/km they have {threshold} A a phase or more, or may have it, in the network as it stands "
-            f"or with something out. {end}"
+            f"{count_text(study)}: in some direction of a uniform field of {field} V/km they have {threshold} A a phase or more, "
+            f"or may have it. {end}"
         )
     if outside == len(study.units):
         return f"None of {units} is judged. {end}"
@@ -171,17 +184,13 @@ def lead_text(study: Study) -> str:
 
 def answer_groups(study: Study) -> list[Markup]:
     """The units that must be assessed, by what brings them to the threshold."""
-    rest = [unit for unit in study.assessed if unit.benchmark.verdict not in MUST]
-    by_outage = [unit for unit in rest if unit.outage.verdict in MUST]
-    by_event = [unit for unit in rest if unit.outage.verdict not in MUST]
-    whole = [unit for unit in study.units if unit.benchmark.verdict in MUST]
     return [
         group(
-            "In the network as it stands",
-            [(unit.name, screen_words(unit.benchmark)) for unit in whole],
+            "By the benchmark event, in the network as it stands",
+            [(unit.name, screen_words(unit.benchmark)) for unit in study.brought(BY_EVENT)],
         ),
-        group("With one item out, and not before", [(unit.name, outage_words(unit)) for unit in by_outage]),
-        group("In an event of the list, and not before", [(one.name, event_words(one.worst_event)) for one in by_event]),
+        group("More with one item out", [(unit.name, outage_words(unit)) for unit in study.brought(BY_OUTAGE)]),
+        group("More in an event of the list", [(unit.name, event_words(unit.worst_event)) for unit in study.brought(BY_LIST)]),
     ]
 
 
@@ -214,14 +223,18 @@ def answer_section(study: Study) -> Markup:
         notes.append(tag("p", words, tag("a", TITLES["left"], href="#left"), "."))
     questions = plural(len(study.questions), "question")
     if study.questions:
-        notes.append(tag("p", f"All of it is said of the case as it is written; {questions} of the review stand above."))
+        asked = tag("a", questions, href="#questions")
+        stand = "stands" if len(study.questions) == 1 else "stand"
+        notes.append(tag("p", "All of it is said of the case as it is written, of which ", asked, f" {stand} below."))
+    if study.assessed != study.brought(BY_EVENT):
+        notes.append(tag("p", OUTAGE_NOTE))
     notes += [tag("p", note) for note in study.notes]
     note = (
         "Beside each name stands the high end of its worst current, in amperes a phase, as the program printed it. What "
         "below doesn't say stands in README.md of the program."
     )
-    answer = tag("div", tag("p", tag("b", lead_text(study))), *answer_groups(study), class_="answer")
-    return section("answer", answer, *groups_beside(study), *notes, made(note))
+    answer = tag("div", tag("p", tag("b", lead_text(study))), class_="answer")
+    return section("answer", answer, *answer_groups(study), *groups_beside(study), *notes, made(note))
 
 
 def outage_items(study: Study) -> list[str]:
@@ -276,6 +289,8 @@ def left_section(study: Study) -> Markup:
         items.append("The current over time: no storm was given.")
     elif study.storm.report is None:
         items.append("The current over time: the storm has no report.")
+    if study.waveform is None:
+        items.append("GIC(t) for a thermal assessment: no waveform was given.")
     if study.losses is None:
         items.append("Losses: no factors were given.")
     elif len(study.losses.factors) < len(study.units):
@@ -291,30 +306,32 @@ def events_of_list(study: Study) -> Sequence[Markup]:
     if study.events is None:
         return []
     rows = [
-        (f"event_{number}", result.event.name, str(result.event), outcome_text(result.outcome))
+        (f"{EVENT}{number}", result.event.name, str(result.event), outcome_text(result.outcome))
         for number, result in enumerate(study.events.results, 1)
     ]
     heads = ("report", "event", "switchings", "ends")
     return [tag("h3", "The events of the list"), table(heads, rows, ("name", "", "wrap", "wrap"))]
 
 
+def listed_runs(study: Study) -> list[Kept]:
+    """The runs whose words the page has: of series there may be many."""
+    return [kept for kept in study.kept if kept.mode != "series"]
+
+
 def made_section(study: Study) -> Markup:
-    series = [kept for kept in study.kept if kept.mode == "series"]
+    series = len(study.kept) - len(listed_runs(study)) + sum(len(one.curves) for one in study.gict)
     rows = []
-    for kept in study.kept:
-        if kept.mode != "series":
-            digest = ABSENT if kept.report is None else hashlib.sha256(kept.run.report).hexdigest()[:32]
-            words = words_of(map(visible, ("gicstudy", *kept.words)))
-            rows.append((kept.name, words, str(kept.run.status), digest))
+    for kept in listed_runs(study):
+        words = words_of(map(visible, ("gicstudy", *kept.words)))
+        rows.append((kept.name, str(kept.run.status), words))
     single = plural(sum(outcome.word == "solved" for outcome in study.outage.outcomes), "screen")
     more = f"The worst outages have their names from {single}, each with one item open, whose reports aren't kept."
     if series:
-        more += f" The series of {plural(len(series), 'unit')} are kept too, and stand in commands.txt."
-    heads = ("report", "words", "status", "sha256, first half")
+        more += f" {series} series are kept too, and stand in commands.txt."
     return section(
         "made",
         tag("p", KEPT_NOTE),
-        table(heads, rows, ("name", "wrap", "n", "sum")),
+        table(("report", "status", "words"), rows, ("name", "n", "wrap")),
         tag("p", more),
         *events_of_list(study),
         tag("p", proved_text(study)),
@@ -333,19 +350,22 @@ def page(study: Study) -> str:
         tag("title", title),
         tag("style", Markup(STYLE)),
     )
-    lead = "Geomagnetically induced currents: which transformers must be assessed, and what that rests on."
+    date = study.began.strftime("%d %B %Y")
+    lead = f"Geomagnetically induced currents, {date}: which transformers must be assessed, and what that rests on."
     links = [tag("a", words, href=f"#{key}") for key, words in TITLES.items()]
     sections = (
-        asked_section(study),
-        questions_section(study),
         answer_section(study),
+        questions_section(study),
         units_section(study),
         directions_section(study),
         map_section(study),
         storm_section(study),
+        gict_section(study),
         losses_section(study),
         left_section(study),
+        asked_section(study),
         made_section(study),
+        sums_section(study),
     )
     header = tag("header", tag("h1", title), tag("p", lead, class_="faint"), tag("nav", *links))
     body = tag("body", header, "\n", *[Markup(part + "\n") for part in sections])

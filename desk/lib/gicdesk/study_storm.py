@@ -5,12 +5,13 @@ from collections.abc import Sequence
 from . import pictures
 from .counts import plural
 from .decimals import MILLI, shifted
+from .directions import current_at
 from .factors import USUAL_KV, StormLosses, size, storm_losses, total
 from .forms import Interval
 from .markup import Markup, table, tag
 from .reports import Series
 from .storms import SwitchingRow, seconds_above, seen_rows
-from .study import Losses, Study, UnitFacts, current_at, middle
+from .study import Losses, Study, UnitFacts
 from .study_words import amperes, made, peak_of, section, switchings_text, threshold_of, volts_per_km, words_of
 
 MOST_STRIPS = 24
@@ -49,7 +50,7 @@ def strip_figure(strip: pictures.Strip, name: str, *words: str) -> Markup:
 def unit_figure(axis: pictures.Axis, marks: Sequence[int], series: Series, threshold: int) -> Markup:
     """The current of a unit over the storm."""
     _, time, value = max(series.steps, key=lambda step: size(step[2]))
-    points = [(at, middle(one)) for _, at, one in series.steps]
+    points = [(at, one.middle) for _, at, one in series.steps]
     above = f"{seconds_above(series.steps, threshold)} s at the threshold or above"
     strip = pictures.Strip(axis, points, marks, threshold)
     return strip_figure(strip, series.transformer, f"to {amperes(value)} A at {time} s", above)

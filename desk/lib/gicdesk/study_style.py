@@ -33,14 +33,16 @@ td.sum { font: .8em/1.35 ui-monospace, "DejaVu Sans Mono", Menlo, Consolas, mono
 .wrap { overflow-wrap: anywhere; min-width: 11em; }
 table.units { font-size: .8rem; }
 .units th, .units td { padding: .2rem .32rem; }
-.units .e { min-width: 6.5em; }
-.units td:first-child, .units th:first-child { position: sticky; left: 0; }
+.keeps .e { min-width: 6.5em; }
+.keeps td:first-child, .keeps th:first-child { position: sticky; left: 0; z-index: 1; }
+.keeps tbody tr:nth-child(odd) td:first-child { background: #fff; }
 .v { white-space: nowrap; }
 .reaches { color: var(--red); font-weight: 600; }
 .undecided { color: var(--amber); font-weight: 600; }
 .below { color: var(--green); }
 .outside, .none { color: var(--faint); }
-.answer { border: 2px solid var(--ink); border-radius: 4px; padding: .2rem 1rem .4rem; background: var(--ground); }
+.answer { border: 2px solid var(--ink); border-radius: 4px; padding: .2rem 1rem .4rem; background: var(--ground);
+  break-inside: avoid; }
 .answer p { max-width: none; }
 .list { display: flex; flex-wrap: wrap; gap: .15rem .9rem; margin: .2rem 0 .7rem; padding: 0; list-style: none;
   max-width: none; }
@@ -72,7 +74,8 @@ figcaption { font-size: .82rem; line-height: 1.3; }
 .many p { flex: 1 1 20rem; }
 .many svg { width: 17rem; max-width: 100%; }
 .map svg { width: 100%; min-width: 40rem; border: 1px solid var(--rule); }
-svg .link { fill: none; stroke: #8b96a5; stroke-width: 1.3; }
+svg .link { fill: none; stroke: #8b96a5; }
+svg .arrow { fill: #4a5665; }
 svg .blocked { stroke-dasharray: 2 4; }
 svg .bar { fill: none; stroke: var(--ink); stroke-width: 1.3; }
 svg .station { stroke: #fff; stroke-width: .8; fill: #aab3be; }
@@ -92,13 +95,20 @@ svg .zero { fill: none; stroke: #aab3be; stroke-width: 1; vector-effect: non-sca
 svg .mark { fill: none; stroke: var(--amber); stroke-width: 1; stroke-dasharray: 2 3;
   vector-effect: non-scaling-stroke; }
 .strip .threshold { vector-effect: non-scaling-stroke; }
+.charts figure { margin: 0 0 .8rem; }
+.charts figcaption { display: flex; flex-wrap: wrap; gap: 0 1rem; }
+.charts svg { width: 100%; min-width: 40rem; }
+svg .tick { fill: none; stroke: var(--rule); stroke-width: 1; }
+svg .beside { stroke: #e08a00; stroke-width: 1; }
+.chart .end { text-anchor: end; }
+.chart .mid { font-size: 12px; fill: var(--ink); }
 .times { display: flex; justify-content: space-between; font-size: .8rem; color: var(--faint); }
 @media (max-width: 40rem) {
   body { padding: .8rem .8rem 2rem; font-size: 14px; }
   h1 { font-size: 1.35rem; }
   .roses { grid-template-columns: repeat(auto-fill, minmax(6.6rem, 1fr)); }
   .answer { padding: .1rem .7rem .3rem; }
-  .units .e { min-width: 9em; }
+  .keeps .e { min-width: 9em; }
   .wrap { min-width: 17em; }
 }
 @page { size: A4; margin: 14mm 12mm; }
@@ -107,7 +117,7 @@ svg .mark { fill: none; stroke: var(--amber); stroke-width: 1; stroke-dasharray:
   html { font-size: 9.5pt; }
   body { max-width: none; padding: 0; font-size: 1rem; }
   nav { display: none; }
-  h2, h3, .key { break-after: avoid; }
+  h2, h3, .key, h2 + p { break-after: avoid; }
   #map { break-inside: avoid; }
   .scroll { overflow: visible; }
   .wide { page: wide; }
@@ -116,14 +126,11 @@ svg .mark { fill: none; stroke: var(--amber); stroke-width: 1; stroke-dasharray:
   table { font-size: 8pt; }
   tr { break-inside: avoid; }
   thead { display: table-header-group; }
-  table.units { font-size: .8rem; }
-.units th, .units td { padding: .2rem .32rem; }
-.units .e { min-width: 6.5em; }
-.units td:first-child, .units th:first-child { position: static; }
-  .map svg { min-width: 0; }
+  .keeps td:first-child, .keeps th:first-child { position: static; }
+  .map svg, .charts svg { min-width: 0; }
   .roses { grid-template-columns: repeat(6, 1fr); }
   .sum, .wrap { min-width: 0; }
-  .units .e { min-width: 8em; }
+  .keeps .e { min-width: 8em; }
   * { -webkit-print-color-adjust: exact; print-color-adjust: exact; }
 }
 """

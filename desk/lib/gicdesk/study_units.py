@@ -3,34 +3,31 @@
 from collections import Counter
 
 from . import pictures
-from .counts import plural
 from .decimals import MILLI, shifted
+from .directions import STEP, direction_counts
 from .markup import Markup, table, tag
 from .outages import Worst
 from .reports import VERDICTS, Unit
-from .study import MUST, Study, UnitFacts, current_at
+from .study import BY_EVENT, Study, UnitFacts
 from .study_words import ABSENT, amperes, made, peak_of, section, station_of, threshold_of, verdict
 
 MOST_ROSES = 48
-DIRECTIONS = 36
-STEP = 180 // DIRECTIONS  # degrees from one direction to the next
 MOST_BEARINGS = 6  # in a sentence
 
 # Heads with the classes of their columns.
 UNIT_HEADS = {
     "unit": "name",
-    "station": "",
-    "kV": "n",
-    "north, A": "n",
-    "east, A": "n",
+    "verdict": "",
     "worst, A": "n",
     "bearing": "n",
-    "verdict": "",
+    "north, A": "n",
+    "east, A": "n",
 }
 SUPPLEMENTAL_HEADS = {"supple\N{SOFT HYPHEN}mental, A": "n", "verdict": ""}
 OUTAGE_HEADS = {"worst outage": "e", "with it, A": "n", "verdict": ""}
 EVENT_HEADS = {"worst event": "e", "in it, A": "n", "verdict": ""}
 STORM_HEADS = {"storm, A": "n", "seconds": "n"}
+PLACE_HEADS = {"station": "", "kV": "n"}
 
 NOTE = (
     "The currents are effective ones in amperes a phase. Of each interval the end that is further from 0 is shown, as it "
@@ -88,18 +85,18 @@ def unit_cells(study: Study, unit: UnitFacts) -> list[str]:
     row = unit.benchmark
     return [
         unit.name,
-        station_of(study, unit.name),
-        kilovolts(study, unit.name),
-        amperes(row.north),
-        amperes(row.east),
+        verdict(row.verdict),
         amperes(row.worst),
         bearing_text(unit),
-        verdict(row.verdict),
+        amperes(row.north),
+        amperes(row.east),
         amperes(unit.supplemental.worst),
         verdict(unit.supplemental.verdict),
         *outage_cells(unit.outage, unit.worst_outage),
         *(event_cells(unit.worst_event) if study.events is not None else []),
         *(storm_cells(unit) if study.has_storm_report else []),
+        station_of(study, unit.name),
+        kilovolts(study, unit.name),
     ]
 
 
@@ -112,23 +109,17 @@ def units_section(study: Study) -> Markup:
     if study.has_storm_report:
         heads += STORM_HEADS.items()
         note += STORM_NOTE.format(threshold=threshold_of(study))
+    heads += PLACE_HEADS.items()
     counts = Counter(unit.benchmark.verdict for unit in study.units)
     words = ", ".join(f"{counts[word]} {word}" for word in VERDICTS)
     rows = [unit_cells(study, unit) for unit in study.units]
     return section(
         "units",
         tag("p", f"In the benchmark event: {words}. The greatest worst current stands first."),
-        table([head for head, _ in heads], rows, [class_ for _, class_ in heads], class_="units"),
+        table([head for head, _ in heads], rows, [class_ for _, class_ in heads], class_="units keeps"),
         made(note),
         class_="wide",
     )
-
-
-def direction_counts(study: Study) -> list[int]:
-    """How many judged units have the threshold or more for certain in the event's field, by its bearing."""
-    rows = [row for row in study.screen.rows if row.verdict != "outside"]
-    threshold = study.screen.threshold
-    return [sum(current_at(row, place * STEP).low >= threshold for row in rows) for place in range(DIRECTIONS)]
 
 
 def counts_text(study: Study, counts: list[int]) -> str:
@@ -153,21 +144,22 @@ def rose_figure(study: Study, unit: UnitFacts, scale: int) -> Markup:
 
 
 def roses(study: Study) -> list[Markup]:
-    """A rose of each unit that must be assessed, those that reach the threshold in the whole network first."""
-    drawn = sorted(study.assessed, key=lambda unit: unit.benchmark.verdict not in MUST)[:MOST_ROSES]
+    """A rose of each unit that is assessed, those that reach the threshold in the network as it stands first."""
+    drawn = sorted(study.assessed, key=lambda unit: unit.assessed != BY_EVENT)[:MOST_ROSES]
     if not drawn:
         return []
     scale = max(study.screen.threshold, *(unit.benchmark.worst.high for unit in drawn))
     note = ROSE_NOTE.format(scale=shifted(scale, MILLI), threshold=threshold_of(study))
     left = len(study.assessed) - len(drawn)
     if left:
-        note += f" The first {len(drawn)} are drawn; {plural(left, 'other')} that must be assessed stand in the table."
+        note += f" The first {len(drawn)} are drawn, and {left} more stand in the table."
     figures = [rose_figure(study, unit, scale) for unit in drawn]
-    return [tag("h3", "Each unit that must be assessed"), tag("div", *figures, class_="roses"), made(note)]
+    title = "Each unit at the threshold, as the network stands or with something out"
+    return [tag("h3", title), tag("div", *figures, class_="roses"), made(note)]
 
 
 def directions_section(study: Study) -> Markup:
-    counts = direction_counts(study)
+    counts = direction_counts(study.screen)
     words = counts_text(study, counts)
     note = (
         f"Each {STEP} degrees the units are counted whose current there is certainly at the threshold or above: cosine "

@@ -12,16 +12,18 @@ MOST_LISTED = 40  # names in a sentence
 ABSENT = "–"
 
 TITLES = {
-    "asked": "What was asked",
-    "questions": "Open questions",
     "answer": "The answer",
+    "questions": "Open questions",
     "units": "The units",
     "directions": "By direction",
     "map": "The map",
     "storm": "The storm",
+    "gict": "GIC(t)",
     "losses": "Losses",
     "left": "What was left out",
+    "asked": "What was asked",
     "made": "How the numbers were made",
+    "sums": "Checksums",
 }
 
 

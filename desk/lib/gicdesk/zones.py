@@ -71,7 +71,7 @@ def read_zones(
     """The zones of a table, each once. What the table of alpha makes too small is told."""
 
     def tell(name: str, at: Record, column: str, words: str, ways: str) -> None:
-        notes.append(Finding(at.file, f"{words}; {ways}", at.line, column))
+        notes.append(at.finding(f"{words}; {ways}", column))
 
     names: set[str] = set()
     zones: list[Zone] = []

@@ -1,7 +1,8 @@
 //! Loops of spans, which close or stay open by little where the spans are right and the loop is small.
 ghost use Rattle.std.specs.Prelude.{◌≡◌, ◌<◌, ◌++◌, length, OnOk};
 ghost use Rattle.gic_case.specs.Sound.{IsSoundLine};
-ghost use Rattle.gic_review.specs.Closures.{position_of_bus, closure_told, told_at_line, places_after, closures_from, closures_of, AreLaidOut};
+ghost use Rattle.gic_review.specs.Closures.{position_of_bus, closure_told, told_at_line};
+ghost use Rattle.gic_review.specs.Closures.{places_after, closures_from, closures_of, AreLaidOut};
 
 use crate::findings::finding::Finding;
 use crate::findings::places::{Gap, Position, gap_of, is_open, join, start_places};

@@ -1,15 +1,7 @@
 //! Findings, in the words of a case.
 use crate::findings::measured::Quantity;
 use gic_base::Name;
-
-/// A list of a case whose values are looked at.
-#[derive(Clone, Copy, PartialEq, Eq, Debug)]
-pub enum CaseList {
-    Zone,
-    Substation,
-    Line,
-    Transformer,
-}
+use gic_case::CaseList;
 
 /// A side of a transformer that has a bus.
 #[derive(Clone, Copy, PartialEq, Eq, Debug)]

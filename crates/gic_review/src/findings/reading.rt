@@ -1,14 +1,18 @@
 //! The values of the rows of a case.
 ghost use Rattle.std.specs.Prelude.{◌≡◌, ◌++◌, flat_map, All, OnOk};
-ghost use Rattle.gic_review.specs.declared.findings.finding.CaseList.TheVariants as lists;
-ghost use Rattle.gic_review.specs.Readings.{value_told, values_told, span_readings, kilometre_readings, volts_readings, resistance_by, winding_readings, neutral_readings, zone_told, substation_told, line_told, transformer_told, values_of};
+ghost use Rattle.gic_case.specs.declared.case_list.CaseList.TheVariants as lists;
+ghost use Rattle.gic_review.specs.Readings.{value_told, values_told, span_readings, kilometre_readings, volts_readings, resistance_by};
+ghost use Rattle.gic_review.specs.Readings.{winding_readings, neutral_readings};
+ghost use Rattle.gic_review.specs.Readings.{zone_told, substation_told, line_told, transformer_told, values_of};
 ghost use Rattle.gic_review.specs.Spans.{IsShort};
 
-use crate::findings::finding::{CaseList, Finding};
+use crate::findings::finding::Finding;
 use crate::findings::measured::Quantity;
 use crate::findings::span::span_of;
 use gic_base::{Name, OutOfMemory};
-use gic_case::{Case, Line, Neutral, Scaling, Substation, Transformer, Winding, WindingRole, Zone};
+use gic_case::{
+    Case, CaseList, Line, Neutral, Scaling, Substation, Transformer, Winding, WindingRole, Zone,
+};
 
 /// Adds what is told of a value of a row.
 fn push_value(

@@ -1,6 +1,7 @@
 //! The rated voltages of the sides of transformers, compared at each bus.
 ghost use Rattle.std.specs.Prelude.{◌≡◌, ◌<◌, ◌++◌, length, flat_map, All, replicate, None, IfOk, OnOk};
-ghost use Rattle.gic_review.specs.Sides.{rated, side_by, sides_by, rated_sides_of, differs, volts_told, measures_with, volts_from, unfit_volts};
+ghost use Rattle.gic_review.specs.Sides.{rated, side_by, sides_by, rated_sides_of, differs};
+ghost use Rattle.gic_review.specs.Sides.{volts_told, measures_with, volts_from, unfit_volts};
 
 use crate::findings::finding::{Finding, Side};
 use gic_base::{Name, OutOfMemory};

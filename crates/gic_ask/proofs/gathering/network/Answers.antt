@@ -17,7 +17,7 @@ returns-in_err-case-clause-reads g c = λ cert.
 pub returns-in_err-switchings-clause-reads : goal.returns-in_err-switchings-clause-reads
 returns-in_err-switchings-clause-reads g c = λ cert.
     let names : Names = record (of_case c.args.name.now c.args.switch.now) { cert = cert } in
-    let make : Option (List Switching) → Inputs = λ rows. record { case = c.in_ok-case.case; switchings = rows; question = c.args.question } in
+    let make : Option (List Switching) → Inputs _ = λ rows. record { case = c.in_ok-case.case; switchings = rows; question = c.args.question } in
     reads_by _ names _ _ _ _ c.from_residual-in_err-switchings.result c.in_err-switchings.field-0.0 c.from_residual-in_err-switchings.ensures.1
     (file_read _ names file.Case c.args.name.now reading_case (file_named file.Switch c.args.switch.now) (reading_inputs c.args.switch.now c.args.question)
     up_to_case _ _ _ _ c.in_ok-case.case (Err c.in_err-switchings.field-0.0) refl refl (λ one two. refl) c.in_ok-case.ensures.gives c.in_ok-case.ensures.content
@@ -26,7 +26,7 @@ returns-in_err-switchings-clause-reads g c = λ cert.
 pub returns-clause-reads : goal.returns-clause-reads
 returns-clause-reads g c = λ cert.
     let names : Names = record (of_case c.args.name.now c.args.switch.now) { cert = cert } in
-    let make : Option (List Switching) → Inputs = λ rows. record { case = c.in_ok-case.case; switchings = rows; question = c.args.question } in
+    let make : Option (List Switching) → Inputs _ = λ rows. record { case = c.in_ok-case.case; switchings = rows; question = c.args.question } in
     file_read _ names file.Case c.args.name.now reading_case (file_named file.Switch c.args.switch.now) (reading_inputs c.args.switch.now c.args.question)
     up_to_case _ _ _ _ c.in_ok-case.case (Ok (make c.in_ok-switchings.switchings)) refl refl (λ one two. refl) c.in_ok-case.ensures.gives c.in_ok-case.ensures.content
     (last_step _ names _ _ make _ _ c.in_ok-switchings.switchings (c.in_ok-switchings.ensures.reads names))

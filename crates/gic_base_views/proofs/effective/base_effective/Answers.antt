@@ -61,7 +61,7 @@ returns-clause-holds c holds s solves =
     let first = winding_holds stand volts xs w.first one.result.lo one.result.hi s one.ensures.shown solves (holds s solves) in
     let second = winding_holds stand volts xs w.second other.result.lo other.result.hi s other.ensures.shown solves (holds s solves) in
     let third = winding_holds stand volts xs w.third last.result.lo last.result.hi s last.ensures.shown solves (holds s solves) in
-    let exact = c.effective_na.ensures.holds (current_in s w.first) (current_in s w.second) (current_in s w.third) s.denominator first second third in
+    let exact = c.effective_na.ensures.holds (current_in s w.first) (current_in s w.second) (current_in s w.third) s.denominator (record { in_first = first; in_second = second; in_third = third }) in
     subst₂ (λ (n : ℤ) (v : ℕ). Encloses result.lo result.hi n (3 * v * s.denominator)) (sum_is c s) (volts_are c) exact
 
 pub returns-clause-zeroed : goal.returns-clause-zeroed
@@ -79,7 +79,7 @@ returns-clause-zeroed c none =
 pub returns-clause-narrow : goal.returns-clause-narrow
 returns-clause-narrow c tight =
     narrow_from (ends_of c.effective_na.result) 401 (omega arith) c.effective_na.result.ordered
-    (c.effective_na.ensures.tight (most c) (c.winding_or_zero-first.ensures.tight tight) (c.winding_or_zero-second.ensures.tight tight) (c.winding_or_zero-third.ensures.tight tight))
+    (c.effective_na.ensures.tight (most c) (record { in_first = c.winding_or_zero-first.ensures.tight tight; in_second = c.winding_or_zero-second.ensures.tight tight; in_third = c.winding_or_zero-third.ensures.tight tight }))
 
 pub returns-clause-small : goal.returns-clause-small
 returns-clause-small c = base_within c.effective_na.result.lo c.effective_na.result.hi (c.effective_na.ensures.small (most c))

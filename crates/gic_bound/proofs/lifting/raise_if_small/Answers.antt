@@ -13,7 +13,7 @@ returns-clause-under c =
     let low = slice_index c.args.out.now in
     let cap = cap_entry (standing c.args.net.now) c.args.cap.now in
     let small = c.is_too_small.ensures.0 c.if-not-is_too_small.false in
-    let raised = up_held net.network.nodes all (standing_within net.network (stands net) c.within_limits.ensures) low cap c.args.out.now c.requires.nodes (starts_held all cap low c.requires.below) c.args.node.0 small in
+    let raised = up_held net.network.nodes all (standing_within net.network (stands net) c.within_limits.ensures) low cap c.args.out.now c.requires.under_cap.count (starts_held all cap low c.requires.under_cap.below) c.args.node.0 small in
     subst (λ (vs : List ℕ). IsUnderHeld all low cap (slice_index vs)) (sym c.raise.ensures) raised
 
 pub raise-requires-clause-space : goal.raise-requires-clause-space

@@ -5,8 +5,12 @@ use Rattle.gic_bound.specs.declared.cap.Cap.TheVariants.{Full}
 use Rattle.gic_bound.proofs.Held.{below_full, under_range, full_least}
 use Rattle.gic_bound.proofs.raising.raise_fully.Goals as goal
 
-pub raise_under-requires-clause-below : goal.raise_under-requires-clause-below
-raise_under-requires-clause-below c = below_full (standing c.args.net.now) (slice_index c.args.out.now) (under_range (standing c.args.net.now) (slice_index c.args.out.now) c.requires.under)
+pub raise_under-requires : goal.raise_under-requires
+raise_under-requires c = record {
+  cap_for = tt;
+  count = c.requires.nodes;
+  below = below_full (standing c.args.net.now) (slice_index c.args.out.now) (under_range (standing c.args.net.now) (slice_index c.args.out.now) c.requires.under);
+}
 
 pub returns-clause-least : goal.returns-clause-least
 returns-clause-least c =

@@ -5,8 +5,12 @@ use Rattle.gic_bound.specs.declared.cap.Cap.TheVariants.{Full}
 use Rattle.gic_bound.proofs.Held.{below_full, full_range, full_capped}
 use Rattle.gic_bound.proofs.raising.raise_to_capped.Goals as goal
 
-pub raise_all-requires-clause-below : goal.raise_all-requires-clause-below
-raise_all-requires-clause-below c = below_full (standing c.args.net.now) (slice_index c.loop.out) c.loop.invariant.range
+pub raise_all-requires : goal.raise_all-requires
+raise_all-requires c = record {
+  cap_for = tt;
+  count = c.loop.invariant.count;
+  below = below_full (standing c.args.net.now) (slice_index c.loop.out) c.loop.invariant.range;
+}
 
 pub loop-preserved : goal.loop-preserved
 loop-preserved c =

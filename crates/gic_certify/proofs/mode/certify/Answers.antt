@@ -17,9 +17,9 @@ pub returns : goal.returns
 returns g c =
     let inputs = c.args.inputs.now in
     let case = inputs.case in
-    let question = inputs.question in
+    let field = inputs.question in
     let workspace = c.args.workspace in
-    in_field case inputs.switchings question.north question.east (standing workspace.net) workspace.volts
-    (λ (s : List Placed) (v : ℕ → ℤ). Serves Solved case (s ∷ []) (ShowsPassing case s v question.north question.east)
+    in_field case inputs.switchings field.north field.east (standing workspace.net) workspace.volts
+    (λ (s : List Placed) (v : ℕ → ℤ). Serves Solved case (s ∷ []) (ShowsPassing case s v field.north field.east)
     (shown g.S.Sink.written g.S.Sink.faults c.args.out.now) (shown g.S.Sink.written g.S.Sink.faults c.certify_net.new.out) c.certify_net.result)
     c.requires.workspace.stands c.requires.workspace.volts c.certify_net.ensures

@@ -9,12 +9,12 @@ use Rattle.gic_certify.proofs.workspace.make_workspace.Goals as goal
 pub returns : goal.returns
 returns c =
     let inputs = c.args.inputs.now in
-    let question = inputs.question in
+    let field = inputs.question in
     let network = c.in_ok-net.ensures.network ∙ c.in_ok-elements.ensures in
     record {
       network = network;
       stands = stands_of_case inputs.case inputs.switchings _ (standing c.in_ok-net.net) c.in_ok-elements.ensures c.in_ok-net.ensures.standing;
-      volts = same_volts inputs.case question.north question.east c.in_ok-volts.volts c.requires.north c.requires.east c.in_ok-volts.ensures;
+      volts = same_volts inputs.case field.north field.east c.in_ok-volts.volts c.requires.north c.requires.east c.in_ok-volts.ensures;
       solving = c.in_ok-solving.ensures;
       certificate = subst (λ n. IsCertWorkspaceFor n c.in_ok-certificate.certificate) (c.nodes.ensures.value ∙ ap (λ (n : Network). n.nodes) network) c.in_ok-certificate.ensures;
     }

@@ -28,8 +28,7 @@ loop-place-preserved c =
       walked = walk_goes_on inputs _ (drop (i + 1) c.args.epochs.now)
           (walked_at inputs c.args.epochs.now i _ c.loop-place-test.true c.loop-place.invariant.walked) c.in_ok-expect_epoch.ensures.solvable;
       seen = λ some. c.in_ok-expect_epoch.ensures.net;
-      switched = c.expect_epoch.ensures.switched;
-      space = c.expect_epoch.ensures.workspace;
+      walks = c.expect_epoch.ensures.walks;
     }
 
 pub returns-clause-met : goal.returns-clause-met

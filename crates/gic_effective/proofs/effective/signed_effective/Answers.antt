@@ -7,11 +7,11 @@ use Rattle.gic_effective.proofs.Widths.{effective_width, same_width}
 use Rattle.gic_effective.proofs.effective.signed_effective.Goals as goal
 
 low : (c : goal.After-div_out) → let w = c.args.weights.now in
-    c.div_out.result.lo ≡ floor_div (weighted_sum w c.args.first.lo c.args.second.lo c.args.third.lo) (pos (3000000 * w.high_volts))
+    c.div_out.result.lo ≡ floor_div (weighted_sum w c.args.currents.now.first.lo c.args.currents.now.second.lo c.args.currents.now.third.lo) (pos (3000000 * w.high_volts))
 low c = search rules
 
 high : (c : goal.After-div_out) → let w = c.args.weights.now in
-    c.div_out.result.hi ≡ ceil_div (weighted_sum w c.args.first.hi c.args.second.hi c.args.third.hi) (pos (3000000 * w.high_volts))
+    c.div_out.result.hi ≡ ceil_div (weighted_sum w c.args.currents.now.first.hi c.args.currents.now.second.hi c.args.currents.now.third.hi) (pos (3000000 * w.high_volts))
 high c = search rules
 
 pub returns-clause-low : goal.returns-clause-low
@@ -21,16 +21,16 @@ pub returns-clause-high : goal.returns-clause-high
 returns-clause-high c = high c
 
 pub returns-clause-holds : goal.returns-clause-holds
-returns-clause-holds c one other last d e f g =
+returns-clause-holds c one other last d each =
     let w = c.args.weights.now in
     Encloses-same _ _ _ _ _ _ (low c) (high c)
-    (sum_holds w (3000000 * w.high_volts) c.args.first.lo c.args.first.hi c.args.second.lo c.args.second.hi c.args.third.lo c.args.third.hi one other last d (omega (arith, c.requires.volts)) e f g)
+    (sum_holds w (3000000 * w.high_volts) c.args.currents.now.first.lo c.args.currents.now.first.hi c.args.currents.now.second.lo c.args.currents.now.second.hi c.args.currents.now.third.lo c.args.currents.now.third.hi one other last d (omega (arith, c.requires.volts)) each.in_first each.in_second each.in_third)
 
 pub returns-clause-narrow : goal.returns-clause-narrow
-returns-clause-narrow c width sum one other last =
+returns-clause-narrow c width sum wide =
     let w = c.args.weights.now in
     same_width c.div_out.result.lo c.div_out.result.hi _ _ (width + 1) (low c) (high c)
-    (effective_width w w.high_volts c.args.first.lo c.args.first.hi c.args.second.lo c.args.second.hi c.args.third.lo c.args.third.hi width c.requires.volts sum one other last)
+    (effective_width w w.high_volts c.args.currents.now.first.lo c.args.currents.now.first.hi c.args.currents.now.second.lo c.args.currents.now.second.hi c.args.currents.now.third.lo c.args.currents.now.third.hi width c.requires.volts sum wide.in_first wide.in_second wide.in_third)
 
 pub returns-clause-small : goal.returns-clause-small
 returns-clause-small c =

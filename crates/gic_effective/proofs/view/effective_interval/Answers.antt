@@ -57,7 +57,7 @@ returns c =
             let first = winding_holds stand volts xs w.first one.result.lo one.result.hi s one.ensures.shown solves (holds s solves) in
             let second = winding_holds stand volts xs w.second other.result.lo other.result.hi s other.ensures.shown solves (holds s solves) in
             let third = winding_holds stand volts xs w.third last.result.lo last.result.hi s last.ensures.shown solves (holds s solves) in
-            let exact = c.signed_effective.ensures.holds (current_in s w.first) (current_in s w.second) (current_in s w.third) s.denominator first second third in
+            let exact = c.signed_effective.ensures.holds (current_in s w.first) (current_in s w.second) (current_in s w.third) s.denominator (record { in_first = first; in_second = second; in_third = third }) in
             subst₂ (λ (n : ℤ) (v : ℕ). Encloses result.lo result.hi n (3000000 * v * s.denominator)) (sum_is c s) (volts_are c) exact;
         zeroed = λ none.
             let sums = sums_zero stand volts xs (weighted_windings c.args.case.now c.args.transformer) w one.result.lo one.result.hi other.result.lo other.result.hi last.result.lo last.result.hi
@@ -67,8 +67,10 @@ returns c =
       narrow = λ width sharp.
           let most = weights_most (transformer_at c.args.case.now c.args.transformer) (windings_at (elements_of c.args.case.now) c.args.transformer) w (order c) c.effective_weights-weights.ensures.all in
           c.signed_effective.ensures.narrow width (omega (arith, most, volts_are c))
-          (winding_narrow stand volts xs w.first one.result.lo one.result.hi width one.ensures.shown sharp)
-          (winding_narrow stand volts xs w.second other.result.lo other.result.hi width other.ensures.shown sharp)
-          (winding_narrow stand volts xs w.third last.result.lo last.result.hi width last.ensures.shown sharp);
+          (record {
+            in_first = winding_narrow stand volts xs w.first one.result.lo one.result.hi width one.ensures.shown sharp;
+            in_second = winding_narrow stand volts xs w.second other.result.lo other.result.hi width other.ensures.shown sharp;
+            in_third = winding_narrow stand volts xs w.third last.result.lo last.result.hi width last.ensures.shown sharp;
+          });
       small = c.signed_effective.ensures.small;
     }

@@ -1,14 +1,14 @@
-use Rattle.std.proofs.Common.{◌≡◌, ℕ, ◌+◌, ◌^◌, ◌<◌, ◌≤◌, List, length, pos, ◌+ℤ◌, ◌*ℤ◌, unsigned_abs, slice_set, arith, ap, sym, subst, ◌∙◌, ⊎_elim}
-use Rattle.std.proofs.lemmas.Int.{ints}
+use Rattle.std.proofs.Common.{◌≡◌, ℕ, ◌+◌, ◌^◌, ◌<◌, List, length, slice_set, slice_index, arith, ap, sym, subst, ◌∙◌, ⊎_elim}
 use Rattle.std.proofs.lemmas.Bool.{cases_lt, cases_eq}
 use Rattle.std.proofs.lemmas.List.{get_or_past, get_or-set_same, get_or-set_other, length-set}
-use Rattle.gic_model.specs.Standing.{IsLive}
+use Rattle.gic_model.specs.Bound.{IsEarthedWithin}
 use Rattle.gic_model.specs.Voltages.{number_at}
 use Rattle.gic_model.proofs.Ends.{live_within, standing_within}
 use Rattle.gic_net.specs.Net.{standing, stands}
-use Rattle.gic_enclose.specs.Ends.{potential_ends}
 use Rattle.gic_fixed.specs.Ends.{Ends, zero_ends, ends_of}
-use Rattle.gic_enclose.specs.Certain.{IsCertainAt, IsNarrow, IsTight}
+use Rattle.gic_enclose.specs.Ends.{potential_ends}
+use Rattle.gic_enclose.specs.Round.{IsRoundGuess}
+use Rattle.gic_enclose.proofs.Rounds.{certain_round, narrow_round, tight_round, middle_round}
 use Rattle.gic_enclose.proofs.enclosing.enclose.Goals as goal
 
 -- what holds below a place holds below the next one, where the interval there was set
@@ -24,54 +24,56 @@ pub loop-node-preserved : goal.loop-node-preserved
 loop-node-preserved c =
     let i = c.loop-node.invariant in
     let old = c.loop-node.out in
-    let new = c.set.new.self in
     let n = c.loop-node.node in
     let ends = ends_of c.interval_at.result in
-    let here = c.interval_at.ensures in
-    let live = standing c.args.net.now in
-    let x = number_at c.args.solver.now in
     let inside : n < length old = omega (arith, c.loop-node-test.true, c.loop-node.auto.node-end, c.nodes-node-end.ensures.value, i.same_length, c.requires.together.interval_count) in
     record {
-      certain = next_place (λ k e. IsCertainAt live (number_at c.args.volts.now) k e) old new n ends c.set.ensures inside i.certain here.certain;
-      narrow = λ h. next_place (λ k e. IsNarrow e) old new n ends c.set.ensures inside (i.narrow h) (here.narrow h);
-      tight = λ h. next_place (λ k e. IsTight e) old new n ends c.set.ensures inside (i.tight h) (here.tight h);
-      middle = λ h. next_place (λ k e. IsLive live k → unsigned_abs (x k) ≤ 2 ^ 95 → e.low +ℤ e.high ≡ pos 2 *ℤ x k) old new n ends c.set.ensures inside (i.middle h) (here.middle h);
+      round = next_place (λ k e. IsRoundGuess (standing c.args.net.now) (number_at c.args.solver.now) (slice_index c.args.bound.now) c.reach-reach.result k e) old c.set.new.self n ends c.set.ensures inside i.round c.interval_at.ensures.round;
       same_length = ap length c.set.ensures ∙ length-set old n ends ∙ i.same_length;
     }
 
+-- behind the nodes all is dead, and no interval stands there
+rounds : (c : goal.After-loop-node) (k : ℕ) → IsRoundGuess (standing c.args.net.now) (number_at c.args.solver.now) (slice_index c.args.bound.now) c.reach-reach.result k (potential_ends c.loop-node.out k)
+rounds c k =
+    let net = c.args.net.now in
+    let i = c.loop-node.invariant in
+    let end = c.nodes-node-end.ensures.value in
+    let within = standing_within net.network (stands net) c.within_limits.ensures in
+    ⊎_elim
+    (λ inside. i.round k (omega (arith, inside, end, c.loop-node-test.false, c.loop-node.auto.node-end)))
+    (λ past. record {
+      low = λ live. absurd (omega (arith, past, live_within net.network.nodes (standing net) k within live));
+      high = λ live. absurd (omega (arith, past, live_within net.network.nodes (standing net) k within live));
+      dead = λ none. get_or_past c.loop-node.out k zero_ends (omega (arith, past, i.same_length, c.requires.together.interval_count));
+    })
+    (cases_lt k net.network.nodes)
+
+pub returns-clause-certain : goal.returns-clause-certain
+returns-clause-certain c k =
+    let net = c.args.net.now in
+    let volts = number_at c.args.volts.now in
+    let x = number_at c.args.solver.now in
+    let v = slice_index c.args.bound.now in
+    let limits = c.within_limits.ensures in
+    let bound = c.requires.bound in
+    let earthed : IsEarthedWithin (standing net) 4096 = record { entries = v; bound = bound.bound; none_above = bound.none_above } in
+    certain_round (standing net) volts x v c.reach-reach.result k (potential_ends c.loop-node.out k) (rounds c k)
+    (λ s solves live. (
+      c.certificate_law.ensures net.network (stands net) volts x s v c.reach-reach.result k limits solves bound.bound c.reach-reach.ensures.settled live,
+      c.potential_bound_law.ensures.grains net.network (stands net) volts s k limits earthed c.within_limit.ensures solves live,
+    ))
+
 pub returns-clause-narrow : goal.returns-clause-narrow
 returns-clause-narrow c settled k =
-    let net = c.args.net.now in
-    let out = c.loop-node.out in
-    let i = c.loop-node.invariant in
     let close = c.reach-reach.ensures.close (2 ^ 29) settled in
-    let end = c.nodes-node-end.ensures.value in
-    ⊎_elim
-    (λ inside. i.narrow (omega (arith, close)) k (omega (arith, inside, end, c.loop-node-test.false, c.loop-node.auto.node-end)))
-    (λ past.
-    let none : potential_ends out k ≡ zero_ends = get_or_past out k zero_ends (omega (arith, past, i.same_length, c.requires.together.interval_count)) in
-    let narrow : IsNarrow zero_ends = omega (arith, ints) in
-    subst IsNarrow (sym none) narrow)
-    (cases_lt k net.network.nodes)
+    narrow_round (standing c.args.net.now) (number_at c.args.solver.now) (slice_index c.args.bound.now) c.reach-reach.result k (potential_ends c.loop-node.out k) (rounds c k) (c.requires.bound.none_above k) (omega (arith, close))
 
 pub returns-clause-tight : goal.returns-clause-tight
 returns-clause-tight c settled k =
-    let net = c.args.net.now in
-    let out = c.loop-node.out in
-    let i = c.loop-node.invariant in
     let close = c.reach-reach.ensures.close (2 ^ 18) settled in
-    let end = c.nodes-node-end.ensures.value in
-    ⊎_elim
-    (λ inside. i.tight (omega (arith, close)) k (omega (arith, inside, end, c.loop-node-test.false, c.loop-node.auto.node-end)))
-    (λ past.
-    let none : potential_ends out k ≡ zero_ends = get_or_past out k zero_ends (omega (arith, past, i.same_length, c.requires.together.interval_count)) in
-    let tight : IsTight zero_ends = omega (arith, ints) in
-    subst IsTight (sym none) tight)
-    (cases_lt k net.network.nodes)
+    tight_round (standing c.args.net.now) (number_at c.args.solver.now) (slice_index c.args.bound.now) c.reach-reach.result k (potential_ends c.loop-node.out k) (rounds c k) (c.requires.bound.none_above k) (omega (arith, close))
 
 pub returns-clause-middle : goal.returns-clause-middle
 returns-clause-middle c settled k live small =
-    let net = c.args.net.now in
-    let within = standing_within net.network (stands net) c.nodes-node-end.ensures.limits in
-    c.loop-node.invariant.middle (omega (arith, c.reach-reach.ensures.close (2 ^ 29) settled)) k
-    (omega (arith, live_within net.network.nodes (standing net) k within live, c.nodes-node-end.ensures.value, c.loop-node-test.false, c.loop-node.auto.node-end)) live small
+    let close = c.reach-reach.ensures.close (2 ^ 29) settled in
+    middle_round (standing c.args.net.now) (number_at c.args.solver.now) (slice_index c.args.bound.now) c.reach-reach.result k (potential_ends c.loop-node.out k) (rounds c k) (c.requires.bound.none_above k) (omega (arith, close)) live small

@@ -12,7 +12,7 @@ use Rattle.gic_field.proofs.Fits.{have_absolutes}
 use Rattle.gic_field.proofs.mode.field.Goals as goal
 
 pub solve_view-requires-clause-width : goal.solve_view-requires-clause-width
-solve_view-requires-clause-width g c = record { least = omega (arith, c.requires.ranges.width_least); most = omega (arith, c.requires.ranges.width_most) }
+solve_view-requires-clause-width g c = record { least = omega (arith, c.requires.ranges.criteria.least); most = omega (arith, c.requires.ranges.criteria.most) }
 
 pub write_view-writing-requires : goal.write_view-writing-requires
 write_view-writing-requires g c = have_absolutes c.args.inputs.now.case c.solve_view.new.view c.solve_view.ensures.solved.right.lengths.transformers c.solve_view.ensures.solved.small
@@ -27,7 +27,7 @@ returns g c =
     let volts : ℕ → ℤ = number_at workspace.volts in
     let before = shown g.S.Sink.written g.S.Sink.faults c.args.out.now in
     let now = shown g.S.Sink.written g.S.Sink.faults c.write_view-writing.new.out in
-    in_field case inputs.switchings question.north question.east stands workspace.volts
+    in_field case inputs.switchings question.field.north question.field.east stands workspace.volts
     (λ (s : List Placed) (v : ℕ → ℤ). Serves Solved case (s ∷ []) (ShowsRightView case s v question) before now c.ended.result)
     c.requires.workspace.stands c.requires.workspace.volts
     (served Solved case _ (ShowsRightView case stands volts question) _ _ _ c.write_view-writing.result c.ended.result

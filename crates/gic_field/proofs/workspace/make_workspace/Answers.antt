@@ -11,7 +11,7 @@ returns c =
     record {
       network = c.in_ok-net.ensures.network ∙ c.in_ok-elements.ensures;
       stands = stands_of_case inputs.case inputs.switchings _ (standing c.in_ok-net.net) c.in_ok-elements.ensures c.in_ok-net.ensures.standing;
-      volts = same_volts inputs.case question.north question.east c.in_ok-volts.volts c.requires.north c.requires.east c.in_ok-volts.ensures;
+      volts = same_volts inputs.case question.field.north question.field.east c.in_ok-volts.volts c.requires.field.north c.requires.field.east c.in_ok-volts.ensures;
       view = c.in_ok-view.ensures.lengths;
       solving = c.in_ok-solving.ensures;
     }

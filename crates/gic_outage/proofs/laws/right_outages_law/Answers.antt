@@ -1,4 +1,4 @@
-use Rattle.gic_outage.proofs.Follows.{greatest_enclosed, no_wider, no_none, verdicts_true, each_verdict_true, undecided_near}
+use Rattle.gic_outage.proofs.Follows.{greatest_enclosed, no_wider, no_none, verdicts_true, each_verdict_true, undecided_near, undecided_near_over}
 use Rattle.gic_outage.proofs.laws.right_outages_law.Goals as goal
 
 pub returns-clause-enclosed : goal.returns-clause-enclosed
@@ -18,3 +18,6 @@ returns-clause-each_verdict c = each_verdict_true c.verdict_law.ensures.undecide
 
 pub returns-clause-undecided_most : goal.returns-clause-undecided_most
 returns-clause-undecided_most c = undecided_near
+
+pub returns-clause-near : goal.returns-clause-near
+returns-clause-near c = undecided_near_over c.verdict_law.ensures.undecided c.worst_verdict_law.ensures.below c.worst_verdict_law.ensures.reaches

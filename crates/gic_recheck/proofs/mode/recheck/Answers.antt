@@ -1,6 +1,5 @@
 use Rattle.std.proofs.Common.{◌≡◌, List, Ok, sym, subst}
 use Rattle.gic_model.specs.Sums.{Placed}
-use Rattle.gic_net.specs.Net.{standing}
 use Rattle.gic_stand.specs.Serves.{shown}
 use Rattle.gic_cert.specs.Reading.{certificate_nodes, cert_of}
 use Rattle.gic_recheck.specs.RightRecheck.{ServesCertificate}

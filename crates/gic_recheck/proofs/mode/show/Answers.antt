@@ -1,20 +1,12 @@
-use Rattle.std.proofs.Common.{◌≡◌, ℕ, ℤ, length, map, refl, sym, ap, subst, ◌∙◌, arith}
-use Rattle.gic_case.specs.Lists.{node_names}
-use Rattle.gic_cert.specs.Passing.{IsPassing}
-use Rattle.gic_cert.specs.Written.{entry_of}
+use Rattle.std.proofs.Common.{ℤ, map, refl, sym, ap, subst, ◌∙◌}
 use Rattle.gic_induce.specs.Voltage.{IsFieldWithin}
-use Rattle.gic_model.specs.Network.{Network}
-use Rattle.gic_net.specs.Net.{standing, stands}
+use Rattle.gic_net.specs.Net.{standing}
 use Rattle.gic_stand.specs.Serves.{shown}
-use Rattle.gic_winding.proofs.Limits.{nodes_named}
 use Rattle.gic_text.specs.Lines.{lines_text}
-use Rattle.gic_uniform.specs.Uniform.{uniform_volts}
 use Rattle.gic_view.specs.Kept.{optional_ends}
-use Rattle.gic_winding.specs.ElementList.{elements_of}
 use Rattle.gic_recheck.specs.RecheckText.{recheck_report}
 use Rattle.gic_report.proofs.Chained.{writes_as}
 use Rattle.gic_recheck.proofs.Endings.{writing_served, refusal_served}
-use Rattle.gic_recheck.proofs.Holds.{shows_right}
 use Rattle.gic_recheck.proofs.Telling.{break_told}
 use Rattle.gic_recheck.proofs.OwnReport.{own_report}
 use Rattle.gic_recheck.proofs.mode.show.Goals as goal
@@ -31,16 +23,10 @@ returns-in-Ok g c = λ bytes read.
     ∙ ap (λ (z : ℤ). lines_text (recheck_report case z c.east.result shown)) c.north.ensures.value
     ∙ ap (λ (z : ℤ). lines_text (recheck_report case cert.north z shown)) c.east.ensures
     ∙ ap (λ l. lines_text (recheck_report case cert.north cert.east l)) c.requires.intervals in
-    let nodes : net.network.nodes ≡ (elements_of case).nodes = ap (λ (n : Network). n.nodes) c.requires.net in
-    let named : net.network.nodes ≡ length (node_names case) = nodes ∙ nodes_named case in
-    let own = c.in-Ok.ensures.passes in
-    let passes = subst (λ (n : ℕ). IsPassing n (standing net) (uniform_volts case cert.north cert.east) cert) (sym nodes) own in
     writing_served case (standing net) bytes c.write_recheck-writing.result c.shown_so.result
     (record {
       certificate = cert;
-      accepted = record { read = read; passes = own };
-      solved = c.bound_networks_are_solved_law.ensures net.network (stands net) (entry_of cert) (uniform_volts case cert.north cert.east) c.within_limits.ensures own.vector;
-      holds = λ k within. shows_right c.passing_law.ensures net.network (stands net) (uniform_volts case cert.north cert.east) cert c.within_limits.ensures passes k (omega (arith, within, named));
+      accepted = record { read = read; passes = c.in-Ok.ensures.passes };
       text_is = refl;
     })
     (writes_as text c.write_recheck-writing.ensures) c.shown_so.ensures

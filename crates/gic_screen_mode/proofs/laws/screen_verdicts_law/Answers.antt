@@ -4,6 +4,6 @@ use Rattle.gic_screen_mode.proofs.TrueVerdicts.{verdict_true}
 use Rattle.gic_screen_mode.proofs.laws.screen_verdicts_law.Goals as goal
 
 pub returns : goal.returns
-returns c = λ case standing north east q text report t inside.
+returns c = λ case standing north east criteria text report t inside.
     verdict_true c.verdict_law.ensures.undecided c.worst_verdict_law.ensures.below c.worst_verdict_law.ensures.reaches
-    case standing north east (threshold_of q.event) q.width t (screen_row_at report.rows t).worst (report.right.right t inside).at_worst
+    case standing north east (threshold_of criteria.event) criteria.width t (screen_row_at report.rows t).worst (report.right.right t inside).at_worst

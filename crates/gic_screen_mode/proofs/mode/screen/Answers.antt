@@ -16,21 +16,21 @@ pub returns : goal.returns
 returns g c =
     let inputs = c.args.inputs.now in
     let case = inputs.case in
-    let question = inputs.question in
+    let criteria = inputs.question in
     let workspace = c.args.workspace.now in
     let stands = standing workspace.net in
     let north : ℕ → ℤ = number_at workspace.volts.north in
     let east : ℕ → ℤ = number_at workspace.volts.east in
     let before = shown g.S.Sink.written g.S.Sink.faults c.args.out.now in
     let now = shown g.S.Sink.written g.S.Sink.faults c.write_rows-writing.new.out in
-    let to_east : ℕ → ℤ = uniform_volts case (pos 0) (field_of question.event) in
-    in_field case inputs.switchings (field_of question.event) (pos 0) stands workspace.volts.north
-    (λ (s : List Placed) (v : ℕ → ℤ). Serves Solved case (s ∷ []) (ShowsRightRows case s v to_east question) before now c.ended.result)
+    let to_east : ℕ → ℤ = uniform_volts case (pos 0) (field_of criteria.event) in
+    in_field case inputs.switchings (field_of criteria.event) (pos 0) stands workspace.volts.north
+    (λ (s : List Placed) (v : ℕ → ℤ). Serves Solved case (s ∷ []) (ShowsRightRows case s v to_east criteria) before now c.ended.result)
     c.requires.workspace.stands c.requires.workspace.volts.in_north
-    (in_volts case (pos 0) (field_of question.event) workspace.volts.east
-    (λ (v : ℕ → ℤ). Serves Solved case (stands ∷ []) (ShowsRightRows case stands north v question) before now c.ended.result)
+    (in_volts case (pos 0) (field_of criteria.event) workspace.volts.east
+    (λ (v : ℕ → ℤ). Serves Solved case (stands ∷ []) (ShowsRightRows case stands north v criteria) before now c.ended.result)
     c.requires.workspace.volts.in_east
-    (served Solved case _ (ShowsRightRows case stands north east question) _ _ _ c.write_rows-writing.result c.ended.result
+    (served Solved case _ (ShowsRightRows case stands north east criteria) _ _ _ c.write_rows-writing.result c.ended.result
     (met_once Solved stands c.in_ok-screen_net.ensures.solvable)
     (record { rows = c.screen_net.new.workspace.rows; right = c.in_ok-screen_net.ensures.right; text_is = refl })
     c.write_rows-writing.ensures.all c.write_rows-writing.ensures.part c.write_rows-writing.ensures.cause c.ended.ensures))

@@ -15,7 +15,6 @@ loop-place-preserved c =
     let inside : at < length rows = omega (arith, c.loop-place-test.true, c.steps-place-end.ensures.value, i.one_each) in
     record {
       shows = c.row_of_step-row.ensures.shows;
-      view = c.row_of_step-row.ensures.view;
       one_each = ap length c.set.ensures ∙ length-set rows at row ∙ i.one_each;
       filled = λ k below. subst (λ rows. IsRightRow inputs c.args.transformer (k + 1) (slice_index_or rows k no_series_row)) (sym c.set.ensures)
           (filled (λ k row. IsRightRow inputs c.args.transformer (k + 1) row) rows no_series_row row at inside i.filled c.row_of_step-row.ensures.right k below);

@@ -1,5 +1,4 @@
 use Rattle.std.proofs.Common.{◌≡◌, ℕ, ◌+◌, ◌<◌, length}
-use Rattle.gic_effective.specs.ViewLengths.{HasViewLengths}
 use Rattle.gic_storm.specs.Steps.{steps_in}
 use Rattle.gic_course.specs.CourseOf.{CanShow}
 use Rattle.gic_series.specs.Rows.{series_row_at}
@@ -10,7 +9,6 @@ use Rattle.gic_series.proofs.steps.fill_rows.Given as goal
 abbrev pub invariant-loop-place : goal.invariant-loop-place
 invariant-loop-place l = record {
   shows : CanShow l.inputs l.course;
-  view : HasViewLengths l.inputs.case l.view;
   one_each : length l.rows ≡ length (steps_in l.inputs.storm.rows);
   filled : (k : ℕ) → k < l.place → IsRightRow l.inputs l.transformer (k + 1) (series_row_at l.rows k);
 }

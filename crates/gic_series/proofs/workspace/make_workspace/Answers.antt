@@ -6,6 +6,5 @@ use Rattle.gic_series.proofs.workspace.make_workspace.Goals as goal
 pub returns : goal.returns
 returns c = record {
   course = c.in_ok-course.ensures;
-  view = c.in_ok-view.ensures.lengths;
   one_each = repeated_length c.steps.result no_series_row c.in_ok-rows.rows c.in_ok-rows.ensures ∙ c.steps.ensures.value;
 }

@@ -17,7 +17,7 @@ pub node_name-node-requires : goal.node_name-node-requires
 node_name-node-requires c =
     let nodes : length c.find_bound.new.out ≡ length (node_names c.args.case.now) =
     c.find_bound.ensures.workspace.entry_count ∙ ap (λ (n : Network). n.nodes) c.requires.network ∙ nodes_named c.args.case.now in
-    subst (λ (n : ℕ). c.in-Err.refusal.node.0 < n) nodes (within_by_index c.find_bound.new.out c.in-Err.refusal.node.0 4096 c.in-Err.ensures.full)
+    subst (λ (n : ℕ). c.in-Err.refusal.node.0 < n) nodes (within_by_index c.find_bound.new.out c.in-Err.refusal.node.0 4096 c.in-Err.ensures.first.full)
 
 pub returns-in-Err-clause-err : goal.returns-in-Err-clause-err
 returns-in-Err-clause-err c =
@@ -25,7 +25,7 @@ returns-in-Err-clause-err c =
     let first : IsFirstUnresolved (standing c.args.net.now) node = record {
       entries = slice_index c.find_bound.new.out;
       least = c.in-Err.ensures.least;
-      full = c.in-Err.ensures.full;
-      first = λ j below full. omega (arith, c.in-Err.ensures.first j below, full);
+      full = c.in-Err.ensures.first.full;
+      first = λ j below full. omega (arith, c.in-Err.ensures.first.none_before j below, full);
     } in
     (refl, record { earthed = c.requires.earthed; node = node; unresolved = first; named = c.node_name-node.ensures })

@@ -3,11 +3,11 @@ use Rattle.gic_stand.specs.Serves.{shown}
 use Rattle.gic_study.proofs.Served.{by_report, lacking_workspace}
 use Rattle.gic_study.proofs.modes.serve_make.Goals as goal
 
-pub returns-in_err-workspace : goal.returns-in_err-workspace
-returns-in_err-workspace g c = λ plans.
-    lacking_workspace plans (Make c.args.seed c.args.size) (shown g.S.Sink.written g.S.Sink.faults c.args.out.now) c.from_residual.result c.from_residual.ensures.1
+pub returns-in_err-workspace-clause-ends : goal.returns-in_err-workspace-clause-ends
+returns-in_err-workspace-clause-ends g c = λ plans.
+    lacking_workspace plans (Make c.args.request.now) (shown g.S.Sink.written g.S.Sink.faults c.args.out.now) c.from_residual.result c.from_residual.ensures.1
 
-pub returns : goal.returns
-returns g c = λ plans.
-    by_report plans (Make c.args.seed c.args.size) (shown g.S.Sink.written g.S.Sink.faults c.args.out.now) (shown g.S.Sink.written g.S.Sink.faults c.make.new.out)
+pub returns-clause-ends : goal.returns-clause-ends
+returns-clause-ends g c = λ plans.
+    by_report plans (Make c.args.request.now) (shown g.S.Sink.written g.S.Sink.faults c.args.out.now) (shown g.S.Sink.written g.S.Sink.faults c.make.new.out)
     c.make.result c.reported.result c.make.ensures c.reported.ensures

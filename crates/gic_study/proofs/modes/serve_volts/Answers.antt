@@ -3,11 +3,11 @@ use Rattle.gic_stand.specs.Serves.{shown}
 use Rattle.gic_study.proofs.Served.{by_report, lacking_workspace}
 use Rattle.gic_study.proofs.modes.serve_volts.Goals as goal
 
-pub returns-in_err-workspace : goal.returns-in_err-workspace
-returns-in_err-workspace g c = λ plans.
+pub returns-in_err-workspace-clause-ends : goal.returns-in_err-workspace-clause-ends
+returns-in_err-workspace-clause-ends g c = λ plans.
     lacking_workspace plans (Volts c.args.inputs.now) (shown g.S.Sink.written g.S.Sink.faults c.args.out.now) c.from_residual.result c.from_residual.ensures.1
 
-pub returns : goal.returns
-returns g c = λ plans.
+pub returns-clause-ends : goal.returns-clause-ends
+returns-clause-ends g c = λ plans.
     by_report plans (Volts c.args.inputs.now) (shown g.S.Sink.written g.S.Sink.faults c.args.out.now) (shown g.S.Sink.written g.S.Sink.faults c.volts.new.out)
     c.volts.result c.reported.result c.volts.ensures c.reported.ensures

@@ -8,6 +8,6 @@ use Rattle.gic_superpose.proofs.compact.milli.Goals as goal
 
 pub invariant_of-result : goal.invariant_of-result
 invariant_of-result c =
-    let low : to_z w128 (of_z w128 (to_z w64 (of_z w64 c.div_euclid-low.result))) ≡ floor_div c.args.sums.low (pos sums_in_milli) = search rules in
-    let high : to_z w128 (of_z w128 (pos 0 -ℤ to_z w128 (of_z w128 (to_z w64 (of_z w64 c.div_euclid-turned.result))))) ≡ ceil_div c.args.sums.high (pos sums_in_milli) = search rules in
+    let low : to_z w128 (of_z w128 (to_z w64 (of_z w64 c.floor_milli-low.result))) ≡ floor_div c.args.sums.low (pos sums_in_milli) = search rules in
+    let high : to_z w128 (of_z w128 (pos 0 -ℤ to_z w128 (of_z w128 (to_z w64 (of_z w64 c.floor_milli-turned.result))))) ≡ ceil_div c.args.sums.high (pos sums_in_milli) = search rules in
     record { ordered = subst₂ (λ (a b : ℤ). a ≤ℤ b) (sym low) (sym high) (floor_le_ceil c.args.sums.low c.args.sums.high (pos sums_in_milli) (omega (arith, ints)) c.requires.ordered) }

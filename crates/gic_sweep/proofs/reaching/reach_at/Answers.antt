@@ -12,9 +12,9 @@ quotient_up-requires-clause-most c =
     let twice = diagonal_twice net c.args.node.0 c.within_limits.ensures in
     let value = c.conductance.ensures.value in
     ⊎_elim
-    (λ e. omega (arith, e, (c.requires.ends.small c.args.node.0).low, twice, value))
-    (λ e. omega (arith, e, (c.requires.ends.small c.args.node.0).high, twice, value))
-    c.greatest_at-most.ensures.either
+    (λ e. omega (arith, e, (c.requires.residuals.small c.args.node.0).low, twice, value))
+    (λ e. omega (arith, e, (c.requires.residuals.small c.args.node.0).high, twice, value))
+    c.greatest-most.ensures.either
 
 pub returns-clause-settled : goal.returns-clause-settled
 returns-clause-settled c volts x holds =
@@ -23,8 +23,8 @@ returns-clause-settled c volts x holds =
     let t = c.quotient_up.result in
     let scaled : t * c.conductance.result ≡ t * least_conductance (standing net) k = ap (λ n. t * n) c.conductance.ensures.value in
     let covers = c.quotient_up.ensures.covers in
-    c.settled_law.ensures net.network (stands net) volts x t k (number_at c.args.ends.now.low.now k) (number_at c.args.ends.now.high.now k) c.within_limits.ensures holds
-    (omega (arith, scaled, covers, c.greatest_at-most.ensures.low)) (omega (arith, scaled, covers, c.greatest_at-most.ensures.high))
+    c.settled_law.ensures net.network (stands net) volts x t k (number_at c.args.residuals.now.low k) (number_at c.args.residuals.now.high k) c.within_limits.ensures holds
+    (omega (arith, scaled, covers, c.greatest-most.ensures.low)) (omega (arith, scaled, covers, c.greatest-most.ensures.high))
 
 pub returns-clause-close : goal.returns-clause-close
 returns-clause-close c volts x t holds settled =
@@ -33,8 +33,8 @@ returns-clause-close c volts x t holds settled =
     let limits = c.within_limits.ensures in
     let value : c.conductance.result ≡ least_conductance (standing net) k = c.conductance.ensures.value in
     let scaled : most_reach t * c.conductance.result ≡ most_reach t * least_conductance (standing net) k = ap (λ n. most_reach t * n) value in
-    let both = close_at net k limits volts x (number_at c.args.ends.now.low.now k) (number_at c.args.ends.now.high.now k) holds (c.requires.ends.narrow k) (c.diagonal_law.ensures.at_least net.network (stands net) k limits) t settled in
+    let both = close_at net k limits volts x (number_at c.args.residuals.now.low k) (number_at c.args.residuals.now.high k) holds (c.requires.residuals.narrow k) (c.diagonal_law.ensures.at_least net.network (stands net) k limits) t settled in
     ⊎_elim
     (λ e. c.quotient_up.ensures.least (most_reach t) (omega (arith, e, both.0, scaled)))
     (λ e. c.quotient_up.ensures.least (most_reach t) (omega (arith, e, both.1, scaled)))
-    c.greatest_at-most.ensures.either
+    c.greatest-most.ensures.either

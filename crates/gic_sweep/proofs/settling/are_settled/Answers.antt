@@ -1,4 +1,4 @@
-use Rattle.std.proofs.Common.{ℤ, ◌≡◌, ◌≤◌, ◌^◌, arith, sym, subst₂}
+use Rattle.std.proofs.Common.{ℤ, ◌≤◌, ◌^◌, arith, sym, subst₂}
 use Rattle.std.proofs.lemmas.Bool.Decides.{nat_tests}
 use Rattle.gic_model.specs.Guess.{HoldsResidual}
 use Rattle.gic_model.specs.Voltages.{number_at}
@@ -8,12 +8,12 @@ use Rattle.gic_sweep.proofs.Closeness.{settled_more}
 use Rattle.gic_sweep.proofs.settling.are_settled.Goals as goal
 
 -- the residuals of the guesses lie between the ends
-held : (c : goal.After-reach_between) → HoldResiduals (standing c.args.net.now) (number_at c.args.volts.now) (number_at c.args.guesses.now) c.residuals_into.new.low c.residuals_into.new.high
+held : (c : goal.After-reach_between) → HoldResiduals (standing c.args.net.now) (number_at c.args.volts.now) (number_at c.args.guesses.now) c.find.new.self
 held c = λ k.
     let net = c.args.net.now in
     let v = number_at c.args.volts.now in
     let x = number_at c.args.guesses.now in
-    subst₂ (λ (a b : ℤ). HoldsResidual (standing net) v x k a b) (sym (c.residuals_into.ensures.low k)) (sym (c.residuals_into.ensures.high k))
+    subst₂ (λ (a b : ℤ). HoldsResidual (standing net) v x k a b) (sym (c.find.ensures.low k)) (sym (c.find.ensures.high k))
     (c.rounded_residual_law.ensures.holds net.network (stands net) v x k c.within_limits.ensures)
 
 pub returns-clause-settled : goal.returns-clause-settled

@@ -48,20 +48,20 @@ checked_step-step-requires-clause-small c k live =
 pub from_columns-requires : goal.from_columns-requires
 from_columns-requires c =
     let made = columns (goal.at.from_columns-requires c).After-asked_radii-radii in
-    kept made _ _ (omega (arith, ints, c.requires.north)) (omega (arith, ints, c.requires.east))
+    kept made (goal.at.from_columns-requires c).After-asked_radii-radii.nodes-nodes.ensures.limits _ _ (omega (arith, ints, c.requires.north)) (omega (arith, ints, c.requires.east))
 
 pub returns : goal.returns
 returns c =
     let made = columns (goal.at.returns c).After-asked_radii-radii in
-    let right : IsCertified c.args.net.now c.args.volts.now c.from_columns.result =
-    subst (IsCertified c.args.net.now c.args.volts.now) (sym c.from_columns.ensures)
-    (certified made _ _ (omega (arith, ints, c.requires.north)) (omega (arith, ints, c.requires.east))) in
+    let right : IsCertified c.args.net.now c.args.volts.now c.args.solver.now c.args.bound.now c.from_columns.result =
+    subst (IsCertified c.args.net.now c.args.volts.now c.args.solver.now c.args.bound.now) (sym c.from_columns.ensures)
+    (certified made c.nodes-nodes.ensures.limits _ _ (omega (arith, ints, c.requires.north)) (omega (arith, ints, c.requires.east))) in
     record {
       field = (
         ap (λ (d : Certificate). d.north) c.from_columns.ensures ∙ (omega (arith, ints, c.requires.north)),
         ap (λ (d : Certificate). d.east) c.from_columns.ensures ∙ (omega (arith, ints, c.requires.east)),
       );
       passes = right.passes;
-      radii = right.radii;
+      made = right.made;
       small = right.small;
     }

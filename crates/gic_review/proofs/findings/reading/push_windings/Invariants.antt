@@ -1,5 +1,5 @@
 use Rattle.std.proofs.Common.{◌≡◌, ◌++◌, drop}
-use Rattle.gic_review.specs.declared.findings.finding.CaseList.TheVariants as lists
+use Rattle.gic_case.specs.declared.case_list.CaseList.TheVariants as lists
 use Rattle.gic_review.specs.Readings.{values_told, winding_readings}
 use Rattle.gic_review.proofs.findings.reading.push_windings.Given as goal
 

@@ -1,0 +1,77 @@
+-- A right report of what is asked for is a true one.
+use Rattle.std.proofs.Common.{ℕ, List}
+use Rattle.gic_case.specs.Sound.{IsSound}
+use Rattle.gic_ask.specs.declared.request.Asked.{Asked}
+use Rattle.gic_ask.specs.declared.request.Asked.TheVariants.{Volts, List as ListAsked, Check, Field, Screen, Certify, Outage, Study, Make, Recheck, Series, Review}
+use Rattle.gic_exists.specs.Exists.{EarthedNetworksAreSolved, SolutionsAgree}
+use Rattle.gic_claims.specs.Claims.{BoundNetworksAreEarthed}
+use Rattle.gic_winding.specs.Degrees.{ElementsAreWithinLimits}
+use Rattle.gic_stand.specs.Needs.{IsMet}
+use Rattle.gic_field.specs.Follows.{AbsolutesAreRight, FieldVerdictsAreTrue}
+use Rattle.gic_screen_mode.specs.Follows.{ScreenVerdictsAreTrue}
+use Rattle.gic_outage.specs.Follows.{GreatestWorstIsEnclosed, GreatestWorstIsNarrow, NoneIsWithoutSolvedOutage, GreatestVerdictIsTrue, WorstVerdictIsTrue}
+use Rattle.gic_study_mode.specs.Follows.{PeaksAreNarrow, PeaksEnclose, PeakVerdictsAreTrue}
+use Rattle.gic_certify.specs.Follows.{RightCertificatesHold}
+use Rattle.gic_recheck.specs.Follows.{AcceptedIntervalsHold}
+use Rattle.gic_make.specs.Accepted.{MadeCasesAreSound, MadeNodesAreEarthed, MadeCasesAreNearEarth}
+use Rattle.gic_laws.specs.Dwells.{DwellsAreTrue}
+use Rattle.gic_laws.specs.Earthings.{EarthingsAreTrue}
+use Rattle.gic_laws.specs.Losses.{LossesAreTrue}
+use Rattle.gic_laws.specs.Orientation.{NoFieldGivesMore, AlignedFieldGivesAsMuch}
+use Rattle.gic_study.specs.Laws.{need_of, case_asked, steps_asked, StormHasStep}
+use Rattle.gic_study.specs.Modes.{Plans, IsRightText}
+use Rattle.gic_headline.specs.TrueReports.{IsTrueReport}
+use Rattle.gic_headline.proofs.MadeAsked.{IsMadeInRange}
+use Rattle.gic_headline.proofs.TrueOfNetworks.{true_check, true_field, true_screen, true_outage, true_certify, true_recheck}
+use Rattle.gic_headline.proofs.TrueOfStorms.{true_study, true_series, true_make}
+
+-- the theorems that the headline joins
+pub record Theorems : Type 0 where
+  pub exist : EarthedNetworksAreSolved
+  pub agree : SolutionsAgree
+  pub limits : ElementsAreWithinLimits
+  pub bound : BoundNetworksAreEarthed
+  pub certificates : RightCertificatesHold
+  pub accepted : AcceptedIntervalsHold
+  pub more : NoFieldGivesMore
+  pub aligned : AlignedFieldGivesAsMuch
+  pub absolutes : AbsolutesAreRight
+  pub field_verdicts : FieldVerdictsAreTrue
+  pub screen_verdicts : ScreenVerdictsAreTrue
+  pub greatest : GreatestWorstIsEnclosed
+  pub greatest_narrow : GreatestWorstIsNarrow
+  pub none_solved : NoneIsWithoutSolvedOutage
+  pub greatest_verdicts : GreatestVerdictIsTrue
+  pub worst_verdicts : WorstVerdictIsTrue
+  pub peaks_narrow : PeaksAreNarrow
+  pub peaks : PeaksEnclose
+  pub peak_verdicts : PeakVerdictsAreTrue
+  pub dwells : DwellsAreTrue
+  pub earthings : EarthingsAreTrue
+  pub losses : LossesAreTrue
+  pub made_sound : MadeCasesAreSound
+  pub made_earthed : MadeNodesAreEarthed
+  pub made_near : MadeCasesAreNearEarth
+
+pub true_report : Theorems → (plans : Plans) (asked : Asked) (text : List ℕ) → IsSound (case_asked asked) → StormHasStep asked → IsMadeInRange asked
+    → IsMet (need_of asked) (steps_asked asked) → IsRightText plans asked text → IsTrueReport plans asked text
+true_report law plans (Volts inputs) text sound stepped range met right = right
+true_report law plans (ListAsked inputs) text sound stepped range met right = right
+true_report law plans (Review inputs) text sound stepped range met right = right
+true_report law plans (Check inputs) text sound stepped range met right = true_check inputs text met right
+true_report law plans (Field inputs) text sound stepped range met right =
+    true_field law.exist law.agree law.limits inputs text sound law.absolutes law.field_verdicts met right
+true_report law plans (Screen inputs) text sound stepped range met right =
+    true_screen law.exist law.agree law.limits inputs text sound law.screen_verdicts law.more law.aligned met right
+true_report law plans (Certify inputs) text sound stepped range met right =
+    true_certify law.exist law.agree law.limits inputs text sound law.certificates met right
+true_report law plans (Outage inputs) text sound stepped range met right =
+    true_outage law.exist law.agree law.limits inputs text sound law.greatest law.greatest_narrow law.none_solved law.greatest_verdicts law.worst_verdicts law.more law.aligned right
+true_report law plans (Study asked) text sound stepped range met right =
+    true_study law.exist law.agree law.limits law.peaks_narrow law.peaks law.peak_verdicts law.dwells law.earthings law.losses asked.inputs asked.detail plans text sound stepped met right
+true_report law plans (Make r) text sound stepped range met right =
+    true_make law.exist law.agree law.limits law.made_sound law.made_earthed law.made_near r.seed r.size text sound range right
+true_report law plans (Recheck asked) text sound stepped range met right =
+    true_recheck law.exist law.agree law.limits asked.inputs text sound law.accepted law.bound asked.certificate right
+true_report law plans (Series asked) text sound stepped range met right =
+    true_series law.exist law.agree law.limits asked.inputs asked.transformer text sound met right

@@ -1,0 +1,6 @@
+pub mod Solved
+pub mod Directions
+pub mod TrueReports
+pub mod Headline
+pub mod Program
+pub mod Laws

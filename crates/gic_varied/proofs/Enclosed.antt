@@ -1,0 +1,116 @@
+-- The enclosure of a weighted current holds it in every varied solution.
+use Rattle.std.proofs.Common.{◌≡◌, ℕ, ◌*◌, ◌<◌, true, List, [], ◌∷◌, ℤ, pos, ◌+ℤ◌, ◌-ℤ◌, ◌*ℤ◌, arith, subst}
+use Rattle.std.specs.List.{AllByRecursion}
+use Rattle.std.proofs.lemmas.List.Elements.{recursion_from_All}
+use Rattle.gic_fixed.specs.Encloses.{Encloses}
+use Rattle.gic_fixed.specs.Ends.{Ends}
+use Rattle.gic_fixed.proofs.Integers.{linear, *ℤ--ℤ, *ℤ_assoc}
+use Rattle.gic_fixed.proofs.Divisions.{positive_product}
+use Rattle.gic_fixed.proofs.Enclosures.{Encloses-add, Encloses-common, Encloses-cancel}
+use Rattle.gic_model.specs.declared.parts.Element.{Element}
+use Rattle.gic_model.specs.Limits.{IsElementWithin}
+use Rattle.gic_model.specs.Sums.{Placed, sum_of}
+use Rattle.gic_model.specs.Solution.{Solution, IsOhm}
+use Rattle.gic_model.proofs.Members.{kept}
+use Rattle.gic_model.proofs.Ends.{some_times}
+use Rattle.gic_varied.specs.Grounds.{is_ground, grounds_among, HaveNoGroundVolts}
+use Rattle.gic_varied.specs.Ranges.{Ranges, IsInRange, AreInRanges}
+use Rattle.gic_varied.specs.Varied.{IsGroundWithin, IsVaried}
+use Rattle.gic_varied.specs.Reciprocal.{current_by_weights, stray_power, all_stray_power}
+use Rattle.gic_varied.specs.Enclosure.{stray_at, enclosure_of, HoldProducts}
+use Rattle.gic_varied.proofs.Regrounded.{placed_with, SolvesWith}
+use Rattle.gic_varied.proofs.Within.{ground_drive}
+use Rattle.gic_varied.proofs.Reciprocity.{reciprocal, reciprocal_alone, varied_keeps, off_by}
+use Rattle.gic_varied.proofs.Strays.{stray_holds}
+use Rattle.gic_varied.proofs.Intervals.{sum_encloses}
+
+-- over plain numbers: the reference's own current and the stray power give the varied one
+joined : (dy d dv unit : ℕ) (a b s low high lo hi : ℤ) → 0 < dy → 0 < d → pos dy *ℤ (pos d *ℤ a -ℤ pos dv *ℤ b) ≡ pos d *ℤ s →
+    Encloses low high b (unit * d) → Encloses lo hi s (unit * (dy * dv)) → Encloses (low +ℤ lo) (high +ℤ hi) a (unit * dv)
+joined dy d dv unit a b s low high lo hi some_y some off own stray =
+    let first = subst (λ (n : ℕ). Encloses low high (pos (dy * dv) *ℤ b) n) one_over (Encloses-common low high b (unit * d) (dy * dv) own) in
+    let second = subst (λ (n : ℕ). Encloses lo hi (pos d *ℤ s) n) other_over (Encloses-common lo hi s (unit * (dy * dv)) d stray) in
+    let sum = Encloses-add low high (pos (dy * dv) *ℤ b) lo hi (pos d *ℤ s) (dy * d * (unit * dv)) first second in
+    Encloses-cancel (low +ℤ lo) (high +ℤ hi) a (unit * dv) (dy * d) (positive_product dy d some_y some)
+    (subst (λ (n : ℤ). Encloses (low +ℤ lo) (high +ℤ hi) n (dy * d * (unit * dv))) number sum)
+  where
+    one_over : dy * dv * (unit * d) ≡ dy * d * (unit * dv)
+    one_over = omega arith
+
+    other_over : d * (unit * (dy * dv)) ≡ dy * d * (unit * dv)
+    other_over = omega arith
+
+    number : pos (dy * dv) *ℤ b +ℤ pos d *ℤ s ≡ pos (dy * d) *ℤ a
+    number =
+        let one : (pos dy *ℤ pos dv) *ℤ b ≡ pos dy *ℤ (pos dv *ℤ b) = *ℤ_assoc (pos dy) (pos dv) b in
+        let other : (pos dy *ℤ pos d) *ℤ a ≡ pos dy *ℤ (pos d *ℤ a) = *ℤ_assoc (pos dy) (pos d) a in
+        let inner = *ℤ--ℤ (pos dy) (pos d *ℤ a) (pos dv *ℤ b) in
+        omega (arith, linear)
+
+module _ (nodes : ℕ) (standing : List Placed) (within : AllByRecursion (λ p. IsElementWithin nodes p.1) standing)
+    (ranges : Ranges) (ohm : Element → ℕ) (volts weights : ℕ → ℤ) (reference varied adjoint : Solution) (over unit : ℕ) (products : Placed → Ends)
+    (quiet : HaveNoGroundVolts standing volts) (light : HaveNoGroundVolts standing weights) (inside : AreInRanges ranges ohm standing) (some_unit : 0 < unit)
+    (refers : SolvesWith standing ohm volts reference) (varies : IsVaried standing ranges volts varied) (adjoins : SolvesWith standing ohm weights adjoint)
+    (holds : HoldProducts standing over products varied adjoint) where
+  -- what is known of one element
+  abbrev Held : Placed → Type 0
+  Held p = Encloses (products p).low (products p).high (adjoint.potential p.1.from.0 *ℤ varied.potential p.1.from.0) (over * (adjoint.denominator * varied.denominator))
+
+  record Known (p : Placed) : Type 0 where
+    within_limits : IsElementWithin nodes p.1
+    no_weight : is_ground p.1 ≡ true → weights p.0 ≡ pos 0
+    in_range : is_ground p.1 ≡ true → IsInRange (ranges p.1) (ohm p.1)
+    at_varied : is_ground p.1 ≡ true → IsGroundWithin ranges varied p
+    by_adjoint : IsOhm weights adjoint (placed_with ohm p)
+    is_held : is_ground p.1 ≡ true → Held p
+
+  known : AllByRecursion Known standing
+  known = gather standing within
+      (recursion_from_All (λ p. is_ground p.1 ≡ true → weights p.0 ≡ pos 0) standing light)
+      (recursion_from_All (λ p. is_ground p.1 ≡ true → IsInRange (ranges p.1) (ohm p.1)) standing inside)
+      (recursion_from_All (λ p. is_ground p.1 ≡ true → IsGroundWithin ranges varied p) standing varies.grounds)
+      adjoins.by_ohm
+      (recursion_from_All (λ p. is_ground p.1 ≡ true → Held p) standing holds)
+    where
+      gather : (ps : List Placed) → AllByRecursion (λ p. IsElementWithin nodes p.1) ps → AllByRecursion (λ p. is_ground p.1 ≡ true → weights p.0 ≡ pos 0) ps →
+          AllByRecursion (λ p. is_ground p.1 ≡ true → IsInRange (ranges p.1) (ohm p.1)) ps → AllByRecursion (λ p. is_ground p.1 ≡ true → IsGroundWithin ranges varied p) ps →
+          AllByRecursion (λ p. IsOhm weights adjoint (placed_with ohm p)) ps → AllByRecursion (λ p. is_ground p.1 ≡ true → Held p) ps → AllByRecursion Known ps
+      gather [] a b c d e f = tt
+      gather (p ∷ ps) a b c d e f = (
+        record { within_limits = a.0; no_weight = b.0; in_range = c.0; at_varied = d.0; by_adjoint = e.0; is_held = f.0 },
+        gather ps a.1 b.1 c.1 d.1 e.1 f.1,
+      )
+
+  abbrev OneHeld : Placed → Type 0
+  OneHeld p =
+      Encloses (stray_at ranges ohm unit products p).low (stray_at ranges ohm unit products p).high (stray_power varied adjoint p)
+      (unit * (over * (adjoint.denominator * varied.denominator)))
+
+  each_held : AllByRecursion OneHeld (grounds_among standing)
+  each_held = kept (λ p. is_ground p.1) Known OneHeld (λ p ground h. one p ground h) standing known
+    where
+      one : (p : Placed) → is_ground p.1 ≡ true → Known p → OneHeld p
+      one p ground h =
+          let some = some_times nodes p h.within_limits in
+          stray_holds (ranges p.1) p.1.times (ohm p.1) unit (over * (adjoint.denominator * varied.denominator)) (varied.current p.0) (varied.potential p.1.from.0)
+          (adjoint.potential p.1.from.0) (adjoint.current p.0) (products p) (omega arith) some_unit (h.in_range ground)
+          (ground_drive ohm weights adjoint p ground (h.no_weight ground) h.by_adjoint) (h.at_varied ground) (h.is_held ground)
+
+  pub enclosed : (own : Ends) → Encloses own.low own.high (current_by_weights standing weights reference) (unit * over * reference.denominator) →
+      Encloses (enclosure_of standing ranges ohm unit products own).low (enclosure_of standing ranges ohm unit products own).high
+      (current_by_weights standing weights varied) (unit * over * varied.denominator)
+  enclosed own own_holds =
+      let grounds = grounds_among standing in
+      let low = λ (p : Placed). (stray_at ranges ohm unit products p).low in
+      let high = λ (p : Placed). (stray_at ranges ohm unit products p).high in
+      let sum = sum_encloses low high (stray_power varied adjoint) (unit * (over * (adjoint.denominator * varied.denominator))) grounds each_held in
+      let regrouped : unit * (over * (adjoint.denominator * varied.denominator)) ≡ unit * over * (adjoint.denominator * varied.denominator) = omega arith in
+      let all = subst (λ (n : ℕ). Encloses (sum_of low grounds) (sum_of high grounds) (all_stray_power standing varied adjoint) n) regrouped sum in
+      joined adjoint.denominator reference.denominator varied.denominator (unit * over)
+      (current_by_weights standing weights varied) (current_by_weights standing weights reference) (all_stray_power standing varied adjoint)
+      own.low own.high _ _ adjoins.denominator_above_0 refers.denominator_above_0
+      (off_by (pos adjoint.denominator) (pos reference.denominator) (pos varied.denominator) (current_by_weights standing weights varied) (current_by_weights standing weights reference)
+      (current_by_weights standing volts adjoint) (all_stray_power standing varied adjoint)
+      (reciprocal nodes standing within ohm volts weights varied adjoint quiet light (varied_keeps standing ranges volts varied varies) adjoins)
+      (reciprocal_alone nodes standing within ohm volts weights reference adjoint quiet light refers adjoins))
+      own_holds all

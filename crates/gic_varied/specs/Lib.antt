@@ -1,0 +1,12 @@
+pub mod Grounds
+pub mod Ranges
+pub mod Varied
+pub mod VariedLaws
+pub mod Reciprocal
+pub mod Lifts
+pub mod Strays
+pub mod Exact
+pub mod Enclosure
+pub mod GroundLaws
+pub mod Certified
+pub mod WorkedGrounds

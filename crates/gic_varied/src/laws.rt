@@ -1,0 +1,82 @@
+//! Theorems over the definitions, each the contract of a function that does nothing.
+ghost use Rattle.gic_model.specs.WorkedLoop.{loop_standing};
+ghost use Rattle.gic_varied.specs.Varied.{IsVaried, WithinIsSomeResistance};
+ghost use Rattle.gic_varied.specs.VariedLaws.{RangesHoldTolerances, OwnGroundsAreInRanges, SolutionsAreVaried, OwnSolutionsAreVaried};
+ghost use Rattle.gic_varied.specs.Certified.{CertifiedEnclosuresHold, GrainsHoldInUnits};
+ghost use Rattle.gic_varied.specs.Enclosure.{EnclosuresHold, ProductsHold, VariedPotentialsHold, LiftVoltsLift};
+ghost use Rattle.gic_varied.specs.Exact.{VariedCurrentsAreInReferenceEnclosure};
+ghost use Rattle.gic_varied.specs.GroundLaws.{OtherGroundsEarthToo, BoundVectorsServeLesserGrounds, LesserGroundsEarthWithin};
+ghost use Rattle.gic_varied.specs.GroundLaws.{RangesStayWithinLimits};
+ghost use Rattle.gic_varied.specs.Lifts.{PotentialsAreRaisedAtMost, PotentialsAreLoweredAtMost};
+ghost use Rattle.gic_varied.specs.Strays.{StrayPowersAreBounded};
+ghost use Rattle.gic_varied.specs.Reciprocal.{VariedCurrentsAreReciprocal, CurrentsAreReciprocal, VariedCurrentsAreOffByStrayPower};
+ghost use Rattle.gic_varied.specs.Reciprocal.{ListedWeightsCount};
+ghost use Rattle.gic_varied.specs.WorkedGrounds.{loop_ranges, line_of_800_volts, weak_solution, strong_solution, LoopCurrentsAreBounded};
+
+/// A loop of two grounds worked by hand at 20 per cent: both corners are varied solutions, and the current of every
+/// varied solution lies between theirs.
+pub fn worked_grounds_law()
+    ensures weak { IsVaried loop_standing loop_ranges line_of_800_volts weak_solution }
+    ensures strong { IsVaried loop_standing loop_ranges line_of_800_volts strong_solution }
+    ensures bounds { LoopCurrentsAreBounded }
+{}
+
+/// The range of a resistance holds every resistance within the tolerance, whole or not, that a case can have; in a
+/// network within the limits it holds the resistance itself.
+pub fn range_law()
+    ensures tolerance { RangesHoldTolerances }
+    ensures own { OwnGroundsAreInRanges }
+{}
+
+/// Each solution of each network whose grounds lie within their ranges is a varied solution, and so is each solution
+/// of the network itself. In a varied solution some resistance of its range, whole or not, has Ohm's law at each ground.
+pub fn varied_law()
+    ensures some { WithinIsSomeResistance }
+    ensures others { SolutionsAreVaried }
+    ensures own { OwnSolutionsAreVaried }
+{}
+
+/// Reciprocity: a weighted sum of the currents of a varied solution is that of any solution of a network with other
+/// grounds, and the stray power of the adjoint solution at the grounds, which their ranges bound. Weights that are
+/// listed by elements, as those of a transformer's windings, give the sum of these elements' currents.
+pub fn reciprocity_law()
+    ensures varied { VariedCurrentsAreReciprocal }
+    ensures own { CurrentsAreReciprocal }
+    ensures off { VariedCurrentsAreOffByStrayPower }
+    ensures bounded { StrayPowersAreBounded }
+    ensures listed { ListedWeightsCount }
+{}
+
+/// How far the potentials of varied solutions lie from those of a reference: above by at most a lift, and below by at
+/// most another.
+pub fn lift_law()
+    ensures above { PotentialsAreRaisedAtMost }
+    ensures below { PotentialsAreLoweredAtMost }
+{}
+
+/// The weighted current of every varied solution is in the reference enclosure, in exact numbers, and lies in the
+/// enclosure that intervals with whole ends give.
+pub fn enclosure_law()
+    ensures exact { VariedCurrentsAreInReferenceEnclosure }
+    ensures holds { EnclosuresHold }
+    ensures products { ProductsHold }
+    ensures potentials { VariedPotentialsHold }
+    ensures lifts { LiftVoltsLift }
+{}
+
+/// A network with other grounds has the same chains to earth, one with lesser grounds keeps each bound vector, and
+/// those with the least and the greatest grounds of tolerances are within the limits.
+pub fn other_grounds_law()
+    ensures earthed { OtherGroundsEarthToo }
+    ensures bound { BoundVectorsServeLesserGrounds }
+    ensures within { LesserGroundsEarthWithin }
+    ensures limits { RangesStayWithinLimits }
+{}
+
+/// The enclosure that is made of certain intervals of a reference, an adjoint solution and two lifts, as the solver
+/// certifies them, and of an interval of the reference's weighted current, holds the weighted current of every varied
+/// solution.
+pub fn certified_enclosure_law()
+    ensures holds { CertifiedEnclosuresHold }
+    ensures grains { GrainsHoldInUnits }
+{}

@@ -1,0 +1,40 @@
+"""The directions of a uniform field, and the currents there, made of the two of a screen."""
+
+import math
+
+from .forms import Interval
+from .reports import Screen, ScreenUnit
+
+DIRECTIONS = 36
+STEP = 180 // DIRECTIONS  # degrees from one direction to the next
+
+
+def bearing_of(row: ScreenUnit) -> int | None:
+    """The direction of the field that is worst, by the middles of the two currents; None where they may be 0."""
+    if row.worst.low <= 0:
+        return None
+    return round(math.degrees(math.atan2(row.east.middle, row.north.middle))) % 180
+
+
+def current_at(row: ScreenUnit, bearing: float) -> Interval:
+    """The absolute current in the event's field of this bearing, in milliamperes: cosine times the one to the north and
+    sine times the one to the east, with the ends rounded outward."""
+    factors = math.cos(math.radians(bearing)), math.sin(math.radians(bearing))
+    low = high = 0.0
+    for factor, value in zip(factors, (row.north, row.east)):
+        ends = sorted((factor * value.low, factor * value.high))
+        low, high = low + ends[0], high + ends[1]
+    least, most = 0.0 if low <= 0 <= high else min(abs(low), abs(high)), max(abs(low), abs(high))
+    slack = 1e-6 + 1e-12 * most  # for the rounding of the floating-point numbers
+    return Interval(max(0, math.floor(least - slack)), math.ceil(most + slack))
+
+
+def direction_counts(screen: Screen) -> list[int]:
+    """How many judged units have the threshold or more for certain in the event's field, by its bearing."""
+    rows = [row for row in screen.rows if row.verdict != "outside"]
+    return [sum(current_at(row, place * STEP).low >= screen.threshold for row in rows) for place in range(DIRECTIONS)]
+
+
+def parts_of(strength: int, bearing: float) -> tuple[int, int]:
+    """A field of this bearing by its parts to the north and to the east, in whole mV/km."""
+    return round(strength * math.cos(math.radians(bearing))), round(strength * math.sin(math.radians(bearing)))
