@@ -158,7 +158,7 @@ def solvable(draw: random.Random, program: str, folder: str) -> tuple[Files, lis
 
 
 def network(setting: Setting, place: int, mutated: int) -> Tally:
-    """One random network, its certificate, so many changed ones, and as many changed cases and switchings."""
+    """One random network, its certificate, a number of changed ones, and as many changed cases and switchings."""
     tally, draw = Tally(), random.Random(setting.seed * SEEDS_APART + place)
     with tempfile.TemporaryDirectory() as folder:
         files, words, certificate = solvable(draw, setting.programs[0], folder)

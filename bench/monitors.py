@@ -26,7 +26,7 @@ COUNTS = (0, 3, 4)
 
 
 def user_seconds(program: str, folder: str, count: int) -> float:
-    """The user time of a run with so many monitors."""
+    """The user time of a run with this number of monitors."""
     with open(os.path.join(folder, "out"), "wb") as out:
         process = subprocess.Popen([program, str(count), "study", "--case=case", "--storm=storm"], cwd=folder, stdout=out)
         _, status, usage = os.wait4(process.pid, 0)

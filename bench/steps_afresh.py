@@ -9,7 +9,7 @@ apart, and a solve of a small network is too fast for a test's time limit to tel
 seen that a study solves each of its steps.
 
 The program solves the steps of an epoch that has at most twice as many steps as the case has zones. So the storm has
-another field at each step, and one switching for each so many steps closes a line that is closed already: nothing that
+another field at each step, and one switching for each few steps closes a line that is closed already: nothing that
 stands changes, and each step is solved from the guesses of the one before. Beside it the same rows stand all at the first
 time, which leaves one epoch, whose steps are put together. The time of a step is that of more than a tenth of the steps,
 by their number. Both reports hold the exact peaks, so their intervals overlap, line by line; the status is 1 where they

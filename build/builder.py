@@ -21,9 +21,9 @@ TIMES = "build.times"
 PROVER = Path(__file__).with_name("prove_crate.py")
 # A run of the program that ends with status 0: what is linked takes the program's place only behind it.
 TRIED = ("volts", "--case=data/p.toml", "--north=1000")
-# So many seconds it may take.
+# The most seconds that it may take.
 TRIED_FOR = 60
-# Each job of a proof loads all libraries below the crate: above so many of them, one job is as fast as several.
+# Each job of a proof loads all libraries below the crate: above this number of them, one job is as fast as several.
 MANY_LIBRARIES = 40
 # How long the builder sleeps before it looks again at what runs.
 LOOK = 0.1

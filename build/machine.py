@@ -40,7 +40,7 @@ def free_memory() -> int:
 
 
 def disk_for(left: int, crates: int) -> int:
-    """What a build needs on the disk where so many of the crates aren't proved yet."""
+    """What a build needs on the disk where this number of the crates isn't proved yet."""
     return max(DISK * left // crates, LEAST_DISK)
 
 

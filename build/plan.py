@@ -62,7 +62,7 @@ class Start:
 
 
 def memory_of(jobs: int) -> float:
-    """What a proof of so many jobs takes, in proofs of one job."""
+    """What a proof with this number of jobs takes, in proofs of one job."""
     return 1 + FURTHER_JOB * (jobs - 1)
 
 

@@ -4,7 +4,7 @@ import os
 import time
 from collections.abc import Callable, Sequence
 
-# After so many seconds of silence something is said again.
+# The seconds of silence after which something is said again.
 SILENCE = 25
 
 

@@ -5,13 +5,13 @@
     python3 generators/interconnection.py --storm=STEPS [--seed=SEED] > storm.csv
 
 SHARE is a number above 0 and up to 1, as 1 or 1/4; it is 1 where it is not given, and SEED is 7. At a share of 1 there
-are 4096 substations, 12288 buses, 24576 lines and 8192 transformers, and at another one so many in proportion, at least
+are 4096 substations, 12288 buses, 24576 lines and 8192 transformers, and at another one as many in proportion, at least
 8 substations. Substations lie on a plane that gets smaller with the share, so that those next to one another are as far
 apart at each share; 208 zones lie on it as a grid. Substations have buses of up to four voltages, and lines lead to near
 ones of the same voltage, in a part for each zone that they cross. Transformers are of all seven kinds, some over neutral
 devices. Each node is well earthed. The numbers belong to no real network; the same text comes of the same words.
 
-STEPS is a number from 1 to 20000. The storm has at each of so many times a row for all zones, and one for each of the
+STEPS is a number from 1 to 20000. The storm has at each of that number of times a row for all zones, and one for each of the
 first zones, as many as 20000 rows allow.
 """
 
@@ -76,7 +76,7 @@ class Plane:
         self.cells.setdefault(self.cell(place), []).append(place)
 
     def ring(self, place: Place, far: int) -> list[Place]:
-        """The places in the cells that are so many cells away."""
+        """The places in the cells that are this number of cells away."""
         row, column = self.cell(place)
         found = []
         for down in range(-far, far + 1):

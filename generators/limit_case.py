@@ -11,7 +11,7 @@ the further are the nodes from earth. The same text comes at every call: the num
 clock and no chance is used.
 
 With --format-3 it is at every limit of that format: 256 zones, 4096 substations, 12288 buses, 24576 lines, each in 16
-parts (or in so many as PARTS says), and 8192 transformers, each with three windings and a neutral resistor, so 24576
+parts (or in as many as PARTS says), and 8192 transformers, each with three windings and a neutral resistor, so 24576
 nodes and 61440 elements; at the first bus 256 elements end.
 """
 
@@ -151,7 +151,7 @@ def main(words: list[str]) -> None:
         return
     lists = lists_3(*map(int, numbers))
     if any(row["from"] == row["to"] for row in lists["line"]):
-        sys.exit("limit_case.py: with so many substations a chord ends where it begins")
+        sys.exit("limit_case.py: with this number of substations a chord ends where it begins")
     print(case_text(3, lists), end="")
 
 

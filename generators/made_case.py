@@ -38,7 +38,7 @@ def rows(case: Case) -> Iterator[str]:
 
 
 def text(size: int, seed: int) -> str:
-    """The text of the case of so many substations."""
+    """The text of the case of this number of substations."""
     return "\n".join(["format = 1", *rows(make_case(seed, size)), ""])
 
 

@@ -92,7 +92,7 @@ def first_files(draw: Random, kind: str) -> Files:
 
 
 def sample_files(steps: int = 12) -> Files:
-    """The sample network, a transformer of which has a name of made ones, with so many steps of its storm, and its outage."""
+    """The sample network, a transformer of which has a name of made ones, with a number of steps of its storm, and its outage."""
     examples = paths.TOP / "examples"
     storm = (examples / "storm.csv").read_bytes().split(b"\n")[: 2 * steps + 1]
     return {

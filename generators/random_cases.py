@@ -199,7 +199,7 @@ class Drawing:
 
 
 def network(draw: Random, nodes: int, at_limits: bool = False) -> Network:
-    """A random network of about so many nodes; with its resistances at both ends of their range."""
+    """A random network of about this number of nodes; with its resistances at both ends of their range."""
     drawing = Drawing(draw, at_limits)
     drawing.add_zones()
     while not drawing.stations or (drawing.nodes + 8 <= nodes and draw.random() < 0.98):
@@ -210,7 +210,7 @@ def network(draw: Random, nodes: int, at_limits: bool = False) -> Network:
 
 
 def switchings(draw: Random, made: Network, latest: int = 60) -> str:
-    """Switchings of a network that has items, each so many seconds at most behind the one before."""
+    """Switchings of a network that has items, each at most this number of seconds behind the one before."""
     lines, time = NO_SWITCHINGS, 0
     for _ in range(draw.randint(0, 6)):
         time += draw.randint(0, latest)
@@ -275,7 +275,7 @@ def run(draw: Random, mode: str, nodes: int, at_limits: bool = False) -> Files:
 
 
 def write_folders(folder: Path, count: int, seed: int, nodes: int, mode: str, at_limits: bool = False) -> list[Path]:
-    """Writes so many folders below a folder; their paths in order."""
+    """Writes a number of folders below a folder; their paths in order."""
     written = []
     for place in range(count):
         where = folder / f"network_{place:04}"

@@ -65,7 +65,7 @@ def chain(stations: int, ground: int) -> str:
 
 
 def draws(count: int, least: int, most: int) -> Iterator[int]:
-    """So many numbers from `least` up to `most`, the same on each machine."""
+    """A number of numbers from `least` up to `most`, the same on each machine."""
     state = 1
     for _ in range(count):
         state = (6364136223846793005 * state + 1442695040888963407) % 2**64

@@ -33,7 +33,7 @@ ON_DEMAND, GATE = "wrong", "must-fail"
 MARK = "out/rlib/sources.sum"
 WORKER = HERE / "edit_kit.py"
 LOOK = 0.1
-# An edit weighs about as much as so many seconds of a proof.
+# An edit weighs about as much as this number of seconds of a proof.
 EDIT_SECONDS = 30.0
 
 

@@ -4,10 +4,10 @@
     python3 trials/judged.py PROGRAM [--minutes M] [--seed S] [--jobs N] [--field N] [--screen N] [--outage N]
         [--changed N]
 
-So many reports of `field` (300), `screen` (300) and `outage` (60) of random networks of 2 to 40 nodes are judged by the
+Reports of `field` (300), `screen` (300) and `outage` (60) of random networks of 2 to 40 nodes are judged by the
 certificates that the program makes, those of `outage` by `independent/outages.sh` for all items. A third of the networks
 is usual, a third has its resistances at both ends of their range, and a third is just within 4096; all have switchings.
-No statement may be refuted, and what is left open is printed with its reason. Then about so many reports (3000) with one
+No statement may be refuted, and what is left open is printed with its reason. Then about 3000 reports with one
 change each are judged: those of `reports.py`, a number that is off by much, and another verdict. The referee says
 whether such a report is still right, of the width and the event that its second line names. One that is wrong may not be
 shown, and one that is right not be refuted.
@@ -64,7 +64,7 @@ class Figures(NamedTuple):
 
 
 class Item(NamedTuple):
-    """What is judged: a report of a mode of the network of a seed and a kind, and so many changed ones."""
+    """What is judged: a report of a mode of the network of a seed and a kind, and a number of changed ones."""
 
     seed: int
     mode: str
@@ -167,7 +167,7 @@ class Trial:
         return status in (0, 16)
 
     def look_at_changed(self, count: int) -> None:
-        """Judges so many reports with one change each, but for changes that find nothing to change."""
+        """Judges a number of reports with one change each, but for changes that find nothing to change."""
         outcome = predict(shared.in_bytes(self.words), self.folder)
         lines = shared.read(self.folder, "r").decode().split("\n")[:-1]
         for _ in range(count):

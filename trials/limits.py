@@ -6,8 +6,8 @@
 
 The rows: the network at every limit (7680 nodes, 19968 elements, 256 zones) in every mode, with names as they come and
 of 32 bytes in every place (`outage` over a quarter of it, since it screens a network once for each of its items);
-storms of 20000 steps and 4096 switchings with an epoch each, and over the network at every limit storms of so many
-steps as --limit-steps says (1000), and so many epochs that change nothing; there too a storm of 4096 steps with an epoch
+storms of 20000 steps and 4096 switchings with an epoch each, and over the network at every limit storms of as many
+steps as --limit-steps says (1000), and as many epochs that change nothing; there too a storm of 4096 steps with an epoch
 each, that change nothing or each an earthing, beside the same storm without switchings; networks just within 4096 and
 just past it; files of 16777216 bytes of each kind and of one byte more; files of that size that are hostile; and the
 network at every limit of format 3 in every mode, with cases at each of these limits and one beyond it.
@@ -53,7 +53,7 @@ NAME = re.compile(r'"((?:zone|station|bus|line|unit)-[0-9-]+)"')
 NAME_BYTES = 32
 LINE, UNIT, STATION = "line-1", "unit-1", "station-1"
 STATIONS_3, LINE_3, UNIT_3 = LIMITS_3["substation"], "l1", "u1"
-# The limits of format 3, each by what there may be so many of.
+# The limits of format 3, each by the list that it limits.
 EDGES = {
     "zones": LIMITS_3["zone"],
     "substations": LIMITS_3["substation"],
@@ -199,7 +199,7 @@ def fill_limit_3(command: Sequence[str]) -> Fill:
 
 
 def edge_lists(what: str, count: int) -> dict[str, list[CaseRow]]:
-    """The lists of a small case of format 3, but for the one thing of which there are so many."""
+    """The lists of a small case of format 3, but for the one list that is at its limit."""
 
     def number(name: str, usual: int) -> int:
         return count if what == name else usual
@@ -241,7 +241,7 @@ def greatest_ground(command: Sequence[str], stations: int, folder: str) -> int:
 
 
 def fill_walk(command: Sequence[str], known: dict[int, int], more: int) -> Fill:
-    """The network just within 4096, or with so much more resistance in its grounds. `known` keeps what was found."""
+    """The network just within 4096, or with more resistance in its grounds. `known` keeps what was found."""
 
     def fill(folder: str, stations: int) -> None:
         if stations not in known:

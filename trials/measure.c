@@ -2,7 +2,7 @@
  *
  *     measure SECONDS KIBIBYTES COMMAND ..
  *
- * The command has so many seconds of the processor and so much address space, and ends with this program. The one line
+ * The command has a number of seconds of the processor and an amount of address space, and ends with this program. The one line
  * that is told has its status, or below 0 the signal that ended it; its time of the processor in microseconds; and its
  * peak of memory in KiB. The peak counts what starts a command too, so that this is as small as it can be. */
 #include <fcntl.h>

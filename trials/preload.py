@@ -87,7 +87,7 @@ def run(
 
 
 def endings(library: str, command: Sequence[str], folder: str, first: int, length: int) -> list[Ending]:
-    """How the runs ended that split off at so many growths, in which they are refused."""
+    """How the runs ended that split off at a number of growths, in which they are refused."""
     with tempfile.NamedTemporaryFile(prefix="endings_") as kept:
         given = ("ENDINGS", kept.name), ("CALL", "growth"), ("FIRST", first), ("LENGTH", length)
         environment = os.environ | {"LD_PRELOAD": library} | {"TRIAL_" + name: str(value) for name, value in given}

@@ -157,7 +157,7 @@ static void become_split(uint64_t first, uint64_t length) {
     refused_length = length;
 }
 
-/* Splits off a run in which so many growths from this one on are refused. True in that run; where it ended, false. */
+/* Splits off a run in which a number of growths from this one on is refused. True in that run; where it ended, false. */
 static bool splits(uint64_t first, uint64_t length, struct ending *ending) {
     empty(split_output);
     empty(split_told);

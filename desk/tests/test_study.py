@@ -625,7 +625,7 @@ class Places(DeskTest):
 
 
 def made_study(size: int) -> study.Study:
-    """A study of a made network of so many stations, with currents that are drawn at random."""
+    """A study of a made network of this number of stations, with currents that are drawn at random."""
     words = [sys.executable, "-B", str(TOP / "generators" / "made_case.py"), str(size), "7"]
     case = subprocess.run(words, capture_output=True, text=True, check=True).stdout
     drawn = random.Random(5)

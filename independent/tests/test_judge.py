@@ -71,7 +71,7 @@ ALL_OF_FIELD = "13 intervals and 2 verdicts shown, 0 refuted, 0 open"
 
 
 def certificate(north: int, east: int, entries: list[int], millivolts: list[int], spread: int = 0) -> str:
-    """A certificate of the loop, with guesses at so many millivolts and radii of so many grains for an entry of 1."""
+    """A certificate of the loop, with guesses in millivolts and radii in grains, as given, for an entry of 1."""
     rows = [
         f"cert {node} {entry} {10**6 * 2**36 * guess} {entry * spread}"
         for node, entry, guess in zip("ABab", entries, millivolts)
@@ -80,7 +80,7 @@ def certificate(north: int, east: int, entries: list[int], millivolts: list[int]
 
 
 def chain(resistance: int) -> dict[str, str]:
-    """The files of 64 nodes in a row, A and 63 buses, whose elements have so many micro-ohm each, and B at its far end.
+    """The files of 64 nodes in a row, A and 63 buses, whose elements have `resistance` micro-ohm each, and B at its far end.
 
     Without TB only the ground of A earths the row. The entries are then k(128 - k) at its k-th node, 4096 at the last.
     """

@@ -312,13 +312,13 @@ class Trials(unittest.TestCase):
     def tried(self, *words: str) -> Ended:
         self.commit()
         path = f"{self.folder / 'bin'}:{os.environ['PATH']}"
-        room = self.folder / "room"
-        room.mkdir(exist_ok=True)
+        scratch = self.folder / "scratch"
+        scratch.mkdir(exist_ok=True)
         out, err = io.StringIO(), io.StringIO()
-        with mock.patch.dict(os.environ, {"PATH": path}), mock.patch.object(tempfile, "tempdir", str(room)):
+        with mock.patch.dict(os.environ, {"PATH": path}), mock.patch.object(tempfile, "tempdir", str(scratch)):
             with contextlib.redirect_stdout(out), contextlib.redirect_stderr(err), mock.patch.object(edits, "stop_on_signals"):
                 status = edits.main(list(words), self.top)
-        self.assertEqual(list(room.iterdir()), [])
+        self.assertEqual(list(scratch.iterdir()), [])
         return Ended(status, out.getvalue(), err.getvalue())
 
     def last(self, ended: Ended) -> str:
@@ -399,15 +399,15 @@ class Trials(unittest.TestCase):
     def test_a_second_signal_cuts_no_cleaning_up(self) -> None:
         self.write("crates/low/wrong/one.edit", "SLEEPS")
         self.commit()
-        room = self.folder / "room"
-        room.mkdir()
+        scratch = self.folder / "scratch"
+        scratch.mkdir()
         ran = subprocess.Popen(
             [sys.executable, "-B", "-c", SIGNALLED_TWICE, str(self.top)],
             env={
                 **os.environ,
                 "PATH": f"{self.folder / 'bin'}:{os.environ['PATH']}",
                 "PYTHONPATH": str(HERE),
-                "TMPDIR": str(room),
+                "TMPDIR": str(scratch),
             },
             stdin=subprocess.DEVNULL,
             stdout=subprocess.DEVNULL,
@@ -415,11 +415,11 @@ class Trials(unittest.TestCase):
             text=True,
         )
         until = time.monotonic() + 60
-        while not any(it.read_text() for it in room.glob("*/clone/try-low.log")) and time.monotonic() < until:
+        while not any(it.read_text() for it in scratch.glob("*/clone/try-low.log")) and time.monotonic() < until:
             time.sleep(0.05)
         ran.send_signal(signal.SIGINT)
         _, err = ran.communicate(timeout=60)
-        self.assertEqual((ran.returncode, err, list(room.iterdir())), (-signal.SIGINT, "", []))
+        self.assertEqual((ran.returncode, err, list(scratch.iterdir())), (-signal.SIGINT, "", []))
 
     def test_names_that_are_none(self) -> None:
         for name, why in (("another", "crates.txt doesn't list another"), ("high", "high has no edit in wrong")):

@@ -8,7 +8,7 @@ import dataclasses
 import decimal
 from fractions import Fraction
 
-# Up to so many hundredths of a degree, alpha in tenths.
+# The greatest latitude, in hundredths of a degree, of each alpha, in tenths.
 TABLE = ((4000, 1), (4500, 2), (5000, 3), (5400, 5), (5600, 6), (5700, 7), (5800, 8), (5900, 9), (9000, 10))
 BETAS = range(1, 151)  # in hundredths
 NEAR = Fraction(1, 100)  # a factor this near to 1 is taken with the zone's own latitude

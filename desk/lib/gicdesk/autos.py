@@ -11,7 +11,7 @@ from collections.abc import Sequence
 from .usual import Number
 
 BELOW, ABOVE = Number("1.9"), Number("2.1")  # ratios between these say nothing
-LEAST = 2  # so many units are asked about
+LEAST = 2  # the fewest units that are asked about
 
 
 @dataclasses.dataclass(frozen=True)

@@ -148,7 +148,7 @@ class Making:
     # Lines and transformers
 
     def copies(self, at: Record) -> list[str]:
-        """The names of the rows in the case for a row of a table: so many as it has equal ones side by side."""
+        """The names of the rows in the case for a row of a table: as many as it has equal ones side by side."""
         name, text = at.text("name"), at.text("parallel")
         if not text:
             return [name]

@@ -28,7 +28,7 @@ OPTIONAL = {
     LINES: ["per_unit", "parallel", "note"],
     TRANSFORMERS: ["vector_group", "third", "third_kv", "third_ohm", "parallel", "note"],
 }
-PARALLEL = [str(number) for number in range(1, 21)]  # so many equal ones a row may stand for
+PARALLEL = [str(number) for number in range(1, 21)]  # how many equal ones a row may stand for
 # The kinds of findings that --accept takes away.
 KINDS = "alpha latitude beta ground line winding turned neutral volts vector span zone unused".split()
 

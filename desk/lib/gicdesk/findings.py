@@ -5,8 +5,8 @@ import dataclasses
 import difflib
 from collections.abc import Iterable, Iterator, Sequence
 
-SHOWN = 20  # so many findings of a file are told
-ALSO = 12  # so many lines are named of findings that say the same
+SHOWN = 20  # the most findings of a file that are told
+ALSO = 12  # the most lines that are named of findings that say the same
 
 
 @dataclasses.dataclass(frozen=True)

@@ -107,7 +107,7 @@ class Lines:
         return line
 
     def take_letters(self, many: int) -> str | None:
-        """So many letters of the text, which begin where the next line does; None where there are fewer."""
+        """The given number of letters of the text, which begin where the next line does; None where there are fewer."""
         if len(self.text) < self.at + many:
             return None
         letters = self.text[self.at : self.at + many]

@@ -1,7 +1,7 @@
 """Losses for a power flow: what each unit draws by the direction of the field and over a storm, where, and as loads.
 
 A loss is a factor times an effective current. It goes with the voltage of the bus, so a load of it is one of constant
-current: so many Mvar at one per unit.
+current: a number of Mvar at one per unit.
 """
 
 import dataclasses

@@ -31,7 +31,7 @@ HEAD = b"gicdesk: the scratch of a command\n"
 LONGEST_WAIT = 30.0  # seconds for another command that publishes in the same folder
 MOMENT = 0.02
 IDENTITY = 4  # numbers that tell what a file or folder is: which one, and its size and time
-WHICH = 2  # so many of them tell which one
+WHICH = 2  # how many of them tell which one
 NO_LINKS = (errno.EPERM, errno.EOPNOTSUPP, errno.ENOSYS, errno.EMLINK)
 
 Text = str | bytes

@@ -57,7 +57,7 @@ def rose(bearing: float | None, worst: float, threshold: float, scale: float, cl
 
 
 def count_rose(counts: Sequence[int], title: str) -> Markup:
-    """How many units there are for each of so many directions between 0 and 180 degrees; a direction and the one the
+    """How many units there are for each of this number of directions between 0 and 180 degrees; a direction and the one the
     other way have the same."""
     most, step, size = max(max(counts), 1), 180 / len(counts), 120.0
     pieces = [tag("title", title), compass(size)]
@@ -244,8 +244,8 @@ def network_map(
     most_named: int,
     flows: Mapping[str, Flow] | None = None,
 ) -> Markup:
-    """Lines from station to station, as wide as their flows are great, and a disc for each station; so many of them have their
-    names, with the greatest currents."""
+    """Lines from station to station, as wide as their flows are great, and a disc for each station; at most
+    `most_named` of them, those with the greatest currents, have their names."""
     to = projection(places.values())
     pen = Pen(WIDEST, LEAST_ARROW) if len(stations) <= MANY else Pen(WIDEST_OF_MANY, LEAST_ARROW_OF_MANY)
     pieces: list[Markup] = []

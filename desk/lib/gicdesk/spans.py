@@ -30,7 +30,7 @@ class Misfit:
 
     @property
     def text(self) -> str:
-        turned = all(abs(here + there) <= room(self.mapped) for here, there in zip(self.link.span, self.mapped))
+        turned = all(abs(here + there) <= tolerance(self.mapped) for here, there in zip(self.link.span, self.mapped))
         hint = "are its ends turned?" if turned else "is a sign wrong, or a bus at another substation?"
         where = f"from {self.link.start} to {self.link.end}"
         return f"The span of {self.link.name}, {where}, is {way(self.link.span)}, by the coordinates {way(self.mapped)}: {hint}"
@@ -80,7 +80,7 @@ def way(span: Span) -> str:
     )
 
 
-def room(span: Span) -> float:
+def tolerance(span: Span) -> float:
     """How far a span may be from the coordinates, in metres."""
     return float(NEAR_M + NEAR_PART * max(abs(span[0]), abs(span[1])))
 
@@ -89,7 +89,7 @@ def misfit_of(link: Link, places: Mapping[str, Degrees]) -> Misfit | None:
     """What doesn't fit of a line whose ends have places; None where it fits."""
     north, east = degrees_between(places[link.start], places[link.end])
     mapped = round(north), round(east)
-    fits = all(abs(here - there) <= room(mapped) for here, there in zip(link.span, mapped))
+    fits = all(abs(here - there) <= tolerance(mapped) for here, there in zip(link.span, mapped))
     return None if fits else Misfit(link, mapped)
 
 

@@ -7,7 +7,7 @@ from .factors import USUAL_KV, Factor
 from .storms import StormStep, SwitchingRow, records, seen_rows
 
 WEAK = 100.0  # mV/km: the field of a storm that matters is stronger at its peak
-LEAST_STEPS = 3  # so many steps of one second are asked about
+LEAST_STEPS = 3  # the fewest steps of one second that are asked about
 SHOWN = 5  # names in a sentence
 
 

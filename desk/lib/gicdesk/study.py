@@ -197,7 +197,7 @@ class Study:
     events: Outages | None
     network: Network | None
     places: dict[str, Place]
-    placed: int  # of these so many by the table
+    placed: int  # how many of these by the table
     parts: int  # of the network that were set beside the others on the map
     storm: Storm | None
     losses: Losses | None
