@@ -61,7 +61,8 @@ def main() -> None:
     peak = tuple(int(word) for word in beside.items(whole.lines)[f"transformer {unit}"][:2])
     if peak != peak_of_series(one.lines):
         sys.exit(f"day.py: {unit}: the peak of `series` isn't that of `study`")
-    print(f"{steps_and_zones}series {one.seconds:.3f} s, ÷ list {one.seconds / listed.seconds:.2f}, ÷ numpy {one.seconds / doubles.seconds:.3f}")
+    ratios = f"÷ list {one.seconds / listed.seconds:.2f}, ÷ numpy {one.seconds / doubles.seconds:.3f}"
+    print(f"{steps_and_zones}series {one.seconds:.3f} s, {ratios}")
     print(steps_and_zones + beside.told(["study", "numpy"], [whole, doubles], beside.difference(whole.lines, doubles.lines)))
 
 

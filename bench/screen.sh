@@ -28,5 +28,6 @@ for name in made limit; do
         now=$(microseconds screen --case=$name)
         [ -n "$screen" ] && [ "$now" -ge "$screen" ] || screen=$now
     done
-    printf '%s: field %d us, screen %d us, screen / field %d.%02d\n' $name "$field" "$screen" $((screen / field)) $((screen % field * 100 / field))
+    printf '%s: field %d us, screen %d us, screen / field %d.%02d\n' $name "$field" "$screen" \
+        $((screen / field)) $((screen % field * 100 / field))
 done

@@ -12,7 +12,8 @@ which others of the claim cite it, the first four by name, and in front of it th
 the first to speak of. Words of libraries stand in a list of their own (claim_words.py).
 
 Two faults are of names: a word of a library that is cited and told nowhere, and a name that two definitions have, or a
-definition and a word of a library. Of the few names in TWICE each definition tells the others, and one that cites that of another crate tells which it is.
+definition and a word of a library. Of the few names in TWICE each definition tells the others, and one that cites that of
+another crate tells which it is.
 
 Without --write it compares docs/CLAIM.txt, and the table of its parts in docs/DEFINITIONS.md, with what it makes. The
 last line is `N definitions of the claim, M faults`, and the status is 0 only where M is 0.
@@ -49,7 +50,10 @@ PARTS = (
     ("`certify`", ("gic_headline/TrueReports.IsTrueCertify",)),
     ("`make`", ("gic_headline/TrueReports.IsTrueMake",)),
     ("`review`", ("gic_review/RightReview.IsRightReview",)),
-    ("`volts`, `list` and `check`", ("gic_volts/RightVolts.IsRightVolts", "gic_list/RightList.IsRightList", "gic_headline/TrueReports.IsTrueCheck")),
+    (
+        "`volts`, `list` and `check`",
+        ("gic_volts/RightVolts.IsRightVolts", "gic_list/RightList.IsRightList", "gic_headline/TrueReports.IsTrueCheck"),
+    ),
     ("What words and files ask for", ("gic_ask/Asks.Asks",)),
     ("The lines of faults", ("gic_study/Faults.line_of_fault",)),
     (ENDS, ("gic_study/Answers.moment", "gic_study/ProgramEnds.status_without_words", "gic_headline/Program.ProgramHeadline")),
@@ -84,7 +88,15 @@ CHAPTERS = (
     ("Whole numbers and intervals", ("gic_fixed",)),
     (
         "A network, what stands, and a solution",
-        ("gic_model/Network", "gic_model/Sums", "gic_model/Standing", "gic_model/Voltages", "gic_model/Solution", "gic_exists", "gic_headline/Solved"),
+        (
+            "gic_model/Network",
+            "gic_model/Sums",
+            "gic_model/Standing",
+            "gic_model/Voltages",
+            "gic_model/Solution",
+            "gic_exists",
+            "gic_headline/Solved",
+        ),
     ),
     ("The case and its elements", ("gic_case", "gic_inputs", "gic_winding/ElementList", "gic_winding/InForce")),
     ("The voltages of a field", ("gic_induce", "gic_uniform")),
@@ -428,7 +440,11 @@ def twice(found: list[Definition]) -> dict[str, list[str]]:
 def name_faults(found: list[Definition]) -> list[str]:
     """The names of two meanings that aren't known to have them, and those known that have one."""
     several = twice(found)
-    told = [f"{name} is a name of {' and of '.join(several[name])}: rename one, or name it in TWICE" for name in several if name not in TWICE]
+    told = [
+        f"{name} is a name of {' and of '.join(several[name])}: rename one, or name it in TWICE"
+        for name in several
+        if name not in TWICE
+    ]
     return told + [f"{name} stands in TWICE and has one meaning" for name in TWICE if name not in several]
 
 

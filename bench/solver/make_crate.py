@@ -10,7 +10,10 @@ import sys
 from pathlib import Path
 
 HERE = Path(__file__).parent
-LIBRARIES = "gic_base gic_fixed gic_case gic_case_reader gic_model gic_winding gic_net gic_induce gic_sweep gic_bound gic_stand gic_enclose gic_effective"
+LIBRARIES = (
+    "gic_base gic_fixed gic_case gic_case_reader gic_model gic_winding gic_net gic_induce gic_sweep gic_bound gic_stand gic_enclose "
+    "gic_effective"
+)
 
 
 def main() -> None:

@@ -555,10 +555,10 @@ class Refusals(PsseTest):
         stations = self.file("stations.csv", "substation,zone\n1,north\n2,south\n3,north\n22,south\n")
         self.told(
             [*words, f"--substations={stations}"],
-            "net.raw line 18: its ends are in north and in south; give --polygons, which cut it at the border, or write its zone into the table "
-            "of --lines",
-            "net.raw line 21: its ends are in south and in north; give --polygons, which cut it at the border, or write its zone into the table "
-            "of --lines",
+            "net.raw line 18: its ends are in north and in south; give --polygons, which cut it at the border, or write its zone into "
+            "the table of --lines",
+            "net.raw line 21: its ends are in south and in north; give --polygons, which cut it at the border, or write its zone into "
+            "the table of --lines",
         )
         heads = "bus_i,bus_j,circuit,zone,north_km,east_km\n"
         lines = self.file("lines.csv", f"{heads}4,1,1,north,,\n5,7,1,south,110.5,72\n")

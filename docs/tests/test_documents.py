@@ -204,7 +204,8 @@ class ClaimOfATree(unittest.TestCase):
         "abbrev pub made : Top\nmade = record { total = count (first 3); is = refl }\n",
         "crates/gic_study/specs/Said.antt": "-- What is said.\nuse Rattle.gic_study.specs.Top.{Top, made}\n\n"
         "-- low\nabbrev pub low_said : Top\nlow_said = made\n\n-- said\nabbrev pub said : Top\nsaid = low_said\n",
-        "crates/gic_low/src/item.rt": "/// A name.\npub(crate) struct Name(pub u8);\n\n/// A line.\npub struct Line {\n    pub name: Name,\n}\n",
+        "crates/gic_low/src/item.rt": "/// A name.\npub(crate) struct Name(pub u8);\n\n"
+        "/// A line.\npub struct Line {\n    pub name: Name,\n}\n",
         "crates/gic_study/src/program.rt": "/// The call.\npub fn run() -> u8\n    ensures { said }\n{\n    0\n}\n",
         "docs/DEFINITIONS.md": "| part | files | lines | minutes |\n|---|---|---|---|\n",
     }
@@ -251,14 +252,18 @@ class ClaimOfATree(unittest.TestCase):
         self.assertEqual(self.run_main()[0], 1)
         self.assertEqual(self.run_main("--write"), (0, "7 definitions of the claim, 0 faults\n"))
         text = (self.top / "docs/CLAIM.txt").read_text()
-        heads = ["pub fn run", "-- said", "-- low", "How to read", "count (specs/List): how many", "---- 1.1 low", "crates/gic_low/specs/Sums.antt", "---- 1.2 far", "struct Name", "struct Line", "-- first", "2. two", "-- top"]
+        chapters = ["---- 1.1 low", "crates/gic_low/specs/Sums.antt", "---- 1.2 far", "struct Name", "struct Line", "-- first"]
+        heads = ["pub fn run", "-- said", "-- low", "How to read", "count (specs/List): how many", *chapters, "2. two", "-- top"]
         places = [text.index(head) for head in heads]
         self.assertEqual(places, sorted(places))
         self.assertEqual(text.count("pub struct Line"), 1)
         self.assertIn("-- a sum\nabbrev pub total : ℕ\ntotal = 1\n    -- cited by first\n", text)
         table = (self.top / "docs/DEFINITIONS.md").read_text()
         self.assertIn("| The headline | gic_study: Said | 6 | 1 |\n", table)
-        told = "| **1. one, all of it** | | 6 | 1 |\n| **the headline and one** | | 12 | 1 |\n| 2. two | gic_low: Sums; gic_study: Top | 8 | 1 |\n"
+        told = (
+            "| **1. one, all of it** | | 6 | 1 |\n| **the headline and one** | | 12 | 1 |\n"
+            "| 2. two | gic_low: Sums; gic_study: Top | 8 | 1 |\n"
+        )
         self.assertIn(told + "| **all modes** | | 20 | 2 |", table)
         self.assertEqual(self.run_main(), (0, "7 definitions of the claim, 0 faults\n"))
         written(self.top, {"docs/DEFINITIONS.md": "no table\n"})
