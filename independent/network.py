@@ -58,6 +58,7 @@ class Role(NamedTuple):
 
 ROLES = (Role("high", "high"), Role("series", "high", "low"), Role("low", "low"), Role("common", "low"),
          Role("third", "third"))
+SIDES = ("high", "low", "third")
 
 
 # Nodes and elements ---------------------------------------------------------------------------------------------------
@@ -71,9 +72,14 @@ def nodes_of(case: Case) -> list[str]:
 def elements_of(case: Case) -> list[Element]:
     """All elements, in the order of their lines in a report of `field`."""
     station_of = {bus["name"]: bus["substation"] for bus in case["bus"]}
-    units = [(unit, station_of[unit["high"]]) for unit in case["transformer"] if "high" in unit]
+    units = [(unit, station_of[buses[0]]) for unit in case["transformer"] if (buses := buses_of(unit))]
     windings = [winding for unit, station in units for winding in windings_of(unit, station)]
     return [*grounds_of(case), *lines_of(case), *windings, *neutral_devices(units)]
+
+
+def buses_of(unit: Row) -> list[str]:
+    """The buses of a transformer's sides, the high one first."""
+    return [unit[side] for side in SIDES if side in unit]
 
 
 def grounds_of(case: Case) -> Iterator[Element]:

@@ -316,8 +316,8 @@ class Case:
         return len(self.substations) + bus
 
     def ground_grid(self, unit: Transformer) -> int:
-        """The substation of a transformer."""
-        return self.buses[unit.buses["high"]].substation
+        """The substation of a transformer that has a side."""
+        return self.buses[next(iter(unit.buses.values()))].substation
 
     def add_earthings(self) -> None:
         for place, row in enumerate(self.substations):
