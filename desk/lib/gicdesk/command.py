@@ -9,7 +9,7 @@ import sys
 from collections.abc import Iterator, Sequence
 from typing import Any
 
-from . import case, case_tables, compare, layouts, losses, mitigate, outages, powermodels, powermodels_read
+from . import case, case_tables, compare, grounds, layouts, losses, mitigate, outages, powermodels, powermodels_read
 from . import psse, psse_units, reports, zones
 from .findings import Refused, refuse, visible
 from .inputs import Copies, copied
@@ -150,6 +150,32 @@ def run_outages(options: argparse.Namespace) -> None:
         if out is not None:
             out.publish(outages.files_of(found, options.comma))
     show(outages.report_text(asked, found, options.events is not None))
+
+
+def run_grounds(options: argparse.Namespace) -> None:
+    roles, tolerance = ("case", "switch"), grounds.read_tolerance(options.tolerance)
+    folder: contextlib.AbstractContextManager[Set | None] = contextlib.nullcontext()
+    if options.out is not None:
+        folder = folder_set(options.out, [], False, read_names(options, roles))
+    with folder as out, program_and_copies(options, roles) as (program, copies):
+        asked = outages.Asked(program, copies, options.case, options.switch, screen_words(options))
+        found = grounds.make_grounds(asked, tolerance)
+        if out is not None:
+            out.publish(grounds.files_of(found, options.comma))
+    show(grounds.report_text(asked, found))
+
+
+def add_grounds(commands: Any) -> None:
+    words = commands.add_parser("grounds", help="what holds whatever the grounds are within a tolerance, and which to measure next")
+    add_case_file(words)
+    words.add_argument("--tolerance", metavar="PERCENT", required=True, help="how far each ground may be off, from 1 to 90 per cent")
+    words.add_argument("--switch", metavar="FILE", help="switchings that are in force in each run")
+    add_event(words)
+    add_width(words)
+    add_program(words)
+    words.add_argument("--out", metavar="FOLDER", help="a new folder for tables, and for two cases of each unit that is open")
+    add_comma(words)
+    words.set_defaults(run=run_grounds)
 
 
 def run_mitigate(options: argparse.Namespace) -> None:
@@ -352,6 +378,7 @@ def command_words() -> argparse.ArgumentParser:
     three.set_defaults(run=run_outages)
 
     add_mitigate(commands)
+    add_grounds(commands)
     add_study(commands)
     add_losses(commands)
     add_powermodels(commands)
