@@ -44,7 +44,8 @@ line = [
 transformer = [
   { name = "TA", kind = "delta-wye", high_volts = 345000, high = "a", high_resistance = 300000 },
   { name = "TB", kind = "delta-wye", high_volts = 345000, high = "b", high_resistance = 200000, neutral = 100000 },
-  { name = "TC", kind = "auto", high_volts = 345000, high = "c", low_volts = 138000, low = "c2", series_resistance = 200000, common_resistance = 150000 },
+  { name = "TC", kind = "auto", high_volts = 345000, high = "c", low_volts = 138000, low = "c2",
+    series_resistance = 200000, common_resistance = 150000 },
   { name = "TD", kind = "delta-wye", high_volts = 345000, high = "d", high_resistance = 250000 },
 ]
 """
@@ -201,7 +202,8 @@ class Column(DeskTest):
         for name, text in TABLES.items():
             if name == "substations":
                 text = text.replace("ground_ohm,note", "ground_ohm,tolerance,note").replace(old, new)
-                text = "\n".join(row if row.count(",") == 5 else f"{row.rsplit(',', 1)[0]},,{row.rsplit(',', 1)[1]}" for row in text.splitlines())
+                cells = [row.split(",") for row in text.splitlines()]
+                text = "\n".join(",".join([*row[:4], *[""] * (6 - len(row)), *row[4:]]) for row in cells)
             self.file(f"{name}.csv", text)
         return ("case", self.folder, f"--out={self.folder / 'case.toml'}", "--force", "--alpha=table")
 

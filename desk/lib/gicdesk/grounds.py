@@ -4,6 +4,7 @@ ground to measure next.
 """
 
 import dataclasses
+import functools
 import pathlib
 import tempfile
 from collections.abc import Iterator, Mapping, Sequence
@@ -112,7 +113,7 @@ class Judge:
     asked: Asked
     tolerance: int
 
-    @property
+    @functools.cached_property
     def case(self) -> Case:
         return case_of(self.asked.case, self.asked.copies.inputs["case"].data)
 
