@@ -44,8 +44,8 @@ line = [
 transformer = [
   { name = "TA", kind = "delta-wye", high_volts = 345000, high = "a", high_resistance = 300000 },
   { name = "TB", kind = "delta-wye", high_volts = 345000, high = "b", high_resistance = 200000, neutral = 100000 },
-  { name = "TC", kind = "auto", high_volts = 345000, high = "c", low_volts = 138000, low = "c2",
-    series_resistance = 200000, common_resistance = 150000 },
+  { name = "TC", kind = "auto", high_volts = 345000, high = "c", low_volts = 138000, low = "c2", \
+series_resistance = 200000, common_resistance = 150000 },
   { name = "TD", kind = "delta-wye", high_volts = 345000, high = "d", high_resistance = 250000 },
 ]
 """
@@ -161,7 +161,9 @@ class GroundsTest(DeskTest):
     def test_nothing_is_open_and_nothing_is_to_measure(self) -> None:
         shown = self.done(*self.words("--tolerance=1", f"--out={self.out}")).splitlines()
         self.assertEqual(len(shown), 3)
-        self.assertTrue(shown[2].endswith(" 0 are open; 0 outside"), shown[2])
+        self.assertEqual(shown[1:], [f"{when}: reaches 2 below 2 open 0 outside 0" for when in (
+            "with the grounds of the case", "whatever they are within the tolerance",
+        )])  # fmt: skip
         self.assertEqual(sorted(path.name for path in self.out.iterdir()), ["measured.csv", "units.csv"])
 
     def test_a_program_without_the_mode(self) -> None:
@@ -193,6 +195,10 @@ class GroundsTest(DeskTest):
         heads, first, *_ = self.done("csv", "-", stdin=report).splitlines()
         self.assertTrue(heads.endswith("verdict,threshold_A_per_phase,field_V_per_km,width_A,tolerance_percent"), heads)
         self.assertTrue(first.endswith(",75.000,8.000,0.100,20"), first)
+        # Its intervals aren't of one network, so no change is told of them.
+        robust = self.file("robust.txt", report)
+        lines = self.refused("compare", robust, robust)
+        self.assertIn("it is a report of robust; compare takes two of screen, two of outage, or one of each", lines[0])
 
 
 class Column(DeskTest):

@@ -36,7 +36,7 @@ CANDIDATES = 8  # of so many, those that move the open units most
 SHOWN = 40  # units on the terminal
 NO_MODE = "gicstudy: usage: mode"
 JUDGED = ("reaches", "below", "undecided")
-OPEN = {"reaches": "reach", "below": "are below", "undecided": "are open"}
+COUNTED = {"reaches": "reaches", "below": "below", "undecided": "open", "outside": "outside"}
 
 
 def read_tolerance(text: str) -> int:
@@ -239,8 +239,7 @@ def make_grounds(asked: Asked, tolerance: int) -> Grounds:
 
 
 def verdicts_text(screen: Screen) -> str:
-    counts = [f"{sum(row.verdict == verdict for row in screen.rows)} {words}" for verdict, words in OPEN.items()]
-    return ", ".join(counts)
+    return " ".join(f"{word} {sum(row.verdict == verdict for row in screen.rows)}" for verdict, word in COUNTED.items())
 
 
 def unit_cells(found: Grounds, unit: OpenUnit) -> list[str]:
@@ -253,10 +252,9 @@ def unit_cells(found: Grounds, unit: OpenUnit) -> list[str]:
 def report_text(asked: Asked, found: Grounds) -> str:
     """What holds; then the open units, the greatest current first; and what holds once grounds are measured."""
     robust = found.robust
-    outside = sum(row.verdict == "outside" for row in robust.rows)
     text = f"case {visible(asked.case)}, tolerance {robust.tolerance} %, threshold {shifted(robust.threshold, MILLI)} A"
     text += f", field {shifted(robust.field, MILLI)} V/km\nwith the grounds of the case: {verdicts_text(found.whole)}\n"
-    text += f"whatever they are within the tolerance: {verdicts_text(robust)}; {outside} outside\n"
+    text += f"whatever they are within the tolerance: {verdicts_text(robust)}\n"
     if found.units:
         ordered = sorted(found.units, key=lambda unit: -unit.found.high)
         heads = ("open", "as the case has it, A", "holds, A", "found, A", "found", "moved most by")
