@@ -187,7 +187,7 @@ class GroundsTest(DeskTest):
     def test_a_folder_that_is_there(self) -> None:
         self.out.mkdir()
         (line,) = self.refused(*self.words("--tolerance=50", f"--out={self.out}"))
-        self.assertTrue(line.startswith(f"{self.out}: it is there already"), line)
+        self.assertEqual(line, f"{self.out}: it is there already; choose another name")
 
     def test_its_report_as_a_table(self) -> None:
         run = [str(self.program), "robust", f"--case={self.case}", "--tolerance=20"]

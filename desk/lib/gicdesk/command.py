@@ -13,7 +13,7 @@ from . import case, case_tables, compare, grounds, layouts, losses, mitigate, ou
 from . import psse, psse_units, reports, zones
 from .findings import Refused, refuse, visible
 from .inputs import Copies, copied
-from .outputs import Set, files_set, folder_set, study_set
+from .outputs import Set, files_set, folder_set, new_folder, study_set
 from .psse_grounds import read_grounds
 from .psse_half import HALF
 from .program import BUILT, Program, find_program
@@ -156,7 +156,7 @@ def run_grounds(options: argparse.Namespace) -> None:
     roles, tolerance = ("case", "switch"), grounds.read_tolerance(options.tolerance)
     folder: contextlib.AbstractContextManager[Set | None] = contextlib.nullcontext()
     if options.out is not None:
-        folder = folder_set(options.out, [], False, read_names(options, roles))
+        folder = new_folder(options.out, read_names(options, roles))
     with folder as out, program_and_copies(options, roles) as (program, copies):
         asked = outages.Asked(program, copies, options.case, options.switch, screen_words(options))
         found = grounds.make_grounds(asked, tolerance)
