@@ -682,6 +682,8 @@ class Thousand(unittest.TestCase):
         reader = Reader(page)
         self.assertLess(len(page.encode()), 3_000_000)
         self.assertEqual((reader.open, reader.wrong), ([], []))
+        # A thousand questions have no room to write on, which would be forty printed pages.
+        self.assertEqual((page.count('class="write"'), page.count("is its ground forgotten?")), (0, 1000))
         named = re.findall(r"<text[^>]*>(S\d+)</text>", page)
         self.assertTrue(0 < len(named) <= study_map.MOST_NAMED_OF_MANY, named)
 

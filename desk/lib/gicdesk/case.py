@@ -22,7 +22,7 @@ from .cases import LISTS, Case, Field, Names, Row, short_enough
 from .findings import Finding, Refused, shown
 from .forms import NAME
 from .latitudes import latitude_words
-from .quantities import GROUND_OHM, KILOVOLT, LATITUDE, LONGITUDE, OHM, Number, bare, number_in, whole
+from .quantities import GROUND_OHM, KILOVOLT, LATITUDE, LONGITUDE, OHM, TOLERANCE, Number, bare, number_in, whole
 from .records import Record
 from .usual import GROUNDS, short, unusual, usual_at
 from .zone_scales import read_alpha, zone_of_row
@@ -123,10 +123,22 @@ class Making:
         elif name in self.network.earthing:
             words = "it is empty, and a winding is earthed here, so that no current can flow in it to the earth"
             self.questions.ask(f"ground:{name}", at, "ground_ohm", words, "write its resistance")
+        fields += self.tolerance(at)
         if name not in self.network.used:
             words, ways = "no bus is in it", "look at the column substation of the buses, or leave the row out"
             self.questions.ask(f"unused:{name}", at, None, words, ways)
         self.add("substation", name, fields, at)
+
+    def tolerance(self, at: Record) -> list[Field]:
+        """How far the ground may be off, where the table says it."""
+        if not at.text("tolerance"):
+            return []
+        percent = number_in(at, "tolerance", TOLERANCE)
+        if not at.text("ground_ohm"):
+            at.wrong("tolerance", f"it is {bare(at.text('tolerance'))}, and there is no ground; leave one of the two out")
+        elif percent is not None and percent % 1:
+            at.wrong("tolerance", f"it is {bare(at.text('tolerance'))}, and a case has whole per cent; round it up")
+        return [] if percent is None else [Field("tolerance", int(percent), "per cent that the ground may be off")]
 
     def bus(self, at: Record) -> None:
         station = self.tables.refer(at, "substation", SUBSTATIONS)

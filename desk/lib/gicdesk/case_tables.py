@@ -23,7 +23,7 @@ COLUMNS = {
 }
 OPTIONAL = {
     ZONES: ["alpha", "earth_model", "note"],
-    SUBSTATIONS: ["note"],
+    SUBSTATIONS: ["tolerance", "note"],
     BUSES: ["note"],
     LINES: ["per_unit", "parallel", "note"],
     TRANSFORMERS: ["vector_group", "third", "third_kv", "third_ohm", "parallel", "note"],

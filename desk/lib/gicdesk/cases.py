@@ -29,10 +29,11 @@ class Part:
     zone: str
     north: int
     east: int
-    comment: str
+    comment: str = ""
 
     def __str__(self) -> str:
-        return f'  {{ zone = "{self.zone}", north = {self.north}, east = {self.east} }},  # {self.comment}'
+        remark = f"  # {self.comment}" if self.comment else ""
+        return f'  {{ zone = "{self.zone}", north = {self.north}, east = {self.east} }},{remark}'
 
 
 @dataclasses.dataclass(frozen=True)
@@ -111,6 +112,7 @@ class Case:
         has_more = any(len(rows) > MOST_ROWS_2[name] for name, rows in self.lists.items())
         has_other = any(row.value("kind") not in KINDS_2 for row in self.lists["transformer"])
         has_other = has_other or any(row.value("scale") for row in self.lists["zone"])
+        has_other = has_other or any(row.value("tolerance") is not None for row in self.lists["substation"])
         return 3 if has_more or has_other or any(row.value("part") for row in self.lists["line"]) else 2
 
 

@@ -9,10 +9,11 @@ import sys
 from collections.abc import Iterator, Sequence
 from typing import Any
 
-from . import case, case_tables, compare, layouts, losses, outages, powermodels, powermodels_read, psse, psse_units, reports, zones
+from . import case, case_tables, compare, grounds, layouts, losses, mitigate, outages, powermodels, powermodels_read
+from . import psse, psse_units, reports, zones
 from .findings import Refused, refuse, visible
 from .inputs import Copies, copied
-from .outputs import Set, files_set, folder_set, study_set
+from .outputs import Set, files_set, folder_set, new_folder, study_set
 from .psse_grounds import read_grounds
 from .psse_half import HALF
 from .program import BUILT, Program, find_program
@@ -127,18 +128,81 @@ def read_names(options: argparse.Namespace, roles: Sequence[str]) -> list[str]:
     return [*given_files(options, roles).values(), options.program or str(BUILT)]
 
 
+def screen_words(options: argparse.Namespace) -> tuple[str, ...]:
+    """The options that are handed on to screens."""
+    return tuple(f"--{name}={value}" for name in ("event", "width") if (value := getattr(options, name)) is not None)
+
+
+def out_folder(
+    options: argparse.Namespace, names: Sequence[str], roles: Sequence[str]
+) -> contextlib.AbstractContextManager[Set | None]:
+    """The folder of --out for files of these names, where it is given."""
+    if options.out is None:
+        return contextlib.nullcontext()
+    return folder_set(options.out, names, options.force, read_names(options, roles))
+
+
 def run_outages(options: argparse.Namespace) -> None:
     roles, names = ("case", "switch", "events"), [outages.UNITS, outages.EVENTS, outages.CURRENTS]
-    folder: contextlib.AbstractContextManager[Set | None] = contextlib.nullcontext()
-    if options.out is not None:
-        folder = folder_set(options.out, names, options.force, read_names(options, roles))
-    words = [f"--{name}={value}" for name in ("event", "width") if (value := getattr(options, name)) is not None]
-    with folder as out, program_and_copies(options, roles) as (program, copies):
-        asked = outages.Asked(program, copies, options.case, options.switch, tuple(words))
+    with out_folder(options, names, roles) as out, program_and_copies(options, roles) as (program, copies):
+        asked = outages.Asked(program, copies, options.case, options.switch, screen_words(options))
         found = outages.find_outages(asked, options.events)
         if out is not None:
             out.publish(outages.files_of(found, options.comma))
     show(outages.report_text(asked, found, options.events is not None))
+
+
+def run_grounds(options: argparse.Namespace) -> None:
+    roles, tolerance = ("case", "switch"), grounds.read_tolerance(options.tolerance)
+    folder: contextlib.AbstractContextManager[Set | None] = contextlib.nullcontext()
+    if options.out is not None:
+        folder = new_folder(options.out, read_names(options, roles))
+    with folder as out, program_and_copies(options, roles) as (program, copies):
+        asked = outages.Asked(program, copies, options.case, options.switch, screen_words(options))
+        found = grounds.make_grounds(asked, tolerance)
+        if out is not None:
+            out.publish(grounds.files_of(found, options.comma))
+    show(grounds.report_text(asked, found))
+
+
+def add_grounds(commands: Any) -> None:
+    words = commands.add_parser("grounds", help="what holds whatever the grounds are within a tolerance, and which to measure next")
+    add_case_file(words)
+    words.add_argument("--tolerance", metavar="PERCENT", required=True, help="how far each ground may be off, from 1 to 90 per cent")
+    words.add_argument("--switch", metavar="FILE", help="switchings that are in force in each run")
+    add_event(words)
+    add_width(words)
+    add_program(words)
+    words.add_argument("--out", metavar="FOLDER", help="a new folder for tables, and for two cases of each unit that is open")
+    add_comma(words)
+    words.set_defaults(run=run_grounds)
+
+
+def run_mitigate(options: argparse.Namespace) -> None:
+    roles, names = ("case", "switch"), [mitigate.RANKING, mitigate.CURRENTS, mitigate.BEST]
+    device, paired = mitigate.read_device(options.ohm), mitigate.read_pairs(options.pairs)
+    with out_folder(options, names, roles) as out, program_and_copies(options, roles) as (program, copies):
+        asked = outages.Asked(program, copies, options.case, options.switch, screen_words(options))
+        found = mitigate.make_mitigation(asked, device, paired)
+        if out is not None:
+            out.publish(mitigate.files_of(found, options.comma))
+    show(mitigate.report_text(asked, found))
+
+
+def add_mitigate(commands: Any) -> None:
+    words = commands.add_parser("mitigate", help="a blocking device or a resistor at each neutral in turn: where it helps most")
+    add_case_file(words)
+    words.add_argument("--ohm", metavar="OHM", help="a resistor of so many ohm in place of a blocking device")
+    pairs = f"two devices at once, in each pair of so many of the best neutrals, from 2 to {mitigate.MOST_PAIRED}"
+    words.add_argument("--pairs", metavar="NUMBER", help=pairs)
+    words.add_argument("--switch", metavar="FILE", help="switchings that are in force in each run")
+    add_event(words)
+    add_width(words)
+    add_program(words)
+    words.add_argument("--out", metavar="FOLDER", help="a new folder for the ranking, all currents and the best case")
+    add_comma(words)
+    add_force(words, "replace these files in a folder that is there already")
+    words.set_defaults(run=run_mitigate)
 
 
 def run_study(options: argparse.Namespace) -> None:
@@ -313,6 +377,8 @@ def command_words() -> argparse.ArgumentParser:
     add_force(three, "replace these tables in a folder that is there already")
     three.set_defaults(run=run_outages)
 
+    add_mitigate(commands)
+    add_grounds(commands)
     add_study(commands)
     add_losses(commands)
     add_powermodels(commands)

@@ -106,7 +106,7 @@ def read_compared(names: Sequence[str]) -> list[tuple[str, Compared]]:
     for name in names:
         try:
             mode, report = read_report(name)
-            if isinstance(report, Screen | Outage):
+            if isinstance(report, Screen | Outage) and mode != "robust":
                 reports.append((mode, report))
             else:
                 words = f"it is a report of {mode}; compare takes two of screen, two of outage, or one of each"

@@ -25,6 +25,7 @@ from .reports import (
     Recheck,
     Report,
     Review,
+    Robust,
     Screen,
     Series,
     Study,
@@ -141,6 +142,10 @@ def screen_rows(report: Screen) -> list[Cells]:
         | asked
         for row in report.rows
     ]
+
+
+def robust_rows(report: Robust) -> list[Cells]:
+    return [cells | {"tolerance_percent": str(report.tolerance)} for cells in screen_rows(report)]
 
 
 def outcome_cells(outcome: Outcome) -> Cells:
@@ -282,6 +287,7 @@ LAYOUTS: dict[str, Layout] = {
         {},
         screen_rows,
     ),
+    "robust": Layout(f"transformer {NORTH} {EAST} {WORST} verdict {EVENT} tolerance_percent", {}, robust_rows),
     "outage": Layout(
         f"kind name outcome node {COUNTS} {WORST} verdict {EVENT}",
         {"outage": f"name outcome node {COUNTS}", "transformer": f"name {WORST} verdict"},

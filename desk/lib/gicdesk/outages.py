@@ -366,14 +366,14 @@ def events_table(outages: Outages) -> Table:
     return Table(["event", "switchings", "outcome", "node", *VERDICTS], rows)
 
 
-def currents_table(outages: Outages) -> Table:
+def currents_table(outages: Outages, head: str = "event") -> Table:
     """Each transformer in each event that can be solved, as a table of `screen` has it; first with no event."""
     heads = LAYOUTS["screen"].columns.split(" ")
     rows = []
     for result in (outages.whole, *outages.results):
         if result.screen is not None:
             rows += [[result.event.name, *(cells[head] for head in heads)] for cells in screen_rows(result.screen)]
-    return Table(["event", *heads], rows)
+    return Table([head, *heads], rows)
 
 
 def files_of(outages: Outages, comma: bool) -> dict[str, str]:

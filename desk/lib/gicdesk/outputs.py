@@ -434,8 +434,8 @@ def refuse_folder(folder: str, force: bool, inputs: Iterable[str], replaced: str
         if pathlib.Path(os.path.realpath(given)).is_relative_to(real):
             raise refuse(folder, f"{given}, which this command reads, lies in it; choose another name")
     if not force:
-        words = f"it is there already; choose another name, or give --force to replace {replaced}"
-        raise refuse(folder, words)
+        ways = f", or give --force to replace {replaced}" if replaced else ""
+        raise refuse(folder, f"it is there already; choose another name{ways}")
 
 
 @contextlib.contextmanager
@@ -471,6 +471,13 @@ def folder_set(
         refuse_folder(folder, True, [], "")
         return files_set(there, force, inputs)
     refuse_folder(folder, force, inputs, "what the command writes in it")
+    return tree_of(folder, False)
+
+
+def new_folder(folder: str, inputs: Iterable[str]) -> contextlib.AbstractContextManager[Set]:
+    """A new folder of files whose names aren't known before; there is no force to it."""
+    recover(pathlib.Path(folder).parent)
+    refuse_folder(folder, False, inputs, "")
     return tree_of(folder, False)
 
 

@@ -24,6 +24,7 @@ class Quantity:
 OHM = Quantity("ohm", "0.001", "1000", 10**6, "is it in micro-ohm, or per unit?")
 PER_UNIT = Quantity("per unit", "0.0000001", "10", 1, "is it in ohm?")
 GROUND_OHM = Quantity("ohm", "0.001", "1000", 10**6, "without a ground the cell is empty")
+TOLERANCE = Quantity("per cent", "0", "90", 1, "is it a part of 1?")
 KILOVOLT = Quantity("kV", "1", "2000", 10**3, "is it in volts?")
 KILOMETRE = Quantity("km", "-1000", "1000", 10**3, "is it in metres?")
 LATITUDE = Quantity("degrees", "-90", "90", 10**6, "is it in hundredths?")

@@ -116,6 +116,13 @@ class Screen:
 
 
 @dataclasses.dataclass(frozen=True)
+class Robust(Screen):
+    """A screen of all networks whose grounds lie within a tolerance, in per cent."""
+
+    tolerance: int
+
+
+@dataclasses.dataclass(frozen=True)
 class Outcome:
     """What comes of the outage of an item. The word is idle, unearthed, unresolved or, where there are counts, solved;
     the node is that of the second and third; the counts are those of the verdicts in the order of VERDICTS."""
@@ -185,7 +192,7 @@ class Review:
 
 
 Report = (
-    Volts | Elements | Check | Field | Study | Screen | Outage | Series | Make | Certificate | Recheck | Review
+    Volts | Elements | Check | Field | Study | Screen | Robust | Outage | Series | Make | Certificate | Recheck | Review
 )
 
 ITEM_FORMS = (
@@ -347,6 +354,14 @@ def read_screen(lines: Lines) -> Screen:
     return Screen(width, threshold, field, rows)
 
 
+def read_robust(lines: Lines) -> Robust:
+    width, threshold, field, tolerance = lines.line("width COUNT threshold COUNT field COUNT tolerance COUNT").numbers
+    rows = [screen_unit_of(values) for _, values in lines.rows((SCREEN_FORM,))]
+    look_for_repeated(lines, [row.name for row in rows])
+    lines.end()
+    return Robust(width, threshold, field, rows, tolerance)
+
+
 def outcome_of(form: str, values: Values) -> Outcome:
     item, *node = values.words
     word = "solved" if form == OUTAGE_FORMS[-1] else form.split(" ")[2]
@@ -436,6 +451,7 @@ READERS: dict[str, Callable[[Lines], Report]] = {
     "field": read_field,
     "study": read_study,
     "screen": read_screen,
+    "robust": read_robust,
     "outage": read_outage,
     "series": read_series,
     "make": read_make,

@@ -39,6 +39,7 @@ COMMIT_UNTOLD = (
     "not known: a record of a build is known of the program with the sum below, but the sources here aren't those of that "
     "build, or have no history here"
 )
+MOST_WITH_ROOM = 60  # questions with a line to write on
 UNSOLVED = {
     "unearthed": "without the item a part is live and hangs in the air, and nothing is said of any current",
     "unresolved": "without the item a part is earthed too poorly, and nothing is said of any current",
@@ -131,7 +132,8 @@ def questions_section(study: Study) -> Markup:
     words = f"The review has {plural(len(questions), 'finding')}. Each is a question, and no fault: write down the answer."
     if study.compared is not None:
         words = f"{plural(len(questions), 'question')}, and no fault any of them: write down the answer."
-    items = [tag("li", question, tag("span", class_="write")) for question in questions]
+    room = [tag("span", class_="write")] if len(questions) <= MOST_WITH_ROOM else []
+    items = [tag("li", question, *room) for question in questions]
     return section("questions", tag("p", words), tag("ol", *items), *compared)
 
 

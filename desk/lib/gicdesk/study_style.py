@@ -12,6 +12,7 @@ h2 { font-size: 1.25rem; margin: 2.2rem 0 .5rem; padding-top: .6rem; border-top:
 h3 { font-size: 1.02rem; margin: 1.3rem 0 .4rem; }
 p { margin: .4rem 0 .7rem; max-width: 62rem; }
 ul, ol { margin: .3rem 0 .8rem; padding-left: 1.4rem; max-width: 60rem; }
+ol { padding-left: 2.9rem; }
 li { margin: .2rem 0; overflow-wrap: anywhere; }
 a { color: var(--blue); }
 code { font: .88em/1.4 ui-monospace, "DejaVu Sans Mono", Menlo, Consolas, monospace; overflow-wrap: anywhere; }

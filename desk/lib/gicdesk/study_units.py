@@ -73,7 +73,7 @@ def outage_cells(unit: Unit, worst: Worst | None) -> list[str]:
 def event_cells(worst: Worst | None) -> list[str]:
     if worst is None:
         return [ABSENT] * 3
-    return [worst.event, amperes(worst.unit.worst), verdict(worst.unit.verdict)]
+    return [worst.event or ABSENT, amperes(worst.unit.worst), verdict(worst.unit.verdict)]
 
 
 def storm_cells(unit: UnitFacts) -> list[str]:
