@@ -1,5 +1,5 @@
 -- The ends of an interval times a part of a field, by the sign of the part.
-use Rattle.std.proofs.Common.{◌≡◌, ◌+◌, ℤ, pos, negsuc, ◌*ℤ◌, neg_ℤ, ◌<ℤ◌, ◌≤ℤ◌, arith}
+use Rattle.std.proofs.Common.{◌≡◌, suc, ℤ, pos, negsuc, ◌*ℤ◌, neg_ℤ, ◌<ℤ◌, ◌≤ℤ◌, arith}
 use Rattle.std.specs.Int.{int_min, int_max}
 use Rattle.std.proofs.lemmas.Int.{ints, clamps}
 use Rattle.gic_fixed.proofs.Integers.{linear, *ℤ-≤ℤ, *ℤ-neg_ℤ}
@@ -19,11 +19,11 @@ kept lo hi (negsuc n) order some = absurd (omega (arith, ints, some))
 turned : (lo hi part : ℤ) → lo ≤ℤ hi → part <ℤ pos 0 → (hi *ℤ part) ≤ℤ (lo *ℤ part)
 turned lo hi (pos n) order below = absurd (omega (arith, ints, below))
 turned lo hi (negsuc n) order below =
-    let times = *ℤ-≤ℤ (n + 1) lo hi order in
-    let low = *ℤ_comm lo (pos (n + 1)) in
-    let high = *ℤ_comm hi (pos (n + 1)) in
-    let turned_low = *ℤ-neg_ℤ lo (pos (n + 1)) in
-    let turned_high = *ℤ-neg_ℤ hi (pos (n + 1)) in
+    let times = *ℤ-≤ℤ (suc n) lo hi order in
+    let low = *ℤ_comm lo (pos (suc n)) in
+    let high = *ℤ_comm hi (pos (suc n)) in
+    let turned_low : lo *ℤ negsuc n ≡ neg_ℤ (lo *ℤ pos (suc n)) = *ℤ-neg_ℤ lo (pos (suc n)) in
+    let turned_high : hi *ℤ negsuc n ≡ neg_ℤ (hi *ℤ pos (suc n)) = *ℤ-neg_ℤ hi (pos (suc n)) in
     omega (arith, linear)
 
 least : (x y : ℤ) → x ≤ℤ y → x ≡ int_min x y
