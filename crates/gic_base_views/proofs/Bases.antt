@@ -13,5 +13,5 @@ once_held lo hi n d held = let once : d ≡ 1 * d = omega arith in subst (λ (m 
 pub narrow_from : (ends : Ends) (width : ℕ) → width ≤ 1000 → ends.low ≤ℤ ends.high → IsAtMostWide width ends.low ends.high → IsNarrowBase ends
 narrow_from ends width most order wide = record { ordered = order; width = wider ends.low ends.high width 1000 most wide }
 
-pub base_within : (lo hi : ℤ) → IsWithin (2 ^ 80) lo hi → IsWithin most_base lo hi
-base_within lo hi within = record { low = omega (arith, within.low); high = omega (arith, within.high) }
+pub base_within : (m : ℕ) (lo hi : ℤ) → m ≤ most_base → IsWithin m lo hi → IsWithin most_base lo hi
+base_within m lo hi less within = record { low = omega (arith, less, within.low); high = omega (arith, less, within.high) }

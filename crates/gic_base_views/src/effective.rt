@@ -1,5 +1,5 @@
 //! The interval of a transformer's effective current in a base field.
-ghost use Rattle.std.specs.Prelude.{◌≡◌, ◌*◌, ◌^◌, ◌<◌, length, IfSome};
+ghost use Rattle.std.specs.Prelude.{◌≡◌, ◌*◌, ◌<◌, length, IfSome};
 ghost use Rattle.gic_fixed.specs.Encloses.{IsWithin};
 ghost use Rattle.gic_fixed.specs.Ends.{ends_of, zero_ends, IsAtMostWide};
 ghost use Rattle.gic_model.specs.Voltages.{number_at};
@@ -7,6 +7,7 @@ ghost use Rattle.gic_net.specs.Net.{standing};
 ghost use Rattle.gic_winding.specs.ElementList.{elements_of};
 ghost use Rattle.gic_winding.specs.Weights.{transformer_at};
 ghost use Rattle.gic_effective.specs.Holds.{AreOfNetwork, HoldsSolutions};
+ghost use Rattle.gic_effective.specs.Ohm.{most_current};
 ghost use Rattle.gic_effective.specs.RightView.{HasNoEffect};
 ghost use Rattle.gic_effective.specs.Shown.{IsShownCurrent, IsShownWinding};
 ghost use Rattle.gic_effective.specs.Weighted.{effective_numerator};
@@ -34,7 +35,7 @@ fn current_or_zero(
     requires together { AreOfNetwork net.now.network volts.now potentials.now }
     requires element { element.0 < length net.now.network.list }
     ensures shown { IsShownCurrent (standing net.now) (number_at volts.now) potentials.now element.0 result.lo result.hi }
-    ensures small { IsWithin (2 ^ 80) result.lo result.hi }
+    ensures small { IsWithin most_current result.lo result.hi }
     ensures tight { AreTight potentials.now → IsAtMostWide 400 result.lo result.hi }
 {
     // Brings that the element is within its limits.
@@ -56,7 +57,7 @@ fn winding_or_zero(
     requires together { AreOfNetwork net.now.network volts.now potentials.now }
     requires winding { IfSome winding (λ w. w.0.0 < length net.now.network.list) }
     ensures shown { IsShownWinding (standing net.now) (number_at volts.now) potentials.now winding result.lo result.hi }
-    ensures small { IsWithin (2 ^ 80) result.lo result.hi }
+    ensures small { IsWithin most_current result.lo result.hi }
     ensures tight { AreTight potentials.now → IsAtMostWide 400 result.lo result.hi }
 {
     match winding {

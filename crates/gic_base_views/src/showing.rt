@@ -1,9 +1,9 @@
 //! The view of a step, superposed from the table of an epoch's base fields.
-ghost use Rattle.std.specs.Prelude.{ℕ, ◌≡◌, ◌^◌, ◌<◌, length};
-ghost use Rattle.gic_fixed.specs.Encloses.{IsWithin};
+ghost use Rattle.std.specs.Prelude.{ℕ, ◌≡◌, ◌<◌, length, IfSome};
 ghost use Rattle.gic_fixed.specs.Ends.{ends_of};
 ghost use Rattle.gic_model.specs.Standing.{is_live, is_standing};
 ghost use Rattle.gic_net.specs.Net.{standing};
+ghost use Rattle.gic_view.specs.Bounds.{FitsView};
 ghost use Rattle.gic_view.specs.View.{node_at, element_at, effective_at};
 ghost use Rattle.gic_view.specs.Kept.{optional_ends};
 ghost use Rattle.gic_winding.specs.ElementList.{elements_of};
@@ -26,7 +26,7 @@ use gic_view::StepView;
 /// Sets all intervals of a view of a case, whose net this is, to those that the fields make of the table's rows: the
 /// potential of each node in millivolts, `None` where it is dead; the current of each element in milliamperes, `None`
 /// where it doesn't stand; the signed effective current of each transformer in milliamperes per phase, with no end beyond
-/// 2^113 either way. The fields, in mV/km, and the table are those of the case's zones. It solves nothing, and takes no
+/// 2^63 - 1 either way. The fields, in mV/km, and the table are those of the case's zones. It solves nothing, and takes no
 /// memory.
 pub fn fill_superposed(
     case: &Case,
@@ -40,7 +40,7 @@ pub fn fill_superposed(
     requires zones { length fields.now ≡ length case.now.zones }
     requires space { HasViewLengths case.now out.old }
     ensures view { IsSuperposedView case.now (standing net.now) fields.now (base_rows_of table.now) out.new }
-    ensures small { (t : ℕ) → t < length out.new.effective → IsWithin (2 ^ 113) (effective_at out.new t).low (effective_at out.new t).high }
+    ensures small { (t : ℕ) → t < length out.new.effective → FitsView (effective_at out.new t) }
     ensures stays { IsSameStep out.old out.new }
 {
     fill_nodes(net, fields, &table.nodes, out);
@@ -52,7 +52,8 @@ pub fn fill_superposed(
 fn node_interval(net: &Net, fields: &Fields, rows: &PairRows, node: NodeId) -> Option<Interval>
     requires rows { AreRowsOf net.now.network.nodes (length fields.now) rows.now }
     requires node { node.0 < net.now.network.nodes }
-    ensures { optional_ends result ≡ shown_where (is_live (standing net.now) node.0) (superposed fields.now (row_at rows.now node.0)) }
+    ensures shown { optional_ends result ≡ shown_where (is_live (standing net.now) node.0) (superposed fields.now (row_at rows.now node.0)) }
+    ensures fits { IfSome (optional_ends result) FitsView }
 {
     if net.live(node) {
         Some(rows.superposed(fields, node.0))
@@ -70,8 +71,9 @@ fn element_interval(
 ) -> Option<Interval>
     requires rows { AreRowsOf (length net.now.network.list) (length fields.now) rows.now }
     requires element { element.0 < length net.now.network.list }
-    ensures { optional_ends result ≡
+    ensures shown { optional_ends result ≡
         shown_where (is_standing (standing net.now) element.0) (superposed fields.now (row_at rows.now element.0)) }
+    ensures fits { IfSome (optional_ends result) FitsView }
 {
     if net.stands(element) {
         Some(rows.superposed(fields, element.0))
@@ -113,7 +115,7 @@ fn fill_elements(net: &Net, fields: &Fields, rows: &PairRows, out: &mut StepView
 fn fill_effective(fields: &Fields, rows: &PairRows, out: &mut StepView)
     requires rows { AreRowsOf (length out.old.effective) (length fields.now) rows.now }
     ensures shown { (t : ℕ) → t < length out.new.effective → effective_at out.new t ≡ superposed fields.now (row_at rows.now t) }
-    ensures small { (t : ℕ) → t < length out.new.effective → IsWithin (2 ^ 113) (effective_at out.new t).low (effective_at out.new t).high }
+    ensures small { (t : ℕ) → t < length out.new.effective → FitsView (effective_at out.new t) }
     ensures rest { out.new ≡ record out.old { effective = out.new.effective } }
     ensures count { length out.new.effective ≡ length out.old.effective }
 {

@@ -19,6 +19,7 @@ use Rattle.gic_model.proofs.Ends.{standing_within}
 use Rattle.gic_view.specs.Peaks.{HasAbsolutes}
 use Rattle.gic_view.specs.Absolute.{HasAbsolute}
 use Rattle.gic_stand.specs.Standing.{IsSolvable}
+use Rattle.gic_view.specs.Bounds.{FitsView}
 use Rattle.gic_view.specs.View.{View, node_at, element_at}
 use Rattle.gic_effective.specs.Narrow.{IsNoWider, IsNarrowView}
 use Rattle.gic_effective.specs.RightView.{IsRightNode, IsRightElement, IsRightView}
@@ -26,7 +27,7 @@ use Rattle.gic_uniform.proofs.FewCurrents.{current_few, most_element_current}
 use Rattle.gic_uniform.proofs.SmallEnds.{ends_small}
 use Rattle.gic_course.proofs.Told.{has_absolute}
 
-wider : (e : Ends) → IsWithin (2 ^ 52) e.low e.high → IsWithin (2 ^ 113) e.low e.high
+wider : (e : Ends) → IsWithin (2 ^ 52) e.low e.high → FitsView e
 wider e small = record { low = omega (arith, small.low); high = omega (arith, small.high) }
 
 -- a narrow interval that encloses a millionth of a limited number

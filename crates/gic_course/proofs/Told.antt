@@ -1,5 +1,5 @@
 -- Views that are told another number and another time, and fields of a step.
-use Rattle.std.proofs.Common.{◌≡◌, ℕ, ◌^◌, ◌<◌, List, length, ℤ, neg_ℤ, arith, ◌∙◌}
+use Rattle.std.proofs.Common.{◌≡◌, ℕ, ◌<◌, List, length, ℤ, neg_ℤ, arith, ◌∙◌}
 use Rattle.std.specs.Prelude.{All}
 use Rattle.std.specs.Int.{w128}
 use Rattle.std.specs.List.{range_with_len}
@@ -7,9 +7,9 @@ use Rattle.std.proofs.lemmas.Int.{ints, fits_signed_from_abs}
 use Rattle.std.proofs.lemmas.List.{length-map}
 use Rattle.std.proofs.lemmas.List.FromFn.{length-range_with_len}
 use Rattle.std.proofs.lemmas.List.Elements.{All-from_get_or}
-use Rattle.gic_fixed.specs.Encloses.{IsWithin}
 use Rattle.gic_fixed.specs.Ends.{Ends, zero_ends}
 use Rattle.gic_case.specs.Lists.{Lists}
+use Rattle.gic_view.specs.Bounds.{FitsView}
 use Rattle.gic_view.specs.View.{View, effective_at}
 use Rattle.gic_effective.specs.Narrow.{IsNarrowView}
 use Rattle.gic_effective.specs.RightView.{IsRightView}
@@ -49,12 +49,12 @@ shown_told case standing fields width view number time h = record {
   driven = h.driven;
 }
 
--- ends within 2^113 leave space
-pub has_absolute : (e : Ends) → IsWithin (2 ^ 113) e.low e.high → HasAbsolute e
+-- ends that a view keeps leave space
+pub has_absolute : (e : Ends) → FitsView e → HasAbsolute e
 has_absolute e small = fits_signed_from_abs w128 (neg_ℤ e.low) (omega (arith, ints, small.low))
 
 -- in each interval of a view
-pub have_absolutes : (view : View) → ((t : ℕ) → t < length view.effective → IsWithin (2 ^ 113) (effective_at view t).low (effective_at view t).high) → All HasAbsolute view.effective
+pub have_absolutes : (view : View) → ((t : ℕ) → t < length view.effective → FitsView (effective_at view t)) → All HasAbsolute view.effective
 have_absolutes view small = All-from_get_or HasAbsolute view.effective zero_ends (λ t within. has_absolute (effective_at view t) (small t within))
 
 -- there is a field for each zone

@@ -7,7 +7,7 @@ use Rattle.gic_fixed.specs.Encloses.{Encloses, IsWithin}
 use Rattle.gic_fixed.proofs.Integers.{linear, *ℤ-+ℤ, *ℤ--ℤ, *ℤ-neg_ℤ, *ℤ_assoc, *ℤ_left_comm, abs-neg_ℤ}
 use Rattle.gic_fixed.proofs.Divisions.{positive_product, floor_ge, floor_le}
 use Rattle.gic_fixed.proofs.Enclosures.{Encloses-neg, Encloses-add, Encloses-point, Encloses-times, Encloses-div_out, Encloses-cancel}
-use Rattle.gic_effective.specs.Ohm.{OhmsLaw, current_low, current_high}
+use Rattle.gic_effective.specs.Ohm.{OhmsLaw, current_low, current_high, most_current}
 use lib.IntN.{*ℤ_comm}
 
 -- g grains are a nanovolt
@@ -95,19 +95,19 @@ quotient_within a b e a' b' e' lo hi d two first second third low high =
       high = subst (λ (w : ℤ). unsigned_abs w ≤ 2 ^ 113) (sym high) (ceil_small ((a' +ℤ b') +ℤ e') d (2 ^ 113) some (sum_within a' b' e' d two first.high second.high third.high));
     }
 
-product_small : (n r : ℕ) (z : ℤ) → n ≤ 3000000 → 1000 ≤ r → unsigned_abs z ≤ 2 ^ 98 → unsigned_abs (pos n *ℤ z) ≤ r * 2 ^ 36 * 2 ^ 80
+product_small : (n r : ℕ) (z : ℤ) → n ≤ 3000000 → 1000 ≤ r → unsigned_abs z ≤ 2 ^ 98 → unsigned_abs (pos n *ℤ z) ≤ r * 2 ^ 36 * most_current
 product_small n r z h k small =
     let product : n * unsigned_abs z ≤ 3000000 * 2 ^ 98 = mul-le-mul h small in
     let parts = unsigned_abs-mul (pos n) z in
     omega arith
 
--- no current is beyond 2^80 nanoamperes
+-- no current is beyond 3000 times 2^62 nanoamperes
 module _ (times r : ℕ) (drive : ℤ) (three : times ≤ 3) (thousand : 1000 ≤ r) (small : unsigned_abs drive ≤ 2 ^ 98) where
-  product : unsigned_abs (pos (times * 1000000) *ℤ drive) ≤ r * 2 ^ 36 * 2 ^ 80
+  product : unsigned_abs (pos (times * 1000000) *ℤ drive) ≤ r * 2 ^ 36 * most_current
   product = product_small (times * 1000000) r drive (omega arith) thousand small
 
-  pub low_small : (z : ℤ) → z ≡ current_low times r drive → unsigned_abs z ≤ 2 ^ 80
-  low_small z is = subst (λ (w : ℤ). unsigned_abs w ≤ 2 ^ 80) (sym is) (floor_small (pos (times * 1000000) *ℤ drive) (r * 2 ^ 36) (2 ^ 80) (omega arith) product)
+  pub low_small : (z : ℤ) → z ≡ current_low times r drive → unsigned_abs z ≤ most_current
+  low_small z is = subst (λ (w : ℤ). unsigned_abs w ≤ most_current) (sym is) (floor_small (pos (times * 1000000) *ℤ drive) (r * 2 ^ 36) most_current (omega arith) product)
 
-  pub high_small : (z : ℤ) → z ≡ current_high times r drive → unsigned_abs z ≤ 2 ^ 80
-  high_small z is = subst (λ (w : ℤ). unsigned_abs w ≤ 2 ^ 80) (sym is) (ceil_small (pos (times * 1000000) *ℤ drive) (r * 2 ^ 36) (2 ^ 80) (omega arith) product)
+  pub high_small : (z : ℤ) → z ≡ current_high times r drive → unsigned_abs z ≤ most_current
+  high_small z is = subst (λ (w : ℤ). unsigned_abs w ≤ most_current) (sym is) (ceil_small (pos (times * 1000000) *ℤ drive) (r * 2 ^ 36) most_current (omega arith) product)

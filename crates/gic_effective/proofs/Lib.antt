@@ -4,5 +4,6 @@ pub mod Weights
 pub mod Weighings
 pub mod Widths
 pub mod Filled
+pub mod Fitting
 pub mod Lines
 pub mod WithoutEffect

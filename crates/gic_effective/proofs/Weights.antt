@@ -1,5 +1,5 @@
 -- A weighted current lies in the weighted interval.
-use Rattle.std.proofs.Common.{ℕ, ◌+◌, ◌*◌, ◌^◌, ◌<◌, ◌≤◌, Option, None, Some, ℤ, pos, ◌+ℤ◌, unsigned_abs, arith}
+use Rattle.std.proofs.Common.{ℕ, ◌+◌, ◌*◌, ◌<◌, ◌≤◌, Option, None, Some, ℤ, pos, ◌+ℤ◌, unsigned_abs, arith}
 use Rattle.std.proofs.lemmas.Int.{ints, unsigned_abs-mul}
 use Rattle.std.proofs.Math.Nat.{mul-le-mul_left}
 use Rattle.gic_fixed.specs.Rounding.{floor_div, ceil_div}
@@ -7,6 +7,7 @@ use Rattle.gic_fixed.specs.Encloses.{Encloses}
 use Rattle.gic_fixed.proofs.Enclosures.{Encloses-add, Encloses-times, Encloses-div_out}
 use Rattle.gic_base.specs.declared.id.ElementId.{ElementId}
 use Rattle.gic_winding.specs.declared.weights.Weights.{Weights}
+use Rattle.gic_effective.specs.Ohm.{most_current}
 use Rattle.gic_effective.specs.WeightedSum.{weighted, weighted_sum, weight_in, total_weight}
 
 part_holds : (winding : Option (ElementId × ℕ)) (lo hi n : ℤ) (d : ℕ) → Encloses lo hi n d → Encloses (weighted winding lo) (weighted winding hi) (weighted winding n) d
@@ -22,20 +23,20 @@ sum_holds w over lo hi lo' hi' lo'' hi'' n n' n'' d some one other last =
     Encloses-div_out _ _ _ d over some (Encloses-add _ _ _ _ _ _ d both (part_holds w.third lo'' hi'' n'' d last))
 
 -- the size of a weighted sum
-part_small : (winding : Option (ElementId × ℕ)) (z : ℤ) → unsigned_abs z ≤ 2 ^ 80 → unsigned_abs (weighted winding z) ≤ weight_in winding * 2 ^ 80
+part_small : (winding : Option (ElementId × ℕ)) (z : ℤ) → unsigned_abs z ≤ most_current → unsigned_abs (weighted winding z) ≤ weight_in winding * most_current
 part_small None z h = omega arith
 part_small (Some w) z h =
     let parts = unsigned_abs-mul (pos w.1) z in
-    let most : w.1 * unsigned_abs z ≤ w.1 * 2 ^ 80 = mul-le-mul_left w.1 h in
+    let most : w.1 * unsigned_abs z ≤ w.1 * most_current = mul-le-mul_left w.1 h in
     omega (arith, parts, most)
 
 pub sum_small : (w : Weights) (volts : ℕ) (one other last : ℤ) → total_weight w ≤ 3 * volts →
-    unsigned_abs one ≤ 2 ^ 80 → unsigned_abs other ≤ 2 ^ 80 → unsigned_abs last ≤ 2 ^ 80 → unsigned_abs (weighted_sum w one other last) ≤ 3 * volts * 2 ^ 80
+    unsigned_abs one ≤ most_current → unsigned_abs other ≤ most_current → unsigned_abs last ≤ most_current → unsigned_abs (weighted_sum w one other last) ≤ 3 * volts * most_current
 sum_small w volts one other last sum h k l =
     let a = part_small w.first one h in
     let b = part_small w.second other k in
     let c = part_small w.third last l in
-    plain (weighted w.first one) (weighted w.second other) (weighted w.third last) (weight_in w.first * 2 ^ 80) (weight_in w.second * 2 ^ 80) (weight_in w.third * 2 ^ 80) (3 * volts * 2 ^ 80)
+    plain (weighted w.first one) (weighted w.second other) (weighted w.third last) (weight_in w.first * most_current) (weight_in w.second * most_current) (weight_in w.third * most_current) (3 * volts * most_current)
     a b c (omega (arith, sum))
   where
     plain : (x y z : ℤ) (m n k most : ℕ) → unsigned_abs x ≤ m → unsigned_abs y ≤ n → unsigned_abs z ≤ k → m + n + k ≤ most → unsigned_abs ((x +ℤ y) +ℤ z) ≤ most

@@ -19,6 +19,10 @@ current_low times micro_ohm drive = floor_div (pos (times * 1000000) *ℤ drive)
 abbrev pub current_high : ℕ → ℕ → ℤ → ℤ
 current_high times micro_ohm drive = ceil_div (pos (times * 1000000) *ℤ drive) (pos (micro_ohm * 2 ^ 36))
 
+-- the most that a current may be, either way, in nanoamperes: that of 2^62 nanovolts over three paths of a milliohm each
+abbrev pub most_current : ℕ
+most_current = 3000 * 2 ^ 62
+
 -- an element's least current in nanoamperes over intervals from low to high at its ends, rounded down
 abbrev pub least_nano : (ℕ → ℤ) → (ℕ → ℤ) → (ℕ → ℤ) → Placed → ℤ
 least_nano volts low high p = current_low p.1.times p.1.micro_ohm (drive_of (low p.1.from.0) (value_at high p.1.to) (volts p.0))

@@ -3,11 +3,12 @@ use Rattle.std.specs.Prelude.{ℕ, ◌≡◌, ◌+◌, ◌^◌, Option, None, So
 use Rattle.gic_base.specs.declared.id.ElementId.{ElementId}
 use Rattle.gic_case.specs.Lists.{Lists}
 use Rattle.gic_enclose.specs.Ends.{high_at, low_at}
-use Rattle.gic_fixed.specs.Encloses.{Encloses, IsWithin}
+use Rattle.gic_fixed.specs.Encloses.{Encloses}
 use Rattle.gic_model.specs.Sharp.{IsSharp}
 use Rattle.gic_model.specs.Solution.{Solution, IsSolution}
 use Rattle.gic_model.specs.Standing.{is_standing}
 use Rattle.gic_model.specs.Sums.{Placed}
+use Rattle.gic_view.specs.Bounds.{FitsView}
 use Rattle.gic_view.specs.View.{View}
 use Rattle.gic_fixed.specs.Ends.{Ends, IsAtMostWide}
 use Rattle.gic_effective.specs.Holds.{HoldsSolution, HoldsSolutions}
@@ -44,7 +45,7 @@ pub record IsShownElement (standing : List Placed) (volts : ℕ → ℤ) (potent
 pub record IsShownEffective (c : Lists) (standing : List Placed) (volts : ℕ → ℤ) (potentials : List Ends) (t : ℕ) (ends : Ends) : Type 0 where
   pub right : HoldsSolutions standing volts potentials → IsRightEffective c standing volts t ends
   pub narrow : (width : ℕ) → AreSharp standing volts potentials width → IsAtMostWide (width + 1) ends.low ends.high
-  pub small : IsWithin (2 ^ 113) ends.low ends.high
+  pub small : FitsView ends
 
 -- the two views are of one step: number and time are the same
 pub record IsSameStep (one other : View) : Type 0 where

@@ -13,7 +13,7 @@ ghost use Rattle.gic_enclose.specs.Ends.{low_at, high_at};
 ghost use Rattle.gic_enclose.specs.Certain.{AreTight};
 ghost use Rattle.gic_effective.specs.Holds.{AreOfNetwork, HoldsSolution};
 ghost use Rattle.gic_effective.specs.Milli.{IsMilliAtMostWide};
-ghost use Rattle.gic_effective.specs.Ohm.{least_nano, most_nano};
+ghost use Rattle.gic_effective.specs.Ohm.{least_nano, most_nano, most_current};
 ghost use Rattle.gic_fixed.specs.Ends.{IsAtMostWide};
 
 use crate::ohm::{drive_between, ohms_law};
@@ -49,7 +49,7 @@ pub fn current_na(net: &Net, volts: &Volts, potentials: &Potentials, element: El
         (element.0, element_of net.now.network element.0) }
     ensures holds { (s : Solution) → IsSolution (standing net.now) (number_at volts.now) s →
         HoldsSolution (standing net.now) potentials.now s → Encloses result.lo result.hi (s.current element.0) s.denominator }
-    ensures small { IsWithin (2 ^ 80) result.lo result.hi }
+    ensures small { IsWithin most_current result.lo result.hi }
 
     // Where the potentials are sharp for a width, the current in milliamperes is at most so wide.
     ensures narrow { (width : ℕ) → IsSharp (standing net.now) (number_at volts.now) (low_at potentials.now) (high_at potentials.now) width →
@@ -80,7 +80,7 @@ pub fn tight_current_na(
         (element.0, element_of net.now.network element.0) }
     ensures holds { (s : Solution) → IsSolution (standing net.now) (number_at volts.now) s →
         HoldsSolution (standing net.now) potentials.now s → Encloses result.lo result.hi (s.current element.0) s.denominator }
-    ensures small { IsWithin (2 ^ 80) result.lo result.hi }
+    ensures small { IsWithin most_current result.lo result.hi }
     ensures tight { AreTight potentials.now → IsAtMostWide 400 result.lo result.hi }
 {
     // Brings that the element is within its limits.
@@ -94,6 +94,7 @@ pub fn milli(interval: Interval) -> Interval
     ensures high { result.hi ≡ ceil_div interval.hi (pos 1000000) }
     ensures holds { (n : ℤ) (denominator : ℕ) → Encloses interval.lo interval.hi n denominator →
         Encloses result.lo result.hi n (1000000 * denominator) }
+    ensures small { IsWithin most_current interval.lo interval.hi → IsWithin (2 ^ 54) result.lo result.hi }
 {
     interval.div_out(1_000_000)
 }

@@ -3,6 +3,7 @@ ghost use Rattle.std.specs.Prelude.{◌≡◌, ℕ, ◌+◌, ◌*◌, ◌^◌, �
 ghost use Rattle.gic_fixed.specs.Rounding.{floor_div, ceil_div};
 ghost use Rattle.gic_fixed.specs.Encloses.{Encloses, IsWithin};
 ghost use Rattle.gic_fixed.specs.Ends.{IsAtMostWide};
+ghost use Rattle.gic_effective.specs.Ohm.{most_current};
 ghost use Rattle.gic_effective.specs.WeightedSum.{weighted, weighted_sum, total_weight};
 ghost use Rattle.gic_effective.specs.WindingCurrents.{low_sum, high_sum, AreWithin, EncloseEach, AreAtMostWide, AreMilliAtMostWide};
 
@@ -13,7 +14,7 @@ use gic_winding::Weights;
 
 /// A winding's current with its weight.
 fn part(winding: Option<(ElementId, u32)>, current: Interval) -> Interval
-    requires small { IsWithin (2 ^ 80) current.lo current.hi }
+    requires small { IsWithin most_current current.lo current.hi }
     ensures low { result.lo ≡ weighted winding current.lo }
     ensures high { result.hi ≡ weighted winding current.hi }
     ensures small { IsWithin (2 ^ 112) result.lo result.hi }
@@ -25,16 +26,18 @@ fn part(winding: Option<(ElementId, u32)>, current: Interval) -> Interval
 }
 
 /// The signed effective current of a transformer in milliamperes per phase: the weighted sum of the currents of its
-/// windings over three times the voltage of the high side, rounded outward once. No end that is given is beyond 2^80
-/// either way, and `high_volts` is at least 1; no end of the result is beyond 2^113.
+/// windings over three times the voltage of the high side, rounded outward once. No end that is given is beyond 3000 times
+/// 2^62 either way, and `high_volts` is at least 1; no end of the result is beyond 2^113, and none beyond 2^54 where the
+/// weights add up to no more than three times the voltage of the high side.
 pub fn signed_effective(weights: &Weights, currents: &WindingCurrents) -> Interval
     requires volts { 1 ≤ weights.now.high_volts }
-    requires size { AreWithin (2 ^ 80) currents.now }
+    requires size { AreWithin most_current currents.now }
     ensures low { result.lo ≡ floor_div (low_sum weights.now currents.now) (pos (3000000 * weights.now.high_volts)) }
     ensures high { result.hi ≡ ceil_div (high_sum weights.now currents.now) (pos (3000000 * weights.now.high_volts)) }
     ensures holds { (first second third : ℤ) (denominator : ℕ) → EncloseEach currents.now first second third denominator →
         Encloses result.lo result.hi (weighted_sum weights.now first second third) (3000000 * weights.now.high_volts * denominator) }
     ensures small { IsWithin (2 ^ 113) result.lo result.hi }
+    ensures weighed { total_weight weights.now ≤ 3 * weights.now.high_volts → IsWithin (2 ^ 54) result.lo result.hi }
 
     // From currents at most this many milliamperes wide it is at most one wider, where the weights add up to no more than
     // three times the voltage of the high side.
@@ -50,7 +53,7 @@ pub fn signed_effective(weights: &Weights, currents: &WindingCurrents) -> Interv
 /// The same in nanoamperes per phase.
 pub fn effective_na(weights: &Weights, currents: &WindingCurrents) -> Interval
     requires volts { 1 ≤ weights.now.high_volts }
-    requires size { AreWithin (2 ^ 80) currents.now }
+    requires size { AreWithin most_current currents.now }
     ensures low { result.lo ≡ floor_div (low_sum weights.now currents.now) (pos (3 * weights.now.high_volts)) }
     ensures high { result.hi ≡ ceil_div (high_sum weights.now currents.now) (pos (3 * weights.now.high_volts)) }
     ensures holds { (first second third : ℤ) (denominator : ℕ) → EncloseEach currents.now first second third denominator →
@@ -58,7 +61,7 @@ pub fn effective_na(weights: &Weights, currents: &WindingCurrents) -> Interval
 
     // Where the weights add up to no more than three times the voltage of the high side, no end is beyond those of the
     // currents' bound, and from currents at most 400 nanoamperes wide it is at most one wider.
-    ensures small { total_weight weights.now ≤ 3 * weights.now.high_volts → IsWithin (2 ^ 80) result.lo result.hi }
+    ensures small { total_weight weights.now ≤ 3 * weights.now.high_volts → IsWithin most_current result.lo result.hi }
     ensures tight { total_weight weights.now ≤ 3 * weights.now.high_volts → AreAtMostWide 400 currents.now →
         IsAtMostWide 401 result.lo result.hi }
 {

@@ -4,7 +4,7 @@ ghost use Rattle.gic_fixed.specs.Encloses.{Encloses, IsWithin};
 ghost use Rattle.gic_fixed.specs.Rounding.{floor_div, ceil_div};
 ghost use Rattle.gic_model.specs.Guess.{most_guess};
 ghost use Rattle.gic_model.specs.Limits.{most_volts};
-ghost use Rattle.gic_effective.specs.Ohm.{OhmsLaw, drive_of, current_low, current_high};
+ghost use Rattle.gic_effective.specs.Ohm.{OhmsLaw, drive_of, current_low, current_high, most_current};
 
 use gic_fixed::{Divisor, Interval};
 use gic_sweep::{GRAINS, drive, in_grains, micro_paths};
@@ -71,7 +71,7 @@ pub(crate) fn ohms_law(times: u8, divisor: Divisor, drive: Interval) -> Interval
         Encloses drive.lo drive.hi (pos (2 ^ 36) *ℤ nanovolts) denominator →
         OhmsLaw times divisor nanovolts current →
         Encloses result.lo result.hi current denominator }
-    ensures small { IsWithin (2 ^ 80) result.lo result.hi }
+    ensures small { IsWithin most_current result.lo result.hi }
 {
     let product = raised(drive, factor(times));
     over_ohms(product, divisor).div_out(GRAINS)

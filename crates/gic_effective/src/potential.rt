@@ -22,6 +22,7 @@ pub fn potential_mv(potentials: &Potentials, node: NodeId) -> Interval
     ensures high { result.hi ≡ ceil_div (high_at potentials.now node.0) (pos millivolt) }
     ensures holds { (s : Solution) → HoldsAt potentials.now s node.0 →
         Encloses result.lo result.hi (s.potential node.0) (1000000 * s.denominator) }
+    ensures small { IsWithin (2 ^ 41) result.lo result.hi }
 {
     potentials.get(node).div_out(1_000_000 * GRAINS)
 }
@@ -33,7 +34,7 @@ pub fn potential_nv(potentials: &Potentials, node: NodeId) -> Interval
     ensures low { result.lo ≡ floor_div (low_at potentials.now node.0) (pos (2 ^ 36)) }
     ensures high { result.hi ≡ ceil_div (high_at potentials.now node.0) (pos (2 ^ 36)) }
     ensures holds { (s : Solution) → HoldsAt potentials.now s node.0 → Encloses result.lo result.hi (s.potential node.0) s.denominator }
-    ensures small { IsWithin (2 ^ 80) result.lo result.hi }
+    ensures small { IsWithin (2 ^ 60) result.lo result.hi }
 
     // Where the interval is at most 2^32 grains wide, the potential in nanovolts is at most 400 wide.
     ensures tight { IsTight (potential_ends potentials.now node.0) → IsAtMostWide 400 result.lo result.hi }

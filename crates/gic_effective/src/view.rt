@@ -1,11 +1,11 @@
 //! The view of a step.
-ghost use Rattle.std.specs.Prelude.{◌≡◌, ℕ, ◌^◌, ◌<◌, length, ℤ, IfOk};
+ghost use Rattle.std.specs.Prelude.{◌≡◌, ℕ, ◌<◌, length, ℤ, IfOk, IfSome};
 ghost use Rattle.gic_fixed.specs.Ends.{ends_of};
-ghost use Rattle.gic_fixed.specs.Encloses.{IsWithin};
 ghost use Rattle.gic_model.specs.Sharp.{IsSharp};
 ghost use Rattle.gic_model.specs.Voltages.{number_at};
 ghost use Rattle.gic_net.specs.Net.{standing};
 ghost use Rattle.gic_enclose.specs.Ends.{low_at, high_at};
+ghost use Rattle.gic_view.specs.Bounds.{FitsView};
 ghost use Rattle.gic_view.specs.View.{node_at, element_at, effective_at};
 ghost use Rattle.gic_view.specs.Kept.{blank_view, optional_ends};
 ghost use Rattle.gic_winding.specs.ElementList.{elements_of};
@@ -45,7 +45,7 @@ pub fn view_of_case(alloc: Global, case: &Case, net: &Net) -> Result<StepView, O
 
 /// Sets all intervals of a view of a case, whose net this is: the potential of each node in millivolts, `None` where it
 /// is dead; the current of each element in milliamperes, `None` where it doesn't stand; the signed effective current of
-/// each transformer in milliamperes per phase, in which an open winding counts as 0, with no end beyond 2^113 either way.
+/// each transformer in milliamperes per phase, in which an open winding counts as 0, with no end beyond 2^63 - 1 either way.
 pub fn fill_view(case: &Case, net: &Net, volts: &Volts, potentials: &Potentials, out: &mut StepView)
     requires net { net.now.network ≡ elements_of case.now }
     requires together { AreOfNetwork net.now.network volts.now potentials.now }
@@ -57,7 +57,7 @@ pub fn fill_view(case: &Case, net: &Net, volts: &Volts, potentials: &Potentials,
     ensures narrow { (width wider : ℕ) → width < wider →
         IsSharp (standing net.now) (number_at volts.now) (low_at potentials.now) (high_at potentials.now) width →
         IsNarrowView case.now wider out.new }
-    ensures small { (t : ℕ) → t < length out.new.effective → IsWithin (2 ^ 113) (effective_at out.new t).low (effective_at out.new t).high }
+    ensures small { (t : ℕ) → t < length out.new.effective → FitsView (effective_at out.new t) }
     ensures lengths { HasViewLengths case.now out.new }
     ensures stays { IsSameStep out.old out.new }
 {
@@ -70,7 +70,8 @@ pub fn fill_view(case: &Case, net: &Net, volts: &Volts, potentials: &Potentials,
 fn node_interval(net: &Net, potentials: &Potentials, node: NodeId) -> Option<Interval>
     requires potentials { length potentials.now ≡ net.now.network.nodes }
     requires node { node.0 < net.now.network.nodes }
-    ensures { (volts : ℕ → ℤ) → IsShownNode (standing net.now) volts potentials.now node.0 (optional_ends result) }
+    ensures shown { (volts : ℕ → ℤ) → IsShownNode (standing net.now) volts potentials.now node.0 (optional_ends result) }
+    ensures fits { IfSome (optional_ends result) FitsView }
 {
     if net.live(node) {
         Some(potential_mv(potentials, node))
@@ -88,7 +89,8 @@ fn element_interval(
 ) -> Option<Interval>
     requires together { AreOfNetwork net.now.network volts.now potentials.now }
     requires element { element.0 < length net.now.network.list }
-    ensures { IsShownElement (standing net.now) (number_at volts.now) potentials.now element.0 (optional_ends result) }
+    ensures shown { IsShownElement (standing net.now) (number_at volts.now) potentials.now element.0 (optional_ends result) }
+    ensures fits { IfSome (optional_ends result) FitsView }
 {
     if net.stands(element) {
         Some(milli(current_na(net, volts, potentials, element)))
@@ -98,7 +100,7 @@ fn element_interval(
 }
 
 /// The interval of a transformer in the view: its signed effective current in milliamperes per phase, in which an open
-/// winding counts as 0, with no end beyond 2^113 either way.
+/// winding counts as 0, with no end beyond 2^63 - 1 either way.
 pub fn effective_interval(
     case: &Case,
     net: &Net,

@@ -1,9 +1,10 @@
 //! The current of a transformer's winding.
-ghost use Rattle.std.specs.Prelude.{◌^◌, ◌<◌, length, IfSome};
+ghost use Rattle.std.specs.Prelude.{◌<◌, length, IfSome};
 ghost use Rattle.gic_fixed.specs.Encloses.{IsWithin};
 ghost use Rattle.gic_model.specs.Voltages.{number_at};
 ghost use Rattle.gic_net.specs.Net.{standing};
 ghost use Rattle.gic_effective.specs.Holds.{AreOfNetwork};
+ghost use Rattle.gic_effective.specs.Ohm.{most_current};
 ghost use Rattle.gic_effective.specs.Shown.{IsShownCurrent, IsShownWinding};
 
 use crate::current::current_na;
@@ -23,7 +24,7 @@ fn current_or_zero(
     requires together { AreOfNetwork net.now.network volts.now potentials.now }
     requires element { element.0 < length net.now.network.list }
     ensures shown { IsShownCurrent (standing net.now) (number_at volts.now) potentials.now element.0 result.lo result.hi }
-    ensures small { IsWithin (2 ^ 80) result.lo result.hi }
+    ensures small { IsWithin most_current result.lo result.hi }
 {
     if net.stands(element) {
         current_na(net, volts, potentials, element)
@@ -42,7 +43,7 @@ pub(crate) fn winding_current(
     requires together { AreOfNetwork net.now.network volts.now potentials.now }
     requires winding { IfSome winding (λ w. w.0.0 < length net.now.network.list) }
     ensures shown { IsShownWinding (standing net.now) (number_at volts.now) potentials.now winding result.lo result.hi }
-    ensures small { IsWithin (2 ^ 80) result.lo result.hi }
+    ensures small { IsWithin most_current result.lo result.hi }
 {
     match winding {
         Some((element, _)) => current_or_zero(net, volts, potentials, element),

@@ -5,5 +5,6 @@ pub mod Linear
 pub mod Enclosing
 pub mod Widths
 pub mod Parts
+pub mod BySign
 pub mod Places
 pub mod Small

@@ -7,6 +7,7 @@ use Rattle.std.proofs.Math.Nat.{mul-le-mul, mul-div-le}
 use Rattle.gic_fixed.specs.Ends.{Ends}
 use Rattle.gic_fixed.specs.Encloses.{IsWithin}
 use Rattle.gic_induce.specs.Fields.{IsField, field_at}
+use Rattle.gic_superpose.specs.Pairs.{most_base}
 use Rattle.gic_superpose.specs.Superposed.{ZoneEnds, zone_at, low_part, high_part, zone_low, zone_high, sum_low, sum_high}
 use Rattle.gic_superpose.specs.Compact.{most_sum, most_compact}
 use Rattle.gic_superpose.proofs.Sums.{sum_below-ordered}
@@ -69,7 +70,7 @@ sums_ordered fields row =
     (λ zone less. zone_ordered (field_at fields zone) (zone_at row zone))
 
 -- a number of so few bits fits
-pub fits_wide : (z : ℤ) → unsigned_abs z ≤ 40000 * 2 ^ 81 → FitsSigned w128 z
+pub fits_wide : (z : ℤ) → unsigned_abs z ≤ 40000 * most_base → FitsSigned w128 z
 fits_wide z h = fits_signed_from_abs w128 z (omega (arith, h))
 
 pub fits_compact : (z : ℤ) (m : ℕ) → unsigned_abs z ≤ m → m ≤ most_sum → FitsSigned w64 z
@@ -82,7 +83,7 @@ next_small s p n b h k = plain (n * b) ((n + 1) * b) (omega arith) h
     plain : (m c : ℕ) → c ≡ m + b → unsigned_abs s ≤ m → unsigned_abs (s +ℤ p) ≤ c
     plain m c is g = omega (arith, ints, is, g, k)
 
-pub next_fits : (s p : ℤ) (n : ℕ) → n < 256 → unsigned_abs s ≤ n * (40000 * 2 ^ 81) → unsigned_abs p ≤ 40000 * 2 ^ 81 → FitsSigned w128 (s +ℤ p)
+pub next_fits : (s p : ℤ) (n : ℕ) → n < 256 → unsigned_abs s ≤ n * (40000 * most_base) → unsigned_abs p ≤ 40000 * most_base → FitsSigned w128 (s +ℤ p)
 next_fits s p n few h k = fits_signed_from_abs w128 (s +ℤ p) (omega (arith, ints, h, k, few))
 
 -- the sizes that 64 bits serve for

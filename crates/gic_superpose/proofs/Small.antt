@@ -13,7 +13,7 @@ use Rattle.gic_induce.specs.Fields.{IsField, no_field, field_at}
 use Rattle.gic_superpose.proofs.Sums.{sum_below-within}
 use Rattle.gic_superpose.specs.declared.pairs.ZonePair.{ZonePair}
 use Rattle.gic_superpose.specs.Superposed.{ZoneEnds, no_zone_ends, zone_at, zone_low, zone_high, sum_low, sum_high, sums_in_milli, superposed}
-use Rattle.gic_superpose.specs.Pairs.{zone_of, row_of, most_base, IsSmallPair}
+use Rattle.gic_superpose.specs.Pairs.{zone_of, row_of, most_base, IsSmallPair, most_superposed}
 use Rattle.gic_superpose.proofs.Parts.{zone_small}
 
 -- what is at most m times d has a quotient that is at most m, rounded down and up
@@ -33,7 +33,7 @@ ceil_small z d m h k =
     let up = abs-neg_ℤ q in
     omega (arith, up, down)
 
--- all four ends of a zone are within 2^81
+-- all four ends of a zone are within this
 pub record IsSmallZone (zone : ZoneEnds) : Type 0 where
   pub north : IsWithin most_base zone.north.low zone.north.high
   pub east : IsWithin most_base zone.east.low zone.east.high
@@ -41,31 +41,31 @@ pub record IsSmallZone (zone : ZoneEnds) : Type 0 where
 small_zones : (pairs : List ZonePair) → All IsSmallPair pairs → All IsSmallZone (row_of pairs)
 small_zones pairs small = All-map IsSmallZone zone_of pairs (λ k d less. record { north = (small k d less).north; east = (small k d less).east })
 
-few_zones : (z : ℤ) (n : ℕ) → n ≤ 256 → unsigned_abs z ≤ n * (40000 * 2 ^ 81) → unsigned_abs z ≤ sums_in_milli * 2 ^ 113
+few_zones : (z : ℤ) (n : ℕ) → n ≤ 256 → unsigned_abs z ≤ n * (40000 * most_base) → unsigned_abs z ≤ sums_in_milli * most_superposed
 few_zones z n h k = omega (arith, h, k)
 
 module _ (fields : List (ℤ × ℤ)) (row : List ZoneEnds) (few : length fields ≤ MOST_ZONES) (within : All IsField fields) (count : length row ≡ length fields) (small : All IsSmallZone row) where
-  each : (zone : ℕ) → zone < length fields → IsWithin (40000 * 2 ^ 81) (zone_low (field_at fields zone) (zone_at row zone)) (zone_high (field_at fields zone) (zone_at row zone))
+  each : (zone : ℕ) → zone < length fields → IsWithin (40000 * most_base) (zone_low (field_at fields zone) (zone_at row zone)) (zone_high (field_at fields zone) (zone_at row zone))
   each zone less =
       let here : IsSmallZone (zone_at row zone) = small zone no_zone_ends (omega (arith, less, count)) in
-      zone_small (field_at fields zone) (zone_at row zone) (2 ^ 81) (within zone no_field less) here.north here.east
+      zone_small (field_at fields zone) (zone_at row zone) most_base (within zone no_field less) here.north here.east
 
-  low : unsigned_abs (sum_low fields row) ≤ sums_in_milli * 2 ^ 113
-  low = few_zones (sum_low fields row) (length fields) few (sum_below-within (λ zone. zone_low (field_at fields zone) (zone_at row zone)) (length fields) (40000 * 2 ^ 81) (λ zone less. (each zone less).low))
+  low : unsigned_abs (sum_low fields row) ≤ sums_in_milli * most_superposed
+  low = few_zones (sum_low fields row) (length fields) few (sum_below-within (λ zone. zone_low (field_at fields zone) (zone_at row zone)) (length fields) (40000 * most_base) (λ zone less. (each zone less).low))
 
-  high : unsigned_abs (sum_high fields row) ≤ sums_in_milli * 2 ^ 113
-  high = few_zones (sum_high fields row) (length fields) few (sum_below-within (λ zone. zone_high (field_at fields zone) (zone_at row zone)) (length fields) (40000 * 2 ^ 81) (λ zone less. (each zone less).high))
+  high : unsigned_abs (sum_high fields row) ≤ sums_in_milli * most_superposed
+  high = few_zones (sum_high fields row) (length fields) few (sum_below-within (λ zone. zone_high (field_at fields zone) (zone_at row zone)) (length fields) (40000 * most_base) (λ zone less. (each zone less).high))
 
-  pub zones_small : IsWithin (2 ^ 113) (superposed fields row).low (superposed fields row).high
+  pub zones_small : IsWithin most_superposed (superposed fields row).low (superposed fields row).high
   zones_small = record {
-    low = floor_small (sum_low fields row) sums_in_milli (2 ^ 113) (omega arith) low;
-    high = ceil_small (sum_high fields row) sums_in_milli (2 ^ 113) (omega arith) high;
+    low = floor_small (sum_low fields row) sums_in_milli most_superposed (omega arith) low;
+    high = ceil_small (sum_high fields row) sums_in_milli most_superposed (omega arith) high;
   }
 
 -- the row at a place, of rows of a given number of zones
 pub row_small : (fields : List (ℤ × ℤ)) (pairs : List ZonePair) (places zones place : ℕ) → length fields ≡ zones → zones ≤ MOST_ZONES → All IsField fields → length pairs ≡ places * zones
     → place < places → All IsSmallPair pairs
-    → IsWithin (2 ^ 113) (superposed fields (take zones (drop (place * zones) (row_of pairs)))).low (superposed fields (take zones (drop (place * zones) (row_of pairs)))).high
+    → IsWithin most_superposed (superposed fields (take zones (drop (place * zones) (row_of pairs)))).low (superposed fields (take zones (drop (place * zones) (row_of pairs)))).high
 row_small fields pairs places zones place is few within count inside small =
     let rest = drop (place * zones) (row_of pairs) in
     let fits : place * zones + zones ≤ places * zones = row_fits place zones places zones inside (omega arith) in

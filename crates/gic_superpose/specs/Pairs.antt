@@ -1,5 +1,5 @@
 -- The intervals of a quantity in the base fields of a zone, in numbers of 128 bits.
-use Rattle.std.specs.Prelude.{ℕ, ◌^◌, List, map}
+use Rattle.std.specs.Prelude.{ℕ, ◌-◌, ◌*◌, ◌^◌, List, map}
 use Rattle.gic_fixed.specs.Ends.{ends_of}
 use Rattle.gic_fixed.specs.Encloses.{IsWithin}
 use Rattle.gic_superpose.specs.declared.pairs.ZonePair.{ZonePair}
@@ -13,9 +13,13 @@ zone_of pair = record { north = ends_of pair.north; east = ends_of pair.east }
 abbrev pub row_of : List ZonePair → List ZoneEnds
 row_of row = map zone_of row
 
--- the most that an end may be, either way: twice the bound of 2^80 nanovolts, nanoamperes and nanoamperes per phase that ends of base intervals keep
+-- the most that an end may be, either way, in nanovolts, nanoamperes or nanoamperes per phase: 2^62 nanovolts over three paths of a milliohm each, so that what is superposed fits 64 bits
 abbrev pub most_base : ℕ
-most_base = 2 ^ 81
+most_base = 3000 * 2 ^ 62
+
+-- the most that an end of a superposed interval may be, either way, in millivolts or milliamperes
+abbrev pub most_superposed : ℕ
+most_superposed = 2 ^ 63 - 1
 
 -- all four ends are within this
 pub record IsSmallPair (pair : ZonePair) : Type 0 where

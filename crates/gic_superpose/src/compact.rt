@@ -70,7 +70,9 @@ fn product(end: i128, part: i32) -> i64
     end as i64 * part as i64
 }
 
-/// An interval times a part of a field: below 0 it swaps the ends.
+/// An interval times a part of a field: below 0 it swaps the ends. By the sign, which all quantities of a step share, so
+/// that no products are compared.
+#[inline(always)]
 fn times(interval: Interval, part: i32) -> CompactEnds
     requires small { IsWithin (most_compact 1) interval.lo interval.hi }
     requires part { unsigned_abs part ≤ MOST_FIELD }
@@ -79,9 +81,16 @@ fn times(interval: Interval, part: i32) -> CompactEnds
 {
     let one = product(interval.lo, part);
     let other = product(interval.hi, part);
-    CompactEnds {
-        low: one.min(other),
-        high: one.max(other),
+    if part < 0 {
+        CompactEnds {
+            low: other,
+            high: one,
+        }
+    } else {
+        CompactEnds {
+            low: one,
+            high: other,
+        }
     }
 }
 

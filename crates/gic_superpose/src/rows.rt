@@ -48,7 +48,7 @@ fn superpose_row(fields: &Fields, row: &[ZonePair], in_64_bits: bool) -> Interva
 }
 
 /// Rows of intervals in nanovolts or nanoamperes, one row for each quantity and in each row a pair for each zone. No
-/// end is beyond 2^81 either way.
+/// end is beyond 3000 times 2^62 either way.
 #[derive(Drop)]
 pub struct PairRows {
     places: u16,
@@ -70,12 +70,12 @@ impl Model for PairRows {
 }
 
 impl PairRows {
-    ghost use Rattle.std.specs.Prelude.{◌≡◌, ◌≢◌, ◌≤◌, ◌<◌, ◌^◌, ◌⊎◌, ℕ, length, IfOk};
+    ghost use Rattle.std.specs.Prelude.{◌≡◌, ◌≢◌, ◌≤◌, ◌<◌, ◌⊎◌, ℕ, length, IfOk};
     ghost use Rattle.gic_base.specs.declared.limits.TheConstants.{MOST_ZONES};
     ghost use Rattle.gic_fixed.specs.Encloses.{IsWithin};
     ghost use Rattle.gic_fixed.specs.Ends.{ends_of};
     ghost use Rattle.gic_superpose.specs.Superposed.{zone_at, superposed};
-    ghost use Rattle.gic_superpose.specs.Pairs.{zone_of, IsSmallPair};
+    ghost use Rattle.gic_superpose.specs.Pairs.{zone_of, most_superposed, IsSmallPair};
     ghost use Rattle.gic_superpose.specs.Rows.{row_at, AreRowsOf};
 
     /// A given number of rows of a given number of zones, at most 256.
@@ -119,13 +119,13 @@ impl PairRows {
 
     /// The interval in millivolts or milliamperes that the fields of the zones make of the row at a place: the sum over
     /// the zones of what the field of each makes of its two intervals, a MOST_FIELD-th of it, rounded outward once. No end
-    /// is beyond 2^113 either way.
+    /// is beyond 2^63 - 1 either way.
     #[inline(always)]
     pub fn superposed(&self, fields: &Fields, place: u16) -> Interval
         requires fields { length fields.now ≡ self.now.zones }
         requires place { place < self.now.places }
         ensures value { ends_of result ≡ superposed fields.now (row_at self.now place) }
-        ensures small { IsWithin (2 ^ 113) result.lo result.hi }
+        ensures small { IsWithin most_superposed result.lo result.hi }
     {
         fields.within_limit();
         let from = place as usize * self.zones as usize;

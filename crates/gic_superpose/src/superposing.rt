@@ -78,7 +78,8 @@ fn whole(fields: &Fields, row: &[ZonePair]) -> Interval
 
 /// The interval of a quantity in millivolts or milliamperes for these fields, from its intervals in the base fields of
 /// each zone in nanovolts or nanoamperes: the sum over the zones of what the field of each makes of its two, a
-/// MOST_FIELD-th of it, rounded outward once. No end that is given is beyond 2^81 either way.
+/// MOST_FIELD-th of it, rounded outward once. No end that is given is beyond 3000 times 2^62
+/// either way.
 #[inline(never)]
 pub(crate) fn superpose(fields: &Fields, row: &[ZonePair]) -> Interval
     requires few { length fields.now ≤ MOST_ZONES }

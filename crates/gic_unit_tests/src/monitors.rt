@@ -1,4 +1,9 @@
 //! Two monitors over three views, and over none.
+ghost use Rattle.std.specs.Prelude.{IfSome};
+ghost use Rattle.gic_fixed.specs.Ends.{ends_of};
+ghost use Rattle.gic_view.specs.Bounds.{FitsView};
+ghost use Rattle.gic_view.specs.Kept.{optional_ends};
+
 use crate::watched::{roster_of, text_of};
 use gic_base::{ElementId, OutOfMemory};
 use gic_fixed::Interval;
@@ -15,7 +20,10 @@ fn view_of(
     alloc: Global,
     earth: Option<Interval>,
     effective: Interval,
-) -> Result<StepView, OutOfMemory> {
+) -> Result<StepView, OutOfMemory>
+    requires earth { IfSome (optional_ends earth) FitsView }
+    requires effective { FitsView (ends_of effective) }
+{
     let mut view = StepView::new(alloc, 0, 1, 1)?;
     view.set_element(ElementId(0), earth);
     view.set_effective(0, effective);

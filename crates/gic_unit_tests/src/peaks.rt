@@ -1,6 +1,7 @@
 //! Peaks worked by hand.
-ghost use Rattle.std.specs.Prelude.{◌≡◌, [], ◌∷◌, IfOk};
+ghost use Rattle.std.specs.Prelude.{◌≡◌, [], ◌∷◌, IfOk, IfSome};
 ghost use Rattle.gic_fixed.specs.Ends.{ends_of};
+ghost use Rattle.gic_view.specs.Bounds.{FitsView};
 ghost use Rattle.gic_view.specs.Kept.{optional_ends};
 
 use gic_base::{ElementId, NodeId, OutOfMemory};
@@ -16,6 +17,9 @@ fn view_of(
     element: Option<Interval>,
     effective: Interval,
 ) -> Result<StepView, OutOfMemory>
+    requires node { IfSome (optional_ends node) FitsView }
+    requires element { IfSome (optional_ends element) FitsView }
+    requires effective { FitsView (ends_of effective) }
     ensures { IfOk result (λ view. view ≡ record {
       number = 0;
       time = 0;

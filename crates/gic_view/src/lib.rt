@@ -3,6 +3,8 @@
 #![tactic(auto)]
 
 mod greater;
+mod keeping;
+mod kept;
 pub mod laws;
 mod peaks;
 mod step_view;

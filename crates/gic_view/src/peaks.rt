@@ -1,15 +1,13 @@
 //! The peaks of the views seen so far.
 ghost use Rattle.std.specs.Prelude.{◌≡◌, ℕ, ◌<◌, length, option_map, All, IfSome, ◌≤ℤ◌};
-ghost use Rattle.gic_fixed.specs.Ends.{ends_of};
 ghost use Rattle.gic_view.specs.View.{node_at, element_at, effective_at};
-ghost use Rattle.gic_view.specs.Kept.{optional_ends};
+ghost use Rattle.gic_view.specs.KeptEnds.{kept_ends, optional_kept};
 ghost use Rattle.gic_view.specs.Peaks.{greater, greater_ends};
 ghost use Rattle.gic_view.specs.Absolute.{absolute_ends, HasAbsolute};
 
-use crate::greater::peak;
+use crate::kept::Kept;
 use crate::step_view::StepView;
 use gic_base::{ElementId, NodeId, OutOfMemory};
-use gic_fixed::Interval;
 use std::alloc::Global;
 use std::marker::Model;
 
@@ -71,23 +69,47 @@ impl Peaks {
     }
 }
 
-/// A peak with the absolute values of one more interval.
-fn raised(before: Interval, cell: Interval) -> Interval
-    requires { HasAbsolute (ends_of cell) }
-    ensures { ends_of result ≡ greater_ends (ends_of before) (absolute_ends (ends_of cell)) }
+/// The absolute values of an interval that is kept; they begin at 0 where it holds 0.
+#[inline(always)]
+fn absolute(kept: Kept) -> Kept
+    ensures { kept_ends result ≡ absolute_ends (kept_ends kept) }
 {
-    peak(before, cell.abs())
+    let turned_lo = -kept.hi;
+    let turned_hi = -kept.lo;
+    Kept {
+        lo: kept.lo.max(turned_lo).max(0),
+        hi: kept.hi.max(turned_hi),
+    }
+}
+
+/// The greater low end and the greater high end.
+#[inline(always)]
+fn greater(a: Kept, b: Kept) -> Kept
+    ensures { kept_ends result ≡ greater_ends (kept_ends a) (kept_ends b) }
+{
+    Kept {
+        lo: a.lo.max(b.lo),
+        hi: a.hi.max(b.hi),
+    }
+}
+
+/// A peak with the absolute values of one more interval.
+#[inline(always)]
+fn raised(before: Kept, kept: Kept) -> Kept
+    ensures { kept_ends result ≡ greater_ends (kept_ends before) (absolute_ends (kept_ends kept)) }
+{
+    greater(before, absolute(kept))
 }
 
 /// The same where either may be missing.
-fn raised_if_shown(before: Option<Interval>, cell: Option<Interval>) -> Option<Interval>
-    requires { IfSome (optional_ends cell) HasAbsolute }
-    ensures { optional_ends result ≡ greater (optional_ends before) (option_map absolute_ends (optional_ends cell)) }
+#[inline(always)]
+fn raised_if_shown(before: Option<Kept>, cell: Option<Kept>) -> Option<Kept>
+    ensures { optional_kept result ≡ greater (optional_kept before) (option_map absolute_ends (optional_kept cell)) }
 {
     match (before, cell) {
         (_, None) => before,
-        (None, Some(interval)) => Some(interval.abs()),
-        (Some(peak_before), Some(interval)) => Some(raised(peak_before, interval)),
+        (None, Some(kept)) => Some(absolute(kept)),
+        (Some(peak_before), Some(kept)) => Some(raised(peak_before, kept)),
     }
 }
 
@@ -102,8 +124,8 @@ fn see_nodes(peaks: &mut StepView, view: &StepView)
     let (count, _, _) = view.sizes();
     for place in 0..count {
         let node = NodeId(place);
-        let seen = raised_if_shown(peaks.node(node), view.node(node));
-        peaks.set_node(node, seen);
+        let seen = raised_if_shown(peaks.kept_node(node), view.kept_node(node));
+        peaks.keep_node(node, seen);
     }
 }
 
@@ -118,8 +140,8 @@ fn see_elements(peaks: &mut StepView, view: &StepView)
     let (_, count, _) = view.sizes();
     for place in 0..count {
         let element = ElementId(place);
-        let seen = raised_if_shown(peaks.element(element), view.element(element));
-        peaks.set_element(element, seen);
+        let seen = raised_if_shown(peaks.kept_element(element), view.kept_element(element));
+        peaks.keep_element(element, seen);
     }
 }
 
@@ -134,7 +156,7 @@ fn see_transformers(peaks: &mut StepView, view: &StepView)
 {
     let (_, _, count) = view.sizes();
     for transformer in 0..count {
-        let seen = raised(peaks.effective(transformer), view.effective(transformer));
-        peaks.set_effective(transformer, seen);
+        let seen = raised(peaks.kept_effective(transformer), view.kept_effective(transformer));
+        peaks.keep_effective(transformer, seen);
     }
 }

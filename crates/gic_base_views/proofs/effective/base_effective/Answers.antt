@@ -14,6 +14,7 @@ use Rattle.gic_winding.specs.Weights.{transformer_at, no_transformer, windings_a
 use Rattle.gic_effective.specs.WeightedSum.{weighted_sum, total_weight}
 use Rattle.gic_effective.specs.Weighted.{effective_numerator}
 use Rattle.gic_effective.proofs.Weighings.{AreAtMost, current_in, all_summed, winding_holds, weights_at_most, weights_most, sums_zero, quotients_zero}
+use Rattle.gic_effective.specs.Ohm.{most_current}
 use Rattle.gic_base_views.proofs.Bases.{narrow_from, base_within}
 use Rattle.gic_base_views.proofs.effective.base_effective.Goals as goal
 
@@ -82,4 +83,4 @@ returns-clause-narrow c tight =
     (c.effective_na.ensures.tight (most c) (record { in_first = c.winding_or_zero-first.ensures.tight tight; in_second = c.winding_or_zero-second.ensures.tight tight; in_third = c.winding_or_zero-third.ensures.tight tight }))
 
 pub returns-clause-small : goal.returns-clause-small
-returns-clause-small c = base_within c.effective_na.result.lo c.effective_na.result.hi (c.effective_na.ensures.small (most c))
+returns-clause-small c = base_within most_current c.effective_na.result.lo c.effective_na.result.hi (omega arith) (c.effective_na.ensures.small (most c))

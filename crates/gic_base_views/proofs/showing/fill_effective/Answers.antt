@@ -1,7 +1,7 @@
-use Rattle.std.proofs.Common.{◌≡◌, ℕ, ◌^◌, ◌<◌, length, slice_index_or, slice_set, rules, ap, sym, subst, ◌∙◌}
+use Rattle.std.proofs.Common.{◌≡◌, ℕ, ◌<◌, length, slice_index_or, slice_set, rules, ap, sym, subst, ◌∙◌}
 use Rattle.std.proofs.lemmas.List.{length-set}
-use Rattle.gic_fixed.specs.Encloses.{IsWithin}
 use Rattle.gic_fixed.specs.Ends.{Ends, ends_of, zero_ends}
+use Rattle.gic_view.specs.Bounds.{FitsView}
 use Rattle.gic_view.specs.View.{View}
 use Rattle.gic_superpose.specs.Rows.{row_at}
 use Rattle.gic_superpose.specs.Superposed.{superposed}
@@ -12,7 +12,7 @@ use Rattle.gic_base_views.proofs.showing.fill_effective.Goals as goal
 pub loop-transformer-preserved : goal.loop-transformer-preserved
 loop-transformer-preserved c =
     let P : ℕ → Ends → Type 0 = λ t e. e ≡ superposed c.args.fields.now (row_at c.args.rows.now t) in
-    let Q : ℕ → Ends → Type 0 = λ t e. IsWithin (2 ^ 113) e.low e.high in
+    let Q : ℕ → Ends → Type 0 = λ t e. FitsView e in
     let i = c.loop-transformer.invariant in
     let xs = c.loop-transformer.out.effective in
     let at = c.loop-transformer.transformer in

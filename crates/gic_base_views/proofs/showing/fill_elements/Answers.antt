@@ -23,7 +23,7 @@ loop-place-preserved c =
     let lists : new.elements ≡ slice_set xs at x = ap (λ (v : View). v.elements) c.set_element.ensures in
     let inside : at < length xs = search (rules, c.loop-place-test.true, c.sizes-count.ensures, i.count) in
     record {
-      shown = λ p below. subst (λ ys. P p (slice_index_or ys p None)) (sym lists) (filled P xs None x at inside i.shown c.element_interval-interval.ensures p below);
+      shown = λ p below. subst (λ ys. P p (slice_index_or ys p None)) (sym lists) (filled P xs None x at inside i.shown c.element_interval-interval.ensures.shown p below);
       rest = elements_alone c.args.out.now c.loop-place.out new (slice_set xs at x) i.rest c.set_element.ensures;
       count = ap length lists ∙ length-set xs at x ∙ i.count;
     }

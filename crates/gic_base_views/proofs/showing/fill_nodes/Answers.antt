@@ -23,7 +23,7 @@ loop-node-preserved c =
     let lists : new.nodes ≡ slice_set xs at x = ap (λ (v : View). v.nodes) c.set_node.ensures in
     let inside : at < length xs = omega (arith, c.loop-node-test.true, c.nodes-node-end.ensures.value, c.requires.space, i.count) in
     record {
-      shown = λ k below. subst (λ ys. P k (slice_index_or ys k None)) (sym lists) (filled P xs None x at inside i.shown c.node_interval.ensures k below);
+      shown = λ k below. subst (λ ys. P k (slice_index_or ys k None)) (sym lists) (filled P xs None x at inside i.shown c.node_interval.ensures.shown k below);
       rest = nodes_alone c.args.out.now c.loop-node.out new (slice_set xs at x) i.rest c.set_node.ensures;
       count = ap length lists ∙ length-set xs at x ∙ i.count;
     }

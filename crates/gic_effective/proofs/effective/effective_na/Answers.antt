@@ -1,5 +1,6 @@
-use Rattle.std.proofs.Common.{◌≡◌, ◌*◌, ◌≤◌, ◌^◌, ℤ, pos, unsigned_abs, arith, rules, sym, subst}
+use Rattle.std.proofs.Common.{◌≡◌, ◌*◌, ◌≤◌, ℤ, pos, unsigned_abs, arith, rules, sym, subst}
 use Rattle.gic_fixed.specs.Rounding.{floor_div, ceil_div}
+use Rattle.gic_effective.specs.Ohm.{most_current}
 use Rattle.gic_effective.specs.WeightedSum.{weighted_sum}
 use Rattle.gic_effective.proofs.Currents.{Encloses-same, floor_small, ceil_small}
 use Rattle.gic_effective.proofs.Weights.{sum_holds, sum_small}
@@ -33,9 +34,9 @@ returns-clause-small c sum =
     let second = c.requires.size.in_second in
     let third = c.requires.size.in_third in
     record {
-      low = subst (λ (z : ℤ). unsigned_abs z ≤ 2 ^ 80) (sym (low c)) (floor_small _ (3 * w.high_volts) (2 ^ 80) (omega (arith, c.requires.volts))
+      low = subst (λ (z : ℤ). unsigned_abs z ≤ most_current) (sym (low c)) (floor_small _ (3 * w.high_volts) most_current (omega (arith, c.requires.volts))
           (sum_small w w.high_volts c.args.currents.now.first.lo c.args.currents.now.second.lo c.args.currents.now.third.lo sum first.low second.low third.low));
-      high = subst (λ (z : ℤ). unsigned_abs z ≤ 2 ^ 80) (sym (high c)) (ceil_small _ (3 * w.high_volts) (2 ^ 80) (omega (arith, c.requires.volts))
+      high = subst (λ (z : ℤ). unsigned_abs z ≤ most_current) (sym (high c)) (ceil_small _ (3 * w.high_volts) most_current (omega (arith, c.requires.volts))
           (sum_small w w.high_volts c.args.currents.now.first.hi c.args.currents.now.second.hi c.args.currents.now.third.hi sum first.high second.high third.high));
     }
 

@@ -3,6 +3,7 @@ use Rattle.std.specs.Int.{w128, int_min, int_max}
 use Rattle.std.proofs.lemmas.Int.{to_z_pos, unsigned_abs-mul}
 use Rattle.std.proofs.Math.Nat.{mul-le-mul}
 use Rattle.gic_fixed.proofs.Enclosures.{scale_low, scale_high}
+use Rattle.gic_effective.specs.Ohm.{most_current}
 use Rattle.gic_effective.specs.WeightedSum.{weighted}
 use Rattle.gic_effective.proofs.effective.part.Goals as goal
 
@@ -12,9 +13,9 @@ low_of lo hi n h o = ap (λ k. int_min (lo *ℤ k) (hi *ℤ k)) (to_z_pos w128 n
 high_of : (lo hi : ℤ) (n : ℕ) → n ≤ 2 ^ 32 → lo ≤ℤ hi → int_max (lo *ℤ to_z w128 n) (hi *ℤ to_z w128 n) ≡ pos n *ℤ hi
 high_of lo hi n h o = ap (λ k. int_max (lo *ℤ k) (hi *ℤ k)) (to_z_pos w128 n (omega arith)) ∙ scale_high lo hi n o
 
-small_of : (z r : ℤ) (n : ℕ) → n ≤ 2 ^ 32 → unsigned_abs z ≤ 2 ^ 80 → r ≡ pos n *ℤ z → unsigned_abs r ≤ 2 ^ 112
+small_of : (z r : ℤ) (n : ℕ) → n ≤ 2 ^ 32 → unsigned_abs z ≤ most_current → r ≡ pos n *ℤ z → unsigned_abs r ≤ 2 ^ 112
 small_of z r n h k e =
-    let product : n * unsigned_abs z ≤ 2 ^ 32 * 2 ^ 80 = mul-le-mul h k in
+    let product : n * unsigned_abs z ≤ 2 ^ 32 * most_current = mul-le-mul h k in
     let parts = ap unsigned_abs e ∙ unsigned_abs-mul (pos n) z in
     omega arith
 

@@ -1,8 +1,9 @@
-use Rattle.std.proofs.Common.{◌≡◌, ◌+◌, ◌*◌, pos, ◌+ℤ◌, arith, rules}
+use Rattle.std.proofs.Common.{◌≡◌, ℕ, ◌+◌, ◌*◌, ◌^◌, ◌≤◌, ℤ, pos, ◌+ℤ◌, unsigned_abs, arith, rules, sym, subst}
 use Rattle.gic_fixed.specs.Rounding.{floor_div, ceil_div}
+use Rattle.gic_effective.specs.Ohm.{most_current}
 use Rattle.gic_effective.specs.WeightedSum.{weighted_sum}
-use Rattle.gic_effective.proofs.Currents.{Encloses-same, quotient_within}
-use Rattle.gic_effective.proofs.Weights.{sum_holds}
+use Rattle.gic_effective.proofs.Currents.{Encloses-same, quotient_within, floor_small, ceil_small}
+use Rattle.gic_effective.proofs.Weights.{sum_holds, sum_small}
 use Rattle.gic_effective.proofs.Widths.{effective_width, same_width}
 use Rattle.gic_effective.proofs.effective.signed_effective.Goals as goal
 
@@ -42,3 +43,20 @@ returns-clause-small c =
     let high : c.div_out.result.hi ≡ ceil_div ((one.hi +ℤ other.hi) +ℤ last.hi) (pos d) = search rules in
     quotient_within one.lo other.lo last.lo one.hi other.hi last.hi c.div_out.result.lo c.div_out.result.hi d (omega (arith, c.requires.volts))
     c.part.ensures.small c.part-2.ensures.small c.part-3.ensures.small low high
+
+-- three times the most current is less than 3 million times 2^54
+milli_most : (n volts : ℕ) → n ≤ 3 * volts * most_current → n ≤ 3000000 * volts * 2 ^ 54
+milli_most n volts h = omega (arith, h)
+
+pub returns-clause-weighed : goal.returns-clause-weighed
+returns-clause-weighed c sum =
+    let w = c.args.weights.now in
+    let first = c.requires.size.in_first in
+    let second = c.requires.size.in_second in
+    let third = c.requires.size.in_third in
+    record {
+      low = subst (λ (z : ℤ). unsigned_abs z ≤ 2 ^ 54) (sym (low c)) (floor_small _ (3000000 * w.high_volts) (2 ^ 54) (omega (arith, c.requires.volts))
+          (milli_most _ w.high_volts (sum_small w w.high_volts c.args.currents.now.first.lo c.args.currents.now.second.lo c.args.currents.now.third.lo sum first.low second.low third.low)));
+      high = subst (λ (z : ℤ). unsigned_abs z ≤ 2 ^ 54) (sym (high c)) (ceil_small _ (3000000 * w.high_volts) (2 ^ 54) (omega (arith, c.requires.volts))
+          (milli_most _ w.high_volts (sum_small w w.high_volts c.args.currents.now.first.hi c.args.currents.now.second.hi c.args.currents.now.third.hi sum first.high second.high third.high)));
+    }

@@ -24,8 +24,8 @@ returns-clause-small c =
     let one = ap unsigned_abs c.get.ensures.low in
     let other = ap unsigned_abs c.get.ensures.high in
     record {
-      low = subst (λ (z : ℤ). unsigned_abs z ≤ 2 ^ 80) (sym (low c)) (floor_small (low_at xs k) (2 ^ 36) (2 ^ 80) (omega arith) (omega (arith, one, c.get.ensures.small.low)));
-      high = subst (λ (z : ℤ). unsigned_abs z ≤ 2 ^ 80) (sym (high c)) (ceil_small (high_at xs k) (2 ^ 36) (2 ^ 80) (omega arith) (omega (arith, other, c.get.ensures.small.high)));
+      low = subst (λ (z : ℤ). unsigned_abs z ≤ 2 ^ 60) (sym (low c)) (floor_small (low_at xs k) (2 ^ 36) (2 ^ 60) (omega arith) (omega (arith, one, c.get.ensures.small.low)));
+      high = subst (λ (z : ℤ). unsigned_abs z ≤ 2 ^ 60) (sym (high c)) (ceil_small (high_at xs k) (2 ^ 36) (2 ^ 60) (omega arith) (omega (arith, other, c.get.ensures.small.high)));
     }
 
 pub returns-clause-tight : goal.returns-clause-tight

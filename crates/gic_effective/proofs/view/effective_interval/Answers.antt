@@ -1,4 +1,4 @@
-use Rattle.std.proofs.Common.{◌≡◌, ◌*◌, ◌≤◌, ◌<◌, ℕ, ℤ, pos, ◌*ℤ◌, arith, rules, get_or, ap, sym, subst, subst₂, ◌∙◌}
+use Rattle.std.proofs.Common.{◌≡◌, ◌*◌, ◌^◌, ◌≤◌, ◌<◌, ℕ, ℤ, pos, ◌*ℤ◌, arith, rules, get_or, ap, sym, subst, subst₂, ◌∙◌}
 use Rattle.std.proofs.lemmas.List.{get_or_default}
 use Rattle.gic_case.specs.declared.item.Transformer.{Transformer}
 use Rattle.gic_case.specs.Sound.{IsSoundTransformer}
@@ -12,6 +12,7 @@ use Rattle.gic_winding.specs.declared.weights.Weights.{Weights}
 use Rattle.gic_winding.specs.Weights.{transformer_at, no_transformer, windings_at, weighted_windings}
 use Rattle.gic_effective.specs.WeightedSum.{weighted_sum}
 use Rattle.gic_effective.specs.Weighted.{effective_numerator}
+use Rattle.gic_effective.proofs.Fitting.{fits}
 use Rattle.gic_effective.proofs.Weighings.{AreAtMost, current_in, all_summed, winding_holds, winding_narrow, weights_at_most, weights_most, sums_zero, quotients_zero}
 use Rattle.gic_effective.proofs.view.effective_interval.Goals as goal
 
@@ -72,5 +73,7 @@ returns c =
             in_second = winding_narrow stand volts xs w.second other.result.lo other.result.hi width other.ensures.shown sharp;
             in_third = winding_narrow stand volts xs w.third last.result.lo last.result.hi width last.ensures.shown sharp;
           });
-      small = c.signed_effective.ensures.small;
+      small =
+          let most = weights_most (transformer_at c.args.case.now c.args.transformer) (windings_at (elements_of c.args.case.now) c.args.transformer) w (order c) c.effective_weights-weights.ensures.all in
+          fits (2 ^ 54) _ _ (omega arith) (c.signed_effective.ensures.weighed (omega (arith, most, volts_are c)));
     }

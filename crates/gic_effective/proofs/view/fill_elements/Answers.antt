@@ -20,7 +20,7 @@ loop-place-preserved c =
     let inside : at < length xs = search (rules, c.loop-place-test.true, c.sizes-count.ensures, i.count) in
     record {
       shown = λ k below. subst (λ ys. IsShownElement (standing c.args.net.now) (number_at c.args.volts.now) c.args.potentials.now k (slice_index_or ys k None)) (sym lists)
-          (filled (IsShownElement (standing c.args.net.now) (number_at c.args.volts.now) c.args.potentials.now) xs None x at inside (i.shown) (c.element_interval-interval.ensures) k below);
+          (filled (IsShownElement (standing c.args.net.now) (number_at c.args.volts.now) c.args.potentials.now) xs None x at inside (i.shown) (c.element_interval-interval.ensures.shown) k below);
       rest = elements_alone c.args.out.now c.loop-place.out new (slice_set xs at x) i.rest c.set_element.ensures;
       count = ap length lists ∙ length-set xs at x ∙ i.count;
     }

@@ -19,7 +19,7 @@ loop-node-preserved c =
     let inside : at < length xs = omega (arith, c.loop-node-test.true, c.nodes-node-end.ensures.value, c.requires.space, i.count) in
     record {
       shown = λ volts k below. subst (λ ys. IsShownNode (standing c.args.net.now) volts c.args.potentials.now k (slice_index_or ys k None)) (sym lists)
-          (filled (IsShownNode (standing c.args.net.now) volts c.args.potentials.now) xs None x at inside (i.shown volts) (c.node_interval.ensures volts) k below);
+          (filled (IsShownNode (standing c.args.net.now) volts c.args.potentials.now) xs None x at inside (i.shown volts) (c.node_interval.ensures.shown volts) k below);
       rest = nodes_alone c.args.out.now c.loop-node.out new (slice_set xs at x) i.rest c.set_node.ensures;
       count = ap length lists ∙ length-set xs at x ∙ i.count;
     }

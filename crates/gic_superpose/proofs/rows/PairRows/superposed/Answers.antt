@@ -1,8 +1,8 @@
-use Rattle.std.proofs.Common.{◌≡◌, ◌*◌, ◌<◌, ◌^◌, List, length, take, drop, arith, refl, ap, ◌∙◌}
+use Rattle.std.proofs.Common.{◌≡◌, ◌*◌, ◌<◌, List, length, take, drop, arith, refl, ap, ◌∙◌}
 use Rattle.gic_fixed.specs.Ends.{Ends, ends_of}
 use Rattle.gic_superpose.specs.declared.pairs.ZonePair.{ZonePair}
 use Rattle.gic_superpose.specs.Superposed.{ZoneEnds, superposed}
-use Rattle.gic_superpose.specs.Pairs.{row_of}
+use Rattle.gic_superpose.specs.Pairs.{row_of, most_superposed}
 use Rattle.gic_superpose.specs.Rows.{FlatRows, row_at}
 use Rattle.gic_superpose.proofs.Parts.{same_within}
 use Rattle.gic_superpose.proofs.Places.{range_row}
@@ -27,5 +27,5 @@ returns-clause-small c =
     let rows = c.self.inside in
     let inside : c.args.place < c.self.inside.places = omega (arith, c.requires.place, ap (λ (v : FlatRows). v.places) c.self.view_is) in
     let zones : length c.args.fields.now ≡ c.self.inside.zones = omega (arith, c.requires.fields, ap (λ (v : FlatRows). v.zones) c.self.view_is) in
-    same_within (2 ^ 113) _ _ _ _ (ap (λ (e : Ends). e.low) (value c)) (ap (λ (e : Ends). e.high) (value c))
+    same_within most_superposed _ _ _ _ (ap (λ (e : Ends). e.low) (value c)) (ap (λ (e : Ends). e.high) (value c))
     (row_small c.args.fields.now rows.pairs.items rows.places rows.zones c.args.place zones c.self.invariant.few c.within_limit.ensures c.self.invariant.count inside c.self.invariant.small)
