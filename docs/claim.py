@@ -95,10 +95,12 @@ is equal, `≢` is not. Of values `A × B` are pairs, with `p.0` and `p.1`; `.0`
 Signs with a ℤ are on whole numbers, those without on natural ones, where `a - b` is 0 where b is above a. A name with a dot in
 front of a variant (`kinds.Auto`, `item.Line`, `role.High`) is a short name of its type. A value of the code stands for what it
 holds: a number of 16 bits for that number, a `Name` for its bytes, a `Case` for its `Lists`, `Switchings` for the list of its
-rows. Where the code has one name for two variants, one has another here: `NoMemory` is `Memory` of InputFault, `UsageFault` and
-`RefusedUsage` are `Usage`, `CaseRefused`, `StormRefused` and `SwitchRefused` are `Case`, `Storm` and `Switch` of InputRefusal,
-`CertificateFile` is `Certificate` of File, and `NamedEvent` is the type `Event`. No name stands for two things; one sign does,
-`>>=`, to which the lines with `←` come: it goes on with the value that is there, and else stops with what was refused.
+rows. A variant without a dot is one of the type that the signature names: types may have variants of one name (`Case`, `Node`,
+`Unearthed`), or of that of another type (`Event`). Where one definition speaks of two of them, one has another name here:
+`NoMemory` is `Memory` of InputFault, `UsageFault` and `RefusedUsage` are `Usage`, `CaseRefused`, `StormRefused` and
+`SwitchRefused` are `Case`, `Storm` and `Switch` of InputRefusal, `CertificateFile` is `Certificate` of File, and `NamedEvent`
+is the type `Event`. No other name stands for two things; one sign does, `>>=`, to which the lines with `←` come: it goes on
+with the value that is there, and else stops with what was refused.
 """
 # what a reader of a part should know that its definitions don't say
 NOTES = {
