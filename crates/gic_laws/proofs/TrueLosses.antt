@@ -1,5 +1,5 @@
 -- The lines of losses over the views of a right study bound the exact currents of its steps.
-use Rattle.std.proofs.Common.{◌≡◌, ℕ, suc, ◌-◌, ◌<◌, List, ◌∷◌, ◌++◌, map, length, get_or, codes, All, Option, Some, ℤ, pos, ◌-ℤ◌, ap, sym, subst, ◌∙◌, arith}
+use Rattle.std.proofs.Common.{◌≡◌, ℕ, suc, ◌-◌, ◌<◌, List, ◌∷◌, ◌++◌, map, length, get_or, codes, All, Option, Some, ℤ, pos, ◌-ℤ◌, refl, ap, sym, subst, ◌∙◌, arith}
 use Rattle.std.specs.List.{range_with_len}
 use Rattle.std.proofs.Math.Seq.{get_or-append_seam}
 use Rattle.std.proofs.lemmas.List.{get_or-map, get_or_append_left, ext_get_or, length-map, length-append}
@@ -99,14 +99,15 @@ module _ (inputs : StormInputs) (detail : Option ℕ) (plans : RosterView → Li
           subst (λ (step : Step). IsTotalAtLeast factors told.total.low step.1) shown told.bounds.least.4
 
       -- the step that is named
-      place : ℕ
+      abbrev place : ℕ
       place = length told.bounds.named.before
 
       few : place < length views
       few =
           let parts = length-append told.bounds.named.before (told.bounds.named.step ∷ told.bounds.named.behind) in
           let all : length steps ≡ length (told.bounds.named.before ++ told.bounds.named.step ∷ told.bounds.named.behind) = ap (λ (xs : List Step). length xs) told.bounds.named.are in
-          omega (arith, many, parts, all)
+          let some : length (told.bounds.named.step ∷ told.bounds.named.behind) ≡ suc (length told.bounds.named.behind) = refl in
+          omega (arith, many, parts, all, some)
 
       step_is : told.bounds.named.step ≡ (view_at views place, currents (suc place))
       step_is =

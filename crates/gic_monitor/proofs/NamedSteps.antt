@@ -1,5 +1,5 @@
 -- The step whose number the greatest ends of totals tell.
-use Rattle.std.proofs.Common.{◌≡◌, ℕ, ◌-◌, List, [], ◌∷◌, ◌++◌, map, length, ◌⊎◌, inl, inr, ℤ, pos, ◌+ℤ◌, ◌-ℤ◌, ◌*ℤ◌, ◌≤ℤ◌, ◌<ℤ◌, refl, ap, arith}
+use Rattle.std.proofs.Common.{◌≡◌, ℕ, List, [], ◌∷◌, ◌++◌, map, length, ◌⊎◌, inl, inr, ℤ, pos, ◌+ℤ◌, ◌-ℤ◌, ◌*ℤ◌, ◌≤ℤ◌, ◌<ℤ◌, refl, ap, arith}
 use Rattle.std.specs.Prelude.{fold}
 use Rattle.std.specs.Int.{int_max}
 use Rattle.std.specs.List.{AllByRecursion}
@@ -9,7 +9,7 @@ use Rattle.gic_fixed.proofs.Enclosures.{≤ℤ-times}
 use Rattle.gic_fixed.proofs.Integers.{linear, +ℤ-*ℤ}
 use Rattle.gic_view.specs.View.{View}
 use Rattle.gic_monitor.specs.LossText.{Total, loss_total_of, most_loss, least_loss, first_reaching, greatest_among}
-use Rattle.gic_monitor.specs.LossBounds.{Currents, ShowsUnits, IsTotalUnder, IsTotalAtLeast, AreNarrowUnits, total_width, NamesStep}
+use Rattle.gic_monitor.specs.LossBounds.{Currents, ShowsUnits, IsTotalUnder, AreNarrowUnits, total_width, NamesStep}
 use Rattle.gic_monitor.proofs.ExactTotals.{total_encloses}
 use Rattle.gic_monitor.proofs.FirstReaching.{not_above, above}
 use Rattle.gic_monitor.proofs.TotalWidths.{total_narrow}
@@ -32,20 +32,20 @@ under_high factors high step shows less =
     let one : pos 1 *ℤ pos step.1.denominator ≡ pos step.1.denominator = ap (λ (n : ℕ). pos n) (omega arith) in
     omega (arith, linear, here.below_hi, times, split, one, shows.above_zero)
 
-module _ (factors : List ℕ) (high low : ℤ) where
-  -- the first of some steps whose high end is as great as this
-  record Reaches (steps : List Step) : Type 0 where
-    before : List Step
-    step : Step
-    behind : List Step
-    are : steps ≡ before ++ step ∷ behind
-    number_is : first_reaching high (totals_of factors steps) ≡ step.0.number
-    under : AllByRecursion (λ earlier. IsTotalUnder factors high earlier.1) before
-    shows : ShowsUnits (length factors) step.0 step.1
-    reaches : high ≤ℤ most_loss factors step.0
-    least : least_loss factors step.0 ≤ℤ low
+-- the first of some steps whose high end is as great as a number, and its low end, which is at most another
+record Reaches (factors : List ℕ) (high low : ℤ) (steps : List Step) : Type 0 where
+  pub before : List Step
+  pub step : Step
+  pub behind : List Step
+  pub are : steps ≡ before ++ step ∷ behind
+  pub number_is : first_reaching high (totals_of factors steps) ≡ step.0.number
+  pub under : AllByRecursion (λ earlier. IsTotalUnder factors high earlier.1) before
+  pub shows : ShowsUnits (length factors) step.0 step.1
+  pub reaches : high ≤ℤ most_loss factors step.0
+  pub least : least_loss factors step.0 ≤ℤ low
 
-  here : (step : Step) (steps : List Step) → ShowsUnits (length factors) step.0 step.1 → high ≤ℤ most_loss factors step.0 → least_loss factors step.0 ≤ℤ low → Reaches (step ∷ steps)
+module _ (factors : List ℕ) (high low : ℤ) where
+  here : (step : Step) (steps : List Step) → ShowsUnits (length factors) step.0 step.1 → high ≤ℤ most_loss factors step.0 → least_loss factors step.0 ≤ℤ low → Reaches factors high low (step ∷ steps)
   here step steps shows reaches least = record {
     before = [];
     step = step;
@@ -58,7 +58,7 @@ module _ (factors : List ℕ) (high low : ℤ) where
     least = least;
   }
 
-  later : (step : Step) (steps : List Step) → ShowsUnits (length factors) step.0 step.1 → most_loss factors step.0 <ℤ high → Reaches steps → Reaches (step ∷ steps)
+  later : (step : Step) (steps : List Step) → ShowsUnits (length factors) step.0 step.1 → most_loss factors step.0 <ℤ high → Reaches factors high low steps → Reaches factors high low (step ∷ steps)
   later step steps shows less r = record {
     before = step ∷ r.before;
     step = r.step;
@@ -73,7 +73,7 @@ module _ (factors : List ℕ) (high low : ℤ) where
 
   -- this is at most a number, or some step reaches it
   reached : (a : ℤ) (steps : List Step) → AreShown factors steps → AllByRecursion (λ z. z ≤ℤ low) (map (λ total. total.low) (totals_of factors steps)) →
-      high ≤ℤ fold int_max a (map (λ total. total.high) (totals_of factors steps)) → (high ≤ℤ a) ⊎ Reaches steps
+      high ≤ℤ fold int_max a (map (λ total. total.high) (totals_of factors steps)) → (high ≤ℤ a) ⊎ Reaches factors high low steps
   reached a [] shows lows h = inl h
   reached a (step ∷ steps) shows lows h =
       by_lt_z (most_loss factors step.0) high
@@ -83,7 +83,7 @@ module _ (factors : List ℕ) (high low : ℤ) where
       ])
       (λ over. inr (here step steps shows.0 over lows.0))
 
-  named_by : (steps : List Step) → Reaches steps → NamesStep factors steps (record { number = first_reaching high (totals_of factors steps); low = low; high = high })
+  named_by : (steps : List Step) → Reaches factors high low steps → NamesStep factors steps (record { number = first_reaching high (totals_of factors steps); low = low; high = high })
   named_by steps r =
       let near : (width : ℕ) → AreNarrowUnits width (length factors) r.step.0 → (high -ℤ pos (total_width width factors)) ≤ℤ least_loss factors r.step.0 = λ width narrow.
       let wide = total_narrow factors width r.step.0 narrow in

@@ -4,7 +4,7 @@ use Rattle.std.specs.Int.{int_min}
 use Rattle.std.specs.List.{sum_by, enumerate_from}
 use Rattle.std.proofs.lemmas.Int.{ints, clamps}
 use Rattle.std.proofs.lemmas.List.Sums.{sum_by-cons}
-use Rattle.gic_fixed.specs.Ends.{Ends, IsAtMostWide}
+use Rattle.gic_fixed.specs.Ends.{IsAtMostWide}
 use Rattle.gic_fixed.specs.Rounding.{least_abs, greatest_abs}
 use Rattle.gic_fixed.specs.Sums.{sum_of}
 use Rattle.gic_fixed.proofs.Integers.{linear, *ℤ-≤ℤ, *ℤ-+ℤ}
@@ -35,10 +35,10 @@ sum_narrow units width view n [] narrow inside = omega (arith, ints)
 sum_narrow units width view n (factor ∷ factors) narrow inside =
     let here = unit_narrow units width view n factor narrow (omega arith) in
     let rest = sum_narrow units width view (n + 1) factors narrow (omega arith) in
-    let joined = sum_by-cons (λ (x : ℕ). x * width) factor factors in
-    rw joined (omega (arith, linear, here, rest))
+    let joined : total_width width (factor ∷ factors) ≡ factor * width + total_width width factors = sum_by-cons (λ (x : ℕ). x * width) factor factors in
+    omega (arith, linear, here, rest, joined)
 
 -- and the ends of the view's total
 pub total_narrow : (factors : List ℕ) (width : ℕ) (view : View) → AreNarrowUnits width (length factors) view →
     most_loss factors view ≤ℤ (least_loss factors view +ℤ pos (total_width width factors))
-total_narrow factors width view narrow = sum_narrow (length factors) width view 0 factors narrow (omega (arith, refl))
+total_narrow factors width view narrow = sum_narrow (length factors) width view 0 factors narrow (omega arith)
