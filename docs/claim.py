@@ -12,8 +12,9 @@ which others of the claim cite it, the first four by name, and in front of it th
 the first to speak of. Words of libraries stand in a list of their own (claim_words.py).
 
 Two faults are of names: a word of a library that is cited and told nowhere, and a name that two definitions have, or a
-definition and a word of a library. Of the few names in TWICE each definition tells the others, and one that cites that of
-another crate tells which it is.
+definition and a word of a library. Of a sign in SIGNS each definition tells the others, and one that cites that of another
+crate tells which it is. A third is of README.md: a field of `Headline`, or of what is true of a report, that the list in
+*What is proved* doesn't name, and an entry of that list that names none.
 
 Without --write it compares docs/CLAIM.txt, and the table of its parts in docs/DEFINITIONS.md, with what it makes. The
 last line is `N definitions of the claim, M faults`, and the status is 0 only where M is 0.
@@ -50,53 +51,23 @@ PARTS = (
     ("`certify`", ("gic_headline/TrueReports.IsTrueCertify",)),
     ("`make`", ("gic_headline/TrueReports.IsTrueMake",)),
     ("`review`", ("gic_review/RightReview.IsRightReview",)),
-    (
-        "`volts`, `list` and `check`",
-        ("gic_volts/RightVolts.IsRightVolts", "gic_list/RightList.IsRightList", "gic_headline/TrueReports.IsTrueCheck"),
-    ),
+    ("`volts`, `list` and `check`", ("gic_volts/RightVolts.IsRightVolts", "gic_list/RightList.IsRightList", "gic_headline/TrueReports.IsTrueCheck")),
     ("What words and files ask for", ("gic_ask/Asks.Asks",)),
     ("The lines of faults", ("gic_study/Faults.line_of_fault",)),
     (ENDS, ("gic_study/Answers.moment", "gic_study/ProgramEnds.status_without_words", "gic_headline/Program.ProgramHeadline")),
 )
-# the names that two definitions have, or a definition and a word of a library
-TWICE = (
-    ">>=",
-    "Form",
-    "IsRightRow",
-    "Line",
-    "Nothing",
-    "Outcome",
-    "Row",
-    "Written",
-    "breaks_record",
-    "broken",
-    "field_at",
-    "field_in",
-    "follows",
-    "form_of",
-    "is_among",
-    "line_of",
-    "line_volts",
-    "no_field",
-    "number_in",
-    "parts_of",
-    "total_of",
-    "value_at",
-)
+# the signs that two definitions have; no word has two meanings
+SIGNS = (">>=",)
+# the list of what is proved, whose entries name the fields of the records behind it
+README = "README.md"
+PROVED = "## What is proved"
+FIELDS_OF = ("gic_headline/Headline.Headline", "gic_headline/TrueReports")
 # the chapters of the first part, and the crates or files of each, in order
 CHAPTERS = (
     ("Whole numbers and intervals", ("gic_fixed",)),
     (
         "A network, what stands, and a solution",
-        (
-            "gic_model/Network",
-            "gic_model/Sums",
-            "gic_model/Standing",
-            "gic_model/Voltages",
-            "gic_model/Solution",
-            "gic_exists",
-            "gic_headline/Solved",
-        ),
+        ("gic_model/Network", "gic_model/Sums", "gic_model/Standing", "gic_model/Voltages", "gic_model/Solution", "gic_exists", "gic_headline/Solved"),
     ),
     ("The case and its elements", ("gic_case", "gic_inputs", "gic_winding/ElementList", "gic_winding/InForce")),
     ("The voltages of a field", ("gic_induce", "gic_uniform")),
@@ -124,10 +95,12 @@ is equal, `≢` is not. Of values `A × B` are pairs, with `p.0` and `p.1`; `.0`
 Signs with a ℤ are on whole numbers, those without on natural ones, where `a - b` is 0 where b is above a. A name with a dot in
 front of a variant (`kinds.Auto`, `item.Line`, `role.High`) is a short name of its type. A value of the code stands for what it
 holds: a number of 16 bits for that number, a `Name` for its bytes, a `Case` for its `Lists`, `Switchings` for the list of its
-rows. Where the code has one name for two variants, one has another here: `NoMemory` is `Memory` of InputFault, `UsageFault` and
-`RefusedUsage` are `Usage`, `CaseRefused`, `StormRefused` and `SwitchRefused` are `Case`, `Storm` and `Switch` of InputRefusal,
-`CertificateFile` is `Certificate` of File, and `NamedEvent` is the type `Event`. A few names stand for two things, as is told
-under each of them, and where another crate than a definition's own is meant, under that definition.
+rows. A variant without a dot is one of the type that the signature names: types may have variants of one name (`Case`, `Node`,
+`Unearthed`), or of that of another type (`Event`). Where one definition speaks of two of them, one has another name here:
+`NoMemory` is `Memory` of InputFault, `UsageFault` and `RefusedUsage` are `Usage`, `CaseRefused`, `StormRefused` and
+`SwitchRefused` are `Case`, `Storm` and `Switch` of InputRefusal, `CertificateFile` is `Certificate` of File, and `NamedEvent`
+is the type `Event`. No other name stands for two things; one sign does, `>>=`, to which the lines with `←` come: it goes on
+with the value that is there, and else stops with what was refused.
 """
 # what a reader of a part should know that its definitions don't say
 NOTES = {
@@ -438,14 +411,30 @@ def twice(found: list[Definition]) -> dict[str, list[str]]:
 
 
 def name_faults(found: list[Definition]) -> list[str]:
-    """The names of two meanings that aren't known to have them, and those known that have one."""
+    """The names of two meanings, but for the signs that are known to have them, and those signs that have one."""
     several = twice(found)
-    told = [
-        f"{name} is a name of {' and of '.join(several[name])}: rename one, or name it in TWICE"
-        for name in several
-        if name not in TWICE
+    words = [name for name in several if name not in SIGNS or re.search(r"\w", name)]
+    told = [f"{name} is a name of {' and of '.join(several[name])}: rename one" for name in words]
+    return told + [f"{name} stands in SIGNS and has one meaning" for name in SIGNS if name not in several]
+
+
+def fields_of(definition: Definition) -> list[str]:
+    """The fields of a record, in their order."""
+    return [match[1] for line in definition.lines if (match := re.match(r"  pub ([\w'-]+) :", line))]
+
+
+def unsaid(readme: str, found: list[Definition]) -> list[str]:
+    """The fields of the headline and of true reports that the list of what is proved doesn't name, and its entries that name none."""
+    section = readme.partition(f"\n{PROVED}\n")[2].partition("\n## ")[0]
+    entries = re.findall(r"(?m)^\d+\. .*(?:\n   .*)*", section)
+    named = [re.findall(r"`([\w'-]+)`", entry) for entry in entries]
+    fields = dict.fromkeys(name for d in found if d.key in FIELDS_OF or d.file in FIELDS_OF for name in fields_of(d))
+    told = [f"{README} doesn't name the field `{name}` in *{PROVED[3:]}*" for name in fields if not any(name in words for words in named)]
+    return told + [
+        f"entry {number} of *{PROVED[3:]}* in {README} names no field"
+        for number, words in enumerate(named, 1)
+        if not any(name in fields for name in words)
     ]
-    return told + [f"{name} stands in TWICE and has one meaning" for name in TWICE if name not in several]
 
 
 def cited_outside(found: list[Definition]) -> dict[str, dict[str, str]]:
@@ -654,6 +643,7 @@ def main(words: list[str]) -> int:
             for cited in definition.cites:
                 mine[cited].cited_in.append(definition.names[0])
         document = (TOP / WORDS).read_text(encoding="utf-8")
+        readme = (TOP / README).read_text(encoding="utf-8")
         unfiled = without_chapter(parts[0])
         if unfiled:
             raise ClaimError(unfiled[0])
@@ -667,7 +657,7 @@ def main(words: list[str]) -> int:
         print(f"claim.py: {error}", file=sys.stderr)
         return 1
     found = list(mine.values())
-    faults = late_cites(parts, front) + undeclared(TOP, parts) + name_faults(found) + word_faults(found)
+    faults = late_cites(parts, front) + undeclared(TOP, parts) + name_faults(found) + word_faults(found) + unsaid(readme, found)
     if text != shown:
         faults.append(f"{CLAIM} isn't what is made today; run `python3 docs/claim.py --write`")
     if "\n".join(table) not in document:

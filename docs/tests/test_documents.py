@@ -208,6 +208,7 @@ class ClaimOfATree(unittest.TestCase):
         "/// A line.\npub struct Line {\n    pub name: Name,\n}\n",
         "crates/gic_study/src/program.rt": "/// The call.\npub fn run() -> u8\n    ensures { said }\n{\n    0\n}\n",
         "docs/DEFINITIONS.md": "| part | files | lines | minutes |\n|---|---|---|---|\n",
+        "README.md": "# All\n\n## What is proved\n\nIn short:\n\n1. A total is one\n   (`total`).\n2. It is told (`is`).\n\n## More\n\n3. `other`\n",
     }
     CONSTANTS = (
         ("CALL", "crates/gic_study/src/program.rt"),
@@ -215,7 +216,8 @@ class ClaimOfATree(unittest.TestCase):
         ("PARTS", (("one", ("gic_far/First.first",)), ("two", ("gic_study/Top.made",)))),
         ("CHAPTERS", (("low", ("gic_low",)), ("far", ("gic_far/First",)))),
         ("OUTSIDE", {"std": {"count": "how many"}}),
-        ("TWICE", ()),
+        ("SIGNS", ()),
+        ("FIELDS_OF", ("gic_study/Top.Top",)),
     )
 
     def setUp(self) -> None:
@@ -283,26 +285,51 @@ class ClaimOfATree(unittest.TestCase):
                 self.assertIn(told, out)
 
 
-    def test_a_name_of_two_meanings_is_refused_or_told(self) -> None:
-        other = self.TEXTS["crates/gic_far/specs/First.antt"] + "\n-- another\nabbrev pub spare : ℕ\nspare = first 2\n"
-        top = self.TEXTS["crates/gic_study/specs/Top.antt"].replace("{first}", "{first, spare as other}").replace("first 3", "other")
-        written(self.top, {"crates/gic_far/specs/First.antt": other, "crates/gic_study/specs/Top.antt": top})
-        status, out = self.run_main("--write")
-        self.assertEqual(status, 1)
-        self.assertIn("spare is a name of gic_low and of gic_far: rename one, or name it in TWICE\n", out)
-        self.put("TWICE", ("spare",))
+    def with_two_meanings(self, name: str) -> dict[str, str]:
+        """The texts with a further definition of a name that the top cites too."""
+        sums = self.TEXTS["crates/gic_low/specs/Sums.antt"].replace("spare", name)
+        far = self.TEXTS["crates/gic_far/specs/First.antt"] + f"\n-- another\nabbrev pub {name} : ℕ\n{name} = first 2\n"
+        top = self.TEXTS["crates/gic_study/specs/Top.antt"].replace("{first}", f"{{first, {name} as other}}").replace("first 3", "other").replace("spare", name)
+        return {"crates/gic_low/specs/Sums.antt": sums, "crates/gic_far/specs/First.antt": far, "crates/gic_study/specs/Top.antt": top}
+
+    def test_a_word_of_two_meanings_is_refused(self) -> None:
+        written(self.top, self.with_two_meanings("spare"))
+        for signs in ((), ("spare",)):
+            self.put("SIGNS", signs)
+            status, out = self.run_main("--write")
+            self.assertEqual(status, 1)
+            self.assertIn("spare is a name of gic_low and of gic_far: rename one\n", out)
+
+    def test_a_sign_of_two_meanings_is_told_under_each(self) -> None:
+        written(self.top, self.with_two_meanings(">>="))
+        self.assertIn(">>= is a name of gic_low and of gic_far: rename one\n", self.run_main("--write")[1])
+        self.put("SIGNS", (">>=",))
         self.assertEqual(self.run_main("--write")[0], 0)
         text = (self.top / "docs/CLAIM.txt").read_text()
-        self.assertIn("spare = first 2\n    -- cited by made\n    -- `spare` is also a name of gic_low\n", text)
-        self.assertIn("  pub is : spare ≡ 2\n    -- cited by said, low_said, made\n    -- here `spare` is that of gic_low\n", text)
+        self.assertIn(">>= = first 2\n    -- cited by made\n    -- `>>=` is also a name of gic_low\n", text)
+        self.assertIn("  pub is : >>= ≡ 2\n    -- cited by said, low_said, made\n    -- here `>>=` is that of gic_low\n", text)
         written(self.top, self.TEXTS)
-        self.assertIn("spare stands in TWICE and has one meaning\n", self.run_main("--write")[1])
+        self.assertIn(">>= stands in SIGNS and has one meaning\n", self.run_main("--write")[1])
+
+    def test_a_field_that_the_readme_does_not_name_is_told(self) -> None:
+        readme = self.TEXTS["README.md"]
+        for old, new, told in (
+            ("(`is`)", "(`was`)", ("README.md doesn't name the field `is` in *What is proved*", "entry 2 of *What is proved* in README.md names no field")),
+            ("   (`total`)", "\n(`total`)", ("README.md doesn't name the field `total` in *What is proved*", "entry 1 of *What is proved* in README.md names no field")),
+            ("## What is proved", "## What", ("README.md doesn't name the field `total` in *What is proved*",)),
+        ):
+            with self.subTest(new):
+                written(self.top, {"README.md": readme.replace(old, new)})
+                status, out = self.run_main("--write")
+                self.assertEqual(status, 1)
+                for line in told:
+                    self.assertIn(line + "\n", out)
 
     def test_a_name_of_a_library_counts_as_a_meaning(self) -> None:
         sums = self.TEXTS["crates/gic_low/specs/Sums.antt"].replace("spare", "count")
         top = self.TEXTS["crates/gic_study/specs/Top.antt"].replace("{total, spare}", "{total, count as spare}")
         written(self.top, {"crates/gic_low/specs/Sums.antt": sums, "crates/gic_study/specs/Top.antt": top})
-        self.assertIn("count is a name of gic_low and of std: rename one, or name it in TWICE\n", self.run_main("--write")[1])
+        self.assertIn("count is a name of gic_low and of std: rename one\n", self.run_main("--write")[1])
 
     def test_a_word_that_is_told_nowhere_is_refused(self) -> None:
         self.put("OUTSIDE", {"std": {"length": "how long"}})

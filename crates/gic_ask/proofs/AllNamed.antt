@@ -9,7 +9,7 @@ use Rattle.gic_words.specs.Requests.{request_of}
 use Rattle.gic_words.specs.declared.fault.Usage.{Usage}
 use Rattle.gic_words.specs.declared.request.Request.{Request}
 use Rattle.gic_ask.specs.Asks.{Asks, IsAnswer, EndsAt, FetchesInOrder, CouldNotRead, file_of, files_given}
-use Rattle.gic_ask.specs.Contents.{Nothing, Contents, Names, NamedFile, MayHandOut, file_named, files_named, name_of_file, names_in, of_case}
+use Rattle.gic_ask.specs.Contents.{Absent, Contents, Names, NamedFile, MayHandOut, file_named, files_named, name_of_file, names_in, of_case}
 use Rattle.gic_ask.specs.Outcome.{Outcome, Accepts, ◌>>=◌, reading, reading_case, reading_network, transformer_named, transformer_asked, asking, outcome}
 use Rattle.gic_ask.specs.Steps.{Gives, Reads}
 use Rattle.gic_ask.specs.declared.fault.File.{File}
@@ -111,7 +111,7 @@ module _ {Q : Type 0} (files : Option Files) (case : List ℕ) (switch : Option 
 -- nothing is read
 pub none_named : (files : Option Files) (o : Names) (asked : Asked) (before : Fetches) → Reads files o [] (λ contents. Accepts asked) before before (Ok asked)
 none_named files o asked before = record {
-  contents = λ file. Nothing;
+  contents = λ file. Absent;
   handed = none_handed files o;
   is = refl;
   fetched = none_fetched [] before.fetched (Ok asked) refl tt;
@@ -122,23 +122,23 @@ none_named files o asked before = record {
 -- ---- what is asked for
 
 -- words that are refused, or no memory for them
-pub nothing_asked : (words : List (List ℕ)) (files : Option Files) (before : Fetches) (fault : InputFault) → IsAnswer (outcome words (λ file. Nothing)) (Err fault)
+pub nothing_asked : (words : List (List ℕ)) (files : Option Files) (before : Fetches) (fault : InputFault) → IsAnswer (outcome words (λ file. Absent)) (Err fault)
     → file_of fault ≡ None → Asks words files before before (Err fault)
 nothing_asked words files before fault is none = record {
-  contents = λ file. Nothing;
+  contents = λ file. Absent;
   handed = handed_for (request_of words);
   asked = is;
   failed = λ file e. absurd (nowhere_unread {A = Asked} (Err fault) none file (grind (arith, e)));
   fetched = none_fetched (files_given (request_of words)) before.fetched (Err fault) tt (stops_nowhere {A = Asked} [] (Err fault) none);
 }
   where
-    handed_for : (r : Result Request Usage) → IfOk r (λ q. MayHandOut files (names_in q) (λ file. Nothing))
+    handed_for : (r : Result Request Usage) → IfOk r (λ q. MayHandOut files (names_in q) (λ file. Absent))
     handed_for (Ok q) = none_handed files (names_in q)
     handed_for (Err u) = tt
 
 pub words_refused : (words : List (List ℕ)) (files : Option Files) (before : Fetches) (u : Usage) → request_of words ≡ Err u → Asks words files before before (Err (Refused (UsageRefusal u)))
 words_refused words files before u e =
-    nothing_asked words files before (Refused (UsageRefusal u)) (ap (λ (r : Result Request Usage). reading UsageRefusal r >>= (λ q. asking q (λ file. Nothing))) e) refl
+    nothing_asked words files before (Refused (UsageRefusal u)) (ap (λ (r : Result Request Usage). reading UsageRefusal r >>= (λ q. asking q (λ file. Absent))) e) refl
 
 pub memory_wanting : (words : List (List ℕ)) (files : Option Files) (before : Fetches) → Asks words files before before (Err Memory)
 memory_wanting words files before = nothing_asked words files before Memory tt refl

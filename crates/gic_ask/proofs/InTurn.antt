@@ -5,7 +5,7 @@ use Rattle.std.specs.Prelude.{IfErr, IfSome, IsSomeAnd, IsErrAnd, OnOk, map}
 use Rattle.gic_inputs.proofs.Answered.{answered}
 use Rattle.gic_files.specs.Files.{Files, Fetches, HasFailed}
 use Rattle.gic_ask.specs.Asks.{IsAnswer, EndsAt, FetchesInOrder, file_of}
-use Rattle.gic_ask.specs.Contents.{Given, Nothing, Whole, Contents, Names, NamedFile, MayGive, MayHandOut, file_named, name_of_file}
+use Rattle.gic_ask.specs.Contents.{Given, Absent, Whole, Contents, Names, NamedFile, MayGive, MayHandOut, file_named, name_of_file}
 use Rattle.gic_ask.specs.Outcome.{Outcome, Accepts, ◌>>=◌, reading, if_given, handing, reading_file}
 use Rattle.gic_ask.specs.Steps.{Gives, Reads}
 use Rattle.gic_ask.specs.declared.fault.File.{File}
@@ -180,7 +180,7 @@ failed_now name file before now e unread is = (grind (arith, is), record { gaine
 pub memory_wants : (files : Option Files) (name : List ℕ) (file : File) (before now : Fetches) → (now.fetched ≡ before.fetched) ⊎ (now.fetched ≡ before.fetched ++ name ∷ [])
     → Gives {A = List ℕ} files name file (handing file) before now (Err Memory)
 memory_wants files name file before now (inl none) = record {
-  given = Nothing;
+  given = Absent;
   may = tt;
   is = tt;
   fetched = subst (λ (later : List (List ℕ)). FetchesInOrder {A = List ℕ} (file_named file (Some name)) before.fetched later (Err Memory)) (sym none)
@@ -188,7 +188,7 @@ memory_wants files name file before now (inl none) = record {
   failed = λ unread e. grind (arith, e);
   kept = tt;
 }
-memory_wants files name file before now (inr fetched) = not_given files name file before now Nothing Memory tt tt tt fetched (λ unread e. grind (arith, e))
+memory_wants files name file before now (inr fetched) = not_given files name file before now Absent Memory tt tt tt fetched (λ unread e. grind (arith, e))
 
 -- ---- and read
 
@@ -240,7 +240,7 @@ only file.Case given file.Case = given
 only file.Storm given file.Storm = given
 only file.Switch given file.Switch = given
 only file.Certificate given file.Certificate = given
-only _ given _ = Nothing
+only _ given _ = Absent
 
 only_same : (file : File) (given : Given) → only file given file ≡ given
 only_same file.Case given = refl
@@ -248,7 +248,7 @@ only_same file.Storm given = refl
 only_same file.Switch given = refl
 only_same file.Certificate given = refl
 
-nothing_given : (files : Option Files) (name : Option (List ℕ)) → IfSome name (λ n. MayGive files n Nothing)
+nothing_given : (files : Option Files) (name : Option (List ℕ)) → IfSome name (λ n. MayGive files n Absent)
 nothing_given files None = tt
 nothing_given files (Some name) = tt
 
@@ -271,7 +271,7 @@ only_handed files o file.Certificate given may file.Switch = nothing_given files
 only_handed files o file.Certificate given may file.Certificate = may
 
 -- nothing of any file
-pub none_handed : (files : Option Files) (o : Names) → MayHandOut files o (λ file. Nothing)
+pub none_handed : (files : Option Files) (o : Names) → MayHandOut files o (λ file. Absent)
 none_handed files o file = nothing_given files (name_of_file file o)
 
 -- the failed fetch of the one file is that of a file that is named
@@ -344,7 +344,7 @@ pub unnamed : {A : Type 0} (files : Option Files) (o : Names) (named_by : Option
 unnamed {A} files o named_by given step before empty not =
     subst (λ (n : Option (List ℕ)). Reads {A = Option A} files o (named_by n) (λ contents. if_given n (λ name. step contents)) before before (Ok None)) (sym not)
     (record {
-      contents = λ file. Nothing;
+      contents = λ file. Absent;
       handed = none_handed files o;
       is = refl;
       fetched = none_fetched (named_by None) before.fetched (Ok None) empty tt;

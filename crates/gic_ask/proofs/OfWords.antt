@@ -11,7 +11,7 @@ use Rattle.gic_words.specs.declared.request.Request.{Request}
 use Rattle.gic_words.specs.declared.request.Request.TheVariants as request
 use Rattle.gic_criteria.specs.declared.asked.Criteria.{Criteria}
 use Rattle.gic_words.specs.declared.fault.Usage.{Usage}
-use Rattle.gic_ask.specs.Contents.{Given, Nothing, Long, Whole, Contents}
+use Rattle.gic_ask.specs.Contents.{Given, Absent, Long, Whole, Contents}
 use Rattle.gic_ask.specs.Outcome.{Outcome, Refuses, Lacks, Accepts, ◌>>=◌, reading, if_given, handing, reading_file, reading_case, reading_storm, reading_switchings, reading_inputs, reading_network, reading_after_storm, reading_over, transformer_named, transformer_asked, asking, asking_study, asking_recheck, asking_series}
 use Rattle.gic_ask.specs.WordsRefused.{UsageIsOfWords}
 use Rattle.gic_ask.specs.declared.fault.File.{File}
@@ -41,7 +41,7 @@ reading_meets u refusal (Ok a) other = tt
 reading_meets u refusal (Err e) other = other e
 
 handing_meets : (u : Usage) (file : File) (given : Given) → Meets Any u (handing file given)
-handing_meets u file Nothing = tt
+handing_meets u file Absent = tt
 handing_meets u file Long = λ e. grind (arith, e)
 handing_meets u file (Whole bytes) = tt
 

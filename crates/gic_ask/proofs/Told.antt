@@ -17,7 +17,7 @@ use Rattle.gic_words.specs.declared.request.Request.TheVariants as request
 use Rattle.gic_criteria.specs.declared.asked.Criteria.{Criteria}
 use Rattle.gic_words.specs.declared.fault.Usage.{Usage}
 use Rattle.gic_ask.specs.Asks.{IsAnswer}
-use Rattle.gic_ask.specs.Contents.{Given, Nothing, Long, Whole, Contents, Names, MayGive, MayHandOut, name_of_file, names_in, of_case}
+use Rattle.gic_ask.specs.Contents.{Given, Absent, Long, Whole, Contents, Names, MayGive, MayHandOut, name_of_file, names_in, of_case}
 use Rattle.gic_ask.specs.Held.{held, held_bytes, held_by_length, held_for, AnswersOfFiles}
 use Rattle.gic_ask.specs.Outcome.{Outcome, Refuses, Lacks, Accepts, ◌>>=◌, reading, if_given, handing, reading_file, reading_case, reading_storm, reading_switchings, reading_inputs, reading_network, reading_after_storm, reading_over, transformer_asked, asking, asking_study, asking_recheck, asking_series, outcome, recheck_given, series_given, study_given}
 use Rattle.gic_ask.specs.declared.fault.File.{File}
@@ -43,8 +43,8 @@ long_bytes None h = absurd h
 long_bytes (Some bytes) h = long_held (nat_lt LIMIT (length bytes)) (length bytes) bytes h refl
 
 -- a library that tells its files gives nothing, or what it has
-given_or_held : (files : Files) (name : List ℕ) (g : Given) → MayGive (Some files) name g → (g ≡ Nothing) ⊎ (held files (Some name) ≡ g)
-given_or_held files name Nothing h = inl refl
+given_or_held : (files : Files) (name : List ℕ) (g : Given) → MayGive (Some files) name g → (g ≡ Absent) ⊎ (held files (Some name) ≡ g)
+given_or_held files name Absent h = inl refl
 given_or_held files name Long h = inr (long_bytes (get files name) h)
 given_or_held files name (Whole bytes) h = inr (ap held_bytes h.1 ∙ whole_held (nat_lt LIMIT (length bytes)) (length bytes) bytes h.0 refl)
 
@@ -78,7 +78,7 @@ module _ (files : Files) (n : Names) (contents : Contents) (may : MayHandOut (So
   abbrev has : Contents
   has = λ file. held files (name_of_file file n)
 
-  of_file : (file : File) (name : List ℕ) → (contents file ≡ Nothing) ⊎ (held files (Some name) ≡ contents file) → name_of_file file n ≡ Some name
+  of_file : (file : File) (name : List ℕ) → (contents file ≡ Absent) ⊎ (held files (Some name) ≡ contents file) → name_of_file file n ≡ Some name
       → IsSameOrLacks (handing file (contents file)) (handing file (has file))
   of_file file name (inl none) named = inr (file, ap (handing file) none)
   of_file file name (inr same) named = inl (ap (handing file) (sym (ap (held files) named ∙ same)))

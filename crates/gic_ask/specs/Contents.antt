@@ -58,13 +58,13 @@ files_named n = file_named Case n.case ++ (file_named Storm n.storm ++ (file_nam
 
 -- of a file: nothing, that it is longer than 16777216 bytes, `LIMIT`, or its bytes
 pub data Given : Type 0 where
-  Nothing : Given
+  Absent : Given
   Long : Given
   Whole : List ℕ → Given
 
 -- a library may hand this out for a name: what it has, where it tells its files
 abbrev pub MayGive : Option Files → (name : List ℕ) → Given → Type 0
-MayGive files name Nothing = ⊤
+MayGive files name Absent = ⊤
 MayGive files name Long = IfSome files (λ f. IsSomeAnd (get f name) (λ bytes. LIMIT < length bytes))
 MayGive files name (Whole bytes) = (length bytes ≤ LIMIT) × IfSome files (λ f. get f name ≡ Some bytes)
 

@@ -8,7 +8,7 @@ use Rattle.gic_words.specs.Requests.{request_of}
 use Rattle.gic_words.specs.declared.request.Request.{Request}
 use Rattle.gic_words.specs.declared.fault.Usage.{Usage}
 use Rattle.gic_ask.specs.Asks.{Asks, IsAnswer, CouldNotRead}
-use Rattle.gic_ask.specs.Contents.{Given, Nothing, Long, Whole, Contents, names_in, name_of_file}
+use Rattle.gic_ask.specs.Contents.{Given, Absent, Long, Whole, Contents, names_in, name_of_file}
 use Rattle.gic_ask.specs.Outcome.{outcome}
 use Rattle.gic_ask.specs.declared.fault.File.{File}
 use Rattle.gic_ask.specs.declared.fault.InputFault.{InputFault}
@@ -21,18 +21,18 @@ held_by_length false bytes = Whole bytes
 
 -- bytes that are there, or not
 abbrev pub held_bytes : Option (List ℕ) → Given
-held_bytes None = Nothing
+held_bytes None = Absent
 held_bytes (Some bytes) = held_by_length (nat_lt LIMIT (length bytes)) bytes
 
 -- what the files have under a name that may be given
 abbrev pub held : Files → (name : Option (List ℕ)) → Given
-held files None = Nothing
+held files None = Absent
 held files (Some name) = held_bytes (get files name)
 
 -- what they have of each file that the words name
 abbrev pub held_for : Files → Result Request Usage → Contents
 held_for files (Ok r) file = held files (name_of_file file (names_in r))
-held_for files (Err u) file = Nothing
+held_for files (Err u) file = Absent
 
 -- where no fetch of a named file failed, the answer is that of the files
 abbrev pub AnswersOfFiles : Type 0

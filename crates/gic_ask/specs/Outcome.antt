@@ -16,7 +16,7 @@ use Rattle.gic_words.specs.declared.request.SeriesRequest.{SeriesRequest}
 use Rattle.gic_words.specs.declared.request.StudyRequest.{StudyRequest}
 use Rattle.gic_inputs.specs.declared.inputs.Inputs.{Inputs}
 use Rattle.gic_inputs.specs.declared.inputs.StormInputs.{StormInputs}
-use Rattle.gic_ask.specs.Contents.{Given, Nothing, Long, Whole, Contents}
+use Rattle.gic_ask.specs.Contents.{Given, Absent, Long, Whole, Contents}
 use Rattle.gic_ask.specs.declared.fault.File.{File}
 use Rattle.gic_ask.specs.declared.fault.File.TheVariants as file
 use Rattle.gic_ask.specs.declared.fault.InputRefusal.{InputRefusal}
@@ -51,7 +51,7 @@ if_given (Some x) next = next x >>= (λ a. Accepts (Some a))
 
 -- its bytes
 abbrev pub handing : File → Given → Outcome (List ℕ)
-handing file Nothing = Lacks file
+handing file Absent = Lacks file
 handing file Long = Refuses (TooLong file)
 handing file (Whole bytes) = Accepts bytes
 

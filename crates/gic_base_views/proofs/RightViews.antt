@@ -8,7 +8,7 @@ use Rattle.gic_fixed.specs.Encloses.{Encloses}
 use Rattle.gic_fixed.specs.Ends.{Ends, zero_ends, IsAtMostWide}
 use Rattle.gic_fixed.specs.Rounding.{floor_div, ceil_div}
 use Rattle.gic_fixed.proofs.Widths.{wider}
-use Rattle.gic_induce.specs.Fields.{IsField, no_field, field_at}
+use Rattle.gic_induce.specs.Fields.{IsField, no_field, zone_field}
 use Rattle.gic_induce.specs.LineVolts.{volts_of}
 use Rattle.gic_model.specs.declared.parts.Item.{Item}
 use Rattle.gic_model.specs.Earthing.{AreEarthed}
@@ -53,8 +53,8 @@ zone_zero field zone is = (
 -- rows of 0 alone give 0 alone
 superposed_zero : (fields : List (ℤ × ℤ)) (row : List ZoneEnds) → ((zone : ℕ) → zone < length fields → zone_at row zone ≡ no_zone_ends) → superposed fields row ≡ zero_ends
 superposed_zero fields row none =
-    let low = sum_below-zero (λ zone. zone_low (field_at fields zone) (zone_at row zone)) (length fields) (λ zone less. (zone_zero (field_at fields zone) (zone_at row zone) (none zone less)).0) in
-    let high = sum_below-zero (λ zone. zone_high (field_at fields zone) (zone_at row zone)) (length fields) (λ zone less. (zone_zero (field_at fields zone) (zone_at row zone) (none zone less)).1) in
+    let low = sum_below-zero (λ zone. zone_low (zone_field fields zone) (zone_at row zone)) (length fields) (λ zone less. (zone_zero (zone_field fields zone) (zone_at row zone) (none zone less)).0) in
+    let high = sum_below-zero (λ zone. zone_high (zone_field fields zone) (zone_at row zone)) (length fields) (λ zone less. (zone_zero (zone_field fields zone) (zone_at row zone) (none zone less)).1) in
     ap₂ (λ (l h : ℤ). record { low = floor_div l (pos 20000000000); high = ceil_div h (pos 20000000000) }) low high
 
 module _ (case : Lists) (stands : Item → Bool) (fields : List (ℤ × ℤ)) (rows : BaseRows) (width : ℕ)
@@ -72,7 +72,7 @@ module _ (case : Lists) (stands : Item → Bool) (fields : List (ℤ × ℤ)) (r
   made : AreMadeOf fields (north_volts case (elements_of case).list) (east_volts case (elements_of case).list) volts
   made place =
       volts_combine case fields given.zones (elements_of case).list place
-      ∙ ap (sum_below (λ zone. (field_at fields zone).0 *ℤ north_volts case (elements_of case).list zone place +ℤ (field_at fields zone).1 *ℤ east_volts case (elements_of case).list zone place)) (sym given.zones)
+      ∙ ap (sum_below (λ zone. (zone_field fields zone).0 *ℤ north_volts case (elements_of case).list zone place +ℤ (zone_field fields zone).1 *ℤ east_volts case (elements_of case).list zone place)) (sym given.zones)
 
   -- of a row: it is certified in each zone
   abbrev IsCertifiedRow : (Solution → ℤ) → (over : ℕ) → List ZoneEnds → Type 0

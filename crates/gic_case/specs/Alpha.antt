@@ -1,5 +1,6 @@
 -- The scaling of a field by geomagnetic latitude.
-use Rattle.std.specs.Prelude.{ℕ, nat_le, List, [], ◌∷◌, Option, Some, None, find}
+use Rattle.std.specs.Prelude.{ℕ, nat_le, List, [], ◌∷◌, Option, find}
+use Rattle.std.specs.Option.{option_map_or}
 
 -- latitudes in hundredths of a degree, each with the scaling in tenths; the rows are set after attachment 1 of NERC TPL-007 and are this project's own
 abbrev pub latitude_table : List (ℕ × ℕ)
@@ -10,10 +11,6 @@ latitude_table =
 unfoldable pub latitude_row : ℕ → Option (ℕ × ℕ)
 latitude_row latitude = find (λ row. nat_le latitude row.0) latitude_table
 
-abbrev pub tenths_or_ten : Option (ℕ × ℕ) → ℕ
-tenths_or_ten None = 10
-tenths_or_ten (Some row) = row.1
-
 -- the scaling of that row, and 10 if there is none
 abbrev pub alpha_of : ℕ → ℕ
-alpha_of latitude = tenths_or_ten (latitude_row latitude)
+alpha_of latitude = option_map_or (λ row. row.1) (latitude_row latitude) 10

@@ -5,9 +5,9 @@ use Rattle.gic_base.specs.Refusals.{unless, settle}
 use Rattle.gic_base.specs.Passes.{◌>>=◌, or_refuse}
 use Rattle.gic_base.proofs.RefusalLaws.{then_law, last_law, value_law, test_law}
 use Rattle.gic_case_reader.specs.Keys.{key_of, has, fits}
-use Rattle.gic_case_reader.specs.Values.{natural_within, read_name, value_at}
+use Rattle.gic_case_reader.specs.Values.{natural_within, read_name, field_value}
 use Rattle.gic_case_reader.specs.Rows.{members_in, breaks_keys, breaks_value, breaks_present, breaks_optional, ohm_within, volts_within, metres_within, read_neutral, earth_zone_fields, scaled_zone_fields, is_scaled, breaks_earth_zone, breaks_scaled_zone, breaks_zone, earth_zone_of, scaled_zone_of, zone_of, breaks_substation, substation_of, bus_fields, breaks_bus, bus_of}
-use Rattle.gic_case_reader.specs.Lines.{plain_line_fields, parted_line_fields, is_parted, read_parts, breaks_plain_line, breaks_parted_line, breaks_line, plain_line_of, parted_line_of, line_of}
+use Rattle.gic_case_reader.specs.Lines.{plain_line_fields, parted_line_fields, is_parted, read_parts, breaks_plain_line, breaks_parted_line, breaks_line, plain_line_of, parted_line_of, line_row_of}
 use Rattle.gic_case_reader.specs.Transformers.{read_kind, kind_of, breaks_bus_name, breaks_ohm, breaks_volts, breaks_third, breaks_wye_wye, breaks_auto, breaks_own, breaks_transformer, name_in, ohm_in, volts_in, third_told, wye_wye_in, auto_in, own_of, transformer_of}
 use Rattle.gic_case_reader.specs.Pass.{required, optional_in, optional, row_table, earth_zone_row, scaled_zone_row, zone_row, substation_row, bus_row, plain_line_row, parted_line_row, line_row, table_with, delta_wye_row, third_row, third_if, wye_wye_row, auto_row, reactor_row, kind_row, transformer_row}
 use Rattle.gic_case_reader.specs.declared.field.Field.{Field}
@@ -22,9 +22,9 @@ use Rattle.gic_case_reader.specs.declared.transformer.KindWord.TheVariants as wo
 
 -- a field
 pub required_law : {A : Type 0} (read : Data → Option A) (list : CaseList) (row : ℕ) (at : Field) (ms : Members) (d : A)
-    → required read list row at ms ≡ settle (breaks_value read list row at ms) (unwrap_or (value_at read at ms) d)
+    → required read list row at ms ≡ settle (breaks_value read list row at ms) (unwrap_or (field_value read at ms) d)
 unfolding required
-required_law read list row at ms d = value_law (value_at read at ms) (refusals.Value list row at) d
+required_law read list row at ms d = value_law (field_value read at ms) (refusals.Value list row at) d
 
 present_value : {A : Type 0} (o : Option A) (e : CaseRefusal) → (or_refuse o e >>= (λ x. Ok (Some x))) ≡ settle (unless (is_some o) e) o
 present_value None e = refl
@@ -36,7 +36,7 @@ present_law read e (Some d) = present_value (read d) e
 
 -- a field that may be absent
 pub optional_law : {A : Type 0} (read : Data → Option A) (list : CaseList) (row : ℕ) (at : Field) (ms : Members)
-    → optional read list row at ms ≡ settle (breaks_optional read list row at ms) (value_at read at ms)
+    → optional read list row at ms ≡ settle (breaks_optional read list row at ms) (field_value read at ms)
 unfolding optional
 optional_law read list row at ms = present_law read (refusals.Value list row at) (get_member (key_of at) ms)
 
@@ -64,11 +64,11 @@ kinded_law : {B : Type 0} (row : ℕ) (d : Data) (f : Members → Result B CaseR
 unfolding table_with
 kinded_law row d f es y h = table_cases (has fields.Kind) (refusals.Key lists.Transformer row) (as_table d) f es y h
 
-name_law : (list : CaseList) (row : ℕ) (at : Field) (ms : Members) → required read_name list row at ms ≡ settle (breaks_value read_name list row at ms) (unwrap_or (value_at read_name at ms) [])
+name_law : (list : CaseList) (row : ℕ) (at : Field) (ms : Members) → required read_name list row at ms ≡ settle (breaks_value read_name list row at ms) (unwrap_or (field_value read_name at ms) [])
 name_law list row at ms = required_law read_name list row at ms []
 
 natural_law : (low high : ℕ) (list : CaseList) (row : ℕ) (at : Field) (ms : Members)
-    → required (natural_within low high) list row at ms ≡ settle (breaks_value (natural_within low high) list row at ms) (unwrap_or (value_at (natural_within low high) at ms) 0)
+    → required (natural_within low high) list row at ms ≡ settle (breaks_value (natural_within low high) list row at ms) (unwrap_or (field_value (natural_within low high) at ms) 0)
 natural_law low high list row at ms = required_law (natural_within low high) list row at ms 0
 
 -- a row that is read in one of two ways, as a test tells
@@ -139,7 +139,7 @@ parted_line_law row d =
     (then_law _ _ _ _ _ _ (optional_law as_bool lists.Line row fields.Blocked ms)
     (last_law _ _ _ _ (required_law read_parts lists.Line row fields.Part ms [])))))))
 
-pub line_law : (format : Format) (row : ℕ) (d : Data) → line_row format row d ≡ settle (breaks_line format row d) (line_of format d)
+pub line_law : (format : Format) (row : ℕ) (d : Data) → line_row format row d ≡ settle (breaks_line format row d) (line_row_of format d)
 unfolding line_row
 line_law format row d = either_law (is_parted format d) _ _ _ _ _ _ (parted_line_law row d) (plain_line_law row d)
 

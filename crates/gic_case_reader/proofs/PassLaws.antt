@@ -10,12 +10,12 @@ use Rattle.gic_base.proofs.RefusalLaws.{then_law, last_law, value_law, test_law}
 use Rattle.gic_case.specs.ListWord.{list_word}
 use Rattle.gic_case_reader.specs.Formats.{read_format, format_in, most_rows}
 use Rattle.gic_case_reader.specs.Rows.{breaks_zone, zone_of, breaks_substation, substation_of, breaks_bus, bus_of}
-use Rattle.gic_case_reader.specs.Lines.{breaks_line, line_of}
+use Rattle.gic_case_reader.specs.Lines.{breaks_line, line_row_of}
 use Rattle.gic_case_reader.specs.Transformers.{breaks_transformer, transformer_of}
 use Rattle.gic_case.specs.Lists.{Lists}
 use Rattle.gic_case.specs.Names.{is_repeat}
 use Rattle.gic_case_reader.specs.OneByOne.{first_from, first_repeat}
-use Rattle.gic_case_reader.specs.Rules.{list_in, array_in, entries_of, is_array, breaks_list, breaks_form, Written, written_in, written_names, duplicate_at, breaks_once, substation_place, bus_place, zone_place, breaks_bus_reference, is_in_zone, breaks_course_reference, breaks_line_references, breaks_side_reference, breaks_third_reference, breaks_kind_references, breaks_references, bus_with_place, part_with_place, course_with_places, line_with_places, side_place, third_with_place, kind_with_places, transformer_with_places, resolved, breaks_same_ends, breaks_same_sides, breaks_apart, breaks_voltage_order, breaks_degree, broken_in, document_of, broken, lists_of, case_of}
+use Rattle.gic_case_reader.specs.Rules.{list_in, array_in, entries_of, is_array, breaks_list, breaks_form, WrittenRows, written_in, written_names, duplicate_at, breaks_once, substation_place, bus_place, zone_place, breaks_bus_reference, is_in_zone, breaks_course_reference, breaks_line_references, breaks_side_reference, breaks_third_reference, breaks_kind_references, breaks_references, bus_with_place, part_with_place, course_with_places, line_with_places, side_place, third_with_place, kind_with_places, transformer_with_places, resolved, breaks_same_ends, breaks_same_sides, breaks_apart, breaks_voltage_order, breaks_degree, broken_in, document_of, case_refusals, lists_of, case_of}
 use Rattle.gic_case_reader.specs.Pass.{items_or, items_at, count_of, rows_from, list_at, zone_row, substation_row, bus_row, line_row, transformer_row, rows_of, refuse_if, unique, each, side_at, bus_in, part_in, parts_with, course_in, line_in, third_in, kind_in, transformer_in, resolve, case_in}
 use Rattle.gic_case_reader.specs.declared.field.Field.{Field}
 use Rattle.gic_case_reader.specs.declared.field.Field.TheVariants as fields
@@ -94,7 +94,7 @@ rows_of_law ms =
     (then_law _ _ _ _ _ _ (list_law lists.Zone (most_rows format lists.Zone) (zone_row format) (breaks_zone format) (zone_of format) (zone_law format) ms)
     (then_law _ _ _ _ _ _ (list_law lists.Substation (most_rows format lists.Substation) substation_row breaks_substation substation_of substation_law ms)
     (then_law _ _ _ _ _ _ (list_law lists.Bus (most_rows format lists.Bus) bus_row breaks_bus bus_of bus_law ms)
-    (then_law _ _ _ _ _ _ (list_law lists.Line (most_rows format lists.Line) (line_row format) (breaks_line format) (line_of format) (line_law format) ms)
+    (then_law _ _ _ _ _ _ (list_law lists.Line (most_rows format lists.Line) (line_row format) (breaks_line format) (line_row_of format) (line_law format) ms)
     (last_law _ _ _ _ (list_law lists.Transformer (most_rows format lists.Transformer) (transformer_row format) (breaks_transformer format) (transformer_of format) (transformer_law format) ms)))))))
 
 first_law : (test : ℕ → Bool) (refusal : ℕ → CaseRefusal) (n i : ℕ)
@@ -107,15 +107,15 @@ first_law test refusal (suc n) i =
     ]
 
 -- names that come twice
-unique_law : (w : Written) → unique w ≡ settle (breaks_once w) tt
+unique_law : (w : WrittenRows) → unique w ≡ settle (breaks_once w) tt
 unfolding unique breaks_once first_repeat
 unique_law w = first_law (is_repeat (written_names w)) (duplicate_at (length w.zones) (length w.substations) (length w.buses) (length w.lines)) (length (written_names w)) 0
 
-bus_in_law : (w : Written) (row : ℕ) (b : BusRow) → bus_in (substation_place w) row b ≡ settle (breaks_bus_reference w row b) (bus_with_place w b)
+bus_in_law : (w : WrittenRows) (row : ℕ) (b : BusRow) → bus_in (substation_place w) row b ≡ settle (breaks_bus_reference w row b) (bus_with_place w b)
 unfolding bus_in
 bus_in_law w row b = last_law _ _ _ _ (value_law (substation_place w b.substation) (refusals.Unknown lists.Bus row fields.Substation) 0)
 
-part_in_law : (w : Written) (row : ℕ) (at : Field) (part : PartRow) → part_in (zone_place w) row at part ≡ settle (unless (is_in_zone w part) (refusals.Unknown lists.Line row at)) (part_with_place w part)
+part_in_law : (w : WrittenRows) (row : ℕ) (at : Field) (part : PartRow) → part_in (zone_place w) row at part ≡ settle (unless (is_in_zone w part) (refusals.Unknown lists.Line row at)) (part_with_place w part)
 part_in_law w row at part = last_law _ _ _ _ (value_law (zone_place w part.zone) (refusals.Unknown lists.Line row at) 0)
 
 -- two facts that are refused alike
@@ -123,33 +123,33 @@ both_law : {A : Type 0} (a b : Bool) (e : CaseRefusal) (x : A) → settle (unles
 both_law true b e x = refl
 both_law false b e x = refl
 
-parts_with_law : (w : Written) (row : ℕ) (ps : List PartRow)
+parts_with_law : (w : WrittenRows) (row : ℕ) (ps : List PartRow)
     → parts_with (zone_place w) row ps ≡ settle (unless (list_all (is_in_zone w) ps) (refusals.Unknown lists.Line row fields.Part)) (map (part_with_place w) ps)
 parts_with_law w row [] = refl
 parts_with_law w row (part ∷ ps) =
     then_law _ _ _ _ _ _ (part_in_law w row fields.Part part) (last_law _ _ _ (λ xs. part_with_place w part ∷ xs) (parts_with_law w row ps))
     ∙ both_law (is_in_zone w part) (list_all (is_in_zone w) ps) (refusals.Unknown lists.Line row fields.Part) (map (part_with_place w) (part ∷ ps))
 
-course_in_law : (w : Written) (row : ℕ) (course : CourseRow) → course_in (zone_place w) row course ≡ settle (breaks_course_reference w row course) (course_with_places w course)
+course_in_law : (w : WrittenRows) (row : ℕ) (course : CourseRow) → course_in (zone_place w) row course ≡ settle (breaks_course_reference w row course) (course_with_places w course)
 unfolding course_in
 course_in_law w row (written.One part) = last_law _ _ _ (λ x. courses.One x) (part_in_law w row fields.Zone part)
 course_in_law w row (written.Several ps) = last_law _ _ _ (λ xs. courses.Several xs) (parts_with_law w row ps)
 
-line_in_law : (w : Written) (row : ℕ) (l : LineRow) → line_in (bus_place w) (zone_place w) row l ≡ settle (breaks_line_references w row l) (line_with_places w l)
+line_in_law : (w : WrittenRows) (row : ℕ) (l : LineRow) → line_in (bus_place w) (zone_place w) row l ≡ settle (breaks_line_references w row l) (line_with_places w l)
 unfolding line_in
 line_in_law w row l =
     then_law _ _ _ _ _ _ (value_law (bus_place w l.from) (refusals.Unknown lists.Line row fields.From) 0)
     (then_law _ _ _ _ _ _ (value_law (bus_place w l.to) (refusals.Unknown lists.Line row fields.To) 0)
     (last_law _ _ _ _ (course_in_law w row l.course)))
 
-side_law : (w : Written) (row : ℕ) (at : Field) (bus : List ℕ) → side_at (bus_place w) row at bus ≡ settle (breaks_side_reference w row at bus) (side_place w bus)
+side_law : (w : WrittenRows) (row : ℕ) (at : Field) (bus : List ℕ) → side_at (bus_place w) row at bus ≡ settle (breaks_side_reference w row at bus) (side_place w bus)
 side_law w row at bus = value_law (bus_place w bus) (refusals.Unknown lists.Transformer row at) 0
 
-third_in_law : (w : Written) (row : ℕ) (third : Option (Third (List ℕ))) → third_in (bus_place w) row third ≡ settle (breaks_third_reference w row third) (option_map (third_with_place w) third)
+third_in_law : (w : WrittenRows) (row : ℕ) (third : Option (Third (List ℕ))) → third_in (bus_place w) row third ≡ settle (breaks_third_reference w row third) (option_map (third_with_place w) third)
 third_in_law w row None = refl
 third_in_law w row (Some t) = last_law _ _ _ (λ place. Some (record { bus = place; volts = t.volts; resistance = t.resistance })) (side_law w row fields.Third t.bus)
 
-kind_in_law : (w : Written) (row : ℕ) (k : Kind (List ℕ)) → kind_in (bus_place w) row k ≡ settle (breaks_kind_references w row k) (kind_with_places w k)
+kind_in_law : (w : WrittenRows) (row : ℕ) (k : Kind (List ℕ)) → kind_in (bus_place w) row k ≡ settle (breaks_kind_references w row k) (kind_with_places w k)
 unfolding kind_in
 kind_in_law w row (kinds.DeltaWye high high_resistance) = last_law _ _ _ (λ h. kinds.DeltaWye h high_resistance) (side_law w row fields.High high)
 kind_in_law w row (kinds.WyeWye high low low_volts high_resistance low_resistance third) =
@@ -163,12 +163,12 @@ kind_in_law w row (kinds.Auto high low low_volts series_resistance common_resist
 kind_in_law w row (kinds.Reactor high high_resistance) = last_law _ _ _ (λ h. kinds.Reactor h high_resistance) (side_law w row fields.High high)
 kind_in_law w row kinds.DeltaDelta = refl
 
-transformer_in_law : (w : Written) (row : ℕ) (t : TransformerRow) → transformer_in (bus_place w) row t ≡ settle (breaks_kind_references w row t.kind) (transformer_with_places w t)
+transformer_in_law : (w : WrittenRows) (row : ℕ) (t : TransformerRow) → transformer_in (bus_place w) row t ≡ settle (breaks_kind_references w row t.kind) (transformer_with_places w t)
 unfolding transformer_in
 transformer_in_law w row t = last_law _ _ _ _ (kind_in_law w row t.kind)
 
 -- references
-resolve_law : (w : Written) → resolve w ≡ settle (breaks_references w) (resolved w)
+resolve_law : (w : WrittenRows) → resolve w ≡ settle (breaks_references w) (resolved w)
 unfolding resolve breaks_references resolved
 resolve_law w =
     then_law _ _ _ _ _ _ (each_law (bus_in (substation_place w)) (breaks_bus_reference w) (bus_with_place w) (bus_in_law w) 1 w.buses)
@@ -204,7 +204,7 @@ case_in_law ms =
     (then_law _ _ _ _ _ _ (resolve_law (written_in ms)) (ends_law (resolved (written_in ms)))))
 
 -- the case of bytes
-case_of_cases : (o : Option Members) → (or_refuse o refusals.NotToml >>= case_in) ≡ settle (broken o) (lists_of o)
+case_of_cases : (o : Option Members) → (or_refuse o refusals.NotToml >>= case_in) ≡ settle (case_refusals o) (lists_of o)
 case_of_cases None = refl
 case_of_cases (Some ms) = case_in_law ms
 

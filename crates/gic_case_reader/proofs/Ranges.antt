@@ -13,11 +13,11 @@ use Rattle.gic_base.specs.Name.{is_name}
 use Rattle.gic_base.specs.declared.limits.TheConstants.{MOST_PARTS}
 use Rattle.gic_case.specs.ZoneView.{IsZone}
 use Rattle.gic_case_reader.specs.declared.refusal.CaseRefusal.{CaseRefusal}
-use Rattle.gic_case_reader.specs.Keys.{key_of, is_among, has, has_only, has_all, fits}
+use Rattle.gic_case_reader.specs.Keys.{key_of, is_key_of, has, has_only, has_all, fits}
 use Rattle.gic_case.specs.Names.{same}
-use Rattle.gic_case_reader.specs.Values.{whole_within, natural_within, near_zero, span_within, read_name, value_at}
+use Rattle.gic_case_reader.specs.Values.{whole_within, natural_within, near_zero, span_within, read_name, field_value}
 use Rattle.gic_case_reader.specs.Rows.{members_in, breaks_keys, breaks_value, breaks_optional, ohm_within, metres_within, device_in, read_neutral, earth_zone_fields, scaled_zone_fields, is_scaled, breaks_earth_zone, breaks_scaled_zone, breaks_zone, earth_zone_of, scaled_zone_of, zone_of, breaks_substation, substation_of, bus_fields, breaks_bus, bus_of}
-use Rattle.gic_case_reader.specs.Lines.{plain_line_fields, parted_line_fields, is_parted, parts_in, north_way, east_way, are_parts, read_parts, breaks_plain_line, breaks_parted_line, breaks_line, plain_line_of, parted_line_of, line_of}
+use Rattle.gic_case_reader.specs.Lines.{plain_line_fields, parted_line_fields, is_parted, parts_in, north_way, east_way, are_parts, read_parts, breaks_plain_line, breaks_parted_line, breaks_line, plain_line_of, parted_line_of, line_row_of}
 use Rattle.gic_case.specs.Sound.{IsResistance, IsRated, IsSoundDevice}
 use Rattle.gic_case_reader.specs.Transformers.{read_kind, fields_of, others_of, kind_of, breaks_bus_name, breaks_ohm, breaks_volts, breaks_third, breaks_wye_wye, breaks_auto, breaks_one_winding, breaks_own, breaks_transformer, ohm_in, volts_in, third_told, wye_wye_in, auto_in, own_of, transformer_of}
 use Rattle.gic_case_reader.specs.declared.field.Field.{Field}
@@ -62,7 +62,7 @@ then_holds P f law None = tt
 then_holds P f law (Some x) = law x
 
 -- a number is within its bounds
-pub natural_holds : (low high : ℕ) (at : Field) (ms : Members) → IfSome (value_at (natural_within low high) at ms) (λ k. (low ≤ k) × (k ≤ high))
+pub natural_holds : (low high : ℕ) (at : Field) (ms : Members) → IfSome (field_value (natural_within low high) at ms) (λ k. (low ≤ k) × (k ≤ high))
 natural_holds low high at ms =
     then_holds _ (natural_within low high) (λ d. then_holds _ (whole_within low high) (whole_holds low high) (as_integer d)) (get_member (key_of at) ms)
 
@@ -71,35 +71,35 @@ if_near limit z false h = tt
 if_near limit z true h = few_of (unsigned_abs z) limit h
 
 -- and a span within its own
-span_holds : (limit : ℕ) (at : Field) (ms : Members) → IfSome (value_at (span_within limit) at ms) (λ x. unsigned_abs x ≤ limit)
+span_holds : (limit : ℕ) (at : Field) (ms : Members) → IfSome (field_value (span_within limit) at ms) (λ x. unsigned_abs x ≤ limit)
 span_holds limit at ms =
     then_holds _ (span_within limit) (λ d. then_holds _ (near_zero limit) (λ z. if_near limit z (nat_le (unsigned_abs z) limit) refl) (as_integer d)) (get_member (key_of at) ms)
 
 natural_taken : (low high : ℕ) (list : CaseList) (row : ℕ) (at : Field) (ms : Members) → breaks_value (natural_within low high) list row at ms ≡ []
-    → (low ≤ unwrap_or (value_at (natural_within low high) at ms) 0) × (unwrap_or (value_at (natural_within low high) at ms) 0 ≤ high)
+    → (low ≤ unwrap_or (field_value (natural_within low high) at ms) 0) × (unwrap_or (field_value (natural_within low high) at ms) 0 ≤ high)
 natural_taken low high list row at ms h =
-    taken_holds (λ k. (low ≤ k) × (k ≤ high)) (value_at (natural_within low high) at ms) 0 (unless_holds _ (refusals.Value list row at) h) (natural_holds low high at ms)
+    taken_holds (λ k. (low ≤ k) × (k ≤ high)) (field_value (natural_within low high) at ms) 0 (unless_holds _ (refusals.Value list row at) h) (natural_holds low high at ms)
 
 span_taken : (limit : ℕ) (list : CaseList) (row : ℕ) (at : Field) (ms : Members) → breaks_value (span_within limit) list row at ms ≡ []
-    → unsigned_abs (unwrap_or (value_at (span_within limit) at ms) (pos 0)) ≤ limit
+    → unsigned_abs (unwrap_or (field_value (span_within limit) at ms) (pos 0)) ≤ limit
 span_taken limit list row at ms h =
-    taken_holds (λ x. unsigned_abs x ≤ limit) (value_at (span_within limit) at ms) (pos 0) (unless_holds _ (refusals.Value list row at) h) (span_holds limit at ms)
+    taken_holds (λ x. unsigned_abs x ≤ limit) (field_value (span_within limit) at ms) (pos 0) (unless_holds _ (refusals.Value list row at) h) (span_holds limit at ms)
 
 if_name : (text : List ℕ) (b : Bool) → is_name text ≡ b → IfSome (cond b (Some text) None) (λ s. IsTrue (is_name s))
 if_name text false h = tt
 if_name text true h = h
 
-name_holds : (at : Field) (ms : Members) → IfSome (value_at read_name at ms) (λ s. IsTrue (is_name s))
+name_holds : (at : Field) (ms : Members) → IfSome (field_value read_name at ms) (λ s. IsTrue (is_name s))
 name_holds at ms =
     then_holds _ read_name (λ d. then_holds _ (λ text. cond (is_name text) (Some text) None) (λ text. if_name text (is_name text) refl) (as_str d)) (get_member (key_of at) ms)
 
-name_taken : (list : CaseList) (row : ℕ) (at : Field) (ms : Members) → breaks_value read_name list row at ms ≡ [] → IsTrue (is_name (unwrap_or (value_at read_name at ms) []))
-name_taken list row at ms h = taken_holds (λ s. IsTrue (is_name s)) (value_at read_name at ms) [] (unless_holds _ (refusals.Value list row at) h) (name_holds at ms)
+name_taken : (list : CaseList) (row : ℕ) (at : Field) (ms : Members) → breaks_value read_name list row at ms ≡ [] → IsTrue (is_name (unwrap_or (field_value read_name at ms) []))
+name_taken list row at ms h = taken_holds (λ s. IsTrue (is_name s)) (field_value read_name at ms) [] (unless_holds _ (refusals.Value list row at) h) (name_holds at ms)
 
 -- the name of a row, which follows its keys
 first_name : (list : CaseList) (needed others : List Field) (row : ℕ) (d : Data) (rest : List CaseRefusal)
     → breaks_keys list needed others row d ++ (breaks_value read_name list row fields.Name (members_in d) ++ rest) ≡ []
-    → IsTrue (is_name (unwrap_or (value_at read_name fields.Name (members_in d)) []))
+    → IsTrue (is_name (unwrap_or (field_value read_name fields.Name (members_in d)) []))
 first_name list needed others row d rest h =
     let name = breaks_value read_name list row fields.Name (members_in d) in
     let keys = none_of_both (breaks_keys list needed others row d) (name ++ rest) h in
@@ -121,7 +121,7 @@ substation_named row d h = first_name lists.Substation (fields.Name ∷ []) (fie
 pub bus_named : (row : ℕ) (d : Data) → breaks_bus row d ≡ [] → IsTrue (is_name (bus_of d).name)
 bus_named row d h = first_name lists.Bus bus_fields [] row d _ h
 
-pub line_named : (format : Format) (row : ℕ) (d : Data) → breaks_line format row d ≡ [] → IsTrue (is_name (line_of format d).name)
+pub line_named : (format : Format) (row : ℕ) (d : Data) → breaks_line format row d ≡ [] → IsTrue (is_name (line_row_of format d).name)
 line_named format row d h =
     either_holds (λ l. IsTrue (is_name l.name)) (is_parted format d) (breaks_parted_line row d) (breaks_plain_line row d) (parted_line_of d) (plain_line_of d)
     (λ none. first_name lists.Line parted_line_fields (fields.Blocked ∷ []) row d _ none) (λ none. first_name lists.Line plain_line_fields (fields.Blocked ∷ []) row d _ none) h
@@ -194,18 +194,18 @@ if_parts : (ps : List PartRow) (b : Bool) → are_parts ps ≡ b → IfSome (con
 if_parts ps false h = tt
 if_parts ps true h = h
 
-parts_hold : (ms : Members) → IfSome (value_at read_parts fields.Part ms) (λ ps. are_parts ps ≡ true)
+parts_hold : (ms : Members) → IfSome (field_value read_parts fields.Part ms) (λ ps. are_parts ps ≡ true)
 parts_hold ms =
     then_holds _ read_parts (λ d. then_holds _ (λ ps. cond (are_parts ps) (Some ps) None) (λ ps. if_parts ps (are_parts ps) refl) (option_and_then parts_in (as_array d))) (get_member (key_of fields.Part) ms)
 
-parts_taken : (row : ℕ) (ms : Members) → breaks_value read_parts lists.Line row fields.Part ms ≡ [] → are_parts (unwrap_or (value_at read_parts fields.Part ms) []) ≡ true
-parts_taken row ms h = taken_holds (λ ps. are_parts ps ≡ true) (value_at read_parts fields.Part ms) [] (unless_holds _ (refusals.Value lists.Line row fields.Part) h) (parts_hold ms)
+parts_taken : (row : ℕ) (ms : Members) → breaks_value read_parts lists.Line row fields.Part ms ≡ [] → are_parts (unwrap_or (field_value read_parts fields.Part ms) []) ≡ true
+parts_taken row ms h = taken_holds (λ ps. are_parts ps ≡ true) (field_value read_parts fields.Part ms) [] (unless_holds _ (refusals.Value lists.Line row fields.Part) h) (parts_hold ms)
 
 parted_line_measured : (row : ℕ) (d : Data) → breaks_parted_line row d ≡ [] → IsMeasured (parted_line_of d)
 parted_line_measured row d h =
     let ms = members_in d in
     let list = lists.Line in
-    let ps = unwrap_or (value_at read_parts fields.Part ms) [] in
+    let ps = unwrap_or (field_value read_parts fields.Part ms) [] in
     let keys = none_of_both (breaks_keys list parted_line_fields (fields.Blocked ∷ []) row d) _ h in
     let name = none_of_both (breaks_value read_name list row fields.Name ms) _ keys.1 in
     let from = none_of_both (breaks_value read_name list row fields.From ms) _ name.1 in
@@ -222,7 +222,7 @@ parted_line_measured row d h =
       east = few_of (east_way ps) 1000000 ways.1;
     }
 
-pub line_measured : (format : Format) (row : ℕ) (d : Data) → breaks_line format row d ≡ [] → IsMeasured (line_of format d)
+pub line_measured : (format : Format) (row : ℕ) (d : Data) → breaks_line format row d ≡ [] → IsMeasured (line_row_of format d)
 line_measured format row d h =
     either_holds IsMeasured (is_parted format d) (breaks_parted_line row d) (breaks_plain_line row d) (parted_line_of d) (plain_line_of d) (parted_line_measured row d) (plain_line_measured row d) h
 
@@ -310,7 +310,7 @@ device_in_sound None ohm h = resistor_sound ohm h
 device_in_sound (Some s) ohm h = if_blocked (same s (codes "blocked"))
 
 -- a neutral resistor is within its range
-device_sound : (ms : Members) → IfSome (value_at read_neutral fields.Neutral ms) IsSoundDevice
+device_sound : (ms : Members) → IfSome (field_value read_neutral fields.Neutral ms) IsSoundDevice
 device_sound ms =
     then_holds _ read_neutral (λ d. device_in_sound (as_str d) (ohm_within d) (then_holds _ (whole_within 1000 1000000000) (whole_holds 1000 1000000000) (as_integer d))) (get_member (key_of fields.Neutral) ms)
 
@@ -328,8 +328,8 @@ absent allowed k (member l d ms) out only =
     other_key allowed k l d (get_member k ms) (slice_cmp nat_cmp k l) refl out parts.0 (absent allowed k ms out parts.1)
 
 device_place : (format : Format) (word : KindWord) (ms : Members) → fits (fields_of word) (others_of format word) ms ≡ true
-    → HasPlaceFor (own_of word ms) (value_at read_neutral fields.Neutral ms)
-unfolding is_among
+    → HasPlaceFor (own_of word ms) (field_value read_neutral fields.Neutral ms)
+unfolding is_key_of
 device_place format words.DeltaWye ms h = tt
 device_place format words.WyeWye ms h = tt
 device_place format words.Auto ms h = tt
@@ -338,8 +338,8 @@ device_place format words.AutoWye ms h = tt
 device_place format words.Reactor ms h = tt
 device_place format words.DeltaDelta ms h =
     let required = fields_of words.DeltaDelta in
-    let only = and_parts (has_only (λ k. is_among required k || is_among [] k) ms) (has_all required ms) h in
-    ap (option_and_then read_neutral) (absent (λ k. is_among required k || is_among [] k) (key_of fields.Neutral) ms refl only.0)
+    let only = and_parts (has_only (λ k. is_key_of required k || is_key_of [] k) ms) (has_all required ms) h in
+    ap (option_and_then read_neutral) (absent (λ k. is_key_of required k || is_key_of [] k) (key_of fields.Neutral) ms refl only.0)
 
 -- what each rule of a transformer that breaks none gives
 record IsKept (format : Format) (row : ℕ) (ms : Members) : Type 0 where

@@ -4,7 +4,7 @@ use Rattle.std.proofs.lemmas.List.{length-map}
 use Rattle.toml.specs.declared.value.Value.{Value}
 use Rattle.toml.specs.View.{items_view}
 use Rattle.gic_case_reader.specs.Pass.{count_of}
-use Rattle.gic_case_reader.specs.Rules.{Written, written_names}
+use Rattle.gic_case_reader.specs.Rules.{WrittenRows, written_names}
 use Rattle.gic_case_reader.specs.declared.refusal.CaseRefusal.{CaseRefusal}
 
 -- what was read, behind these rows
@@ -25,5 +25,5 @@ pub count_length : (vs : List Value) → count_of (items_view vs) ≡ length vs
 count_length [] = refl
 count_length (v ∷ vs) = omega (arith, count_length vs)
 
-pub names_length : (w : Written) → length (written_names w) ≡ length w.zones + (length w.substations + (length w.buses + (length w.lines + length w.transformers)))
+pub names_length : (w : WrittenRows) → length (written_names w) ≡ length w.zones + (length w.substations + (length w.buses + (length w.lines + length w.transformers)))
 names_length w = simp (length-append, length-map)

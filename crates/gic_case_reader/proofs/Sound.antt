@@ -27,8 +27,8 @@ use Rattle.gic_case_reader.specs.Transformers.{breaks_transformer, transformer_o
 use Rattle.gic_case_reader.specs.Formats.{is_third, format_in, most_rows}
 use Rattle.gic_case_reader.specs.Rows.{members_in, breaks_zone, zone_of, breaks_substation, substation_of, breaks_bus, bus_of}
 use Rattle.gic_case_reader.specs.Lines as written_lines
-use Rattle.gic_case_reader.specs.Lines.{breaks_line, line_of}
-use Rattle.gic_case_reader.specs.Rules.{entries_of, breaks_list, breaks_form, Written, written_in, written_names, duplicate_at, breaks_once, breaks_bus_reference, is_in_zone, breaks_course_reference, breaks_line_references, breaks_side_reference, breaks_third_reference, breaks_kind_references, breaks_references, bus_with_place, part_with_place, course_with_places, line_with_places, side_place, third_with_place, kind_with_places, transformer_with_places, resolved, breaks_same_ends, breaks_same_sides, breaks_apart, breaks_voltage_order, breaks_degree, broken_in, broken, lists_of, document_of, case_of}
+use Rattle.gic_case_reader.specs.Lines.{breaks_line, line_row_of}
+use Rattle.gic_case_reader.specs.Rules.{entries_of, breaks_list, breaks_form, WrittenRows, written_in, written_names, duplicate_at, breaks_once, breaks_bus_reference, is_in_zone, breaks_course_reference, breaks_line_references, breaks_side_reference, breaks_third_reference, breaks_kind_references, breaks_references, bus_with_place, part_with_place, course_with_places, line_with_places, side_place, third_with_place, kind_with_places, transformer_with_places, resolved, breaks_same_ends, breaks_same_sides, breaks_apart, breaks_voltage_order, breaks_degree, broken_in, case_refusals, lists_of, document_of, case_of}
 use Rattle.gic_case_reader.specs.OneByOne.{breaks_degree_from}
 use Rattle.gic_case_reader.specs.Pass.{case_in}
 use Rattle.gic_case_reader.specs.declared.field.Field.{Field}
@@ -87,21 +87,21 @@ record IsPlaced (buses zones : ℕ) (l : Line) : Type 0 where
   pub to : l.to < buses
   pub course : All (λ p. p.zone < zones) (parts_of l.course)
 
-part_placed : (w : Written) (part : PartRow) → is_in_zone w part ≡ true → (part_with_place w part).zone < length w.zones
+part_placed : (w : WrittenRows) (part : PartRow) → is_in_zone w part ≡ true → (part_with_place w part).zone < length w.zones
 part_placed w part there = place_within (λ z. z.name) w.zones part.zone there
 
-parts_placed : (w : Written) (ps : List PartRow) → list_all (is_in_zone w) ps ≡ true → All (λ p. p.zone < length w.zones) (map (part_with_place w) ps)
+parts_placed : (w : WrittenRows) (ps : List PartRow) → list_all (is_in_zone w) ps ≡ true → All (λ p. p.zone < length w.zones) (map (part_with_place w) ps)
 parts_placed w [] h = All-nil (λ (p : LinePart). p.zone < length w.zones)
 parts_placed w (part ∷ ps) h =
     let both = and_parts (is_in_zone w part) (list_all (is_in_zone w) ps) h in
     All-cons (λ (p : LinePart). p.zone < length w.zones) (part_with_place w part) (map (part_with_place w) ps) (part_placed w part both.0) (parts_placed w ps both.1)
 
-course_placed : (w : Written) (row : ℕ) (course : CourseRow) → breaks_course_reference w row course ≡ [] → All (λ p. p.zone < length w.zones) (parts_of (course_with_places w course))
+course_placed : (w : WrittenRows) (row : ℕ) (course : CourseRow) → breaks_course_reference w row course ≡ [] → All (λ p. p.zone < length w.zones) (parts_of (course_with_places w course))
 course_placed w row (courses.One part) h =
     All-cons (λ (p : LinePart). p.zone < length w.zones) (part_with_place w part) [] (part_placed w part (unless_holds _ _ h)) (All-nil (λ (p : LinePart). p.zone < length w.zones))
 course_placed w row (courses.Several ps) h = parts_placed w ps (unless_holds _ _ h)
 
-line_placed : (w : Written) (row : ℕ) (l : LineRow) → breaks_line_references w row l ≡ [] → IsPlaced (length w.buses) (length w.zones) (line_with_places w l)
+line_placed : (w : WrittenRows) (row : ℕ) (l : LineRow) → breaks_line_references w row l ≡ [] → IsPlaced (length w.buses) (length w.zones) (line_with_places w l)
 line_placed w row l h =
     let from = none_of_both _ _ h in
     let to = none_of_both _ _ from.1 in
@@ -119,14 +119,14 @@ IsPlacedKind buses (kinds.Auto high low low_volts series_resistance common_resis
 IsPlacedKind buses (kinds.Reactor high high_resistance) = high < buses
 IsPlacedKind buses kinds.DeltaDelta = Unit {0}
 
-side_placed : (w : Written) (row : ℕ) (at : Field) (bus : List ℕ) → breaks_side_reference w row at bus ≡ [] → side_place w bus < length w.buses
+side_placed : (w : WrittenRows) (row : ℕ) (at : Field) (bus : List ℕ) → breaks_side_reference w row at bus ≡ [] → side_place w bus < length w.buses
 side_placed w row at bus h = place_within (λ b. b.name) w.buses bus (unless_holds _ (refusals.Unknown lists.Transformer row at) h)
 
-third_placed : (w : Written) (row : ℕ) (third : Option (Third (List ℕ))) → breaks_third_reference w row third ≡ [] → IfSome (option_map (third_with_place w) third) (λ t. t.bus < length w.buses)
+third_placed : (w : WrittenRows) (row : ℕ) (third : Option (Third (List ℕ))) → breaks_third_reference w row third ≡ [] → IfSome (option_map (third_with_place w) third) (λ t. t.bus < length w.buses)
 third_placed w row None h = tt
 third_placed w row (Some t) h = side_placed w row fields.Third t.bus h
 
-sides_placed : (w : Written) (row : ℕ) (high low : List ℕ) (third : Option (Third (List ℕ)))
+sides_placed : (w : WrittenRows) (row : ℕ) (high low : List ℕ) (third : Option (Third (List ℕ)))
     → breaks_side_reference w row fields.High high ++ (breaks_side_reference w row fields.Low low ++ breaks_third_reference w row third) ≡ []
     → (side_place w high < length w.buses) × (side_place w low < length w.buses) × IfSome (option_map (third_with_place w) third) (λ t. t.bus < length w.buses)
 sides_placed w row high low third h =
@@ -134,7 +134,7 @@ sides_placed w row high low third h =
     let others = none_of_both (breaks_side_reference w row fields.Low low) (breaks_third_reference w row third) first.1 in
     (side_placed w row fields.High high first.0, side_placed w row fields.Low low others.0, third_placed w row third others.1)
 
-kind_placed : (w : Written) (row : ℕ) (k : Kind (List ℕ)) → breaks_kind_references w row k ≡ [] → IsPlacedKind (length w.buses) (kind_with_places w k)
+kind_placed : (w : WrittenRows) (row : ℕ) (k : Kind (List ℕ)) → breaks_kind_references w row k ≡ [] → IsPlacedKind (length w.buses) (kind_with_places w k)
 kind_placed w row (kinds.DeltaWye high high_resistance) h = side_placed w row fields.High high h
 kind_placed w row (kinds.WyeWye high low low_volts high_resistance low_resistance third) h = sides_placed w row high low third h
 kind_placed w row (kinds.Auto high low low_volts series_resistance common_resistance third) h = sides_placed w row high low third h
@@ -194,7 +194,7 @@ together_by buses (w ∷ ws) h =
     (all_hold (λ v. here == substation_at buses v.from.bus) ws h) in
     at_one_place (λ v. substation_at buses v.from.bus) here (w ∷ ws) (refl, others)
 
-module _ (c : Lists) (w : Written) (many : length c.buses ≡ length w.buses) (volts : ℕ) where
+module _ (c : Lists) (w : WrittenRows) (many : length c.buses ≡ length w.buses) (volts : ℕ) where
   -- a winding to the neutral, from what is known of its side
   one_by : (r : WindingRole) (bus side_volts ohm : ℕ) → bus < length w.buses → IsRated side_volts → nat_le side_volts volts ≡ true → IsResistance ohm
       → IsSoundWinding c volts (to_neutral r (terminal bus side_volts) ohm)
@@ -250,7 +250,7 @@ module _ (c : Lists) (w : Written) (many : length c.buses ≡ length w.buses) (v
       (one_by roles.High (side_place w high) volts high_resistance placed rated (and_parts (nat_le volts volts) true ordered).0 measured, tt)
   windings_sound_by kinds.DeltaDelta rated measured placed differ ordered = tt
 
-no_device_by : (w : Written) (volts : ℕ) (k : Kind (List ℕ)) (neutral : Option Neutral) → HasPlaceFor k neutral → is_some (slice_get (windings_by volts (kind_with_places w k)) 0) ≡ false → is_some neutral ≡ false
+no_device_by : (w : WrittenRows) (volts : ℕ) (k : Kind (List ℕ)) (neutral : Option Neutral) → HasPlaceFor k neutral → is_some (slice_get (windings_by volts (kind_with_places w k)) 0) ≡ false → is_some neutral ≡ false
 no_device_by w volts (kinds.DeltaWye high high_resistance) neutral place h = absurd (false≢true (sym h))
 no_device_by w volts (kinds.WyeWye high low low_volts high_resistance low_resistance third) neutral place h = absurd (false≢true (sym h))
 no_device_by w volts (kinds.Auto high low low_volts series_resistance common_resistance third) neutral place h = absurd (false≢true (sym h))
@@ -258,7 +258,7 @@ no_device_by w volts (kinds.Reactor high high_resistance) neutral place h = absu
 no_device_by w volts kinds.DeltaDelta neutral place h = ap is_some place
 
 -- a transformer of a document that breaks no rule
-transformer_by : (c : Lists) (w : Written) (t : TransformerRow) → length c.buses ≡ length w.buses → IsMeasuredTransformer t → IsPlacedKind (length w.buses) (kind_with_places w t.kind)
+transformer_by : (c : Lists) (w : WrittenRows) (t : TransformerRow) → length c.buses ≡ length w.buses → IsMeasuredTransformer t → IsPlacedKind (length w.buses) (kind_with_places w t.kind)
     → AreRuled c.buses (transformer_with_places w t) → IsSoundTransformer c (transformer_with_places w t)
 transformer_by c w t many measured placed ruled = record {
   rated = measured.rated;
@@ -303,7 +303,7 @@ few_from (x ∷ xs) ends n h k low high =
       | inr apart ↦ few_from xs ends (n + 1) parts.1 k (omega arith) (omega arith)
     ]
 
-names_stay : (w : Written) → names_of (resolved w) ≡ written_names w
+names_stay : (w : WrittenRows) → names_of (resolved w) ≡ written_names w
 unfolding resolved
 names_stay w = simp map-map
 
@@ -316,7 +316,7 @@ named list limit breaks of name law ms h =
     (all_kept breaks (λ d. IsTrue (is_name (name (of d)))) law 1 (entries_of list ms) (rows_kept list limit breaks ms h)))
 
 -- what the form of the document gives
-record IsFormed (w : Written) : Type 0 where
+record IsFormed (w : WrittenRows) : Type 0 where
   pub few_zones : length w.zones ≤ MOST_ZONES
   pub few_substations : length w.substations ≤ MOST_SUBSTATIONS
   pub few_buses : length w.buses ≤ MOST_BUSES
@@ -358,36 +358,36 @@ formed ms h =
           All-append (λ n. IsTrue (is_name n)) (map (λ z. z.name) (map (zone_of format) (entries_of lists.Zone ms))) _ (named lists.Zone (most_rows format lists.Zone) (breaks_zone format) (zone_of format) (λ z. z.name) (zone_named format) ms zones.0)
           (All-append (λ n. IsTrue (is_name n)) (map (λ s. s.name) (map substation_of (entries_of lists.Substation ms))) _ (named lists.Substation (most_rows format lists.Substation) breaks_substation substation_of (λ s. s.name) substation_named ms substations.0)
           (All-append (λ n. IsTrue (is_name n)) (map (λ b. b.name) (map bus_of (entries_of lists.Bus ms))) _ (named lists.Bus (most_rows format lists.Bus) breaks_bus bus_of (λ b. b.name) bus_named ms buses.0)
-          (All-append (λ n. IsTrue (is_name n)) (map (λ l. l.name) (map (line_of format) (entries_of lists.Line ms))) (map (λ t. t.name) (map (transformer_of format) (entries_of lists.Transformer ms)))
-          (named lists.Line (most_rows format lists.Line) (breaks_line format) (line_of format) (λ l. l.name) (line_named format) ms last_two.0) (named lists.Transformer (most_rows format lists.Transformer) (breaks_transformer format) (transformer_of format) (λ t. t.name) (transformer_named format) ms last_two.1))));
+          (All-append (λ n. IsTrue (is_name n)) (map (λ l. l.name) (map (line_row_of format) (entries_of lists.Line ms))) (map (λ t. t.name) (map (transformer_of format) (entries_of lists.Transformer ms)))
+          (named lists.Line (most_rows format lists.Line) (breaks_line format) (line_row_of format) (λ l. l.name) (line_named format) ms last_two.0) (named lists.Transformer (most_rows format lists.Transformer) (breaks_transformer format) (transformer_of format) (λ t. t.name) (transformer_named format) ms last_two.1))));
       zones = All-map IsZone (zone_of format) (entries_of lists.Zone ms) (all_kept (breaks_zone format) (λ d. IsZone (zone_of format d)) (zone_measured format) 1 (entries_of lists.Zone ms) (rows_kept lists.Zone (most_rows format lists.Zone) (breaks_zone format) ms zones.0));
       substations = All-map IsSoundSubstation substation_of (entries_of lists.Substation ms) (λ k d lt. natural_holds 1000 1000000000 fields.Ground (members_in (get_or (entries_of lists.Substation ms) k d)));
-      lines = All-map IsMeasured (line_of format) (entries_of lists.Line ms) (all_kept (breaks_line format) (λ d. IsMeasured (line_of format d)) (line_measured format) 1 (entries_of lists.Line ms) (rows_kept lists.Line (most_rows format lists.Line) (breaks_line format) ms last_two.0));
+      lines = All-map IsMeasured (line_row_of format) (entries_of lists.Line ms) (all_kept (breaks_line format) (λ d. IsMeasured (line_row_of format d)) (line_measured format) 1 (entries_of lists.Line ms) (rows_kept lists.Line (most_rows format lists.Line) (breaks_line format) ms last_two.0));
       transformers = All-map IsMeasuredTransformer (transformer_of format) (entries_of lists.Transformer ms) (all_kept (breaks_transformer format) (λ d. IsMeasuredTransformer (transformer_of format d)) (transformer_measured format) 1 (entries_of lists.Transformer ms) (rows_kept lists.Transformer (most_rows format lists.Transformer) (breaks_transformer format) ms last_two.1));
     }
 
-buses_by : (w : Written) → flat_map (λ p. breaks_bus_reference w p.0 p.1) (enumerate_from 1 w.buses) ≡ [] → All (λ b. b.substation < length w.substations) (map (bus_with_place w) w.buses)
+buses_by : (w : WrittenRows) → flat_map (λ p. breaks_bus_reference w p.0 p.1) (enumerate_from 1 w.buses) ≡ [] → All (λ b. b.substation < length w.substations) (map (bus_with_place w) w.buses)
 buses_by w references =
     All-map (λ b. b.substation < length w.substations) (bus_with_place w) w.buses
     (all_kept (breaks_bus_reference w) (λ b. (bus_with_place w b).substation < length w.substations) (λ row b h. place_within (λ s. s.name) w.substations b.substation (unless_holds _ _ h)) 1 w.buses references)
 
 -- a course with places leads as far as it is written, in as many parts
-north_stays : (w : Written) (course : CourseRow) → north_way (parts_of (course_with_places w course)) ≡ written_lines.north_way (written_parts course)
+north_stays : (w : WrittenRows) (course : CourseRow) → north_way (parts_of (course_with_places w course)) ≡ written_lines.north_way (written_parts course)
 north_stays w (courses.One part) = refl
 north_stays w (courses.Several ps) = fold-map (λ a p. a + unsigned_abs p.north) (part_with_place w) 0 ps
 
-east_stays : (w : Written) (course : CourseRow) → east_way (parts_of (course_with_places w course)) ≡ written_lines.east_way (written_parts course)
+east_stays : (w : WrittenRows) (course : CourseRow) → east_way (parts_of (course_with_places w course)) ≡ written_lines.east_way (written_parts course)
 east_stays w (courses.One part) = refl
 east_stays w (courses.Several ps) = fold-map (λ a p. a + unsigned_abs p.east) (part_with_place w) 0 ps
 
-few_stay : (w : Written) (course : CourseRow) → AreFewWritten course → AreFewParts (course_with_places w course)
+few_stay : (w : WrittenRows) (course : CourseRow) → AreFewWritten course → AreFewParts (course_with_places w course)
 few_stay w (courses.One part) h = tt
 few_stay w (courses.Several ps) h =
     let many = length-map ps (part_with_place w) in
     (omega (arith, many, h.0), omega (arith, many, h.1))
 
 -- the lines of a document that breaks no rule
-lines_by : (w : Written) → All IsMeasured w.lines → flat_map (λ p. breaks_line_references w p.0 p.1) (enumerate_from 1 w.lines) ≡ []
+lines_by : (w : WrittenRows) → All IsMeasured w.lines → flat_map (λ p. breaks_line_references w p.0 p.1) (enumerate_from 1 w.lines) ≡ []
     → breaks_same_ends (resolved w) ≡ [] → All (IsSoundLine (resolved w)) (resolved w).lines
 unfolding resolved
 lines_by w measured references apart =
@@ -413,7 +413,7 @@ lines_by w measured references apart =
     }
 
 -- the transformers of a document that breaks no rule
-transformers_by : (w : Written) → All IsMeasuredTransformer w.transformers → flat_map (λ p. breaks_kind_references w p.0 p.1.kind) (enumerate_from 1 w.transformers) ≡ []
+transformers_by : (w : WrittenRows) → All IsMeasuredTransformer w.transformers → flat_map (λ p. breaks_kind_references w p.0 p.1.kind) (enumerate_from 1 w.transformers) ≡ []
     → breaks_same_sides (resolved w) ≡ [] → breaks_apart (resolved w) ≡ [] → breaks_voltage_order (resolved w) ≡ [] → All (IsSoundTransformer (resolved w)) (resolved w).transformers
 unfolding resolved
 transformers_by w measured references differ apart order =
@@ -434,14 +434,14 @@ transformers_by w measured references differ apart order =
       ordered = ordered_there k d lt;
     }))
 
-names_by : (w : Written) → breaks_once w ≡ [] → AllPairs (λ x y. x ≢ y) (names_of (resolved w))
+names_by : (w : WrittenRows) → breaks_once w ≡ [] → AllPairs (λ x y. x ≢ y) (names_of (resolved w))
 unfolding breaks_once
 names_by w h =
     let names = written_names w in
     rw names_stay (all_differ names (λ k lt. none_repeated (is_repeat names) (duplicate_at (length w.zones) (length w.substations) (length w.buses) (length w.lines)) 0 (length names) h k (omega arith) (omega arith)))
 
 -- what the rules on the whole give
-record IsRuled (w : Written) : Type 0 where
+record IsRuled (w : WrittenRows) : Type 0 where
   pub once : breaks_once w ≡ []
   pub references : breaks_references w ≡ []
   pub ends : breaks_same_ends (resolved w) ≡ []
@@ -450,7 +450,7 @@ record IsRuled (w : Written) : Type 0 where
   pub ordered : breaks_voltage_order (resolved w) ≡ []
   pub few : breaks_degree (resolved w) ≡ []
 
-resolved_sound : (w : Written) → IsFormed w → IsRuled w → IsSound (resolved w)
+resolved_sound : (w : WrittenRows) → IsFormed w → IsRuled w → IsSound (resolved w)
 unfolding resolved breaks_references
 resolved_sound w form ruled =
     let buses = none_of_both _ _ ruled.references in
@@ -498,7 +498,7 @@ sound_case ms c h =
     let parts = none_settled (broken_in ms) (resolved (written_in ms)) c (sym (case_in_law ms) ∙ h) in
     subst IsSound parts.1 (sound_by ms parts.0)
 
-accepted_document : (d : Option Members) (c : Lists) → broken d ≡ [] → lists_of d ≡ c → IsSound c
+accepted_document : (d : Option Members) (c : Lists) → case_refusals d ≡ [] → lists_of d ≡ c → IsSound c
 accepted_document None c none is = absurd (cc none)
 accepted_document (Some ms) c none is = subst IsSound is (sound_by ms none)
 
@@ -506,5 +506,5 @@ accepted_document (Some ms) c none is = subst IsSound is (sound_by ms none)
 pub accepted_sound : (bytes : List ℕ) (c : Lists) → case_of bytes ≡ Ok c → IsSound c
 unfolding case_of
 accepted_sound bytes c h =
-    let parts = none_settled (broken (document_of bytes)) (lists_of (document_of bytes)) c h in
+    let parts = none_settled (case_refusals (document_of bytes)) (lists_of (document_of bytes)) c h in
     accepted_document (document_of bytes) c parts.0 parts.1

@@ -2,7 +2,7 @@
 use Rattle.std.specs.Prelude.{ℕ, ◌==◌, Bool, true, false, if◌then◌else◌, Option, option_map, unwrap_or}
 use Rattle.toml.specs.Data.{Data, Members}
 use Rattle.gic_base.specs.declared.limits.TheConstants.{MOST_ZONES, MOST_SUBSTATIONS, MOST_BUSES, MOST_LINES, MOST_TRANSFORMERS, MOST_SUBSTATIONS_BEFORE_FORMAT_3, MOST_BUSES_BEFORE_FORMAT_3, MOST_LINES_BEFORE_FORMAT_3, MOST_TRANSFORMERS_BEFORE_FORMAT_3}
-use Rattle.gic_case_reader.specs.Values.{natural_within, value_at}
+use Rattle.gic_case_reader.specs.Values.{natural_within, field_value}
 use Rattle.gic_case_reader.specs.declared.field.Field.TheVariants as fields
 use Rattle.gic_case_reader.specs.declared.format.Format.{Format}
 use Rattle.gic_case_reader.specs.declared.format.Format.TheVariants as formats
@@ -19,7 +19,7 @@ read_format d = option_map format_by (natural_within 1 3 d)
 
 -- the format of a document; one that tells none counts as of the first
 abbrev pub format_in : Members → Format
-format_in ms = unwrap_or (value_at read_format fields.Format ms) formats.One
+format_in ms = unwrap_or (field_value read_format fields.Format ms) formats.One
 
 -- transformers may have neutral devices: in every format but the first
 abbrev pub has_devices : Format → Bool

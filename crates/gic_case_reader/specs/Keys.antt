@@ -41,8 +41,8 @@ key_of fields.ThirdResistance = codes "third_resistance"
 key_of fields.Neutral = codes "neutral"
 
 -- the key is that of one of these fields
-unfoldable pub is_among : List Field → List ℕ → Bool
-is_among these k = list_any (λ at. same k (key_of at)) these
+unfoldable pub is_key_of : List Field → List ℕ → Bool
+is_key_of these k = list_any (λ at. same k (key_of at)) these
 
 -- the key is that of one of these lists
 unfoldable pub is_list_key : List CaseList → List ℕ → Bool
@@ -50,7 +50,7 @@ is_list_key these k = list_any (λ list. same k (list_word list)) these
 
 -- the document may have the key: its format, and the lists
 abbrev pub is_document_key : List ℕ → Bool
-is_document_key k = is_among (fields.Format ∷ []) k || is_list_key (lists.Zone ∷ lists.Substation ∷ lists.Bus ∷ lists.Line ∷ lists.Transformer ∷ []) k
+is_document_key k = is_key_of (fields.Format ∷ []) k || is_list_key (lists.Zone ∷ lists.Substation ∷ lists.Bus ∷ lists.Line ∷ lists.Transformer ∷ []) k
 
 -- each key of the members passes the test
 abbrev pub has_only : (List ℕ → Bool) → Members → Bool
@@ -67,7 +67,7 @@ has_all these ms = list_all (λ at. has at ms) these
 
 -- the members have the keys of all of the first fields, and no key but of these and of the others
 abbrev pub fits : (required others : List Field) → Members → Bool
-fits required others ms = has_only (λ k. is_among required k || is_among others k) ms && has_all required ms
+fits required others ms = has_only (λ k. is_key_of required k || is_key_of others k) ms && has_all required ms
 
 -- the document has a format, and no key but that and the lists'
 abbrev pub fits_document : Members → Bool

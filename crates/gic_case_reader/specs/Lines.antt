@@ -5,7 +5,7 @@ use Rattle.toml.specs.Data.{Data, Items, no_items, item, as_array, as_bool, as_t
 use Rattle.gic_base.specs.declared.limits.TheConstants.{MOST_PARTS}
 use Rattle.gic_case_reader.specs.Keys.{has, fits}
 use Rattle.gic_case_reader.specs.Formats.{is_third}
-use Rattle.gic_case_reader.specs.Values.{read_name, value_at}
+use Rattle.gic_case_reader.specs.Values.{read_name, field_value}
 use Rattle.gic_case_reader.specs.Rows.{members_in, breaks_keys, breaks_value, breaks_optional, ohm_within, metres_within}
 use Rattle.gic_case_reader.specs.declared.field.Field.{Field}
 use Rattle.gic_case_reader.specs.declared.field.Field.TheVariants as fields
@@ -40,7 +40,7 @@ part_with zone north east =
 -- a table with exactly the name of a zone, and a span to the north and to the east
 abbrev pub read_part : Data → Option PartRow
 read_part d =
-    option_and_then (λ ms. if fits part_fields [] ms then part_with (value_at read_name fields.Zone ms) (value_at metres_within fields.North ms) (value_at metres_within fields.East ms) else None) (as_table d)
+    option_and_then (λ ms. if fits part_fields [] ms then part_with (field_value read_name fields.Zone ms) (field_value metres_within fields.North ms) (field_value metres_within fields.East ms) else None) (as_table d)
 
 -- the parts that items are, where each is one
 abbrev pub parts_in : Items → Option (List PartRow)
@@ -98,16 +98,16 @@ abbrev pub plain_line_of : Data → LineRow
 plain_line_of d =
     let ms = members_in d in
     record {
-      name = unwrap_or (value_at read_name fields.Name ms) [];
-      from = unwrap_or (value_at read_name fields.From ms) [];
-      to = unwrap_or (value_at read_name fields.To ms) [];
+      name = unwrap_or (field_value read_name fields.Name ms) [];
+      from = unwrap_or (field_value read_name fields.From ms) [];
+      to = unwrap_or (field_value read_name fields.To ms) [];
       course = courses.One (record {
-        zone = unwrap_or (value_at read_name fields.Zone ms) [];
-        north = unwrap_or (value_at metres_within fields.North ms) (pos 0);
-        east = unwrap_or (value_at metres_within fields.East ms) (pos 0);
+        zone = unwrap_or (field_value read_name fields.Zone ms) [];
+        north = unwrap_or (field_value metres_within fields.North ms) (pos 0);
+        east = unwrap_or (field_value metres_within fields.East ms) (pos 0);
       });
-      resistance = unwrap_or (value_at ohm_within fields.Resistance ms) 0;
-      blocked = unwrap_or (value_at as_bool fields.Blocked ms) false;
+      resistance = unwrap_or (field_value ohm_within fields.Resistance ms) 0;
+      blocked = unwrap_or (field_value as_bool fields.Blocked ms) false;
     }
 
 -- the line in parts that a row is
@@ -115,14 +115,14 @@ abbrev pub parted_line_of : Data → LineRow
 parted_line_of d =
     let ms = members_in d in
     record {
-      name = unwrap_or (value_at read_name fields.Name ms) [];
-      from = unwrap_or (value_at read_name fields.From ms) [];
-      to = unwrap_or (value_at read_name fields.To ms) [];
-      course = courses.Several (unwrap_or (value_at read_parts fields.Part ms) []);
-      resistance = unwrap_or (value_at ohm_within fields.Resistance ms) 0;
-      blocked = unwrap_or (value_at as_bool fields.Blocked ms) false;
+      name = unwrap_or (field_value read_name fields.Name ms) [];
+      from = unwrap_or (field_value read_name fields.From ms) [];
+      to = unwrap_or (field_value read_name fields.To ms) [];
+      course = courses.Several (unwrap_or (field_value read_parts fields.Part ms) []);
+      resistance = unwrap_or (field_value ohm_within fields.Resistance ms) 0;
+      blocked = unwrap_or (field_value as_bool fields.Blocked ms) false;
     }
 
 -- the line that a row is
-abbrev pub line_of : Format → Data → LineRow
-line_of format d = if is_parted format d then parted_line_of d else plain_line_of d
+abbrev pub line_row_of : Format → Data → LineRow
+line_row_of format d = if is_parted format d then parted_line_of d else plain_line_of d

@@ -7,14 +7,14 @@ use Rattle.gic_case.specs.ZoneView.{ZoneView}
 use Rattle.gic_case.specs.declared.scaling.Scaling.TheVariants as scalings
 use Rattle.gic_case_reader.specs.Keys.{key_of, has, fits, fits_document}
 use Rattle.gic_case.specs.ListWord.{list_word}
-use Rattle.gic_case_reader.specs.Values.{natural_within, read_name, value_at}
+use Rattle.gic_case_reader.specs.Values.{natural_within, read_name, field_value}
 use Rattle.gic_case_reader.specs.Formats.{read_format, most_rows}
 use Rattle.gic_case_reader.specs.Rows.{ohm_within, volts_within, metres_within, read_neutral, is_scaled, earth_zone_fields, scaled_zone_fields, bus_fields}
 use Rattle.gic_case_reader.specs.Lines.{is_parted, plain_line_fields, parted_line_fields, read_parts}
 use Rattle.gic_case.specs.Lists.{substation_with, Lists}
 use Rattle.gic_case_reader.specs.Transformers.{read_kind, fields_of, others_of}
 use Rattle.gic_case_reader.specs.OneByOne.{first_repeat, breaks_same_ends_from, breaks_same_sides_from, breaks_apart_from, breaks_voltage_order_from}
-use Rattle.gic_case_reader.specs.Rules.{Written, written_names, duplicate_at, substation_place, bus_place, zone_place, breaks_degree}
+use Rattle.gic_case_reader.specs.Rules.{WrittenRows, written_names, duplicate_at, substation_place, bus_place, zone_place, breaks_degree}
 use Rattle.gic_case_reader.specs.declared.field.Field.{Field}
 use Rattle.gic_case_reader.specs.declared.field.Field.TheVariants as fields
 use Rattle.gic_case_reader.specs.declared.format.Format.{Format}
@@ -43,7 +43,7 @@ use Rattle.gic_case_reader.specs.declared.transformer.KindWord.TheVariants as wo
 
 -- the value of a field
 unfoldable pub required : {A : Type 0} → (Data → Option A) → CaseList → ℕ → Field → Members → Result A CaseRefusal
-required read list row at ms = or_refuse (value_at read at ms) (refusals.Value list row at)
+required read list row at ms = or_refuse (field_value read at ms) (refusals.Value list row at)
 
 -- what is there, as the test reads it
 abbrev pub optional_in : {A : Type 0} → (Data → Option A) → CaseRefusal → Option Data → Result (Option A) CaseRefusal
@@ -224,7 +224,7 @@ unfoldable pub list_at : {A : Type 0} → CaseList → (limit : ℕ) → (ℕ �
 list_at list limit read ms = items_at list ms >>= (λ ds. if nat_lt limit (count_of ds) then Err (refusals.TooMany list) else rows_from read 1 ds)
 
 -- the rows of all lists
-unfoldable pub rows_of : Members → Result Written CaseRefusal
+unfoldable pub rows_of : Members → Result WrittenRows CaseRefusal
 rows_of ms = do
   keys ← test (fits_document ms) (refusals.Key lists.Document 0)
   format ← required read_format lists.Document 0 fields.Format ms
@@ -241,7 +241,7 @@ refuse_if None = Ok tt
 refuse_if (Some e) = Err e
 
 -- no name comes twice
-unfoldable pub unique : Written → Result (Unit {0}) CaseRefusal
+unfoldable pub unique : WrittenRows → Result (Unit {0}) CaseRefusal
 unique w = refuse_if (option_map (duplicate_at (length w.zones) (length w.substations) (length w.buses) (length w.lines)) (first_repeat (written_names w)))
 
 -- each element of a list, numbered from here on
@@ -307,7 +307,7 @@ transformer_in bus row t = do
   Ok (record { name = t.name; high_volts = t.high_volts; kind = kind; neutral = t.neutral })
 
 -- the lists, with places in place of names
-unfoldable pub resolve : Written → Result Lists CaseRefusal
+unfoldable pub resolve : WrittenRows → Result Lists CaseRefusal
 resolve w = do
   buses ← each (bus_in (substation_place w)) 1 w.buses
   lines ← each (line_in (bus_place w) (zone_place w)) 1 w.lines

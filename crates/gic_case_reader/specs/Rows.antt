@@ -8,7 +8,7 @@ use Rattle.gic_case.specs.Lists.{substation_with}
 use Rattle.gic_case_reader.specs.Keys.{key_of, has, fits}
 use Rattle.gic_case_reader.specs.Formats.{is_third}
 use Rattle.gic_case.specs.Names.{same}
-use Rattle.gic_case_reader.specs.Values.{natural_within, span_within, read_name, value_at}
+use Rattle.gic_case_reader.specs.Values.{natural_within, span_within, read_name, field_value}
 use Rattle.gic_case_reader.specs.declared.field.Field.{Field}
 use Rattle.gic_case_reader.specs.declared.field.Field.TheVariants as fields
 use Rattle.gic_case_reader.specs.declared.format.Format.{Format}
@@ -31,7 +31,7 @@ breaks_keys list required others row d = unless (is_some (as_table d) && fits re
 
 -- a field has a value of its kind
 abbrev pub breaks_value : {A : Type 0} → (Data → Option A) → CaseList → ℕ → Field → Members → List CaseRefusal
-breaks_value read list row at ms = unless (is_some (value_at read at ms)) (refusals.Value list row at)
+breaks_value read list row at ms = unless (is_some (field_value read at ms)) (refusals.Value list row at)
 
 -- what is there is of its kind
 abbrev pub breaks_present : {A : Type 0} → (Data → Option A) → CaseRefusal → Option Data → List CaseRefusal
@@ -101,8 +101,8 @@ abbrev pub earth_zone_of : Data → ZoneView
 earth_zone_of d =
     let ms = members_in d in
     record {
-      name = unwrap_or (value_at read_name fields.Name ms) [];
-      scaling = scalings.Earth (unwrap_or (value_at (natural_within 0 9000) fields.Latitude ms) 0) (unwrap_or (value_at (natural_within 1 150) fields.Beta ms) 0);
+      name = unwrap_or (field_value read_name fields.Name ms) [];
+      scaling = scalings.Earth (unwrap_or (field_value (natural_within 0 9000) fields.Latitude ms) 0) (unwrap_or (field_value (natural_within 1 150) fields.Beta ms) 0);
     }
 
 -- the zone by its scale that a row is
@@ -110,8 +110,8 @@ abbrev pub scaled_zone_of : Data → ZoneView
 scaled_zone_of d =
     let ms = members_in d in
     record {
-      name = unwrap_or (value_at read_name fields.Name ms) [];
-      scaling = scalings.Factor (unwrap_or (value_at (natural_within 1 1500) fields.Scale ms) 0);
+      name = unwrap_or (field_value read_name fields.Name ms) [];
+      scaling = scalings.Factor (unwrap_or (field_value (natural_within 1 1500) fields.Scale ms) 0);
     }
 
 -- the zone that a row is
@@ -130,7 +130,7 @@ breaks_substation row d =
 abbrev pub substation_of : Data → Substation
 substation_of d =
     let ms = members_in d in
-    substation_with (unwrap_or (value_at read_name fields.Name ms) []) (value_at ohm_within fields.Ground ms)
+    substation_with (unwrap_or (field_value read_name fields.Name ms) []) (field_value ohm_within fields.Ground ms)
 
 -- the fields of a bus
 abbrev pub bus_fields : List Field
@@ -149,6 +149,6 @@ abbrev pub bus_of : Data → BusRow
 bus_of d =
     let ms = members_in d in
     record {
-      name = unwrap_or (value_at read_name fields.Name ms) [];
-      substation = unwrap_or (value_at read_name fields.Substation ms) [];
+      name = unwrap_or (field_value read_name fields.Name ms) [];
+      substation = unwrap_or (field_value read_name fields.Substation ms) [];
     }

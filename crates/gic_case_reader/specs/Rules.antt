@@ -11,7 +11,7 @@ use Rattle.gic_case_reader.specs.Keys.{fits_document}
 use Rattle.gic_case.specs.ListWord.{list_word}
 use Rattle.gic_case_reader.specs.Formats.{read_format, format_in, most_rows}
 use Rattle.gic_case_reader.specs.Rows.{breaks_value, breaks_zone, zone_of, breaks_substation, substation_of, breaks_bus, bus_of}
-use Rattle.gic_case_reader.specs.Lines.{breaks_line, line_of}
+use Rattle.gic_case_reader.specs.Lines.{breaks_line, line_row_of}
 use Rattle.gic_case_reader.specs.Transformers.{breaks_transformer, transformer_of}
 use Rattle.gic_case.specs.Names.{is_repeat, place_in}
 use Rattle.gic_case.specs.Lists.{Lists, node_names, element_ends, degree_of}
@@ -79,7 +79,7 @@ breaks_form ms =
     ++ breaks_list lists.Transformer (most_rows format lists.Transformer) (breaks_transformer format) ms)))))
 
 -- the rows as they are written, with names in place of references
-pub record Written : Type 0 where
+pub record WrittenRows : Type 0 where
   pub zones : List ZoneView
   pub substations : List Substation
   pub buses : List BusRow
@@ -87,17 +87,17 @@ pub record Written : Type 0 where
   pub transformers : List TransformerRow
 
 -- the rows of a document, each field that breaks its rule taken as zero
-unfoldable pub written_in : Members → Written
+unfoldable pub written_in : Members → WrittenRows
 written_in ms = record {
   zones = map (zone_of (format_in ms)) (entries_of lists.Zone ms);
   substations = map substation_of (entries_of lists.Substation ms);
   buses = map bus_of (entries_of lists.Bus ms);
-  lines = map (line_of (format_in ms)) (entries_of lists.Line ms);
+  lines = map (line_row_of (format_in ms)) (entries_of lists.Line ms);
   transformers = map (transformer_of (format_in ms)) (entries_of lists.Transformer ms);
 }
 
 -- the names of all rows, list after list
-abbrev pub written_names : Written → List (List ℕ)
+abbrev pub written_names : WrittenRows → List (List ℕ)
 written_names w = map (λ z. z.name) w.zones ++ (map (λ s. s.name) w.substations ++ (map (λ b. b.name) w.buses ++ (map (λ l. l.name) w.lines ++ map (λ t. t.name) w.transformers)))
 
 -- the refusal for a place in these names
@@ -110,54 +110,54 @@ duplicate_at zones substations buses lines i =
     else refusals.Duplicate lists.Transformer (i - (zones + substations + buses + lines) + 1)
 
 -- a row's name is the name of no earlier row
-unfoldable pub breaks_once : Written → List CaseRefusal
+unfoldable pub breaks_once : WrittenRows → List CaseRefusal
 breaks_once w =
     let names = written_names w in
     flat_map (λ i. unless (not (is_repeat names i)) (duplicate_at (length w.zones) (length w.substations) (length w.buses) (length w.lines) i)) (range_with_len 0 (length names))
 
 -- where the substation of a name stands in its list, if there is one
-abbrev pub substation_place : Written → List ℕ → Option ℕ
+abbrev pub substation_place : WrittenRows → List ℕ → Option ℕ
 substation_place w = place_in (map (λ s. s.name) w.substations)
 
 -- the same for buses
-abbrev pub bus_place : Written → List ℕ → Option ℕ
+abbrev pub bus_place : WrittenRows → List ℕ → Option ℕ
 bus_place w = place_in (map (λ b. b.name) w.buses)
 
 -- the same for zones
-abbrev pub zone_place : Written → List ℕ → Option ℕ
+abbrev pub zone_place : WrittenRows → List ℕ → Option ℕ
 zone_place w = place_in (map (λ z. z.name) w.zones)
 
 -- a bus is in one of the substations
-abbrev pub breaks_bus_reference : Written → ℕ → BusRow → List CaseRefusal
+abbrev pub breaks_bus_reference : WrittenRows → ℕ → BusRow → List CaseRefusal
 breaks_bus_reference w row b = unless (is_some (substation_place w b.substation)) (refusals.Unknown lists.Bus row fields.Substation)
 
 -- a part of a line is in one of the zones
-abbrev pub is_in_zone : Written → PartRow → Bool
+abbrev pub is_in_zone : WrittenRows → PartRow → Bool
 is_in_zone w part = is_some (zone_place w part.zone)
 
 -- a line leads through one of the zones, or each of its parts does
-abbrev pub breaks_course_reference : Written → ℕ → CourseRow → List CaseRefusal
+abbrev pub breaks_course_reference : WrittenRows → ℕ → CourseRow → List CaseRefusal
 breaks_course_reference w row (written.One part) = unless (is_in_zone w part) (refusals.Unknown lists.Line row fields.Zone)
 breaks_course_reference w row (written.Several ps) = unless (list_all (is_in_zone w) ps) (refusals.Unknown lists.Line row fields.Part)
 
 -- a line runs between two of the buses, and through the zones
-abbrev pub breaks_line_references : Written → ℕ → LineRow → List CaseRefusal
+abbrev pub breaks_line_references : WrittenRows → ℕ → LineRow → List CaseRefusal
 breaks_line_references w row l =
     unless (is_some (bus_place w l.from)) (refusals.Unknown lists.Line row fields.From)
     ++ (unless (is_some (bus_place w l.to)) (refusals.Unknown lists.Line row fields.To)
     ++ breaks_course_reference w row l.course)
 
 -- a side of a transformer is at one of the buses
-abbrev pub breaks_side_reference : Written → ℕ → Field → (bus : List ℕ) → List CaseRefusal
+abbrev pub breaks_side_reference : WrittenRows → ℕ → Field → (bus : List ℕ) → List CaseRefusal
 breaks_side_reference w row at bus = unless (is_some (bus_place w bus)) (refusals.Unknown lists.Transformer row at)
 
 -- a third side, where there is one, is at one of the buses
-abbrev pub breaks_third_reference : Written → ℕ → Option (Third (List ℕ)) → List CaseRefusal
+abbrev pub breaks_third_reference : WrittenRows → ℕ → Option (Third (List ℕ)) → List CaseRefusal
 breaks_third_reference w row None = []
 breaks_third_reference w row (Some t) = breaks_side_reference w row fields.Third t.bus
 
 -- the sides that a kind has are at buses: first the high one, then the low one, then the third
-abbrev pub breaks_kind_references : Written → ℕ → Kind (List ℕ) → List CaseRefusal
+abbrev pub breaks_kind_references : WrittenRows → ℕ → Kind (List ℕ) → List CaseRefusal
 breaks_kind_references w row (kinds.DeltaWye high high_resistance) = breaks_side_reference w row fields.High high
 breaks_kind_references w row (kinds.WyeWye high low low_volts high_resistance low_resistance third) = breaks_side_reference w row fields.High high ++ (breaks_side_reference w row fields.Low low ++ breaks_third_reference w row third)
 breaks_kind_references w row (kinds.Auto high low low_volts series_resistance common_resistance third) = breaks_side_reference w row fields.High high ++ (breaks_side_reference w row fields.Low low ++ breaks_third_reference w row third)
@@ -165,27 +165,27 @@ breaks_kind_references w row (kinds.Reactor high high_resistance) = breaks_side_
 breaks_kind_references w row kinds.DeltaDelta = []
 
 -- each reference is the name of a row of its list
-unfoldable pub breaks_references : Written → List CaseRefusal
+unfoldable pub breaks_references : WrittenRows → List CaseRefusal
 breaks_references w =
     flat_map (λ p. breaks_bus_reference w p.0 p.1) (enumerate_from 1 w.buses)
     ++ (flat_map (λ p. breaks_line_references w p.0 p.1) (enumerate_from 1 w.lines)
     ++ flat_map (λ p. breaks_kind_references w p.0 p.1.kind) (enumerate_from 1 w.transformers))
 
 -- a bus, with the place of its substation
-abbrev pub bus_with_place : Written → BusRow → Bus
+abbrev pub bus_with_place : WrittenRows → BusRow → Bus
 bus_with_place w b = record { name = b.name; substation = unwrap_or (substation_place w b.substation) 0 }
 
 -- a part, with the place of its zone
-abbrev pub part_with_place : Written → PartRow → LinePart
+abbrev pub part_with_place : WrittenRows → PartRow → LinePart
 part_with_place w part = record { zone = unwrap_or (zone_place w part.zone) 0; north = part.north; east = part.east }
 
 -- where a line leads, with the places of the zones
-abbrev pub course_with_places : Written → CourseRow → Course
+abbrev pub course_with_places : WrittenRows → CourseRow → Course
 course_with_places w (written.One part) = courses.One (part_with_place w part)
 course_with_places w (written.Several ps) = courses.Several (map (part_with_place w) ps)
 
 -- a line, with the places of its buses and its zones
-abbrev pub line_with_places : Written → LineRow → Line
+abbrev pub line_with_places : WrittenRows → LineRow → Line
 line_with_places w l = record {
   name = l.name;
   from = unwrap_or (bus_place w l.from) 0;
@@ -196,15 +196,15 @@ line_with_places w l = record {
 }
 
 -- the place of a bus, and the first place for a name that is nowhere
-abbrev pub side_place : Written → (bus : List ℕ) → ℕ
+abbrev pub side_place : WrittenRows → (bus : List ℕ) → ℕ
 side_place w bus = unwrap_or (bus_place w bus) 0
 
 -- a third side, with the place of its bus
-abbrev pub third_with_place : Written → Third (List ℕ) → Third ℕ
+abbrev pub third_with_place : WrittenRows → Third (List ℕ) → Third ℕ
 third_with_place w t = record { bus = side_place w t.bus; volts = t.volts; resistance = t.resistance }
 
 -- a kind, with the places of its buses
-abbrev pub kind_with_places : Written → Kind (List ℕ) → Kind ℕ
+abbrev pub kind_with_places : WrittenRows → Kind (List ℕ) → Kind ℕ
 kind_with_places w (kinds.DeltaWye high high_resistance) = kinds.DeltaWye (side_place w high) high_resistance
 kind_with_places w (kinds.WyeWye high low low_volts high_resistance low_resistance third) = kinds.WyeWye (side_place w high) (side_place w low) low_volts high_resistance low_resistance (option_map (third_with_place w) third)
 kind_with_places w (kinds.Auto high low low_volts series_resistance common_resistance third) = kinds.Auto (side_place w high) (side_place w low) low_volts series_resistance common_resistance (option_map (third_with_place w) third)
@@ -212,11 +212,11 @@ kind_with_places w (kinds.Reactor high high_resistance) = kinds.Reactor (side_pl
 kind_with_places w kinds.DeltaDelta = kinds.DeltaDelta
 
 -- a transformer, with the places of its buses
-abbrev pub transformer_with_places : Written → TransformerRow → Transformer
+abbrev pub transformer_with_places : WrittenRows → TransformerRow → Transformer
 transformer_with_places w t = record { name = t.name; high_volts = t.high_volts; kind = kind_with_places w t.kind; neutral = t.neutral }
 
 -- the lists, with places in place of names; a name that is nowhere stands for the first place
-unfoldable pub resolved : Written → Lists
+unfoldable pub resolved : WrittenRows → Lists
 resolved w = record {
   zones = w.zones;
   substations = w.substations;
@@ -264,9 +264,9 @@ broken_in ms =
     ++ breaks_degree c))))))
 
 -- all rules on bytes, as the document that they are
-abbrev pub broken : Option Members → List CaseRefusal
-broken None = refusals.NotToml ∷ []
-broken (Some ms) = broken_in ms
+abbrev pub case_refusals : Option Members → List CaseRefusal
+case_refusals None = refusals.NotToml ∷ []
+case_refusals (Some ms) = broken_in ms
 
 -- the lists of a document, and none where there is no document
 abbrev pub lists_of : Option Members → Lists
@@ -279,4 +279,4 @@ document_of bytes = if is_utf8 bytes then parse_document bytes else None
 
 -- the case that the bytes are, or the first rule that they break
 unfoldable pub case_of : List ℕ → Result Lists CaseRefusal
-case_of bytes = settle (broken (document_of bytes)) (lists_of (document_of bytes))
+case_of bytes = settle (case_refusals (document_of bytes)) (lists_of (document_of bytes))

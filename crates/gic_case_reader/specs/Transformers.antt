@@ -5,7 +5,7 @@ use Rattle.gic_base.specs.Refusals.{unless}
 use Rattle.gic_case.specs.Names.{same}
 use Rattle.gic_case_reader.specs.Keys.{has, fits}
 use Rattle.gic_case_reader.specs.Formats.{has_devices, is_third}
-use Rattle.gic_case_reader.specs.Values.{read_name, value_at}
+use Rattle.gic_case_reader.specs.Values.{read_name, field_value}
 use Rattle.gic_case_reader.specs.Rows.{members_in, breaks_value, breaks_optional, ohm_within, volts_within, read_neutral}
 use Rattle.gic_case_reader.specs.declared.field.Field.{Field}
 use Rattle.gic_case_reader.specs.declared.field.Field.TheVariants as fields
@@ -70,7 +70,7 @@ others_of format kind = if has_neutral kind && has_devices format then fields.Ne
 
 -- the kind of a row, in which a wrong word counts as delta-delta
 abbrev pub kind_of : Format → Members → KindWord
-kind_of format ms = unwrap_or (value_at (read_kind format) fields.Kind ms) words.DeltaDelta
+kind_of format ms = unwrap_or (field_value (read_kind format) fields.Kind ms) words.DeltaDelta
 
 -- the field of a transformer is the name of a bus
 abbrev pub breaks_bus_name : ℕ → Field → Members → List CaseRefusal
@@ -140,15 +140,15 @@ breaks_transformer format row d =
 
 -- the name in a field of a row, and none where there is no name
 abbrev pub name_in : Field → Members → List ℕ
-name_in at ms = unwrap_or (value_at read_name at ms) []
+name_in at ms = unwrap_or (field_value read_name at ms) []
 
 -- the resistance in a field, and zero where there is none
 abbrev pub ohm_in : Field → Members → ℕ
-ohm_in at ms = unwrap_or (value_at ohm_within at ms) 0
+ohm_in at ms = unwrap_or (field_value ohm_within at ms) 0
 
 -- the rated voltage in a field, and zero where there is none
 abbrev pub volts_in : Field → Members → ℕ
-volts_in at ms = unwrap_or (value_at volts_within at ms) 0
+volts_in at ms = unwrap_or (field_value volts_within at ms) 0
 
 -- the third winding that a row tells, of a unit with one
 abbrev pub third_told : (with_third : Bool) → Members → Option (Third (List ℕ))
@@ -181,5 +181,5 @@ transformer_of format d =
       name = name_in fields.Name ms;
       high_volts = volts_in fields.HighVolts ms;
       kind = own_of (kind_of format ms) ms;
-      neutral = value_at read_neutral fields.Neutral ms;
+      neutral = field_value read_neutral fields.Neutral ms;
     }

@@ -27,5 +27,5 @@ abbrev pub read_name : Data → Option (List ℕ)
 read_name d = option_and_then (λ s. if is_name s then Some s else None) (as_str d)
 
 -- the value under a field's key, as the test reads it
-abbrev pub value_at : {A : Type 0} → (Data → Option A) → Field → Members → Option A
-value_at read at ms = option_and_then read (get_member (key_of at) ms)
+abbrev pub field_value : {A : Type 0} → (Data → Option A) → Field → Members → Option A
+field_value read at ms = option_and_then read (get_member (key_of at) ms)

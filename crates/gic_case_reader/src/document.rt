@@ -6,7 +6,7 @@ ghost use Rattle.gic_base.specs.Passes.{or_refuse, test};
 ghost use Rattle.gic_case_reader.specs.declared.refusal.CaseRefusal.TheVariants.{NotToml, Key};
 ghost use Rattle.gic_case.specs.declared.case_list.CaseList.TheVariants as lists;
 ghost use Rattle.gic_case_reader.specs.Keys.{fits_document};
-ghost use Rattle.gic_case_reader.specs.Rules.{Written, document_of};
+ghost use Rattle.gic_case_reader.specs.Rules.{WrittenRows, document_of};
 ghost use Rattle.gic_case_reader.specs.Pass.{rows_of};
 
 use crate::format::format_at;
@@ -63,9 +63,9 @@ pub(crate) struct Rows {
 impl Model for Rows {
     ghost use Rattle.std.specs.Prelude.{◌≤◌, length};
     ghost use Rattle.gic_base.specs.declared.limits.TheConstants.{MOST_ZONES, MOST_SUBSTATIONS, MOST_BUSES, MOST_LINES, MOST_TRANSFORMERS};
-    ghost use Rattle.gic_case_reader.specs.Rules.{Written};
+    ghost use Rattle.gic_case_reader.specs.Rules.{WrittenRows};
 
-    ghost Value = { Written };
+    ghost Value = { WrittenRows };
 
     ghost view = { λ r. record {
       zones = r.zones.items;

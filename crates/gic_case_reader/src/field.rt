@@ -1,6 +1,6 @@
 //! The fields of rows and their keys.
 ghost use Rattle.std.specs.Prelude.{◌≡◌};
-ghost use Rattle.gic_case_reader.specs.Keys.{key_of, is_among};
+ghost use Rattle.gic_case_reader.specs.Keys.{key_of, is_key_of};
 
 /// A key of a row, or of the document.
 #[derive(Clone, Copy, Debug, PartialEq, Eq)]
@@ -74,9 +74,9 @@ impl Field {
 }
 
 /// Whether a key is that of one of these fields.
-#[tactic(auto, unfolding(crate::specs::Keys::is_among))]
+#[tactic(auto, unfolding(crate::specs::Keys::is_key_of))]
 pub(crate) fn is_among(fields: &[Field], key: &str) -> bool
-    ensures { result ≡ is_among fields.now key.now }
+    ensures { result ≡ is_key_of fields.now key.now }
 {
     fields.iter().any(|at| key == at.key())
 }

@@ -3,7 +3,7 @@ ghost use Rattle.std.specs.Prelude.{◌≡◌, option_map, ◌||◌};
 ghost use Rattle.toml.specs.Data.{get_member};
 ghost use Rattle.toml.specs.View.{view, table_view};
 ghost use Rattle.gic_base.specs.Refusals.{AnswersExactly};
-ghost use Rattle.gic_case_reader.specs.Keys.{is_among, is_list_key, is_document_key, has, has_only, has_all, fits, fits_document};
+ghost use Rattle.gic_case_reader.specs.Keys.{is_key_of, is_list_key, is_document_key, has, has_only, has_all, fits, fits_document};
 ghost use Rattle.gic_case_reader.specs.Rows.{members_in};
 ghost use Rattle.gic_case_reader.specs.Pass.{row_table};
 
@@ -71,7 +71,7 @@ fn has_all(fields: &[Field], table: &Table) -> bool
 
 /// Whether a table has no key but those of these fields.
 fn has_only(required: &[Field], others: &[Field], table: &Table) -> bool
-    ensures { result ≡ has_only (λ k. is_among required.now k || is_among others.now k) (table_view table.now) }
+    ensures { result ≡ has_only (λ k. is_key_of required.now k || is_key_of others.now k) (table_view table.now) }
 {
     for key in table.keys() {
         let key = key.as_str();

@@ -11,7 +11,7 @@ use Rattle.gic_cert.specs.declared.refusal.CertRefusal.{CertRefusal}
 use Rattle.gic_cert.specs.Written.{Written, Certificate, IsWritten}
 use Rattle.gic_cert.specs.Text.{cert_text}
 use Rattle.gic_cert.specs.Cuts.{lines_cut}
-use Rattle.gic_cert.specs.Reading.{NamedNode, node_in, nodes_in, number_or_0, field_in, cert_in, cert_of}
+use Rattle.gic_cert.specs.Reading.{NamedNode, node_in, nodes_in, number_or_0, field_part_in, cert_in, cert_of}
 use Rattle.gic_cert.proofs.TextBack.{reading_gives_back}
 
 settled_value : {A : Type 0} (es : List CertRefusal) (x y : A) → settle es x ≡ Ok y → x ≡ y
@@ -63,7 +63,7 @@ cert_same : (names : List (List ℕ)) (xs ys : List Bool) (lines : List Words) �
 cert_same names xs ys [] h k = refl
 cert_same names xs ys (first ∷ []) h k = refl
 cert_same names xs ys (first ∷ second ∷ lines) h k =
-    ap (λ (ns : List (Option Written)). record { north = number_or_0 (field_in second 3); east = number_or_0 (field_in second 5); nodes = ns }) (nodes_same names xs ys lines h k)
+    ap (λ (ns : List (Option Written)). record { north = number_or_0 (field_part_in second 3); east = number_or_0 (field_part_in second 5); nodes = ns }) (nodes_same names xs ys lines h k)
 
 -- reading back over the names
 read_back : (names : List (List ℕ)) (c : Certificate) → AllByRecursion (λ name. is_name name ≡ true) names → length names ≤ MOST_WRITTEN_NODES → IsWritten c → length c.nodes ≡ length names →

@@ -12,7 +12,7 @@ use Rattle.gic_base.specs.declared.read_fault.ReadFault.{ReadFault}
 use Rattle.gic_base.specs.declared.read_fault.ReadFault.TheVariants.{Refused, Memory}
 use Rattle.gic_cert.specs.declared.refusal.CertRefusal.{CertRefusal}
 use Rattle.gic_cert.specs.declared.rows.NodeName.{NodeName}
-use Rattle.gic_cert.specs.Reading.{NamedNode, IsFirstOf, TellsFirst, breaks_node, breaks_field, breaks_behind, broken, node_in, nodes_in, cert_in, is_node_line, are_node_numbers, is_line_of, is_dead_line, is_only, has_word}
+use Rattle.gic_cert.specs.Reading.{NamedNode, IsFirstOf, TellsFirst, breaks_node, breaks_field, breaks_behind, certificate_refusals, node_in, nodes_in, cert_in, is_node_line, are_node_numbers, is_line_of, is_dead_line, is_only, has_word}
 use Rattle.gic_cert.specs.Rows.{named_nodes}
 
 pub count_named : (nodes : List NodeName) → length (named_nodes nodes) ≡ length nodes
@@ -94,7 +94,7 @@ lines_live row (node ∷ nodes) (line ∷ lines) h =
     cc
 
 -- the numbers of an accepted text stand at exactly the live nodes
-pub read_live : (nodes : List NamedNode) (lines : List Words) → broken nodes lines ≡ [] → map is_some (cert_in nodes lines).nodes ≡ map (λ node. node.1) nodes
+pub read_live : (nodes : List NamedNode) (lines : List Words) → certificate_refusals nodes lines ≡ [] → map is_some (cert_in nodes lines).nodes ≡ map (λ node. node.1) nodes
 read_live nodes [] h = absurd (no_way h)
   where
     no_way : refusals.Shape 1 ∷ [] ≡ [] → ⊥

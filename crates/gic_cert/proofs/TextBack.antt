@@ -17,7 +17,7 @@ use Rattle.gic_cert.specs.declared.refusal.CertRefusal.{CertRefusal}
 use Rattle.gic_cert.specs.Written.{Written, Certificate, IsWritten, IsWrittenNode}
 use Rattle.gic_report.specs.SharedLines.{Words}
 use Rattle.gic_cert.specs.Text.{nodes_line, written_line, lines_behind, cert_lines, cert_text}
-use Rattle.gic_cert.specs.Reading.{NamedNode, breaks_field, breaks_node, breaks_behind, broken, node_in, nodes_in, cert_in, cert_of}
+use Rattle.gic_cert.specs.Reading.{NamedNode, breaks_field, breaks_node, breaks_behind, certificate_refusals, node_in, nodes_in, cert_in, cert_of}
 use Rattle.gic_cert.proofs.CutLaws.{lines_back, IsShort}
 use Rattle.gic_cert.proofs.Numbers.{number_back}
 
@@ -152,7 +152,7 @@ accepted : (nodes : List NamedNode) (written : List (Option Written)) (behind : 
     breaks_field (length nodes) (codes "nodes" ∷ a ∷ codes "north" ∷ b ∷ codes "east" ∷ d ∷ []) ≡ [] →
     read_wide b (neg_ℤ (pos 20000)) (pos 20000) ≡ Some n → read_wide d (neg_ℤ (pos 20000)) (pos 20000) ≡ Some e →
     breaks_behind 3 nodes behind ≡ [] → nodes_in nodes behind ≡ written →
-    settle (broken nodes ((codes "certificate" ∷ []) ∷ (codes "nodes" ∷ a ∷ codes "north" ∷ b ∷ codes "east" ∷ d ∷ []) ∷ behind))
+    settle (certificate_refusals nodes ((codes "certificate" ∷ []) ∷ (codes "nodes" ∷ a ∷ codes "north" ∷ b ∷ codes "east" ∷ d ∷ []) ∷ behind))
     (cert_in nodes ((codes "certificate" ∷ []) ∷ (codes "nodes" ∷ a ∷ codes "north" ∷ b ∷ codes "east" ∷ d ∷ []) ∷ behind))
     ≡ Ok (record { north = n; east = e; nodes = written })
 accepted nodes written behind a b d n e field eb ed none value =
@@ -216,5 +216,5 @@ reading_gives_back nodes c names few written same =
       ),
     ) in
     let short : AllByRecursion IsShort (cert_lines (map (λ node. node.0) nodes) c) = (refl, (refl, lines_behind_short (map (λ node. node.0) nodes) c.nodes)) in
-    ap (λ ls. settle (broken nodes ls) (cert_in nodes ls)) (lines_back (cert_lines (map (λ node. node.0) nodes) c) lines short) ∙
+    ap (λ ls. settle (certificate_refusals nodes ls) (cert_in nodes ls)) (lines_back (cert_lines (map (λ node. node.0) nodes) c) lines short) ∙
     accepted nodes c.nodes (lines_behind (map (λ node. node.0) nodes) c.nodes) (decimal (length c.nodes)) (signed_decimal c.north) (signed_decimal c.east) c.north c.east field eb ed behind.0 behind.1

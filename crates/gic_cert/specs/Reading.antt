@@ -42,25 +42,25 @@ abbrev pub none_empty : Words → Bool
 none_empty words = list_all (λ word. nat_le 1 (length word)) words
 
 -- the number that a word of the line writes, where it is one in this range
-abbrev pub number_in : Words → ℕ → ℤ → ℤ → Option ℤ
-number_in words place least most = read_wide (word_at words place) least most
+abbrev pub number_of_word : Words → ℕ → ℤ → ℤ → Option ℤ
+number_of_word words place least most = read_wide (word_at words place) least most
 
 -- the number of nodes, and the two parts of the field, in the second line
 abbrev pub count_in : Words → Option ℤ
-count_in words = number_in words 1 (pos 0) (pos MOST_WRITTEN_NODES)
+count_in words = number_of_word words 1 (pos 0) (pos MOST_WRITTEN_NODES)
 
-abbrev pub field_in : Words → ℕ → Option ℤ
-field_in words place = number_in words place (neg_ℤ (pos MOST_FIELD)) (pos MOST_FIELD)
+abbrev pub field_part_in : Words → ℕ → Option ℤ
+field_part_in words place = number_of_word words place (neg_ℤ (pos MOST_FIELD)) (pos MOST_FIELD)
 
 -- the entry, the guess and the radius in the line of a live node
 abbrev pub entry_in : Words → Option ℤ
-entry_in words = number_in words 2 (pos 1) (pos MOST_WALK)
+entry_in words = number_of_word words 2 (pos 1) (pos MOST_WALK)
 
 abbrev pub guess_in : Words → Option ℤ
-guess_in words = number_in words 3 (neg_ℤ (pos MOST_WRITTEN_GUESS)) (pos MOST_WRITTEN_GUESS)
+guess_in words = number_of_word words 3 (neg_ℤ (pos MOST_WRITTEN_GUESS)) (pos MOST_WRITTEN_GUESS)
 
 abbrev pub radius_in : Words → Option ℤ
-radius_in words = number_in words 4 (pos 0) (pos MOST_WRITTEN_RADIUS)
+radius_in words = number_of_word words 4 (pos 0) (pos MOST_WRITTEN_RADIUS)
 
 -- a number, or 0 where there is none
 abbrev pub number_or_0 : Option ℤ → ℤ
@@ -72,7 +72,7 @@ is_field_line words = ((length words == 6) && none_empty words) && (has_word wor
 
 abbrev pub are_field_numbers : ℕ → Words → Bool
 are_field_numbers count words =
-    (is_some (count_in words) && (is_some (field_in words 3) && is_some (field_in words 5))) && (unsigned_abs (number_or_0 (count_in words)) == count)
+    (is_some (count_in words) && (is_some (field_part_in words 3) && is_some (field_part_in words 5))) && (unsigned_abs (number_or_0 (count_in words)) == count)
 
 abbrev pub breaks_field : ℕ → Words → List CertRefusal
 breaks_field count words = unless (is_field_line words) (refusals.Shape 2) ++ unless (are_field_numbers count words) (refusals.Number 2)
@@ -111,9 +111,9 @@ breaks_second nodes [] = refusals.Shape 2 ∷ []
 breaks_second nodes (second ∷ lines) = breaks_field (length nodes) second ++ breaks_behind 3 nodes lines
 
 -- all rules
-abbrev pub broken : List NamedNode → List Words → List CertRefusal
-broken nodes [] = refusals.Shape 1 ∷ []
-broken nodes (first ∷ lines) = unless (is_only (codes "certificate") first) (refusals.Shape 1) ++ breaks_second nodes lines
+abbrev pub certificate_refusals : List NamedNode → List Words → List CertRefusal
+certificate_refusals nodes [] = refusals.Shape 1 ∷ []
+certificate_refusals nodes (first ∷ lines) = unless (is_only (codes "certificate") first) (refusals.Shape 1) ++ breaks_second nodes lines
 
 -- what the line of a node says, a number that breaks its rule taken as 0
 abbrev pub node_in : Words → Option Written
@@ -136,8 +136,8 @@ no_cert = record { north = pos 0; east = pos 0; nodes = [] }
 abbrev pub cert_behind : List NamedNode → List Words → Certificate
 cert_behind nodes [] = no_cert
 cert_behind nodes (second ∷ lines) = record {
-  north = number_or_0 (field_in second 3);
-  east = number_or_0 (field_in second 5);
+  north = number_or_0 (field_part_in second 3);
+  east = number_or_0 (field_part_in second 5);
   nodes = nodes_in nodes lines;
 }
 
@@ -148,7 +148,7 @@ cert_in nodes (first ∷ lines) = cert_behind nodes lines
 
 -- the certificate that the bytes are over these nodes, or the first rule that they break
 unfoldable pub cert_of : List NamedNode → List ℕ → Result Certificate CertRefusal
-cert_of nodes bytes = settle (broken nodes (lines_cut bytes)) (cert_in nodes (lines_cut bytes))
+cert_of nodes bytes = settle (certificate_refusals nodes (lines_cut bytes)) (cert_in nodes (lines_cut bytes))
 
 -- the first of these refusals
 abbrev pub IsFirstOf : List CertRefusal → CertRefusal → Type 0

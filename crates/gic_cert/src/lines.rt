@@ -2,7 +2,7 @@
 ghost use Rattle.std.specs.Prelude.{◌≡◌, ◌≤◌, List, [], map, codes, IfOk, IfErr, pos, neg_ℤ, unsigned_abs};
 ghost use Rattle.gic_base.specs.declared.limits.TheConstants.{MOST_FIELD};
 ghost use Rattle.gic_cert.specs.Reading.{word_at, has_word, none_empty, is_only, is_field_line, breaks_field, is_dead_line, is_node_line};
-ghost use Rattle.gic_cert.specs.Reading.{breaks_node, node_in, field_in, number_or_0, IsFirstOf};
+ghost use Rattle.gic_cert.specs.Reading.{breaks_node, node_in, field_part_in, number_or_0, IsFirstOf};
 ghost use Rattle.gic_cert.specs.Rows.{row_written, IsNodeRow};
 
 use crate::limits::{MOST_WRITTEN_GUESS, MOST_WRITTEN_NODES, MOST_WRITTEN_RADIUS};
@@ -80,8 +80,8 @@ fn is_node_line(words: &[&[u8]]) -> bool
 /// What the second line with these words says of the field, over this many nodes.
 pub(crate) fn read_field(words: &[&[u8]], count: u16) -> Result<Field, CertRefusal>
     ensures kept { IfOk result (λ field. breaks_field count (map (λ w. w.now) words.now) ≡ []) }
-    ensures north { IfOk result (λ field. field.north ≡ number_or_0 (field_in (map (λ w. w.now) words.now) 3)) }
-    ensures east { IfOk result (λ field. field.east ≡ number_or_0 (field_in (map (λ w. w.now) words.now) 5)) }
+    ensures north { IfOk result (λ field. field.north ≡ number_or_0 (field_part_in (map (λ w. w.now) words.now) 3)) }
+    ensures east { IfOk result (λ field. field.east ≡ number_or_0 (field_part_in (map (λ w. w.now) words.now) 5)) }
     ensures range { IfOk result (λ field. (unsigned_abs field.north ≤ MOST_FIELD) × (unsigned_abs field.east ≤ MOST_FIELD)) }
     ensures first { IfErr result (IsFirstOf (breaks_field count (map (λ w. w.now) words.now))) }
 {

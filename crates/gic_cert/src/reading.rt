@@ -3,7 +3,8 @@ ghost use Rattle.std.specs.Prelude.{◌≡◌, ◌+◌, ◌≤◌, List, [], ◌
 ghost use Rattle.gic_base.specs.declared.limits.TheConstants.{MOST_FIELD};
 ghost use Rattle.gic_cert.specs.declared.limits.TheConstants.{MOST_WRITTEN_NODES};
 ghost use Rattle.gic_cert.specs.Cuts.{lines_cut};
-ghost use Rattle.gic_cert.specs.Reading.{NamedNode, breaks_behind, nodes_in, breaks_second, broken, cert_behind, cert_in, TellsFirst};
+ghost use Rattle.gic_cert.specs.Reading.{NamedNode, breaks_behind, nodes_in, breaks_second, certificate_refusals, cert_behind, cert_in};
+ghost use Rattle.gic_cert.specs.Reading.{TellsFirst};
 ghost use Rattle.gic_cert.specs.Rows.{row_written, named_nodes, IsNodeRow};
 
 use crate::cutting::next_line;
@@ -130,13 +131,13 @@ pub(crate) fn read_rows(
     nodes: &[NodeName],
 ) -> Result<ReadCert, ReadFault<CertRefusal>>
     requires few { length nodes.now ≤ MOST_WRITTEN_NODES }
-    ensures kept { IfOk result (λ read. broken (named_nodes nodes.now) (lines_cut bytes.now) ≡ []) }
+    ensures kept { IfOk result (λ read. certificate_refusals (named_nodes nodes.now) (lines_cut bytes.now) ≡ []) }
     ensures value { IfOk result (λ read. record { north = read.field.north; east = read.field.east; nodes = map row_written read.rows.items }
         ≡ cert_in (named_nodes nodes.now) (lines_cut bytes.now)) }
     ensures field { IfOk result (λ read. (unsigned_abs read.field.north ≤ MOST_FIELD) × (unsigned_abs read.field.east ≤ MOST_FIELD)) }
     ensures count { IfOk result (λ read. length read.rows.items ≤ length nodes.now) }
     ensures range { IfOk result (λ read. All IsNodeRow read.rows.items) }
-    ensures first { IfErr result (TellsFirst (broken (named_nodes nodes.now) (lines_cut bytes.now))) }
+    ensures first { IfErr result (TellsFirst (certificate_refusals (named_nodes nodes.now) (lines_cut bytes.now))) }
 {
     if bytes.is_empty() {
         return Err(ReadFault::Refused(CertRefusal::Shape { row: 1 }));

@@ -19,7 +19,7 @@ use Rattle.gic_induce.specs.LineVolts.{volts_of}
 use Rattle.gic_model.specs.Voltages.{number_at}
 use Rattle.gic_winding.specs.ElementList.{elements_of}
 use Rattle.gic_course.specs.Views.{IsShownIn}
-use Rattle.gic_storm.specs.declared.row.Row.{Row}
+use Rattle.gic_storm.specs.declared.row.StormRow.{StormRow}
 use Rattle.gic_storm.specs.StepFields.{field_at_step, fields_at_step}
 
 -- the view stays narrow
@@ -58,5 +58,5 @@ pub have_absolutes : (view : View) → ((t : ℕ) → t < length view.effective 
 have_absolutes view small = All-from_get_or HasAbsolute view.effective zero_ends (λ t within. has_absolute (effective_at view t) (small t within))
 
 -- there is a field for each zone
-pub fields-count : (zones : ℕ) (rows : List Row) → length (fields_at_step zones rows) ≡ zones
+pub fields-count : (zones : ℕ) (rows : List StormRow) → length (fields_at_step zones rows) ≡ zones
 fields-count zones rows = length-map (range_with_len 0 zones) (field_at_step rows) ∙ length-range_with_len 0 zones

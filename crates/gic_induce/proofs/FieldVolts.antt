@@ -2,6 +2,7 @@
 use Rattle.std.proofs.Common.{◌≡◌, ℕ, ◌+◌, ◌*◌, ◌<◌, ◌≤◌, List, [], ◌∷◌, length, ℤ, pos, unsigned_abs, Option, Some, None, arith, refl, sym, subst, inl, inr}
 use Rattle.std.specs.Prelude.{All}
 use Rattle.std.specs.List.{AllByRecursion}
+use Rattle.std.specs.Option.{option_map_or}
 use Rattle.std.proofs.Math.Nat.{mul-le-mul}
 use Rattle.std.proofs.lemmas.Bool.{cases_lt}
 use Rattle.std.proofs.lemmas.Int.{ints}
@@ -14,7 +15,7 @@ use Rattle.gic_case.specs.Courses.{parts_of, north_way, east_way}
 use Rattle.gic_case.specs.Sound.{IsSound, IsSoundLine}
 use Rattle.gic_case.specs.declared.item.Line.{Line}
 use Rattle.gic_case.specs.declared.part.LinePart.{LinePart}
-use Rattle.gic_induce.specs.Fields.{IsField, no_field, field_at}
+use Rattle.gic_induce.specs.Fields.{IsField, no_field, zone_field}
 use Rattle.gic_induce.specs.LineVolts.{no_zone, zone_among, part_volts, line_volts, all_line_volts, volts_of_item, volts_of}
 use Rattle.gic_induce.proofs.Parts.{part_few}
 use Rattle.gic_model.specs.declared.parts.Element.{Element}
@@ -22,7 +23,7 @@ use Rattle.gic_model.specs.declared.parts.Item.{Item}
 use Rattle.gic_model.specs.declared.parts.Item.TheVariants as items
 use Rattle.gic_model.specs.Limits.{AreVolts, most_volts}
 use Rattle.gic_model.specs.Voltages.{number_at}
-use Rattle.gic_case.specs.Alpha.{latitude_row, tenths_or_ten, alpha_of}
+use Rattle.gic_case.specs.Alpha.{latitude_row, alpha_of}
 use Rattle.gic_case.specs.declared.scaling.Scaling.{Scaling}
 use Rattle.gic_case.specs.declared.scaling.Scaling.TheVariants as scalings
 use Rattle.gic_case.specs.ZoneView.{ZoneView, IsScaling, IsZone, factor_by, factor_of}
@@ -38,7 +39,7 @@ numbers_few m zs all place =
 
 alpha_few : (latitude : ℕ) → alpha_of latitude ≤ 10
 alpha_few latitude =
-    elim (latitude_row latitude) as (λ (o : Option (ℕ × ℕ)). latitude_row latitude ≡ o → tenths_or_ten o ≤ 10) [
+    elim (latitude_row latitude) as (λ (o : Option (ℕ × ℕ)). latitude_row latitude ≡ o → option_map_or (λ row. row.1) o 10 ≤ 10) [
       | None ↦ λ e. omega arith
       | Some row ↦ λ e. (row_tenths latitude row e).most
     ] refl
@@ -58,7 +59,7 @@ module _ (zones : List ZoneView) (fields : List (ℤ × ℤ)) (kept : All IsZone
   of_parts (part ∷ parts) all =
       let zone = All-get_or IsZone zones part.zone no_zone all.0 kept in
       let field = All-get_or IsField fields part.zone no_field (subst (λ n. part.zone < n) (sym same) all.0) within in
-      let here = part_few part (zone_among zones part.zone) (field_at fields part.zone).0 (field_at fields part.zone).1 field.0 field.1 (factor_few (zone_among zones part.zone) zone) in
+      let here = part_few part (zone_among zones part.zone) (zone_field fields part.zone).0 (zone_field fields part.zone).1 field.0 field.1 (factor_few (zone_among zones part.zone) zone) in
       let rest = of_parts parts all.1 in
       let north = sum_by-cons (λ (p : LinePart). unsigned_abs p.north) part parts in
       let east = sum_by-cons (λ (p : LinePart). unsigned_abs p.east) part parts in

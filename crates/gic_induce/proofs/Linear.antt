@@ -13,7 +13,7 @@ use Rattle.gic_model.specs.Voltages.{number_at}
 use Rattle.gic_model.specs.declared.parts.Element.{Element}
 use Rattle.gic_model.specs.declared.parts.Item.{Item}
 use Rattle.gic_model.specs.declared.parts.Item.TheVariants as items
-use Rattle.gic_induce.specs.Fields.{field_at}
+use Rattle.gic_induce.specs.Fields.{zone_field}
 use Rattle.gic_induce.specs.Voltage.{part_nanovolts}
 use Rattle.gic_induce.specs.LineVolts.{zone_among, part_volts, line_volts, volts_of_item, volts_of}
 use Rattle.gic_induce.specs.Linear.{AreCombined}
@@ -74,9 +74,9 @@ part_volts_linear : (zones : List ZoneView) (a c d : ℤ) (f g h : List (ℤ × 
     a *ℤ part_volts zones h part ≡ c *ℤ part_volts zones f part +ℤ d *ℤ part_volts zones g part
 part_volts_linear zones a c d f g h combined part =
     let zone = zone_among zones part.zone in
-    let x = field_at f part.zone in
-    let y = field_at g part.zone in
-    let z = field_at h part.zone in
+    let x = zone_field f part.zone in
+    let y = zone_field g part.zone in
+    let z = zone_field h part.zone in
     sym (of_times part zone a z.0 z.1) ∙
     ap₂ (λ n e. part_nanovolts part zone n e) (combined.north part.zone) (combined.east part.zone) ∙
     of_sum part zone (c *ℤ x.0) (d *ℤ y.0) (c *ℤ x.1) (d *ℤ y.1) ∙

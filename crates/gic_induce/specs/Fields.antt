@@ -11,8 +11,8 @@ abbrev pub no_field : ℤ × ℤ
 no_field = (pos 0, pos 0)
 
 -- the field of the zone at this place
-abbrev pub field_at : List (ℤ × ℤ) → ℕ → ℤ × ℤ
-field_at fields zone = slice_index_or fields zone no_field
+abbrev pub zone_field : List (ℤ × ℤ) → ℕ → ℤ × ℤ
+zone_field fields zone = slice_index_or fields zone no_field
 
 -- the fields of this many zones where this zone alone has one
 unfoldable pub lone_field : ℕ → ℕ → ℤ × ℤ → List (ℤ × ℤ)

@@ -11,7 +11,7 @@ use Rattle.gic_model.specs.Voltages.{number_at}
 use Rattle.gic_model.specs.declared.parts.Item.{Item}
 use Rattle.gic_model.specs.declared.parts.Item.TheVariants as items
 use Rattle.gic_model.specs.declared.parts.Element.{Element}
-use Rattle.gic_induce.specs.Fields.{field_at}
+use Rattle.gic_induce.specs.Fields.{zone_field}
 use Rattle.gic_induce.specs.Voltage.{part_nanovolts}
 
 -- a zone that is none of the case's
@@ -24,7 +24,7 @@ zone_among zones place = slice_index_or zones place no_zone
 
 -- the voltage of a part of a line in the field of its zone
 abbrev pub part_volts : List ZoneView → List (ℤ × ℤ) → LinePart → ℤ
-part_volts zones fields part = part_nanovolts part (zone_among zones part.zone) (field_at fields part.zone).0 (field_at fields part.zone).1
+part_volts zones fields part = part_nanovolts part (zone_among zones part.zone) (zone_field fields part.zone).0 (zone_field fields part.zone).1
 
 -- the voltage of a line: that of all its parts together
 abbrev pub line_volts : List ZoneView → List (ℤ × ℤ) → Line → ℤ

@@ -4,13 +4,13 @@ use Rattle.gic_case.specs.Lists.{Lists}
 use Rattle.gic_model.specs.Voltages.{number_at}
 use Rattle.gic_model.specs.declared.parts.Element.{Element}
 use Rattle.gic_model.specs.declared.parts.Item.{Item}
-use Rattle.gic_induce.specs.Fields.{field_at}
+use Rattle.gic_induce.specs.Fields.{zone_field}
 use Rattle.gic_induce.specs.LineVolts.{volts_of_item, volts_of}
 
 -- in each zone both parts of the field h, a times, are those of f, c times, and those of g, d times, together
 pub record AreCombined (a c d : ℤ) (f g h : List (ℤ × ℤ)) : Type 0 where
-  pub north : (zone : ℕ) → a *ℤ (field_at h zone).0 ≡ c *ℤ (field_at f zone).0 +ℤ d *ℤ (field_at g zone).0
-  pub east : (zone : ℕ) → a *ℤ (field_at h zone).1 ≡ c *ℤ (field_at f zone).1 +ℤ d *ℤ (field_at g zone).1
+  pub north : (zone : ℕ) → a *ℤ (zone_field h zone).0 ≡ c *ℤ (zone_field f zone).0 +ℤ d *ℤ (zone_field g zone).0
+  pub east : (zone : ℕ) → a *ℤ (zone_field h zone).1 ≡ c *ℤ (zone_field f zone).1 +ℤ d *ℤ (zone_field g zone).1
 
 -- then so is the voltage of each item
 abbrev pub ItemVoltsAreLinear : Type 0

@@ -22,7 +22,7 @@ impl Model for Fields {
 
 impl Fields {
     ghost use Rattle.std.specs.Prelude.{◌≡◌, ◌<◌, length, replicate, slice_set, All, IfOk};
-    ghost use Rattle.gic_induce.specs.Fields.{IsField, no_field, field_at, lone_field};
+    ghost use Rattle.gic_induce.specs.Fields.{IsField, no_field, zone_field, lone_field};
     ghost use Rattle.gic_induce.specs.Voltage.{IsFieldWithin};
 
     /// No field in any of a given number of zones.
@@ -60,7 +60,7 @@ impl Fields {
     /// The field of a zone, north and east in mV/km.
     pub fn get(&self, zone: u16) -> (i32, i32)
         requires { zone < length self.now }
-        ensures value { result ≡ field_at self.now zone }
+        ensures value { result ≡ zone_field self.now zone }
         ensures within { IsField result }
     {
         self.list[zone as usize]

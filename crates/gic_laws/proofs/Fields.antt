@@ -7,22 +7,22 @@ use Rattle.std.proofs.lemmas.List.{get_or-replicate, get_or_past, length-replica
 use Rattle.gic_fixed.proofs.Integers.{linear}
 use Rattle.gic_case.specs.Lists.{Lists}
 use Rattle.gic_winding.specs.ElementList.{elements_of}
-use Rattle.gic_induce.specs.Fields.{field_at, no_field}
+use Rattle.gic_induce.specs.Fields.{zone_field, no_field}
 use Rattle.gic_induce.specs.Linear.{AreCombined, VoltsAreLinear}
 use Rattle.gic_uniform.specs.Uniform.{uniform_field, uniform_volts}
 use Rattle.gic_superpose.proofs.Weighted.{none_times}
 
 -- in a zone of the case the field is this one, and elsewhere there is none
-inside : (n zone : ℕ) (field : ℤ × ℤ) → zone < n → field_at (replicate n field) zone ≡ field
+inside : (n zone : ℕ) (field : ℤ × ℤ) → zone < n → zone_field (replicate n field) zone ≡ field
 inside n zone field within = get_or-replicate n zone field no_field within
 
-outside : (n zone : ℕ) (field : ℤ × ℤ) → n ≤ zone → field_at (replicate n field) zone ≡ no_field
+outside : (n zone : ℕ) (field : ℤ × ℤ) → n ≤ zone → zone_field (replicate n field) zone ≡ no_field
 outside n zone field past = get_or_past (replicate n field) zone no_field (omega (arith, length-replicate n field))
 
 -- one part of a field, in each zone
 part_combined : (part : ℤ × ℤ → ℤ) (a c d : ℤ) (f g h : ℤ × ℤ) → part no_field ≡ pos 0 → a *ℤ part h ≡ c *ℤ part f +ℤ d *ℤ part g
     → (n zone : ℕ) → ((zone < n) ⊎ (n ≤ zone))
-    → a *ℤ part (field_at (replicate n h) zone) ≡ c *ℤ part (field_at (replicate n f) zone) +ℤ d *ℤ part (field_at (replicate n g) zone)
+    → a *ℤ part (zone_field (replicate n h) zone) ≡ c *ℤ part (zone_field (replicate n f) zone) +ℤ d *ℤ part (zone_field (replicate n g) zone)
 part_combined part a c d f g h zeroed is n zone (inl within) =
     let one = ap (λ y. a *ℤ part y) (inside n zone h within) in
     let two = ap (λ y. c *ℤ part y) (inside n zone f within) in

@@ -1,5 +1,6 @@
 -- What the lines of losses of a study say of the exact currents of its steps.
-use Rattle.std.specs.Prelude.{◌≡◌, ℕ, suc, ◌<◌, pos, ◌*ℤ◌, List, length, Option, Some, codes}
+use Rattle.std.specs.Prelude.{◌≡◌, ℕ, suc, ◌<◌, pos, ◌-ℤ◌, ◌*ℤ◌, List, length, Option, Some, codes}
+use Rattle.gic_fixed.specs.Ends.{IsAtMostWide}
 use Rattle.gic_text.specs.Lines.{line_text}
 use Rattle.gic_case.specs.Lists.{Lists}
 use Rattle.gic_case.specs.Sound.{IsSound}
@@ -7,7 +8,7 @@ use Rattle.gic_model.specs.Solution.{Solution, IsSolution}
 use Rattle.gic_view.specs.View.{View}
 use Rattle.gic_effective.specs.Weighted.{effective_numerator, effective_denominator}
 use Rattle.gic_monitor.specs.RosterView.{RosterView}
-use Rattle.gic_monitor.specs.LossBounds.{Currents, numerator_at, ShowsUnits, IsTotalAtMost, IsTotalAtLeast}
+use Rattle.gic_monitor.specs.LossBounds.{Currents, numerator_at, ShowsUnits, total_width, IsTotalAtMost, IsTotalUnder, IsTotalAtLeast}
 use Rattle.gic_monitor.specs.LossText.{Total, loss_line, volt_factors, volt_text, table_factors, table_text}
 use Rattle.gic_monitor.specs.declared.loss.table_loss.NamedFactor.{NamedFactor}
 use Rattle.gic_inputs.specs.declared.inputs.StormInputs.{StormInputs}
@@ -16,6 +17,7 @@ use Rattle.gic_course.specs.Views.{view_at}
 use Rattle.gic_study_mode.specs.PeakEnclosure.{AreStepSolutions}
 use Rattle.gic_study_mode.specs.RightStudy.{IsRightStudy}
 use Rattle.gic_study_mode.specs.Roster.{roster_of}
+use Rattle.gic_laws.specs.Printed.{width_asked}
 
 -- these are the transformers' signed effective currents in a solution, in mA per phase: as fractions over their one denominator they are those over each transformer's own
 pub record AreEffectiveCurrents (case : Lists) (s : Solution) (currents : Currents) : Type 0 where
@@ -39,14 +41,16 @@ StudiesShowUnits = (inputs : StormInputs) (detail : Option ℕ) (plans : RosterV
 abbrev pub AreCurrentsOfSteps : StormInputs → (solutions : ℕ → Solution) → (currents : ℕ → Currents) → Type 0
 AreCurrentsOfSteps inputs solutions currents = (number : ℕ) → IsStepOf inputs number → AreEffectiveCurrents inputs.case (solutions number) (currents number)
 
--- the text is a line with this word and the two ends of a total: the exact total of factor times absolute current is at most the high end at every step, and at least the low end at one
+-- the text is a line with this word, the two ends of a total, and the number of a step. The exact total of factor times absolute current is at most the high end at every step, under it at each step before the one that is named, and at that one less by at most the sum of factor times width; at one step it is at least the low end. The ends lie apart by at most that sum
 pub record IsTrueLoss (inputs : StormInputs) (word : List ℕ) (factors : List ℕ) (currents : ℕ → Currents) (text : List ℕ) : Type 0 where
   pub total : Total
   pub text_is : text ≡ line_text (loss_line word (Some total))
   pub most : (number : ℕ) → IsStepOf inputs number → IsTotalAtMost factors total.high (currents number)
-  pub step : ℕ
-  pub own : IsStepOf inputs step
-  pub least : IsTotalAtLeast factors total.low (currents step)
+  pub named : IsStepOf inputs total.number
+  pub before : (number : ℕ) → IsStepOf inputs number → number < total.number → IsTotalUnder factors total.high (currents number)
+  pub near : IsTotalAtLeast factors (total.high -ℤ pos (total_width (width_asked inputs) factors)) (currents total.number)
+  pub least : (number : ℕ) × IsStepOf inputs number × IsTotalAtLeast factors total.low (currents number)
+  pub narrow : IsAtMostWide (total_width (width_asked inputs) factors) total.low total.high
 
 -- the text is such a line, whatever solves the network of each step
 abbrev pub IsTrueLossOfSteps : StormInputs → (word : List ℕ) → (factors : List ℕ) → (text : List ℕ) → Type 0

@@ -31,7 +31,8 @@ pub fn earthings_of_studies_law()
 
 /// The effective currents of the transformers in a solution are numerators over one denominator, and whatever solves the
 /// network of a step, the step's view in a right study shows them as `losses_are_bounded_law` of `gic_monitor` asks. So
-/// the exact total of a line of losses is at most its high end at every step, and at least its low end at one.
+/// the exact total of a line of losses is at most its high end at every step, and at least its low end at one. At the step
+/// that is named it is less than the high end by at most the width times the sum of the factors, and before it under it.
 pub fn losses_of_studies_law()
     ensures exist { CurrentsExist }
     ensures shown { StudiesShowUnits }

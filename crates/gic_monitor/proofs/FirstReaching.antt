@@ -6,10 +6,10 @@ use Rattle.std.specs.Option.{option_to_list}
 use Rattle.std.proofs.lemmas.Int.{ints, clamps, by_lt_z, fold-int_max_bounds}
 use Rattle.gic_monitor.specs.LossText.{Total, first_reaching, greatest_among, greatest_of}
 
-not_above : (a b : ℤ) → a ≤ℤ b → int_le a b ≡ true
+pub not_above : (a b : ℤ) → a ≤ℤ b → int_le a b ≡ true
 not_above a b h = grind (arith, ints)
 
-above : (a b : ℤ) → b <ℤ a → int_le a b ≡ false
+pub above : (a b : ℤ) → b <ℤ a → int_le a b ≡ false
 above a b h = grind (arith, ints)
 
 -- two totals

@@ -8,15 +8,16 @@ use Rattle.std.proofs.lemmas.List.Elements.{All-from_recursion, recursion_from_A
 use Rattle.gic_fixed.proofs.Enclosures.{≤ℤ-times}
 use Rattle.gic_fixed.proofs.Integers.{linear}
 use Rattle.gic_view.specs.View.{View}
-use Rattle.gic_monitor.specs.LossText.{Total, total_of, most_loss, least_loss, greatest_among, loss_text}
+use Rattle.gic_monitor.specs.LossText.{Total, loss_total_of, most_loss, least_loss, greatest_among, loss_text}
 use Rattle.gic_monitor.specs.LossBounds.{Currents, ShowsUnits, IsTotalAtMost, IsTotalAtLeast, BoundsLosses, LossesAreBounded}
 use Rattle.gic_monitor.proofs.ExactTotals.{total_encloses}
+use Rattle.gic_monitor.proofs.NamedSteps.{greatest_named}
 
 abbrev Step : Type 0
 Step = View × Currents
 
 abbrev totals_of : (factors : List ℕ) → List Step → List Total
-totals_of factors steps = map (total_of factors) (map (λ step. step.0) steps)
+totals_of factors steps = map (loss_total_of factors) (map (λ step. step.0) steps)
 
 -- the exact total of a step is at most a number that its high end is at most
 at_most : (factors : List ℕ) (high : ℤ) (step : Step) → ShowsUnits (length factors) step.0 step.1 → most_loss factors step.0 ≤ℤ high → IsTotalAtMost factors high step.1
@@ -67,7 +68,7 @@ one_at_least factors a r (step ∷ steps) shows h =
 
 -- the greatest ends of the totals of a step and others bound the exact totals
 greatest_bounds : (factors : List ℕ) (first : Step) (others : List Step) → All (λ step. ShowsUnits (length factors) step.0 step.1) (first ∷ others) →
-    BoundsLosses factors (first ∷ others) (greatest_among (total_of factors first.0) (totals_of factors others))
+    BoundsLosses factors (first ∷ others) (greatest_among (loss_total_of factors first.0) (totals_of factors others))
 greatest_bounds factors first others h =
     let shows = recursion_from_All (λ step. ShowsUnits (length factors) step.0 step.1) (first ∷ others) h in
     let high = fold int_max (most_loss factors first.0) (map (λ total. total.high) (totals_of factors others)) in
@@ -81,13 +82,14 @@ greatest_bounds factors first others h =
         | inl own ↦ any_here (λ s. IsTotalAtLeast factors low s.1) first others (at_least factors low first shows.0 own)
         | inr any ↦ any_later (λ s. IsTotalAtLeast factors low s.1) first others any
       ];
+      named = greatest_named factors first others shows;
     }
 
 -- losses are bounded
 pub losses_bounded : (word : List ℕ) (factors : List ℕ) → LossesAreBounded word factors (loss_text word factors)
 losses_bounded word factors [] some h = absurd (omega (arith, some))
 losses_bounded word factors (first ∷ others) some h = record {
-  total = greatest_among (total_of factors first.0) (totals_of factors others);
+  total = greatest_among (loss_total_of factors first.0) (totals_of factors others);
   line = refl;
   bounds = greatest_bounds factors first others h;
 }

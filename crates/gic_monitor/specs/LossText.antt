@@ -45,8 +45,8 @@ pub record Total : Type 0 where
   pub high : ℤ
 
 -- those of this view
-abbrev pub total_of : (factors : List ℕ) → View → Total
-total_of factors view = record { number = view.number; low = least_loss factors view; high = most_loss factors view }
+abbrev pub loss_total_of : (factors : List ℕ) → View → Total
+loss_total_of factors view = record { number = view.number; low = least_loss factors view; high = most_loss factors view }
 
 -- the number of the first total whose high end is as great as this
 abbrev pub first_reaching : (high : ℤ) → List Total → ℕ
@@ -71,7 +71,7 @@ loss_line word (Some total) =
 
 -- the line of units with these factors over these views
 abbrev pub loss_text : (word : List ℕ) → (factors : List ℕ) → List View → List ℕ
-loss_text word factors views = line_text (loss_line word (greatest_of (map (total_of factors) views)))
+loss_text word factors views = line_text (loss_line word (greatest_of (map (loss_total_of factors) views)))
 
 -- the factor of a unit by its rated voltage: the scale for each whole kilovolt, in var per ampere
 abbrev pub volt_factor : (scale : ℕ) → Rated → ℕ

@@ -17,7 +17,8 @@ pub fn monitors_bound_the_exact_currents_law()
 
 /// Losses are bounded: over one view or more that enclose the effective currents of the units, with no end beyond 2^70
 /// mA per phase either way, the exact total of factor times absolute current is at most the high end that the monitor
-/// prints at every view, and at least the low end at one of them.
+/// prints at every view, and at least the low end at one of them. The number that it prints is that of a view: before it
+/// the exact total is under the high end, and there it is less by at most the sum of factor times width.
 pub fn losses_are_bounded_law()
     ensures by_volts { (scale : ℕ) (roster : RosterView) →
         LossesAreBounded (codes "loss") (volt_factors scale roster) (volt_text scale roster) }

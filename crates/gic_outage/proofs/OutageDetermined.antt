@@ -25,8 +25,8 @@ use Rattle.gic_report.specs.VerdictText.{verdict_in}
 use Rattle.gic_worst.specs.Setting.{event_setting_line}
 use Rattle.gic_worst.proofs.SettingDetermined.{same_setting, setting_is_line}
 use Rattle.gic_winding.specs.ElementList.{item_name}
-use Rattle.gic_outage.specs.declared.outcome.Outcome.{Outcome}
-use Rattle.gic_outage.specs.declared.outcome.Outcome.TheVariants.{Idle, Unearthed, Unresolved, Solved}
+use Rattle.gic_outage.specs.declared.outcome.OutageOutcome.{OutageOutcome}
+use Rattle.gic_outage.specs.declared.outcome.OutageOutcome.TheVariants.{Idle, Unearthed, Unresolved, Solved}
 use Rattle.gic_outage.specs.OutageText.{greatest_line, outage_report, outcome_line, outcome_lines, outcome_words, plan_names, greatest_worst_line, greatest_worst_lines}
 use Rattle.gic_outage.specs.Determines.{IsShownOutcome, TextDeterminesOutage}
 use Rattle.gic_outage.proofs.PlanNames as plan
@@ -37,13 +37,13 @@ counts_length : (counts : Counts) → length (counts_words counts) ≡ 8
 unfolding counts_words
 counts_length counts = refl
 
-are_outcome_words : (outcome : Outcome) → IsShownOutcome outcome → AllByRecursion IsWord (outcome_words outcome)
+are_outcome_words : (outcome : OutageOutcome) → IsShownOutcome outcome → AllByRecursion IsWord (outcome_words outcome)
 are_outcome_words Idle h = (word_from_test (codes "idle") refl, tt)
 are_outcome_words (Unearthed node) h = (word_from_test (codes "unearthed") refl, (h, tt))
 are_outcome_words (Unresolved node) h = (word_from_test (codes "unresolved") refl, (h, tt))
 are_outcome_words (Solved counts) h = counts_are_words counts h
 
-outcome_is_line : (name : List ℕ) (outcome : Outcome) → IsWord name → IsShownOutcome outcome → IsLine (outcome_line name outcome)
+outcome_is_line : (name : List ℕ) (outcome : OutageOutcome) → IsWord name → IsShownOutcome outcome → IsLine (outcome_line name outcome)
 unfolding outcome_line
 outcome_is_line name outcome n h = (word_from_test (codes "outage") refl, (n, are_outcome_words outcome h))
 
@@ -55,7 +55,7 @@ never_solved words counts h e = omega (arith, h, ap length e ∙ counts_length c
 abbrev letter : Words → ℕ
 letter ws = get_or (word_at ws 0) 2 0
 
-same_outcome_words : (x y : Outcome) → IsShownOutcome x → IsShownOutcome y → outcome_words x ≡ outcome_words y → x ≡ y
+same_outcome_words : (x y : OutageOutcome) → IsShownOutcome x → IsShownOutcome y → outcome_words x ≡ outcome_words y → x ≡ y
 same_outcome_words Idle Idle h k e = refl
 same_outcome_words Idle (Unearthed node) h k e = absurd (let n : ◌≡◌ {A = ℕ} 1 2 = ap length e in omega (arith, n))
 same_outcome_words Idle (Unresolved node) h k e = absurd (let n : ◌≡◌ {A = ℕ} 1 2 = ap length e in omega (arith, n))
@@ -73,18 +73,18 @@ same_outcome_words (Solved counts) (Unearthed node) h k e = absurd (never_solved
 same_outcome_words (Solved counts) (Unresolved node) h k e = absurd (never_solved (outcome_words (Unresolved node)) counts (omega arith) (sym e))
 same_outcome_words (Solved counts) (Solved others) h k e = ap (λ c. Solved c) (same_counts counts others h k e)
 
-same_outcome : (name : List ℕ) (x y : Outcome) → IsShownOutcome x → IsShownOutcome y → outcome_line name x ≡ outcome_line name y → x ≡ y
+same_outcome : (name : List ℕ) (x y : OutageOutcome) → IsShownOutcome x → IsShownOutcome y → outcome_line name x ≡ outcome_line name y → x ≡ y
 unfolding outcome_line
 same_outcome name x y h k e = same_outcome_words x y h k (ap (λ ws. drop 2 ws) e)
 
-are_outcome_lines : (names : List (List ℕ)) (outcomes : List Outcome) (rest : List Words) → AllByRecursion IsWord names → AllByRecursion IsShownOutcome outcomes → AllByRecursion IsLine rest
+are_outcome_lines : (names : List (List ℕ)) (outcomes : List OutageOutcome) (rest : List Words) → AllByRecursion IsWord names → AllByRecursion IsShownOutcome outcomes → AllByRecursion IsLine rest
     → AllByRecursion IsLine (outcome_lines names outcomes ++ rest)
 are_outcome_lines [] outcomes rest n h k = k
 are_outcome_lines (name ∷ names) [] rest n h k = k
 are_outcome_lines (name ∷ names) (outcome ∷ outcomes) rest n h k = (outcome_is_line name outcome n.0 h.0, are_outcome_lines names outcomes rest n.1 h.1 k)
 
 -- the lines of the outages determine how each ends, and what comes after them
-same_outcomes : (names : List (List ℕ)) (xs ys : List Outcome) (rest others : List Words) → length xs ≡ length names → length ys ≡ length names
+same_outcomes : (names : List (List ℕ)) (xs ys : List OutageOutcome) (rest others : List Words) → length xs ≡ length names → length ys ≡ length names
     → AllByRecursion IsShownOutcome xs → AllByRecursion IsShownOutcome ys → outcome_lines names xs ++ rest ≡ outcome_lines names ys ++ others → (xs ≡ ys) × (rest ≡ others)
 same_outcomes [] [] [] rest others p q h k e = (refl, e)
 same_outcomes [] [] (y ∷ ys) rest others p q h k e = absurd (omega (arith, q))

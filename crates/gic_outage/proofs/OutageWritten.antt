@@ -5,13 +5,13 @@ use Rattle.std.proofs.lemmas.Option.{slice_get_within, get_or_from_slice_get}
 use Rattle.gic_text.specs.Lines.{line_text, lines_text}
 use Rattle.gic_text.proofs.Joined.{lines_text-append}
 use Rattle.gic_report.specs.SharedLines.{Words}
-use Rattle.gic_outage.specs.declared.outcome.Outcome.{Outcome}
+use Rattle.gic_outage.specs.declared.outcome.OutageOutcome.{OutageOutcome}
 use Rattle.gic_outage.specs.OutageText.{outcome_line, outcome_lines}
 
 -- ---- lines of outages
 
 -- what is left begins with the line of the next outage
-pub next_outcome : (names : List (List ℕ)) (outcomes : List Outcome) (i : ℕ) (name : List ℕ) (outcome : Outcome) → slice_get names i ≡ Some name → i < length outcomes → get_or outcomes i outcome ≡ outcome
+pub next_outcome : (names : List (List ℕ)) (outcomes : List OutageOutcome) (i : ℕ) (name : List ℕ) (outcome : OutageOutcome) → slice_get names i ≡ Some name → i < length outcomes → get_or outcomes i outcome ≡ outcome
     → lines_text (outcome_lines (drop i names) (drop i outcomes)) ≡ line_text (outcome_line name outcome) ++ lines_text (outcome_lines (drop (i + 1) names) (drop (i + 1) outcomes))
 next_outcome names outcomes i name outcome e h f =
     ap (λ l. lines_text (outcome_lines l (drop i outcomes))) (drop-cons names i name (slice_get_within names i name e))
@@ -21,14 +21,14 @@ next_outcome names outcomes i name outcome e h f =
     ∙ ap (λ k. line_text (outcome_line name outcome) ++ lines_text (outcome_lines (drop k names) (drop k outcomes))) (sym (add-one i))
 
 -- where no name is left, nothing
-pub no_name_left : (names : List (List ℕ)) (outcomes : List Outcome) (i : ℕ) → slice_get names i ≡ None → lines_text (outcome_lines (drop i names) outcomes) ≡ []
+pub no_name_left : (names : List (List ℕ)) (outcomes : List OutageOutcome) (i : ℕ) → slice_get names i ≡ None → lines_text (outcome_lines (drop i names) outcomes) ≡ []
 no_name_left [] outcomes zero e = refl
 no_name_left [] outcomes (suc i) e = refl
 no_name_left (name ∷ names) outcomes zero e = absurd (let f : Some name ≡ None = e in cc)
 no_name_left (name ∷ names) outcomes (suc i) e = no_name_left names outcomes i e
 
 -- nor where no outcome is
-pub no_outcome_left : (names : List (List ℕ)) (outcomes : List Outcome) → outcomes ≡ [] → lines_text (outcome_lines names outcomes) ≡ []
+pub no_outcome_left : (names : List (List ℕ)) (outcomes : List OutageOutcome) → outcomes ≡ [] → lines_text (outcome_lines names outcomes) ≡ []
 no_outcome_left [] outcomes e = refl
 no_outcome_left (name ∷ names) [] e = refl
 no_outcome_left (name ∷ names) (outcome ∷ outcomes) e = absurd (let f : outcome ∷ outcomes ≡ [] = e in cc)

@@ -6,14 +6,14 @@ use Rattle.std.specs.Prelude.{slice_get}
 use Rattle.gic_fixed.specs.Ends.{Ends, ends_of}
 use Rattle.gic_view.specs.Peaks.{greater}
 use Rattle.gic_worst.specs.declared.rows.ScreenRow.{ScreenRow}
-use Rattle.gic_worst.specs.Rows.{Row, screen_row_of}
+use Rattle.gic_worst.specs.Rows.{ScreenRowView, screen_row_of}
 use Rattle.gic_outage.specs.Outages.{greatest_at}
 use Rattle.gic_outage.specs.Taking.{worsts_in}
 
 -- the worst interval of the row at a place
 pub row_shown : (rows : List ScreenRow) (row : ScreenRow) (place : ℕ) → place < length rows → row ≡ get_or rows place row → slice_get (worsts_in (map screen_row_of rows)) place ≡ Some (ends_of row.worst)
 row_shown rows row place within is =
-    let worst : Row → Ends = λ row. row.worst in
+    let worst : ScreenRowView → Ends = λ row. row.worst in
     slice_get-map worst (map screen_row_of rows) place ∙ ap (option_map worst) (slice_get-map screen_row_of rows place ∙ ap (option_map screen_row_of) (slice_get_read rows (length rows) place row refl within is))
 
 -- the first n intervals are raised, and the others are as they were

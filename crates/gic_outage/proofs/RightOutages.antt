@@ -7,19 +7,19 @@ use Rattle.gic_fixed.specs.Ends.{Ends}
 use Rattle.gic_outage.specs.Plan.{plan_of}
 use Rattle.gic_criteria.specs.declared.asked.Criteria.{Criteria}
 use Rattle.gic_inputs.specs.declared.inputs.Inputs.{Inputs}
-use Rattle.gic_outage.specs.declared.outcome.Outcome.{Outcome}
-use Rattle.gic_outage.specs.declared.outcome.Outcome.TheVariants.{Idle}
+use Rattle.gic_outage.specs.declared.outcome.OutageOutcome.{OutageOutcome}
+use Rattle.gic_outage.specs.declared.outcome.OutageOutcome.TheVariants.{Idle}
 use Rattle.gic_outage.specs.Outages.{Outage, no_outage, worsts_of, greatest_worst}
 use Rattle.gic_outage.specs.OutageText.{outage_text}
 use Rattle.gic_outage.specs.RightOutage.{greatest_over, IsRightOutage}
 use Rattle.gic_outage.specs.Taking.{HasTaken}
 
 -- the text of what was taken is right
-pub right_outages : (inputs : Inputs Criteria) (outcomes : List Outcome) (greatest : List (Option Ends)) → length outcomes ≡ length (plan_of inputs.case)
+pub right_outages : (inputs : Inputs Criteria) (outcomes : List OutageOutcome) (greatest : List (Option Ends)) → length outcomes ≡ length (plan_of inputs.case)
     → HasTaken inputs (length (plan_of inputs.case)) outcomes greatest → IsRightOutage inputs (outage_text inputs.case inputs.question outcomes greatest)
 right_outages inputs outcomes greatest count taken =
     let outages = taken.outages in
-    let ended : Outage → Outcome = λ o. o.outcome in
+    let ended : Outage → OutageOutcome = λ o. o.outcome in
     let over : ℕ → Option Ends = λ t. greatest_worst (worsts_of outages t) in
     let many = length inputs.case.transformers in
     let outcomes_are : outcomes ≡ map ended outages =
@@ -33,6 +33,6 @@ right_outages inputs outcomes greatest count taken =
     record {
       outages = outages;
       answer = record { count = taken.one_each; ends = taken.ends };
-      text_is = ap (λ (xs : List Outcome). outage_text inputs.case inputs.question xs greatest) outcomes_are
+      text_is = ap (λ (xs : List OutageOutcome). outage_text inputs.case inputs.question xs greatest) outcomes_are
           ∙ ap (outage_text inputs.case inputs.question (map ended outages)) greatest_are;
     }

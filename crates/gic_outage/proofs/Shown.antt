@@ -19,8 +19,8 @@ use Rattle.gic_worst.proofs.RightRows.{third_right}
 use Rattle.gic_criteria.specs.declared.asked.Criteria.{Criteria}
 use Rattle.gic_inputs.specs.declared.inputs.Inputs.{Inputs}
 use Rattle.gic_stand.specs.Standing.{IsSolvable, IsNameOfUnearthed, IsNameOfUnresolved}
-use Rattle.gic_outage.specs.declared.outcome.Outcome.{Outcome}
-use Rattle.gic_outage.specs.declared.outcome.Outcome.TheVariants.{Idle, Unearthed, Unresolved, Solved}
+use Rattle.gic_outage.specs.declared.outcome.OutageOutcome.{OutageOutcome}
+use Rattle.gic_outage.specs.declared.outcome.OutageOutcome.TheVariants.{Idle, Unearthed, Unresolved, Solved}
 use Rattle.gic_outage.specs.Outages.{Outage, no_outage, standing_in_outage, item_at, outage_at, worst_at, worsts_of, greatest_at}
 use Rattle.gic_outage.specs.RightOutage.{northward_volts, eastward_volts, IsTakenOut, AreRightWorsts, EndsAs, AreRightOutages}
 use Rattle.gic_outage.specs.Follows.{IsSolvedOutage}
@@ -48,7 +48,7 @@ record SolvedAs (inputs : Inputs Criteria) (item : Item) (worsts : List Ends) : 
   counts : Counts
   right : AreRightWorsts inputs item worsts counts
 
-solved_as : (inputs : Inputs Criteria) (item : Item) (worsts : List Ends) (outcome : Outcome) → IsTakenOut inputs item → IsSolvable (standing_in_outage inputs item) → EndsAs inputs item worsts outcome → SolvedAs inputs item worsts
+solved_as : (inputs : Inputs Criteria) (item : Item) (worsts : List Ends) (outcome : OutageOutcome) → IsTakenOut inputs item → IsSolvable (standing_in_outage inputs item) → EndsAs inputs item worsts outcome → SolvedAs inputs item worsts
 solved_as inputs item worsts Idle out solvable ends = absurd (grind (arith, out, ends.0))
 solved_as inputs item worsts (Unearthed node) out solvable ends = absurd (not_unearthed inputs.case (standing_in_outage inputs item) node solvable ends.1)
 solved_as inputs item worsts (Unresolved node) out solvable ends = absurd (not_unresolved inputs.case (standing_in_outage inputs item) node solvable ends.1)
@@ -63,7 +63,7 @@ record ShownAs (inputs : Inputs Criteria) (item : Item) (worsts : List Ends) : T
 none_shown : {C : Type 0} (worsts : List Ends) (t : ℕ) (e : Ends) → worsts ≡ [] → slice_get worsts t ≡ Some e → C
 none_shown worsts t e none shown = let nothing : None ≡ Some e = sym (ap (λ (xs : List Ends). slice_get xs t) none) ∙ shown in absurd (cc)
 
-shown_as : (inputs : Inputs Criteria) (item : Item) (worsts : List Ends) (outcome : Outcome) (t : ℕ) (e : Ends) → slice_get worsts t ≡ Some e → EndsAs inputs item worsts outcome → ShownAs inputs item worsts
+shown_as : (inputs : Inputs Criteria) (item : Item) (worsts : List Ends) (outcome : OutageOutcome) (t : ℕ) (e : Ends) → slice_get worsts t ≡ Some e → EndsAs inputs item worsts outcome → ShownAs inputs item worsts
 shown_as inputs item worsts Idle t e shown ends = none_shown worsts t e ends.1 shown
 shown_as inputs item worsts (Unearthed node) t e shown ends = none_shown worsts t e ends.2 shown
 shown_as inputs item worsts (Unresolved node) t e shown ends = none_shown worsts t e ends.2 shown

@@ -7,8 +7,8 @@ use Rattle.gic_model.specs.declared.parts.Item.{Item}
 use Rattle.gic_view.specs.Peaks.{greater}
 use Rattle.gic_criteria.specs.declared.asked.Criteria.{Criteria}
 use Rattle.gic_inputs.specs.declared.inputs.Inputs.{Inputs}
-use Rattle.gic_outage.specs.declared.outcome.Outcome.{Outcome}
-use Rattle.gic_outage.specs.declared.outcome.Outcome.TheVariants.{Idle}
+use Rattle.gic_outage.specs.declared.outcome.OutageOutcome.{OutageOutcome}
+use Rattle.gic_outage.specs.declared.outcome.OutageOutcome.TheVariants.{Idle}
 use Rattle.gic_outage.specs.Outages.{Outage, no_outage, item_at, outage_at}
 use Rattle.gic_outage.specs.RightOutage.{EndsAs}
 use Rattle.gic_outage.specs.Taking.{AreRaisedBy, HasEnded, HasTaken}
@@ -20,7 +20,7 @@ pub not_raised : (greatest : List (Option Ends)) → AreRaisedBy [] greatest gre
 not_raised greatest = record { count = refl; each = λ t within. sym (greater-none (get_or greatest t None)) }
 
 -- none was taken
-pub none_taken : (inputs : Inputs Criteria) (outcomes : List Outcome) (greatest : List (Option Ends)) → greatest ≡ replicate (length inputs.case.transformers) None → HasTaken inputs 0 outcomes greatest
+pub none_taken : (inputs : Inputs Criteria) (outcomes : List OutageOutcome) (greatest : List (Option Ends)) → greatest ≡ replicate (length inputs.case.transformers) None → HasTaken inputs 0 outcomes greatest
 none_taken inputs outcomes greatest blank =
     let count = length inputs.case.transformers in
     record {
@@ -41,7 +41,7 @@ module _ (outages : List Outage) (outage : Outage) (count : ℕ) (many : length 
   at_last = get_or_push outages outage no_outage count many
 
 -- one item more was taken
-pub next_taken : (inputs : Inputs Criteria) (count : ℕ) (item : Item) (outcome : Outcome) (outcomes : List Outcome) (old new : List (Option Ends)) → count < length outcomes → item ≡ item_at inputs.case count
+pub next_taken : (inputs : Inputs Criteria) (count : ℕ) (item : Item) (outcome : OutageOutcome) (outcomes : List OutageOutcome) (old new : List (Option Ends)) → count < length outcomes → item ≡ item_at inputs.case count
     → HasEnded inputs item outcome old new → HasTaken inputs count outcomes old → HasTaken inputs (count + 1) (set outcomes count outcome) new
 next_taken inputs count item outcome outcomes old new within own ended taken =
     let outage : Outage = record { outcome = outcome; worsts = ended.worsts } in

@@ -14,22 +14,22 @@ use Rattle.gic_report.specs.SharedLines.{Words, word_line}
 use Rattle.gic_report.specs.VerdictText.{verdict_in, verdict_word}
 use Rattle.gic_worst.specs.Setting.{event_setting_line}
 use Rattle.gic_winding.specs.ElementList.{item_name}
-use Rattle.gic_outage.specs.declared.outcome.Outcome.{Outcome}
-use Rattle.gic_outage.specs.declared.outcome.Outcome.TheVariants.{Idle, Unearthed, Unresolved, Solved}
+use Rattle.gic_outage.specs.declared.outcome.OutageOutcome.{OutageOutcome}
+use Rattle.gic_outage.specs.declared.outcome.OutageOutcome.TheVariants.{Idle, Unearthed, Unresolved, Solved}
 
 -- how an outage ends, in words
-abbrev pub outcome_words : Outcome → Words
+abbrev pub outcome_words : OutageOutcome → Words
 outcome_words Idle = codes "idle" ∷ []
 outcome_words (Unearthed node) = codes "unearthed" ∷ node ∷ []
 outcome_words (Unresolved node) = codes "unresolved" ∷ node ∷ []
 outcome_words (Solved counts) = counts_words counts
 
 -- the line of an outage: the name of its item, and how it ends
-unfoldable pub outcome_line : (name : List ℕ) → Outcome → Words
+unfoldable pub outcome_line : (name : List ℕ) → OutageOutcome → Words
 outcome_line name outcome = codes "outage" ∷ name ∷ outcome_words outcome
 
 -- per item of these names
-abbrev pub outcome_lines : (names : List (List ℕ)) → List Outcome → List Words
+abbrev pub outcome_lines : (names : List (List ℕ)) → List OutageOutcome → List Words
 outcome_lines [] outcomes = []
 outcome_lines (name ∷ names) [] = []
 outcome_lines (name ∷ names) (outcome ∷ outcomes) = outcome_line name outcome ∷ outcome_lines names outcomes
@@ -58,11 +58,11 @@ abbrev pub plan_names : Lists → List (List ℕ)
 plan_names case = map (item_name case) (plan_of case)
 
 -- the lines of the report
-abbrev pub outage_report : Lists → (width threshold : ℕ) → (field : ℤ) → List Outcome → List (Option Ends) → List Words
+abbrev pub outage_report : Lists → (width threshold : ℕ) → (field : ℤ) → List OutageOutcome → List (Option Ends) → List Words
 outage_report case width threshold field outcomes greatest =
     word_line (codes "outage") ∷ event_setting_line width threshold field
     ∷ (outcome_lines (plan_names case) outcomes ++ (greatest_worst_lines threshold case.transformers greatest ++ word_line (codes "end") ∷ []))
 
 -- their text
-abbrev pub outage_text : Lists → Criteria → List Outcome → List (Option Ends) → List ℕ
+abbrev pub outage_text : Lists → Criteria → List OutageOutcome → List (Option Ends) → List ℕ
 outage_text case criteria outcomes greatest = lines_text (outage_report case criteria.width (threshold_of criteria.event) (field_of criteria.event) outcomes greatest)

@@ -12,8 +12,8 @@ use Rattle.gic_outage.specs.Removing.{opening}
 use Rattle.gic_criteria.specs.declared.asked.Criteria.{Criteria}
 use Rattle.gic_inputs.specs.declared.inputs.Inputs.{Inputs}
 use Rattle.gic_inputs.specs.Inputs.{rows_in}
-use Rattle.gic_outage.specs.declared.outcome.Outcome.{Outcome}
-use Rattle.gic_outage.specs.declared.outcome.Outcome.TheVariants.{Idle}
+use Rattle.gic_outage.specs.declared.outcome.OutageOutcome.{OutageOutcome}
+use Rattle.gic_outage.specs.declared.outcome.OutageOutcome.TheVariants.{Idle}
 
 -- the elements that stand without an item: with all switchings in force, and then the item opened
 abbrev pub standing_in_outage : Inputs Criteria → Item → List Placed
@@ -21,7 +21,7 @@ standing_in_outage inputs item = standing_in inputs.case (rows_in inputs.switchi
 
 -- how the outage of an item ends, and the worst intervals of the transformers meanwhile, which there are only where the network is solved
 pub record Outage : Type 0 where
-  pub outcome : Outcome
+  pub outcome : OutageOutcome
   pub worsts : List Ends
 
 -- of an item that is never reached

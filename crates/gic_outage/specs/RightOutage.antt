@@ -15,8 +15,8 @@ use Rattle.gic_inputs.specs.declared.inputs.Inputs.{Inputs}
 use Rattle.gic_stand.specs.Standing.{standing_of, IsSolvable, IsNameOfUnearthed, IsNameOfUnresolved}
 use Rattle.gic_uniform.specs.Uniform.{uniform_volts}
 use Rattle.gic_worst.specs.RightRows.{IsThirdOfRight, worst_verdict_at}
-use Rattle.gic_outage.specs.declared.outcome.Outcome.{Outcome}
-use Rattle.gic_outage.specs.declared.outcome.Outcome.TheVariants.{Idle, Unearthed, Unresolved, Solved}
+use Rattle.gic_outage.specs.declared.outcome.OutageOutcome.{OutageOutcome}
+use Rattle.gic_outage.specs.declared.outcome.OutageOutcome.TheVariants.{Idle, Unearthed, Unresolved, Solved}
 use Rattle.gic_outage.specs.Outages.{Outage, standing_in_outage, item_at, outage_at, worst_at, worsts_of, greatest_worst}
 use Rattle.gic_outage.specs.OutageText.{outage_text}
 
@@ -48,7 +48,7 @@ pub record AreRightWorsts (inputs : Inputs Criteria) (item : Item) (worsts : Lis
   pub counted : counts ≡ counts_of (worst_verdicts inputs.case (threshold_asked inputs) worsts)
 
 -- the outage of an item ends as its network decides: it was idle; or the network without it has this first live node that is not earthed; or all are earthed, and this is the first with the entry 4097 in the least capped vector; or it is solved
-abbrev pub EndsAs : Inputs Criteria → Item → List Ends → Outcome → Type 0
+abbrev pub EndsAs : Inputs Criteria → Item → List Ends → OutageOutcome → Type 0
 EndsAs inputs item worsts Idle = IsTrue (is_idle (standing_of inputs.case inputs.switchings) item) × (worsts ≡ [])
 EndsAs inputs item worsts (Unearthed node) = IsTakenOut inputs item × IsNameOfUnearthed inputs.case (standing_in_outage inputs item) node × (worsts ≡ [])
 EndsAs inputs item worsts (Unresolved node) = IsTakenOut inputs item × IsNameOfUnresolved inputs.case (standing_in_outage inputs item) node × (worsts ≡ [])

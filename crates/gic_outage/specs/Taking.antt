@@ -11,10 +11,10 @@ use Rattle.gic_criteria.specs.declared.asked.Criteria.{Criteria}
 use Rattle.gic_inputs.specs.declared.inputs.Inputs.{Inputs}
 use Rattle.gic_stand.specs.Standing.{standing_of}
 use Rattle.gic_worst.specs.declared.fields.FieldVolts.{FieldVolts}
-use Rattle.gic_worst.specs.Rows.{Row}
+use Rattle.gic_worst.specs.Rows.{ScreenRowView}
 use Rattle.gic_worst.specs.Screening.{AreOfEvent}
-use Rattle.gic_outage.specs.declared.outcome.Outcome.{Outcome}
-use Rattle.gic_outage.specs.declared.outcome.Outcome.TheVariants.{Idle, Unearthed, Unresolved}
+use Rattle.gic_outage.specs.declared.outcome.OutageOutcome.{OutageOutcome}
+use Rattle.gic_outage.specs.declared.outcome.OutageOutcome.TheVariants.{Idle, Unearthed, Unresolved}
 use Rattle.gic_outage.specs.Outages.{Outage, item_at, outage_at, worsts_of, greatest_worst, greatest_at}
 use Rattle.gic_outage.specs.RightOutage.{EndsAs}
 
@@ -25,12 +25,12 @@ pub record AreGiven (inputs : Inputs Criteria) (net : NetView) (fields : FieldVo
   pub volts : AreOfEvent inputs.case inputs.question.event fields
 
 -- how an outage ends whose network is refused
-abbrev pub outcome_of : NetworkRefusal → Outcome
+abbrev pub outcome_of : NetworkRefusal → OutageOutcome
 outcome_of (refusals.Unearthed step node) = Unearthed node
 outcome_of (refusals.Unresolved step node) = Unresolved node
 
 -- the worst intervals of rows
-abbrev pub worsts_in : List Row → List Ends
+abbrev pub worsts_in : List ScreenRowView → List Ends
 worsts_in rows = map (λ row. row.worst) rows
 
 -- the greatest intervals of the transformers are raised by their worst intervals, where there are any
@@ -39,13 +39,13 @@ pub record AreRaisedBy (worsts : List Ends) (old new : List (Option Ends)) : Typ
   pub each : (t : ℕ) → t < length old → greatest_at new t ≡ greater (greatest_at old t) (slice_get worsts t)
 
 -- the outage of an item ended like this, and its worst intervals have raised the greatest ones
-pub record HasEnded (inputs : Inputs Criteria) (item : Item) (outcome : Outcome) (old new : List (Option Ends)) : Type 0 where
+pub record HasEnded (inputs : Inputs Criteria) (item : Item) (outcome : OutageOutcome) (old new : List (Option Ends)) : Type 0 where
   pub worsts : List Ends
   pub ends : EndsAs inputs item worsts outcome
   pub raised : AreRaisedBy worsts old new
 
 -- one list of outages is behind the first outcomes, this many, and the greatest intervals of the transformers
-pub record HasTaken (inputs : Inputs Criteria) (count : ℕ) (outcomes : List Outcome) (greatest : List (Option Ends)) : Type 0 where
+pub record HasTaken (inputs : Inputs Criteria) (count : ℕ) (outcomes : List OutageOutcome) (greatest : List (Option Ends)) : Type 0 where
   pub outages : List Outage
   pub one_each : length outages ≡ count
   pub ends : (place : ℕ) → place < count → EndsAs inputs (item_at inputs.case place) (outage_at outages place).worsts (outage_at outages place).outcome

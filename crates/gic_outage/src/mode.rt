@@ -8,7 +8,7 @@ ghost use Rattle.gic_outage.specs.Made.{IsMadeFor};
 ghost use Rattle.gic_outage.specs.OutageText.{outage_text};
 ghost use Rattle.gic_outage.specs.RightOutage.{IsRightOutage};
 
-use crate::outcome::Outcome;
+use crate::outcome::OutageOutcome;
 use crate::raising::Greatest;
 use crate::run::take_items;
 use crate::text::write_outage;
@@ -24,7 +24,7 @@ use gic_worst::setting_of;
 /// Writes the report of these outcomes and greatest intervals.
 fn write_report<S: Sink>(
     inputs: &Inputs<Criteria>,
-    outcomes: &[Outcome],
+    outcomes: &[OutageOutcome],
     greatest: &Greatest,
     line: &mut LineBuilder,
     out: &mut S,

@@ -4,7 +4,7 @@ use gic_report::Counts;
 
 /// How the outage of an item ends.
 #[derive(Clone, Copy, Debug)]
-pub(crate) enum Outcome {
+pub(crate) enum OutageOutcome {
     /// No element of the item stands, so nothing is taken out.
     Idle,
     /// Without the item this live node is the first that no chain of standing elements joins to earth.

@@ -12,7 +12,7 @@ ghost use Rattle.gic_outage.specs.Taking.{AreGiven, HasEnded, outcome_of};
 
 use crate::counting::count_verdicts;
 use crate::laws::outage_law;
-use crate::outcome::Outcome;
+use crate::outcome::OutageOutcome;
 use crate::raising::{Greatest, raise_all};
 use crate::removing::{idle, restore, take_out};
 use gic_bound::BoundVector;
@@ -24,12 +24,12 @@ use gic_stand::NetworkRefusal;
 use gic_worst::{FieldVolts, ScreenWorkspace, screen_net};
 
 /// How an outage ends whose network is refused.
-fn outcome_of(refusal: &NetworkRefusal) -> Outcome
+fn outcome_of(refusal: &NetworkRefusal) -> OutageOutcome
     ensures { result ≡ outcome_of refusal.now }
 {
     match refusal {
-        NetworkRefusal::Unearthed { node, .. } => Outcome::Unearthed(*node),
-        NetworkRefusal::Unresolved { node, .. } => Outcome::Unresolved(*node),
+        NetworkRefusal::Unearthed { node, .. } => OutageOutcome::Unearthed(*node),
+        NetworkRefusal::Unresolved { node, .. } => OutageOutcome::Unresolved(*node),
     }
 }
 
@@ -41,7 +41,7 @@ fn screen_without(
     volts: &FieldVolts,
     workspace: &mut ScreenWorkspace,
     greatest: &mut Greatest,
-) -> Outcome
+) -> OutageOutcome
     requires net { net.now.network ≡ elements_of inputs.now.case }
     requires volts { AreOfEvent inputs.now.case inputs.now.question.event volts.now }
     requires ranges { IsWithinCriteria inputs.now.question }
@@ -58,7 +58,7 @@ fn screen_without(
     }
     let rows = workspace.rows.rows();
     raise_all(rows, greatest);
-    Outcome::Solved(count_verdicts(case, rows, question.event.threshold()))
+    OutageOutcome::Solved(count_verdicts(case, rows, question.event.threshold()))
 }
 
 /// Has the next look at a network begin at this vector.
@@ -80,7 +80,7 @@ pub(crate) fn take_item(
     intact: &BoundVector,
     workspace: &mut ScreenWorkspace,
     greatest: &mut Greatest,
-) -> Outcome
+) -> OutageOutcome
     requires given { AreGiven inputs.now net.old volts.now }
     requires ranges { IsWithinCriteria inputs.now.question }
     requires intact { length intact.now ≡ (elements_of inputs.now.case).nodes }
@@ -92,7 +92,7 @@ pub(crate) fn take_item(
 {
     outage_law();
     if idle(net, item) {
-        return Outcome::Idle;
+        return OutageOutcome::Idle;
     }
     let removed = take_out(net, item);
     begin_at(intact, workspace);

@@ -7,7 +7,7 @@ ghost use Rattle.gic_text.specs.Lines.{with_words, line_text, lines_text};
 ghost use Rattle.gic_outage.specs.OutageText.{outcome_words, outcome_line, outcome_lines, greatest_line, none_line};
 ghost use Rattle.gic_outage.specs.OutageText.{greatest_worst_line, greatest_worst_lines, plan_names, outage_report};
 
-use crate::outcome::Outcome;
+use crate::outcome::OutageOutcome;
 use gic_base::{Name, Sink, WriteFailed, write_all};
 use gic_case::{Case, Transformer};
 use gic_criteria::Verdict;
@@ -18,22 +18,22 @@ use gic_worst::{Setting, write_setting};
 
 /// Adds how an outage ends to the line, which has space for it.
 #[tactic(auto, using(gic_text::proofs::Sizes::line_space))]
-fn add_outcome(outcome: &Outcome, line: &mut LineBuilder)
+fn add_outcome(outcome: &OutageOutcome, line: &mut LineBuilder)
     requires { length line.old.bytes ≤ 100 }
     ensures words { line.new ≡ with_words line.old (outcome_words outcome.now) }
     ensures size { length line.new.bytes ≤ length line.old.bytes + 200 }
 {
     match outcome {
-        Outcome::Idle => line.word(b"idle"),
-        Outcome::Unearthed(node) => {
+        OutageOutcome::Idle => line.word(b"idle"),
+        OutageOutcome::Unearthed(node) => {
             line.word(b"unearthed");
             line.word(node.as_bytes());
         }
-        Outcome::Unresolved(node) => {
+        OutageOutcome::Unresolved(node) => {
             line.word(b"unresolved");
             line.word(node.as_bytes());
         }
-        Outcome::Solved(counts) => add_counts(counts, line),
+        OutageOutcome::Solved(counts) => add_counts(counts, line),
     }
 }
 
@@ -41,7 +41,7 @@ fn add_outcome(outcome: &Outcome, line: &mut LineBuilder)
 #[tactic(auto, using(gic_text::proofs::Sizes::line_space), unfolding(crate::specs::OutageText::outcome_line))]
 fn write_outcome<S: Sink>(
     name: &Name,
-    outcome: &Outcome,
+    outcome: &OutageOutcome,
     line: &mut LineBuilder,
     out: &mut S,
 ) -> Result<(), WriteFailed>
@@ -73,7 +73,7 @@ fn planned_name(case: &Case, place: usize) -> Option<Name>
 /// Writes a line for each outage, in the order of the plan.
 fn write_outcomes<S: Sink>(
     case: &Case,
-    outcomes: &[Outcome],
+    outcomes: &[OutageOutcome],
     line: &mut LineBuilder,
     out: &mut S,
 ) -> Result<(), WriteFailed>
@@ -160,7 +160,7 @@ fn write_transformers<S: Sink>(
 pub(crate) fn write_outage<S: Sink>(
     case: &Case,
     setting: &Setting,
-    outcomes: &[Outcome],
+    outcomes: &[OutageOutcome],
     greatest: &[Option<Interval>],
     line: &mut LineBuilder,
     out: &mut S,

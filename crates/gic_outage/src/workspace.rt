@@ -2,7 +2,7 @@
 ghost use Rattle.std.specs.Prelude.{◌≡◌, length, IfOk};
 ghost use Rattle.gic_outage.specs.Made.{IsMadeFor};
 
-use crate::outcome::Outcome;
+use crate::outcome::OutageOutcome;
 use crate::planning::plan;
 use crate::raising::Greatest;
 use gic_base::OutOfMemory;
@@ -26,7 +26,7 @@ pub struct Workspace {
     pub(crate) screening: ScreenWorkspace,
     pub(crate) intact: BoundVector,
     pub(crate) plan: Vec<Item>,
-    pub(crate) outcomes: Vec<Outcome>,
+    pub(crate) outcomes: Vec<OutageOutcome>,
     pub(crate) greatest: Greatest,
 }
 
@@ -47,10 +47,10 @@ impl Drop for Workspace {
 }
 
 /// A given number of outcomes.
-fn make_outcomes(alloc: Global, count: usize) -> Result<Vec<Outcome>, OutOfMemory>
+fn make_outcomes(alloc: Global, count: usize) -> Result<Vec<OutageOutcome>, OutOfMemory>
     ensures { IfOk result (λ outcomes. length outcomes.items ≡ count) }
 {
-    let outcomes = vec![in alloc; Outcome::Idle; count]?;
+    let outcomes = vec![in alloc; OutageOutcome::Idle; count]?;
     Ok(outcomes)
 }
 

@@ -6,7 +6,7 @@ use Rattle.gic_base.specs.Refusals.{unless, settle}
 use Rattle.gic_base.proofs.Each.{all_joined}
 use Rattle.gic_report.specs.SharedLines.{Words}
 use Rattle.gic_cert.specs.Cuts.{lines_cut}
-use Rattle.gic_cert.specs.Reading.{NamedNode, is_only, is_field_line, are_field_numbers, breaks_field, is_node_line, are_node_numbers, is_line_of, breaks_node, breaks_after, breaks_behind, breaks_second, broken, cert_in, cert_of}
+use Rattle.gic_cert.specs.Reading.{NamedNode, is_only, is_field_line, are_field_numbers, breaks_field, is_node_line, are_node_numbers, is_line_of, breaks_node, breaks_after, breaks_behind, breaks_second, certificate_refusals, cert_in, cert_of}
 use Rattle.gic_cert.specs.declared.refusal.CertRefusal.{CertRefusal}
 use Rattle.gic_cert.specs.declared.refusal.CertRefusal.TheVariants as cert
 
@@ -47,7 +47,7 @@ of_second nodes (second ∷ lines) =
     (of_unless (is_field_line second) (cert.Shape 2) tt) (of_unless (are_field_numbers (length nodes) second) (cert.Number 2) tt))
     (of_behind 3 nodes lines)
 
-of_broken : (nodes : List NamedNode) (lines : List Words) → AllByRecursion IsOfLine (broken nodes lines)
+of_broken : (nodes : List NamedNode) (lines : List Words) → AllByRecursion IsOfLine (certificate_refusals nodes lines)
 of_broken nodes [] = (tt, tt)
 of_broken nodes (first ∷ lines) =
     all_joined IsOfLine (unless (is_only (codes "certificate") first) (cert.Shape 1)) (breaks_second nodes lines) (of_unless (is_only (codes "certificate") first) (cert.Shape 1) tt) (of_second nodes lines)
@@ -63,4 +63,4 @@ of_settled (first ∷ others) x refusal all e = subst IsOfLine (ap (λ r. error_
 -- what a reading refuses is a line
 pub of_line : (nodes : List NamedNode) (bytes : List ℕ) (refusal : CertRefusal) → cert_of nodes bytes ≡ Err refusal → IsOfLine refusal
 unfolding cert_of
-of_line nodes bytes refusal e = of_settled (broken nodes (lines_cut bytes)) (cert_in nodes (lines_cut bytes)) refusal (of_broken nodes (lines_cut bytes)) e
+of_line nodes bytes refusal e = of_settled (certificate_refusals nodes (lines_cut bytes)) (cert_in nodes (lines_cut bytes)) refusal (of_broken nodes (lines_cut bytes)) e

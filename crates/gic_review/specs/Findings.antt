@@ -4,7 +4,7 @@ use Rattle.gic_case.specs.Lists.{Lists, node_names}
 use Rattle.gic_winding.specs.ElementList.{elements_of}
 use Rattle.gic_review.specs.declared.findings.finding.Finding.{Finding}
 use Rattle.gic_review.specs.Ungrounded.{ungrounded_of}
-use Rattle.gic_review.specs.Parts.{parts_of, ArePartSizes}
+use Rattle.gic_review.specs.Parts.{findings_of_parts, ArePartSizes}
 use Rattle.gic_review.specs.Closures.{closures_of}
 use Rattle.gic_review.specs.Readings.{values_of}
 use Rattle.gic_review.specs.Sides.{unfit_volts}
@@ -14,7 +14,7 @@ use Rattle.gic_review.specs.Outside.{outside_told}
 abbrev pub findings_with : Lists → (sizes : List ℕ) → List Finding
 findings_with c sizes =
     ungrounded_of c.substations (elements_of c).list
-    ++ (parts_of (node_names c) sizes
+    ++ (findings_of_parts (node_names c) sizes
     ++ (closures_of c
     ++ (values_of c
     ++ (unfit_volts c

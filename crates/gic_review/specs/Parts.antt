@@ -38,5 +38,5 @@ abbrev pub are_several : List ℕ → Bool
 are_several sizes = nat_le 2 (count_by (λ size. not (size == 0)) sizes)
 
 -- parts are told where there is more than one
-abbrev pub parts_of : (names : List (List ℕ)) → List ℕ → List Finding
-parts_of names sizes = if are_several sizes then parts_told names sizes else []
+abbrev pub findings_of_parts : (names : List (List ℕ)) → List ℕ → List Finding
+findings_of_parts names sizes = if are_several sizes then parts_told names sizes else []

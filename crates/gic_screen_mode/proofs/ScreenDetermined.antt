@@ -13,7 +13,7 @@ use Rattle.gic_report.specs.SharedLines.{word_line}
 use Rattle.gic_report.proofs.CaseNames.{transformer_names}
 use Rattle.gic_report.proofs.ViewDetermined.{ends_words, same_ends}
 use Rattle.gic_report.proofs.WordsDetermined.{first_of_lines, pair_at, verdict_is_word}
-use Rattle.gic_worst.specs.Rows.{Row}
+use Rattle.gic_worst.specs.Rows.{ScreenRowView}
 use Rattle.gic_report.specs.VerdictText.{verdict_in}
 use Rattle.gic_worst.specs.Setting.{event_setting_line}
 use Rattle.gic_worst.proofs.SettingDetermined.{same_setting, setting_is_line}
@@ -21,7 +21,7 @@ use Rattle.gic_screen_mode.specs.ScreenText.{screened_line, screen_report, scree
 use Rattle.gic_screen_mode.specs.Determines.{IsRowInRange, TextDeterminesScreen}
 
 -- the line of a row is one
-row_is_line : (name : List ℕ) (row : Row) (said : Verdict) → IsWord name → IsRowInRange row → IsLine (screened_line name row said)
+row_is_line : (name : List ℕ) (row : ScreenRowView) (said : Verdict) → IsWord name → IsRowInRange row → IsLine (screened_line name row said)
 unfolding screened_line
 row_is_line name row said n fits =
     let north = ends_words row.north fits.north_fits in
@@ -46,17 +46,17 @@ row_is_line name row said n fits =
       ),
     )
 
-are_lines : (threshold : ℕ) (ts : List Transformer) (rows : List Row) → AllByRecursion IsWord (map (λ t. t.name) ts) → AllByRecursion IsRowInRange rows
+are_lines : (threshold : ℕ) (ts : List Transformer) (rows : List ScreenRowView) → AllByRecursion IsWord (map (λ t. t.name) ts) → AllByRecursion IsRowInRange rows
     → AllByRecursion IsLine (screened_transformer_lines threshold ts rows ++ word_line (codes "end") ∷ [])
 are_lines threshold [] rows names h = ((word_from_test (codes "end") refl, tt), tt)
 are_lines threshold (t ∷ ts) [] names h = ((word_from_test (codes "end") refl, tt), tt)
 are_lines threshold (t ∷ ts) (row ∷ rows) names h = (row_is_line t.name row (verdict_in threshold t row.worst) names.0 h.0, are_lines threshold ts rows names.1 h.1)
 
 -- the line of a row determines it
-abbrev row_with : Ends → Ends → Ends → Row
+abbrev row_with : Ends → Ends → Ends → ScreenRowView
 row_with a b c = record { north = a; east = b; worst = c }
 
-same_row : (name : List ℕ) (row other : Row) (said told : Verdict) → IsRowInRange row → IsRowInRange other → screened_line name row said ≡ screened_line name other told → row ≡ other
+same_row : (name : List ℕ) (row other : ScreenRowView) (said told : Verdict) → IsRowInRange row → IsRowInRange other → screened_line name row said ≡ screened_line name other told → row ≡ other
 unfolding screened_line
 same_row name row other said told h k e =
     let north = same_ends row.north other.north h.north_fits k.north_fits (ap (λ ws. pair_at ws 3) e) in
@@ -65,7 +65,7 @@ same_row name row other said told h k e =
     ap (λ a. row_with a row.east row.worst) north ∙ ap (λ b. row_with other.north b row.worst) east ∙ ap (λ c. row_with other.north other.east c) worst
 
 -- the lines of the transformers determine the rows
-same_lines : (threshold threshold' : ℕ) (ts : List Transformer) (xs ys : List Row) → length xs ≡ length ts → length ys ≡ length ts → AllByRecursion IsRowInRange xs → AllByRecursion IsRowInRange ys
+same_lines : (threshold threshold' : ℕ) (ts : List Transformer) (xs ys : List ScreenRowView) → length xs ≡ length ts → length ys ≡ length ts → AllByRecursion IsRowInRange xs → AllByRecursion IsRowInRange ys
     → screened_transformer_lines threshold ts xs ++ word_line (codes "end") ∷ [] ≡ screened_transformer_lines threshold' ts ys ++ word_line (codes "end") ∷ [] → xs ≡ ys
 same_lines threshold threshold' [] [] [] p q h k e = refl
 same_lines threshold threshold' [] [] (y ∷ ys) p q h k e = absurd (omega (arith, q))

@@ -4,17 +4,17 @@ use mir.Syntax.{w32}
 use Rattle.gic_case.specs.Lists.{Lists}
 use Rattle.gic_text.specs.Lines.{lines_text}
 use Rattle.gic_report.specs.Fits.{AreInRange, HasNames}
-use Rattle.gic_worst.specs.Rows.{Row}
+use Rattle.gic_worst.specs.Rows.{ScreenRowView}
 use Rattle.gic_screen_mode.specs.ScreenText.{screen_report}
 
 -- each end of the row is a number of 128 bits
-pub record IsRowInRange (row : Row) : Type 0 where
+pub record IsRowInRange (row : ScreenRowView) : Type 0 where
   pub north_fits : AreInRange row.north
   pub east_fits : AreInRange row.east
   pub worst_fits : AreInRange row.worst
 
 -- a width, a threshold, a field and rows that can be shown of a case: numbers of their types, and one row a transformer
-pub record AreShownOf (case : Lists) (width threshold : ℕ) (field : ℤ) (rows : List Row) : Type 0 where
+pub record AreShownOf (case : Lists) (width threshold : ℕ) (field : ℤ) (rows : List ScreenRowView) : Type 0 where
   pub count : length rows ≡ length case.transformers
   pub width_fits : width < 2 ^ 32
   pub threshold_fits : threshold < 2 ^ 32
@@ -22,7 +22,7 @@ pub record AreShownOf (case : Lists) (width threshold : ℕ) (field : ℤ) (rows
   pub rows_fit : All IsRowInRange rows
 
 -- all that is printed is equal
-pub record ShowsSame (width threshold : ℕ) (field : ℤ) (rows : List Row) (width' threshold' : ℕ) (field' : ℤ) (rows' : List Row) : Type 0 where
+pub record ShowsSame (width threshold : ℕ) (field : ℤ) (rows : List ScreenRowView) (width' threshold' : ℕ) (field' : ℤ) (rows' : List ScreenRowView) : Type 0 where
   pub same_width : width ≡ width'
   pub same_threshold : threshold ≡ threshold'
   pub same_field : field ≡ field'
@@ -30,7 +30,7 @@ pub record ShowsSame (width threshold : ℕ) (field : ℤ) (rows : List Row) (wi
 
 -- equal texts on one case show the same
 abbrev pub TextDeterminesScreen : Type 0
-TextDeterminesScreen = (case : Lists) → HasNames case → (width threshold : ℕ) (field : ℤ) (rows : List Row) (width' threshold' : ℕ) (field' : ℤ) (rows' : List Row) →
+TextDeterminesScreen = (case : Lists) → HasNames case → (width threshold : ℕ) (field : ℤ) (rows : List ScreenRowView) (width' threshold' : ℕ) (field' : ℤ) (rows' : List ScreenRowView) →
     AreShownOf case width threshold field rows → AreShownOf case width' threshold' field' rows' →
     lines_text (screen_report case.transformers width threshold field rows) ≡ lines_text (screen_report case.transformers width' threshold' field' rows') →
     ShowsSame width threshold field rows width' threshold' field' rows'

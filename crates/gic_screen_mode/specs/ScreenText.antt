@@ -5,11 +5,11 @@ use Rattle.gic_case.specs.declared.item.Transformer.{Transformer}
 use Rattle.gic_criteria.specs.declared.criterion.Verdict.{Verdict}
 use Rattle.gic_report.specs.SharedLines.{Words, word_line}
 use Rattle.gic_report.specs.VerdictText.{verdict_in, verdict_word}
-use Rattle.gic_worst.specs.Rows.{Row}
+use Rattle.gic_worst.specs.Rows.{ScreenRowView}
 use Rattle.gic_worst.specs.Setting.{event_setting_line}
 
 -- the line of a row: the transformer's name, the three intervals, and the verdict
-unfoldable pub screened_line : (name : List ℕ) → Row → Verdict → Words
+unfoldable pub screened_line : (name : List ℕ) → ScreenRowView → Verdict → Words
 screened_line name row said =
     codes "transformer" ∷ name
     ∷ codes "north" ∷ signed_decimal row.north.low ∷ signed_decimal row.north.high
@@ -18,16 +18,16 @@ screened_line name row said =
     ∷ verdict_word said ∷ []
 
 -- the line of a transformer, by its row
-abbrev pub screened_transformer_line : (threshold : ℕ) → Transformer → Row → Words
+abbrev pub screened_transformer_line : (threshold : ℕ) → Transformer → ScreenRowView → Words
 screened_transformer_line threshold t row = screened_line t.name row (verdict_in threshold t row.worst)
 
 -- per transformer
-abbrev pub screened_transformer_lines : (threshold : ℕ) → List Transformer → List Row → List Words
+abbrev pub screened_transformer_lines : (threshold : ℕ) → List Transformer → List ScreenRowView → List Words
 screened_transformer_lines threshold [] rows = []
 screened_transformer_lines threshold (t ∷ ts) [] = []
 screened_transformer_lines threshold (t ∷ ts) (row ∷ rows) = screened_transformer_line threshold t row ∷ screened_transformer_lines threshold ts rows
 
 -- the lines of the report
-abbrev pub screen_report : List Transformer → (width threshold : ℕ) → (field : ℤ) → List Row → List Words
+abbrev pub screen_report : List Transformer → (width threshold : ℕ) → (field : ℤ) → List ScreenRowView → List Words
 screen_report transformers width threshold field rows =
     word_line (codes "screen") ∷ event_setting_line width threshold field ∷ (screened_transformer_lines threshold transformers rows ++ word_line (codes "end") ∷ [])

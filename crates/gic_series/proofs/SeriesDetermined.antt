@@ -17,7 +17,7 @@ use Rattle.gic_report.proofs.CaseNames.{transformer_names}
 use Rattle.gic_report.proofs.ListParts.{all_at}
 use Rattle.gic_report.proofs.ViewDetermined.{ends_words, same_ends}
 use Rattle.gic_report.proofs.WordsDetermined.{first_of_lines, same_natural, word_at}
-use Rattle.gic_series.specs.Rows.{Row}
+use Rattle.gic_series.specs.Rows.{SeriesRowView}
 use Rattle.gic_series.specs.SeriesText.{series_setting_line, series_step_line, series_report}
 use Rattle.gic_series.specs.Determines.{IsRowInRange, TextDeterminesSeries}
 
@@ -32,7 +32,7 @@ setting_is_line width name steps w n s = (
   ),
 )
 
-step_is_line : (row : Row) → IsRowInRange row → IsLine (series_step_line row)
+step_is_line : (row : SeriesRowView) → IsRowInRange row → IsLine (series_step_line row)
 step_is_line row h = (
   word_from_test (codes "step") refl,
   (
@@ -41,19 +41,19 @@ step_is_line row h = (
   ),
 )
 
-are_lines : (rows : List Row) → AllByRecursion IsRowInRange rows → AllByRecursion IsLine (map series_step_line rows ++ word_line (codes "end") ∷ [])
+are_lines : (rows : List SeriesRowView) → AllByRecursion IsRowInRange rows → AllByRecursion IsLine (map series_step_line rows ++ word_line (codes "end") ∷ [])
 are_lines [] h = ((word_from_test (codes "end") refl, tt), tt)
 are_lines (row ∷ rows) h = (step_is_line row h.0, are_lines rows h.1)
 
-report_is_lines : (width : ℕ) (name : List ℕ) (rows : List Row) → width < 2 ^ 32 → IsWord name → length rows < 2 ^ 32 → AllByRecursion IsRowInRange rows → AllByRecursion IsLine (series_report width name rows)
+report_is_lines : (width : ℕ) (name : List ℕ) (rows : List SeriesRowView) → width < 2 ^ 32 → IsWord name → length rows < 2 ^ 32 → AllByRecursion IsRowInRange rows → AllByRecursion IsLine (series_report width name rows)
 report_is_lines width name rows w n s h = ((word_from_test (codes "series") refl, tt), (setting_is_line width name (length rows) w n s, are_lines rows h))
 
 -- ---- the line of a step determines its row
 
-abbrev row_with : ℕ → ℕ → Ends → Row
+abbrev row_with : ℕ → ℕ → Ends → SeriesRowView
 row_with number time effective = record { number = number; time = time; effective = effective }
 
-same_row : (row other : Row) → IsRowInRange row → IsRowInRange other → series_step_line row ≡ series_step_line other → row ≡ other
+same_row : (row other : SeriesRowView) → IsRowInRange row → IsRowInRange other → series_step_line row ≡ series_step_line other → row ≡ other
 same_row row other h k e =
     let number = same_natural row.number other.number h.number_fits k.number_fits (ap (λ ws. word_at ws 1) e) in
     let time = same_natural row.time other.time h.time_fits k.time_fits (ap (λ ws. word_at ws 3) e) in
@@ -61,7 +61,7 @@ same_row row other h k e =
     ap (λ n. row_with n row.time row.effective) number ∙ ap (λ t. row_with other.number t row.effective) time ∙ ap (λ i. row_with other.number other.time i) effective
 
 -- those of all steps determine the rows
-same_rows : (xs ys : List Row) → length xs ≡ length ys → AllByRecursion IsRowInRange xs → AllByRecursion IsRowInRange ys
+same_rows : (xs ys : List SeriesRowView) → length xs ≡ length ys → AllByRecursion IsRowInRange xs → AllByRecursion IsRowInRange ys
     → map series_step_line xs ++ word_line (codes "end") ∷ [] ≡ map series_step_line ys ++ word_line (codes "end") ∷ [] → xs ≡ ys
 same_rows [] [] p h k e = refl
 same_rows [] (y ∷ ys) p h k e = absurd (omega (arith, p))

@@ -21,9 +21,9 @@ pub(crate) struct SeriesRows {
 
 impl Model for SeriesRows {
     ghost use Rattle.std.specs.Prelude.{List, map};
-    ghost use Rattle.gic_series.specs.Rows.{Row, series_row_of};
+    ghost use Rattle.gic_series.specs.Rows.{SeriesRowView, series_row_of};
 
-    ghost Value = { List Row };
+    ghost Value = { List SeriesRowView };
 
     ghost view = { λ rows. map series_row_of rows.list.items };
 }

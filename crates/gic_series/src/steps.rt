@@ -5,7 +5,7 @@ ghost use Rattle.gic_storm.specs.Steps.{steps_in};
 ghost use Rattle.gic_course.specs.CourseOf.{CanShow};
 ghost use Rattle.gic_course.specs.Steps.{IsStepOf};
 ghost use Rattle.gic_series.specs.Rows.{series_row_of};
-ghost use Rattle.gic_series.specs.RightSeries.{IsRightRow, AreRightRows};
+ghost use Rattle.gic_series.specs.RightSeries.{IsRightSeriesRow, AreRightRows};
 
 use crate::rows::{SeriesRow, SeriesRows};
 use gic_course::Course;
@@ -23,7 +23,7 @@ fn row_of_step(
     requires transformer { transformer < length inputs.now.case.transformers }
     requires step { IsStepOf inputs.now number }
     requires shows { CanShow inputs.now course.old }
-    ensures right { IsRightRow inputs.now transformer number (series_row_of result) }
+    ensures right { IsRightSeriesRow inputs.now transformer number (series_row_of result) }
     ensures shows { CanShow inputs.now course.new }
 {
     let width = inputs.question.width;

@@ -4,7 +4,7 @@ use Rattle.std.proofs.Math.Seq.{take-length, take-append_seam, drop-append-add}
 use Rattle.std.proofs.lemmas.List.{append-nil}
 use Rattle.std.specs.List.{flat_map}
 use Rattle.gic_storm.specs.Steps.{joined, steps_in, starts_from}
-use Rattle.gic_storm.specs.declared.row.Row.{Row}
+use Rattle.gic_storm.specs.declared.row.StormRow.{StormRow}
 
 -- the places where lists begin that stand one after the other from n on
 abbrev pub offsets : {X : Type 0} → ℕ → List (List X) → List ℕ
@@ -16,17 +16,17 @@ abbrev pub concat : {X : Type 0} → List (List X) → List X
 concat gs = flat_map (λ g. g) gs
 
 -- the first group begins with the row
-pub head_of : (r : Row) (gs : List (List Row)) → (g : List Row) × (hs : List (List Row)) × (joined r gs ≡ (r ∷ g) ∷ hs)
+pub head_of : (r : StormRow) (gs : List (List StormRow)) → (g : List StormRow) × (hs : List (List StormRow)) × (joined r gs ≡ (r ∷ g) ∷ hs)
 head_of r [] = ([], [], refl)
 head_of r ([] ∷ gs) = ([], [] ∷ gs, refl)
 head_of r ((x ∷ g) ∷ gs) = by (r.time == x.time) refl
   where
-    by : (b : Bool) → (r.time == x.time) ≡ b → (h : List Row) × (hs : List (List Row)) × (cond (r.time == x.time) ((r ∷ x ∷ g) ∷ gs) ((r ∷ []) ∷ (x ∷ g) ∷ gs) ≡ (r ∷ h) ∷ hs)
+    by : (b : Bool) → (r.time == x.time) ≡ b → (h : List StormRow) × (hs : List (List StormRow)) × (cond (r.time == x.time) ((r ∷ x ∷ g) ∷ gs) ((r ∷ []) ∷ (x ∷ g) ∷ gs) ≡ (r ∷ h) ∷ hs)
     by true e = (x ∷ g, gs, rw e refl)
     by false e = ([], (x ∷ g) ∷ gs, rw e refl)
 
 -- a row before steps is a row before their rows
-concat_joined : (r : Row) (gs : List (List Row)) → concat (joined r gs) ≡ r ∷ concat gs
+concat_joined : (r : StormRow) (gs : List (List StormRow)) → concat (joined r gs) ≡ r ∷ concat gs
 concat_joined r [] = refl
 concat_joined r ([] ∷ gs) = refl
 concat_joined r ((x ∷ g) ∷ gs) = by (r.time == x.time) refl
@@ -36,7 +36,7 @@ concat_joined r ((x ∷ g) ∷ gs) = by (r.time == x.time) refl
     by false e = rw e refl
 
 -- and makes at most one step more
-joined-length : (r : Row) (gs : List (List Row)) → length (joined r gs) ≤ suc (length gs)
+joined-length : (r : StormRow) (gs : List (List StormRow)) → length (joined r gs) ≤ suc (length gs)
 joined-length r [] = omega arith
 joined-length r ([] ∷ gs) = omega arith
 joined-length r ((x ∷ g) ∷ gs) = by (r.time == x.time) refl
@@ -46,19 +46,19 @@ joined-length r ((x ∷ g) ∷ gs) = by (r.time == x.time) refl
     by false e = rw e (omega arith)
 
 -- the steps hold each row once, in order
-pub concat_steps : (rows : List Row) → concat (steps_in rows) ≡ rows
+pub concat_steps : (rows : List StormRow) → concat (steps_in rows) ≡ rows
 concat_steps [] = refl
 concat_steps (r ∷ rs) = concat_joined r (steps_in rs) ∙ ap (λ xs. r ∷ xs) (concat_steps rs)
 
 -- the steps begin where the time changes
-pub starts_law : (n : ℕ) (rows : List Row) → starts_from n None rows ≡ offsets n (steps_in rows)
+pub starts_law : (n : ℕ) (rows : List StormRow) → starts_from n None rows ≡ offsets n (steps_in rows)
 starts_law n [] = refl
 starts_law n (r ∷ []) = refl
 starts_law n (r ∷ s ∷ rows) =
     let (g, gs, shape) = head_of s (steps_in rows) in
     after g gs shape (starts_law (n + 1) (s ∷ rows))
   where
-    after : (g : List Row) (gs : List (List Row)) → joined s (steps_in rows) ≡ (s ∷ g) ∷ gs
+    after : (g : List StormRow) (gs : List (List StormRow)) → joined s (steps_in rows) ≡ (s ∷ g) ∷ gs
         → starts_from (n + 1) None (s ∷ rows) ≡ offsets (n + 1) (joined s (steps_in rows))
         → starts_from n None (r ∷ s ∷ rows) ≡ offsets n (joined r (joined s (steps_in rows)))
     after g gs shape ih = rw shape (by (r.time == s.time) refl)
@@ -126,11 +126,11 @@ offsets-length n [] = refl
 offsets-length n (g ∷ gs) = ap suc (offsets-length (n + length g) gs)
 
 -- a storm has a step for each start
-pub steps_law : (rows : List Row) (starts : List ℕ) → starts ≡ starts_from 0 None rows → length starts ≡ length (steps_in rows)
+pub steps_law : (rows : List StormRow) (starts : List ℕ) → starts ≡ starts_from 0 None rows → length starts ≡ length (steps_in rows)
 steps_law rows starts h = ap length (h ∙ starts_law 0 rows) ∙ offsets-length 0 (steps_in rows)
 
 -- the rows between two starts are a step
-pub step_law : (rows : List Row) (starts : List ℕ) (number start end : ℕ) → starts ≡ starts_from 0 None rows → 1 ≤ number → number ≤ length (steps_in rows)
+pub step_law : (rows : List StormRow) (starts : List ℕ) (number start end : ℕ) → starts ≡ starts_from 0 None rows → 1 ≤ number → number ≤ length (steps_in rows)
     → start ≡ get_or starts (number - 1) (length rows) → end ≡ get_or starts number (length rows)
     → (start ≤ end) × (end ≤ length rows) × (take (end - start) (drop start rows) ≡ get_or (steps_in rows) (number - 1) [])
 step_law rows starts zero start end are low high s e = absurd (omega arith)
@@ -143,11 +143,11 @@ step_law rows starts (suc k) start end are low high s e =
     (cut.ordered, cut.within, rw back (rw (all, from) at cut.part))
 
 -- no more steps than rows
-pub few_steps : (rows : List Row) → length (steps_in rows) ≤ length rows
+pub few_steps : (rows : List StormRow) → length (steps_in rows) ≤ length rows
 few_steps [] = omega arith
 few_steps (r ∷ rs) = let more = joined-length r (steps_in rs) in let few = few_steps rs in omega arith
 
 -- a step at least where there is a row
-pub some_step : (rows : List Row) → 1 ≤ length rows → 1 ≤ length (steps_in rows)
+pub some_step : (rows : List StormRow) → 1 ≤ length rows → 1 ≤ length (steps_in rows)
 some_step [] h = absurd (omega arith)
 some_step (r ∷ rs) h = let (g, gs, shape) = head_of r (steps_in rs) in rw shape (omega arith)

@@ -12,18 +12,18 @@ use Rattle.gic_records.specs.Wide.{up_to_wide}
 use Rattle.gic_records.proofs.RowLaws.{rows_law as all_rows_law}
 use Rattle.gic_records.proofs.WideRows.{then_same, narrow_first, wide_first, is_wide, cut_is_wide, wide_rows_law}
 use Rattle.gic_base.specs.declared.limits.TheConstants.{MOST_ROWS}
-use Rattle.gic_storm.specs.declared.row.Row.{Row}
-use Rattle.gic_storm.specs.Columns.{form_of, width_of, north_place, east_place, field_in, zone_in, follows}
+use Rattle.gic_storm.specs.declared.row.StormRow.{StormRow}
+use Rattle.gic_storm.specs.Columns.{storm_form_of, width_of, north_place, east_place, field_in, zone_in, follows}
 use Rattle.gic_storm.specs.Pass.{row_in, storm_rows, some_rows, storm_from}
-use Rattle.gic_storm.specs.Rules.{breaks_record, breaks_empty, broken_after, broken, row_of, rows_after, storm_with, storm_in, storm_of}
-use Rattle.gic_storm.specs.declared.form.Form.{Form}
-use Rattle.gic_storm.specs.declared.form.Form.TheVariants.{Uniform, Zoned}
+use Rattle.gic_storm.specs.Rules.{breaks_storm_record, breaks_empty, broken_after, storm_refusals, row_of, rows_after, storm_with, storm_in, storm_of}
+use Rattle.gic_storm.specs.declared.form.StormForm.{StormForm}
+use Rattle.gic_storm.specs.declared.form.StormForm.TheVariants.{Uniform, Zoned}
 use Rattle.gic_storm.specs.declared.refusal.StormField.TheVariants as fields
 use Rattle.gic_storm.specs.declared.refusal.StormRefusal.{StormRefusal}
 use Rattle.gic_storm.specs.declared.refusal.StormRefusal.TheVariants as refusals
 
 -- the rules of a record but that of the number of rows
-abbrev breaks_columns : Form → List (List ℕ) → ℕ → Option ℕ → List (List ℕ) → List StormRefusal
+abbrev breaks_columns : StormForm → List (List ℕ) → ℕ → Option ℕ → List (List ℕ) → List StormRefusal
 breaks_columns form zones row before columns =
     unless (length columns == width_of form) (refusals.Shape row)
     ++ (unless (is_some (time_in columns)) (refusals.Number row fields.Time)
@@ -33,7 +33,7 @@ breaks_columns form zones row before columns =
     ++ unless (follows form before (time_of columns)) (refusals.Order row)))))
 
 -- one record
-row_law : (form : Form) (zones : List (List ℕ)) (row : ℕ) (before : Option ℕ) (columns : List (List ℕ))
+row_law : (form : StormForm) (zones : List (List ℕ)) (row : ℕ) (before : Option ℕ) (columns : List (List ℕ))
     → row_in form zones row before columns ≡ settle (breaks_columns form zones row before columns) (row_of form zones columns)
 unfolding row_in row_of
 row_law form zones row before columns =
@@ -44,22 +44,22 @@ row_law form zones row before columns =
     (then_law _ _ _ _ _ _ (value_law (zone_in form zones columns) (refusals.Zone row) None)
     (last_law _ _ _ _ (test_law (follows form before (time_of columns)) (refusals.Order row)))))))
 
-time_row : (form : Form) (zones columns : List (List ℕ)) → (row_of form zones columns).time ≡ time_of columns
+time_row : (form : StormForm) (zones columns : List (List ℕ)) → (row_of form zones columns).time ≡ time_of columns
 unfolding row_of
 time_row form zones columns = refl
 
 -- the records after the first
-pub rows_law : (form : Form) (zones : List (List ℕ)) (records : List (List (List ℕ)))
-    → storm_rows form zones records ≡ settle (breaks_records (breaks_record form zones) 1 None records) (map (row_of form zones) records)
-unfolding breaks_record
+pub rows_law : (form : StormForm) (zones : List (List ℕ)) (records : List (List (List ℕ)))
+    → storm_rows form zones records ≡ settle (breaks_records (breaks_storm_record form zones) 1 None records) (map (row_of form zones) records)
+unfolding breaks_storm_record
 rows_law form zones records =
-    all_rows_law (row_in form zones) (λ (r : Row). r.time) MOST_ROWS refusals.TooMany (breaks_columns form zones) (row_of form zones) (row_law form zones) (time_row form zones) 1 None records
+    all_rows_law (row_in form zones) (λ (r : StormRow). r.time) MOST_ROWS refusals.TooMany (breaks_columns form zones) (row_of form zones) (row_law form zones) (time_row form zones) 1 None records
 
-some_law : (form : Form) (zones : List (List ℕ)) (records : List (List (List ℕ))) → some_rows (map (row_of form zones) records) ≡ settle (breaks_empty records) (map (row_of form zones) records)
+some_law : (form : StormForm) (zones : List (List ℕ)) (records : List (List (List ℕ))) → some_rows (map (row_of form zones) records) ≡ settle (breaks_empty records) (map (row_of form zones) records)
 some_law form zones [] = refl
 some_law form zones (columns ∷ records) = refl
 
-form_law : (o : Option Form) (zones : List (List ℕ)) (records : List (List (List ℕ)))
+form_law : (o : Option StormForm) (zones : List (List ℕ)) (records : List (List (List ℕ)))
     → (or_refuse o (refusals.Shape 0) >>= (λ form. storm_rows form zones records >>= (λ xs. some_rows xs >>= (λ ys. Ok (storm_with zones ys)))))
     ≡ settle (broken_after o zones records) (storm_with zones (rows_after o zones records))
 form_law None zones records = refl
@@ -68,20 +68,20 @@ form_law (Some form) zones records =
     (last_law _ _ _ (storm_with zones) (some_law form zones records))
 
 -- all records
-storm_law : (zones : List (List ℕ)) (records : List (List (List ℕ))) → storm_from zones records ≡ settle (broken zones records) (storm_in zones records)
+storm_law : (zones : List (List ℕ)) (records : List (List (List ℕ))) → storm_from zones records ≡ settle (storm_refusals zones records) (storm_in zones records)
 unfolding storm_from
 storm_law zones [] = refl
-storm_law zones (first ∷ records) = form_law (form_of first) zones records
+storm_law zones (first ∷ records) = form_law (storm_form_of first) zones records
 
 -- a record that is too wide for a row is refused by its shape
-row_wide : (form : Form) (zones : List (List ℕ)) (row : ℕ) (before : Option ℕ) (columns : List (List ℕ)) → 4 < length columns → row_in form zones row before columns ≡ Err (refusals.Shape row)
+row_wide : (form : StormForm) (zones : List (List ℕ)) (row : ℕ) (before : Option ℕ) (columns : List (List ℕ)) → 4 < length columns → row_in form zones row before columns ≡ Err (refusals.Shape row)
 unfolding row_in
 row_wide Uniform zones row before columns wide = let other : (length columns == 3) ≡ false = grind (arith, nat_tests, wide) in rw other refl
 row_wide Zoned zones row before columns wide = let other : (length columns == 4) ≡ false = grind (arith, nat_tests, wide) in rw other refl
 
 -- and tells no form as the first
-form_wide : (columns : List (List ℕ)) → 4 < length columns → form_of columns ≡ None
-unfolding form_of
+form_wide : (columns : List (List ℕ)) → 4 < length columns → storm_form_of columns ≡ None
+unfolding storm_form_of
 form_wide columns wide =
     let three : (length columns == 3) ≡ false = grind (arith, nat_tests, wide) in
     let four : (length columns == 4) ≡ false = grind (arith, nat_tests, wide) in
@@ -94,9 +94,9 @@ storm_wide zones [] = refl
 storm_wide zones (first ∷ records) = elim (cases_Bool (nat_le (length first) 4)) [
   | inl narrow ↦
       rw (narrow_first first records narrow)
-      (then_same (or_refuse (form_of first) (refusals.Shape 0)) _ _ (λ form.
+      (then_same (or_refuse (storm_form_of first) (refusals.Shape 0)) _ _ (λ form.
       ap (λ rows. rows >>= (λ xs. some_rows xs >>= (λ ys. Ok (storm_with zones ys))))
-      (wide_rows_law (row_in form zones) (λ (r : Row). r.time) MOST_ROWS refusals.TooMany refusals.Shape (row_wide form zones) 1 None records)))
+      (wide_rows_law (row_in form zones) (λ (r : StormRow). r.time) MOST_ROWS refusals.TooMany refusals.Shape (row_wide form zones) 1 None records)))
   | inr wide ↦
       let many = is_wide first wide in
       rw (wide_first first records wide, form_wide first many, form_wide (take 5 first) (cut_is_wide first many)) refl

@@ -4,17 +4,17 @@ use Rattle.gic_base.specs.declared.limits.TheConstants.{MOST_ROWS}
 use Rattle.gic_base.specs.Passes.{◌>>=◌, or_refuse, test}
 use Rattle.gic_records.specs.Columns.{time_in}
 use Rattle.gic_records.specs.RowPass.{rows_in}
-use Rattle.gic_storm.specs.Columns.{form_of, width_of, north_place, east_place, field_in, zone_in, follows}
+use Rattle.gic_storm.specs.Columns.{storm_form_of, width_of, north_place, east_place, field_in, zone_in, follows}
 use Rattle.gic_storm.specs.Rules.{storm_with}
 use Rattle.gic_storm.specs.StormView.{StormView}
-use Rattle.gic_storm.specs.declared.form.Form.{Form}
+use Rattle.gic_storm.specs.declared.form.StormForm.{StormForm}
 use Rattle.gic_storm.specs.declared.refusal.StormField.TheVariants as fields
 use Rattle.gic_storm.specs.declared.refusal.StormRefusal.{StormRefusal}
 use Rattle.gic_storm.specs.declared.refusal.StormRefusal.TheVariants as refusals
-use Rattle.gic_storm.specs.declared.row.Row.{Row}
+use Rattle.gic_storm.specs.declared.row.StormRow.{StormRow}
 
 -- the row that a record is, at a row that is not too late
-unfoldable pub row_in : Form → (zones : List (List ℕ)) → (row : ℕ) → (before : Option ℕ) → (columns : List (List ℕ)) → Result Row StormRefusal
+unfoldable pub row_in : StormForm → (zones : List (List ℕ)) → (row : ℕ) → (before : Option ℕ) → (columns : List (List ℕ)) → Result StormRow StormRefusal
 row_in form zones row before columns = do
   shape ← test (length columns == width_of form) (refusals.Shape row)
   time ← or_refuse (time_in columns) (refusals.Number row fields.Time)
@@ -25,11 +25,11 @@ row_in form zones row before columns = do
   Ok (record { time = time; zone = zone; north = north; east = east })
 
 -- the rows of the records after the first
-abbrev pub storm_rows : Form → (zones : List (List ℕ)) → List (List (List ℕ)) → Result (List Row) StormRefusal
+abbrev pub storm_rows : StormForm → (zones : List (List ℕ)) → List (List (List ℕ)) → Result (List StormRow) StormRefusal
 storm_rows form zones = rows_in (row_in form zones) (λ r. r.time) MOST_ROWS refusals.TooMany 1 None
 
 -- the rows, of which there is one at least
-abbrev pub some_rows : List Row → Result (List Row) StormRefusal
+abbrev pub some_rows : List StormRow → Result (List StormRow) StormRefusal
 some_rows [] = Err refusals.Empty
 some_rows (x ∷ xs) = Ok (x ∷ xs)
 
@@ -37,7 +37,7 @@ some_rows (x ∷ xs) = Ok (x ∷ xs)
 unfoldable pub storm_from : (zones : List (List ℕ)) → List (List (List ℕ)) → Result StormView StormRefusal
 storm_from zones [] = Err (refusals.Shape 0)
 storm_from zones (first ∷ records) = do
-  form ← or_refuse (form_of first) (refusals.Shape 0)
+  form ← or_refuse (storm_form_of first) (refusals.Shape 0)
   xs ← storm_rows form zones records
   ys ← some_rows xs
   Ok (storm_with zones ys)

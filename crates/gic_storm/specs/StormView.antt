@@ -4,15 +4,15 @@ use Rattle.std.specs.List.Sorted.{IsNonDecreasingBy}
 use Rattle.gic_base.specs.declared.limits.TheConstants.{MOST_ZONES, MOST_ROWS}
 use Rattle.gic_case.specs.ZoneView.{ZoneView}
 use Rattle.gic_induce.specs.Voltage.{IsFieldWithin}
-use Rattle.gic_storm.specs.declared.row.Row.{Row}
+use Rattle.gic_storm.specs.declared.row.StormRow.{StormRow}
 
 -- the number of zones of the case, and the rows in order
 pub record StormView : Type 0 where
   pub zones : ℕ
-  pub rows : List Row
+  pub rows : List StormRow
 
 -- what every row keeps: a zone among this many, if it names one, and a field within its range
-pub record IsRow (zones : ℕ) (r : Row) : Type 0 where
+pub record IsRow (zones : ℕ) (r : StormRow) : Type 0 where
   pub zone : IfSome r.zone (λ n. n < zones)
   pub north : IsFieldWithin r.north
   pub east : IsFieldWithin r.east

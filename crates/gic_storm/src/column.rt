@@ -6,7 +6,7 @@ ghost use Rattle.gic_case.specs.Names.{place_in};
 ghost use Rattle.gic_storm.specs.Columns.{field_in, zone_in};
 ghost use Rattle.gic_storm.specs.StormView.{zone_names};
 
-use crate::form::Form;
+use crate::form::StormForm;
 use csv::ByteRecord;
 use gic_base::limits::{MOST_FIELD, MOST_ZONES};
 use gic_case::Zone;
@@ -40,14 +40,14 @@ fn place_in(zones: &[Zone], name: &[u8]) -> Option<u16>
 
 /// Whom a record is for: all zones, or one.
 #[tactic(auto, unfolding(crate::specs::Columns::zone_in))]
-pub(crate) fn zone_in(form: Form, zones: &[Zone], columns: &ByteRecord) -> Option<Option<u16>>
+pub(crate) fn zone_in(form: StormForm, zones: &[Zone], columns: &ByteRecord) -> Option<Option<u16>>
     requires { length zones.now ≤ MOST_ZONES }
     ensures value { result ≡ zone_in form (zone_names zones.now) (fields_of columns.now) }
     ensures within { IfSome result (λ zone. IfSome zone (λ place. place < length zones.now)) }
 {
     match form {
-        Form::Uniform => Some(None),
-        Form::Zoned => {
+        StormForm::Uniform => Some(None),
+        StormForm::Zoned => {
             if is_word(columns, 1, b"*") {
                 return Some(None);
             }

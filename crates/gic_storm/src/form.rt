@@ -1,14 +1,14 @@
 //! The two forms of a storm.
 ghost use Rattle.std.specs.Prelude.{◌≡◌};
 ghost use Rattle.csv.specs.Records.{fields_of};
-ghost use Rattle.gic_storm.specs.Columns.{form_of, width_of, north_place, east_place, follows};
+ghost use Rattle.gic_storm.specs.Columns.{storm_form_of, width_of, north_place, east_place, follows};
 
 use csv::ByteRecord;
 use gic_records::is_word;
 
 /// What the first record tells of the others.
 #[derive(Clone, Copy, Debug, PartialEq, Eq)]
-pub(crate) enum Form {
+pub(crate) enum StormForm {
     /// `time,north,east`: each row is for all zones, and times rise.
     Uniform,
     /// `time,zone,north,east`: each row is for a zone or for all of them, and times do not fall.
@@ -16,9 +16,9 @@ pub(crate) enum Form {
 }
 
 /// The form that a first record tells.
-#[tactic(auto, unfolding(crate::specs::Columns::form_of))]
-pub(crate) fn form_of(columns: &ByteRecord) -> Option<Form>
-    ensures { result ≡ form_of (fields_of columns.now) }
+#[tactic(auto, unfolding(crate::specs::Columns::storm_form_of))]
+pub(crate) fn form_of(columns: &ByteRecord) -> Option<StormForm>
+    ensures { result ≡ storm_form_of (fields_of columns.now) }
 {
     let len = columns.len();
     if len == 3
@@ -26,7 +26,7 @@ pub(crate) fn form_of(columns: &ByteRecord) -> Option<Form>
         && is_word(columns, 1, b"north")
         && is_word(columns, 2, b"east")
     {
-        return Some(Form::Uniform);
+        return Some(StormForm::Uniform);
     }
     if len == 4
         && is_word(columns, 0, b"time")
@@ -34,19 +34,19 @@ pub(crate) fn form_of(columns: &ByteRecord) -> Option<Form>
         && is_word(columns, 2, b"north")
         && is_word(columns, 3, b"east")
     {
-        return Some(Form::Zoned);
+        return Some(StormForm::Zoned);
     }
     None
 }
 
-impl Form {
+impl StormForm {
     /// How many fields a record has.
     pub(crate) fn width(self) -> usize
         ensures { result ≡ width_of self }
     {
         match self {
-            Form::Uniform => 3,
-            Form::Zoned => 4,
+            StormForm::Uniform => 3,
+            StormForm::Zoned => 4,
         }
     }
 
@@ -55,8 +55,8 @@ impl Form {
         ensures { result ≡ north_place self }
     {
         match self {
-            Form::Uniform => 1,
-            Form::Zoned => 2,
+            StormForm::Uniform => 1,
+            StormForm::Zoned => 2,
         }
     }
 
@@ -65,8 +65,8 @@ impl Form {
         ensures { result ≡ east_place self }
     {
         match self {
-            Form::Uniform => 2,
-            Form::Zoned => 3,
+            StormForm::Uniform => 2,
+            StormForm::Zoned => 3,
         }
     }
 
@@ -78,8 +78,8 @@ impl Form {
         match before {
             None => true,
             Some(before) => match self {
-                Form::Uniform => before < time,
-                Form::Zoned => before <= time,
+                StormForm::Uniform => before < time,
+                StormForm::Zoned => before <= time,
             },
         }
     }

@@ -11,6 +11,6 @@ mod step_fields;
 mod storm;
 
 pub use refusal::{StormField, StormRefusal};
-pub use row::Row;
+pub use row::StormRow;
 pub use step_fields::fill_fields;
 pub use storm::{Storm, read_storm};

@@ -9,9 +9,9 @@ ghost use Rattle.gic_storm.specs.Pass.{row_in, storm_rows};
 ghost use Rattle.gic_storm.specs.StormView.{IsRow, zone_names};
 
 use crate::column::{field_in, zone_in};
-use crate::form::Form;
+use crate::form::StormForm;
 use crate::refusal::{StormField, StormRefusal};
-use crate::row::Row;
+use crate::row::StormRow;
 use csv::ByteRecord;
 use gic_base::ReadFault;
 use gic_base::limits::{MOST_ROWS, MOST_ZONES};
@@ -22,12 +22,12 @@ use std::alloc::Global;
 /// The row that a record is, after a record of the time before.
 #[tactic(auto, using(crate::proofs::Follows::follows_after), unfolding(crate::specs::Pass::row_in))]
 fn row_in(
-    form: Form,
+    form: StormForm,
     zones: &[Zone],
     row: u32,
     before: Option<u32>,
     columns: &ByteRecord,
-) -> Result<Row, StormRefusal>
+) -> Result<StormRow, StormRefusal>
     requires { length zones.now ≤ MOST_ZONES }
     ensures value { result ≡ row_in form (zone_names zones.now) row before (fields_of columns.now) }
     ensures order { IfOk result (λ r. unwrap_or before 0 ≤ r.time) }
@@ -52,7 +52,7 @@ fn row_in(
     if !form.follows(before, time) {
         return Err(StormRefusal::Order { row });
     }
-    Ok(Row {
+    Ok(StormRow {
         time,
         zone,
         north,
@@ -63,13 +63,13 @@ fn row_in(
 /// How the records of a storm of this form are read over these zones.
 #[derive(Drop)]
 struct StormRows<'a> {
-    form: Form,
+    form: StormForm,
     zones: &'a [Zone],
     ghost few: { length zones.now ≤ MOST_ZONES },
 }
 
 impl RowReader for StormRows<'_> {
-    type Row = Row;
+    type Row = StormRow;
 
     type Refusal = StormRefusal;
 
@@ -86,11 +86,11 @@ impl RowReader for StormRows<'_> {
         row: u32,
         before: Option<u32>,
         columns: &ByteRecord,
-    ) -> Result<Row, StormRefusal> {
+    ) -> Result<StormRow, StormRefusal> {
         row_in(self.form, self.zones, row, before, columns)
     }
 
-    fn time(row: &Row) -> u32
+    fn time(row: &StormRow) -> u32
         ensures { result ≡ row.now.time }
     {
         row.time
@@ -106,10 +106,10 @@ impl RowReader for StormRows<'_> {
 /// The rows of the records that are left. Their times do not fall.
 pub(crate) fn rows_in(
     alloc: Global,
-    form: Form,
+    form: StormForm,
     zones: &[Zone],
     records: &mut Records<'_>,
-) -> Result<Vec<Row>, ReadFault<StormRefusal>>
+) -> Result<Vec<StormRow>, ReadFault<StormRefusal>>
     requires { length zones.now ≤ MOST_ZONES }
     ensures value { AnswersRead (λ v. v.items) result (storm_rows form (zone_names zones.now) records.old) }
     ensures few { IfOk result (λ v. vec_len v ≤ MOST_ROWS) }

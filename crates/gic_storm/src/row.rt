@@ -2,7 +2,7 @@
 
 /// A field at a time, for one zone or for all of them.
 #[derive(Clone, Copy, Debug, PartialEq, Eq)]
-pub struct Row {
+pub struct StormRow {
     /// In seconds.
     pub time: u32,
     /// The place of the zone in the case's list, from 0; None stands for all zones.

@@ -4,12 +4,12 @@ ghost use Rattle.gic_induce.specs.Fields.{IsField};
 ghost use Rattle.gic_storm.specs.Steps.{steps_in, step_at};
 ghost use Rattle.gic_storm.specs.StepFields.{is_for, last_for, field_in_row, field_at_step, fields_at_step};
 
-use crate::row::Row;
+use crate::row::StormRow;
 use crate::storm::Storm;
 use gic_induce::Fields;
 
 /// Whether a row is for a zone.
-fn is_for(row: &Row, zone: u16) -> bool
+fn is_for(row: &StormRow, zone: u16) -> bool
     ensures { result ≡ is_for row.now.zone zone }
 {
     match row.zone {
@@ -20,14 +20,14 @@ fn is_for(row: &Row, zone: u16) -> bool
 
 /// The last of the rows that is for a zone.
 #[tactic(auto, unfolding(crate::specs::StepFields::last_for))]
-fn last_for(rows: &[Row], zone: u16) -> Option<Row>
+fn last_for(rows: &[StormRow], zone: u16) -> Option<StormRow>
     ensures { result ≡ last_for rows.now zone }
 {
     rows.iter().rev().copied().find(|row| is_for(row, zone))
 }
 
 /// The field of a zone at a step with these rows: north and east.
-fn field_at_step(rows: &[Row], zone: u16) -> (i32, i32)
+fn field_at_step(rows: &[StormRow], zone: u16) -> (i32, i32)
     requires { All (λ r. IsField (field_in_row r)) rows.now }
     ensures value { result ≡ field_at_step rows.now zone }
     ensures within { IsField result }

@@ -9,7 +9,7 @@ ghost use Rattle.gic_storm.specs.Steps.{steps_in, step_at, time_of_step, starts_
 use crate::form::form_of;
 use crate::pass::rows_in;
 use crate::refusal::StormRefusal;
-use crate::row::Row;
+use crate::row::StormRow;
 use csv::ByteRecord;
 use gic_base::ReadFault;
 use gic_base::limits::{MOST_ROWS, MOST_ZONES};
@@ -21,7 +21,7 @@ use std::marker::Model;
 /// The fields of the zones of a case in the course of time: 1 to 20000 rows, whose times do not fall.
 pub struct Storm {
     zones: u16,
-    rows: Vec<Row>,
+    rows: Vec<StormRow>,
     starts: Vec<u32>,
 }
 
@@ -60,7 +60,7 @@ fn is_new(before: Option<u32>, time: u32) -> bool
 }
 
 /// The places of the rows that begin a step.
-fn starts_of(alloc: Global, rows: &[Row]) -> Result<Vec<u32>, AllocError>
+fn starts_of(alloc: Global, rows: &[StormRow]) -> Result<Vec<u32>, AllocError>
     requires { length rows.now ≤ MOST_ROWS }
     ensures { IfOk result (λ v. v.items ≡ starts_from 0 None rows.now) }
 {
@@ -120,7 +120,7 @@ pub fn read_storm(
 
 impl Storm {
     /// The rows in order. The answer also tells what every storm keeps.
-    pub fn rows(&self) -> &[Row]
+    pub fn rows(&self) -> &[StormRow]
         ensures value { result.now ≡ self.now.rows }
         ensures sound { IsStorm self.now }
     {
@@ -145,7 +145,7 @@ impl Storm {
     }
 
     /// The rows of a step, counted from 1. There is one at least, and all have the time of the step.
-    pub fn step(&self, number: u32) -> &[Row]
+    pub fn step(&self, number: u32) -> &[StormRow]
         requires least { 1 ≤ number }
         requires most { number ≤ length (steps_in self.now.rows) }
         ensures value { result.now ≡ step_at self.now.rows number }
@@ -172,7 +172,7 @@ fn start_at(starts: &[u32], place: usize, whole: usize) -> usize
 }
 
 /// The rows between two places.
-fn part(rows: &[Row], start: usize, end: usize) -> &[Row]
+fn part(rows: &[StormRow], start: usize, end: usize) -> &[StormRow]
     requires ordered { start ≤ end }
     requires within { end ≤ length rows.now }
     ensures { result.now ≡ take (end - start) (drop start rows.now) }

@@ -1,9 +1,9 @@
 -- An accepted storm has a step.
 use Rattle.std.proofs.Common.{◌≡◌, ℕ, ◌≤◌, List, [], ◌∷◌, length, Option, Some, None, arith, subst}
 use Rattle.gic_base.proofs.RefusalLaws.{none_settled}
-use Rattle.gic_storm.specs.Rules.{broken_after, broken, rows_after, storm_in, storm_of}
+use Rattle.gic_storm.specs.Rules.{broken_after, storm_refusals, rows_after, storm_in, storm_of}
 use Rattle.gic_storm.specs.StormView.{StormView}
-use Rattle.gic_storm.specs.Columns.{form_of}
+use Rattle.gic_storm.specs.Columns.{storm_form_of}
 use Rattle.gic_storm.proofs.Cuts.{some_step}
 use Rattle.gic_study_mode.specs.Follows.{AcceptedStormsHaveSteps}
 
@@ -14,11 +14,11 @@ with_form refusals rows without given None none = absurd (without none)
 with_form refusals rows without given (Some form) none = given form none
 
 -- a record follows the first where no rule is broken
-some_row : (zones : List (List ℕ)) (records : List (List (List ℕ))) → broken zones records ≡ [] → 1 ≤ length (storm_in zones records).rows
+some_row : (zones : List (List ℕ)) (records : List (List (List ℕ))) → storm_refusals zones records ≡ [] → 1 ≤ length (storm_in zones records).rows
 some_row zones [] none = cc
-some_row zones (first ∷ []) none = with_form (λ form. broken_after form zones []) (λ form. rows_after form zones []) (λ refused. cc) (λ form refused. cc) (form_of first) none
+some_row zones (first ∷ []) none = with_form (λ form. broken_after form zones []) (λ form. rows_after form zones []) (λ refused. cc) (λ form refused. cc) (storm_form_of first) none
 some_row zones (first ∷ (columns ∷ records)) none =
-    with_form (λ form. broken_after form zones (columns ∷ records)) (λ form. rows_after form zones (columns ∷ records)) (λ refused. cc) (λ form kept. omega arith) (form_of first) none
+    with_form (λ form. broken_after form zones (columns ∷ records)) (λ form. rows_after form zones (columns ∷ records)) (λ refused. cc) (λ form kept. omega arith) (storm_form_of first) none
 
 pub accepted_steps : AcceptedStormsHaveSteps
 unfolding storm_of

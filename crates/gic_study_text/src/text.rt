@@ -1,7 +1,7 @@
 //! The report of a study.
 ghost use Rattle.std.specs.Prelude.{◌≡◌, ◌+◌, ◌<◌, map, length};
 ghost use Rattle.gic_base.specs.Writes.{Writes};
-ghost use Rattle.gic_induce.specs.Fields.{field_at};
+ghost use Rattle.gic_induce.specs.Fields.{zone_field};
 ghost use Rattle.gic_text.specs.Lines.{line_text, lines_text};
 ghost use Rattle.gic_study_text.specs.StudyText.{study_setting_line, detail_step_line, zone_line, zone_lines, detail_lines, detail_block};
 ghost use Rattle.gic_study_text.specs.StudyText.{peak_lines, study_lines, monitor_line, monitor_text, monitor_texts, study_text};
@@ -76,7 +76,7 @@ fn write_zone<S: Sink>(
     out: &mut S,
 ) -> Result<(), WriteFailed>
     requires { zone < length fields.now }
-    ensures { Writes S.written S.faults out.old out.new (line_text (zone_line name.now (field_at fields.now zone))) result }
+    ensures { Writes S.written S.faults out.old out.new (line_text (zone_line name.now (zone_field fields.now zone))) result }
 {
     let (north, east) = fields.get(zone);
     line.start();

@@ -8,7 +8,7 @@ use Rattle.gic_fixed.specs.Encloses.{Encloses}
 use Rattle.gic_fixed.proofs.Integers.{linear, *ℤ_left_comm, nothing_from}
 use Rattle.gic_fixed.proofs.Divisions.{positive_product}
 use Rattle.gic_fixed.proofs.Enclosures.{Encloses-common, Encloses-add, Encloses-cancel, Encloses-scale, Encloses-div_out, Encloses-point}
-use Rattle.gic_induce.specs.Fields.{field_at}
+use Rattle.gic_induce.specs.Fields.{zone_field}
 use Rattle.gic_model.specs.declared.parts.Item.{Item}
 use Rattle.gic_model.specs.Limits.{IsWithinLimits}
 use Rattle.gic_model.specs.Network.{Network}
@@ -73,17 +73,17 @@ module _ (network : Network) (stands : Item → Bool) (quantity : Solution → �
 
   -- the voltages that the field of a zone gives, MOST_FIELD times
   abbrev zone_volts : ℕ → ℕ → ℤ
-  zone_volts place zone = (field_at fields zone).0 *ℤ north zone place +ℤ (field_at fields zone).1 *ℤ east zone place
+  zone_volts place zone = (zone_field fields zone).0 *ℤ north zone place +ℤ (zone_field fields zone).1 *ℤ east zone place
 
   -- those of the first n zones
   abbrev first_volts : ℕ → ℕ → ℤ
   first_volts n place = sum_below (zone_volts place) n
 
   abbrev low : ℕ → ℤ
-  low zone = zone_low (field_at fields zone) (zone_at row zone)
+  low zone = zone_low (zone_field fields zone) (zone_at row zone)
 
   abbrev high : ℕ → ℤ
-  high zone = zone_high (field_at fields zone) (zone_at row zone)
+  high zone = zone_high (zone_field fields zone) (zone_at row zone)
 
   agree : (volts : ℕ → ℤ) (one other : Solution) → IsSolution standing volts one → IsSolution standing volts other → quantity one *ℤ pos other.denominator ≡ quantity other *ℤ pos one.denominator
   agree volts one other first second = is_linear.agrees one other (agree_in network stands volts limits earthed one other first second)
@@ -91,15 +91,15 @@ module _ (network : Network) (stands : Item → Bool) (quantity : Solution → �
   -- one zone alone
   module _ (n : ℕ) (less : n < length fields) (to_north to_east : Solution) (solves_north : IsSolution standing (north n) to_north) (solves_east : IsSolution standing (east n) to_east) where
     abbrev pub own : Solution
-    own = combined (field_at fields n).0 to_north (field_at fields n).1 to_east
+    own = combined (zone_field fields n).0 to_north (zone_field fields n).1 to_east
 
     own_solves : IsSolution standing (λ place. zone_volts place n) own
-    own_solves = superposition standing (north n) (east n) to_north to_east (field_at fields n).0 (field_at fields n).1 solves_north solves_east
+    own_solves = superposition standing (north n) (east n) to_north to_east (zone_field fields n).0 (zone_field fields n).1 solves_north solves_east
 
     own_held : Encloses (low n) (high n) (quantity own) (over * own.denominator)
     own_held =
-        let a = (field_at fields n).0 in
-        let b = (field_at fields n).1 in
+        let a = (zone_field fields n).0 in
+        let b = (zone_field fields n).1 in
         let zone = zone_at row n in
         let is : pos to_east.denominator *ℤ (quantity to_north *ℤ a) +ℤ pos to_north.denominator *ℤ (quantity to_east *ℤ b) ≡ quantity own =
         sym (is_linear.combines a b to_north to_east ∙ ap₂ (λ x y. x +ℤ y) (out a (pos to_east.denominator) (quantity to_north)) (out b (pos to_north.denominator) (quantity to_east))) in

@@ -6,7 +6,7 @@ use Rattle.std.proofs.lemmas.Int.{ints, clamps, fits_signed_from_abs, unsigned_a
 use Rattle.std.proofs.Math.Nat.{mul-le-mul, mul-div-le}
 use Rattle.gic_fixed.specs.Ends.{Ends}
 use Rattle.gic_fixed.specs.Encloses.{IsWithin}
-use Rattle.gic_induce.specs.Fields.{IsField, field_at}
+use Rattle.gic_induce.specs.Fields.{IsField, zone_field}
 use Rattle.gic_superpose.specs.Pairs.{most_base}
 use Rattle.gic_superpose.specs.Superposed.{ZoneEnds, zone_at, low_part, high_part, zone_low, zone_high, sum_low, sum_high}
 use Rattle.gic_superpose.specs.Compact.{most_sum, most_compact}
@@ -66,8 +66,8 @@ zone_ordered field zone =
 
 pub sums_ordered : (fields : List (ℤ × ℤ)) (row : List ZoneEnds) → sum_low fields row ≤ℤ sum_high fields row
 sums_ordered fields row =
-    sum_below-ordered (λ zone. zone_low (field_at fields zone) (zone_at row zone)) (λ zone. zone_high (field_at fields zone) (zone_at row zone)) (length fields)
-    (λ zone less. zone_ordered (field_at fields zone) (zone_at row zone))
+    sum_below-ordered (λ zone. zone_low (zone_field fields zone) (zone_at row zone)) (λ zone. zone_high (zone_field fields zone) (zone_at row zone)) (length fields)
+    (λ zone less. zone_ordered (zone_field fields zone) (zone_at row zone))
 
 -- a number of so few bits fits
 pub fits_wide : (z : ℤ) → unsigned_abs z ≤ 40000 * most_base → FitsSigned w128 z

@@ -9,7 +9,7 @@ use Rattle.gic_fixed.specs.Encloses.{IsWithin}
 use Rattle.gic_fixed.specs.Rounding.{floor_div, ceil_div}
 use Rattle.gic_fixed.proofs.Divisions.{floor_ge, floor_le}
 use Rattle.gic_fixed.proofs.Integers.{*ℤ-neg_ℤ, abs-neg_ℤ}
-use Rattle.gic_induce.specs.Fields.{IsField, no_field, field_at}
+use Rattle.gic_induce.specs.Fields.{IsField, no_field, zone_field}
 use Rattle.gic_superpose.proofs.Sums.{sum_below-within}
 use Rattle.gic_superpose.specs.declared.pairs.ZonePair.{ZonePair}
 use Rattle.gic_superpose.specs.Superposed.{ZoneEnds, no_zone_ends, zone_at, zone_low, zone_high, sum_low, sum_high, sums_in_milli, superposed}
@@ -45,16 +45,16 @@ few_zones : (z : ℤ) (n : ℕ) → n ≤ 256 → unsigned_abs z ≤ n * (40000 
 few_zones z n h k = omega (arith, h, k)
 
 module _ (fields : List (ℤ × ℤ)) (row : List ZoneEnds) (few : length fields ≤ MOST_ZONES) (within : All IsField fields) (count : length row ≡ length fields) (small : All IsSmallZone row) where
-  each : (zone : ℕ) → zone < length fields → IsWithin (40000 * most_base) (zone_low (field_at fields zone) (zone_at row zone)) (zone_high (field_at fields zone) (zone_at row zone))
+  each : (zone : ℕ) → zone < length fields → IsWithin (40000 * most_base) (zone_low (zone_field fields zone) (zone_at row zone)) (zone_high (zone_field fields zone) (zone_at row zone))
   each zone less =
       let here : IsSmallZone (zone_at row zone) = small zone no_zone_ends (omega (arith, less, count)) in
-      zone_small (field_at fields zone) (zone_at row zone) most_base (within zone no_field less) here.north here.east
+      zone_small (zone_field fields zone) (zone_at row zone) most_base (within zone no_field less) here.north here.east
 
   low : unsigned_abs (sum_low fields row) ≤ sums_in_milli * most_superposed
-  low = few_zones (sum_low fields row) (length fields) few (sum_below-within (λ zone. zone_low (field_at fields zone) (zone_at row zone)) (length fields) (40000 * most_base) (λ zone less. (each zone less).low))
+  low = few_zones (sum_low fields row) (length fields) few (sum_below-within (λ zone. zone_low (zone_field fields zone) (zone_at row zone)) (length fields) (40000 * most_base) (λ zone less. (each zone less).low))
 
   high : unsigned_abs (sum_high fields row) ≤ sums_in_milli * most_superposed
-  high = few_zones (sum_high fields row) (length fields) few (sum_below-within (λ zone. zone_high (field_at fields zone) (zone_at row zone)) (length fields) (40000 * most_base) (λ zone less. (each zone less).high))
+  high = few_zones (sum_high fields row) (length fields) few (sum_below-within (λ zone. zone_high (zone_field fields zone) (zone_at row zone)) (length fields) (40000 * most_base) (λ zone less. (each zone less).high))
 
   pub zones_small : IsWithin most_superposed (superposed fields row).low (superposed fields row).high
   zones_small = record {

@@ -7,7 +7,7 @@ use Rattle.gic_base.specs.declared.limits.TheConstants.{MOST_ZONES}
 use Rattle.gic_fixed.specs.Ends.{Ends, IsAtMostWide}
 use Rattle.gic_fixed.proofs.Integers.{linear, *ℤ-≤ℤ, *ℤ--ℤ, *ℤ-neg_ℤ}
 use Rattle.gic_fixed.proofs.Divisions.{outward_width}
-use Rattle.gic_induce.specs.Fields.{IsField, field_at}
+use Rattle.gic_induce.specs.Fields.{IsField, zone_field}
 use Rattle.gic_superpose.specs.Superposed.{ZoneEnds, zone_at, low_part, high_part, zone_low, zone_high, sum_low, sum_high, sums_in_milli, superposed, IsNarrowBase, IsNarrowZone}
 use Rattle.gic_superpose.proofs.Sums.{sum_below-apart}
 
@@ -50,11 +50,11 @@ zone_wide field zone within narrow =
 few_wide : (lo hi : ℤ) (n : ℕ) → n ≤ 256 → (hi -ℤ lo) ≤ℤ pos (n * 40000000) → (hi -ℤ lo) ≤ℤ pos (sums_in_milli * 1)
 few_wide lo hi n few h = omega (arith, ints, few, h)
 
-module _ (fields : List (ℤ × ℤ)) (row : List ZoneEnds) (few : length fields ≤ MOST_ZONES) (within : (zone : ℕ) → zone < length fields → IsField (field_at fields zone))
+module _ (fields : List (ℤ × ℤ)) (row : List ZoneEnds) (few : length fields ≤ MOST_ZONES) (within : (zone : ℕ) → zone < length fields → IsField (zone_field fields zone))
     (narrow : (zone : ℕ) → zone < length fields → IsNarrowZone (zone_at row zone)) where
   pub superposed_narrow : IsAtMostWide 2 (superposed fields row).low (superposed fields row).high
   superposed_narrow =
       outward_width (sum_low fields row) (sum_high fields row) sums_in_milli 1 (omega arith)
       (few_wide (sum_low fields row) (sum_high fields row) (length fields) few
-      (sum_below-apart (λ zone. zone_low (field_at fields zone) (zone_at row zone)) (λ zone. zone_high (field_at fields zone) (zone_at row zone)) (length fields) 40000000
-      (λ zone less. zone_wide (field_at fields zone) (zone_at row zone) (within zone less) (narrow zone less))))
+      (sum_below-apart (λ zone. zone_low (zone_field fields zone) (zone_at row zone)) (λ zone. zone_high (zone_field fields zone) (zone_at row zone)) (length fields) 40000000
+      (λ zone less. zone_wide (zone_field fields zone) (zone_at row zone) (within zone less) (narrow zone less))))

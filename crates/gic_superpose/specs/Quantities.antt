@@ -4,7 +4,7 @@ use Rattle.gic_base.specs.declared.id.ElementId.{ElementId}
 use Rattle.gic_base.specs.declared.limits.TheConstants.{MOST_FIELD, MOST_ZONES}
 use Rattle.gic_fixed.specs.Encloses.{Encloses}
 use Rattle.gic_fixed.specs.Ends.{Ends, IsAtMostWide}
-use Rattle.gic_induce.specs.Fields.{IsField, field_at}
+use Rattle.gic_induce.specs.Fields.{IsField, zone_field}
 use Rattle.gic_model.specs.declared.parts.Item.{Item}
 use Rattle.gic_model.specs.Limits.{IsWithinLimits}
 use Rattle.gic_model.specs.Network.{Network}
@@ -45,7 +45,7 @@ pub record HoldsInZone (standing : List Placed) (north east : ℕ → ℤ) (quan
 -- the voltages are a MOST_FIELD-th of what the fields make of those of the zones' base fields
 abbrev pub AreMadeOf : List (ℤ × ℤ) → (north east : ℕ → ℕ → ℤ) → (volts : ℕ → ℤ) → Type 0
 AreMadeOf fields north east volts = (place : ℕ) →
-    pos MOST_FIELD *ℤ volts place ≡ sum_below (λ zone. (field_at fields zone).0 *ℤ north zone place +ℤ (field_at fields zone).1 *ℤ east zone place) (length fields)
+    pos MOST_FIELD *ℤ volts place ≡ sum_below (λ zone. (zone_field fields zone).0 *ℤ north zone place +ℤ (zone_field fields zone).1 *ℤ east zone place) (length fields)
 
 -- where each live node is earthed, intervals in nanovolts or nanoamperes that hold a linear quantity in all base fields give one in millivolts or milliamperes that holds it in any fields
 abbrev pub SuperposedIntervalsHold : Type 0

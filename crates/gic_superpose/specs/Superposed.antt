@@ -4,7 +4,7 @@ use Rattle.std.specs.Int.{int_min, int_max}
 use Rattle.gic_base.specs.declared.limits.TheConstants.{MOST_FIELD}
 use Rattle.gic_fixed.specs.Ends.{Ends, zero_ends, IsAtMostWide}
 use Rattle.gic_fixed.specs.Rounding.{floor_div, ceil_div}
-use Rattle.gic_induce.specs.Fields.{field_at}
+use Rattle.gic_induce.specs.Fields.{zone_field}
 use Rattle.gic_superpose.specs.Sums.{sum_below}
 
 -- the intervals of a quantity in the two base fields of a zone
@@ -36,10 +36,10 @@ zone_high field zone = high_part zone.north field.0 +ℤ high_part zone.east fie
 
 -- those of all zones, added up
 abbrev pub sum_low : List (ℤ × ℤ) → List ZoneEnds → ℤ
-sum_low fields row = sum_below (λ zone. zone_low (field_at fields zone) (zone_at row zone)) (length fields)
+sum_low fields row = sum_below (λ zone. zone_low (zone_field fields zone) (zone_at row zone)) (length fields)
 
 abbrev pub sum_high : List (ℤ × ℤ) → List ZoneEnds → ℤ
-sum_high fields row = sum_below (λ zone. zone_high (field_at fields zone) (zone_at row zone)) (length fields)
+sum_high fields row = sum_below (λ zone. zone_high (zone_field fields zone) (zone_at row zone)) (length fields)
 
 -- what a sum over intervals in nanovolts or nanoamperes is to be divided by for millivolts or milliamperes
 abbrev pub sums_in_milli : ℕ

@@ -6,7 +6,7 @@ ghost use Rattle.gic_base.specs.declared.limits.TheConstants.{MOST_FIELD};
 ghost use Rattle.gic_fixed.specs.Encloses.{IsWithin};
 ghost use Rattle.gic_fixed.specs.Ends.{ends_of};
 ghost use Rattle.gic_fixed.specs.Rounding.{floor_div, ceil_div};
-ghost use Rattle.gic_induce.specs.Fields.{field_at};
+ghost use Rattle.gic_induce.specs.Fields.{zone_field};
 ghost use Rattle.gic_superpose.specs.Superposed.{zone_at, low_part, high_part, zone_low, zone_high};
 ghost use Rattle.gic_superpose.specs.Superposed.{sum_low, sum_high, sums_in_milli, superposed};
 ghost use Rattle.gic_superpose.specs.Pairs.{row_of};
@@ -112,8 +112,8 @@ fn zone_part(fields: &Fields, row: &[ZonePair], zone: u16) -> CompactEnds
     requires fields { zone < length fields.now }
     requires row { zone < length row.now }
     requires compact { All (IsCompact (length fields.now)) row.now }
-    ensures low { result.low ≡ zone_low (field_at fields.now zone) (zone_at (row_of row.now) zone) }
-    ensures high { result.high ≡ zone_high (field_at fields.now zone) (zone_at (row_of row.now) zone) }
+    ensures low { result.low ≡ zone_low (zone_field fields.now zone) (zone_at (row_of row.now) zone) }
+    ensures high { result.high ≡ zone_high (zone_field fields.now zone) (zone_at (row_of row.now) zone) }
     ensures small { IsWithin (2 * MOST_FIELD * most_compact (length fields.now)) result.low result.high }
 {
     let (north, east) = fields.get(zone);

@@ -3,7 +3,7 @@ ghost use Rattle.std.specs.Prelude.{◌≡◌, ℕ, ◌*◌, ◌<◌, ◌≤◌,
 ghost use Rattle.gic_base.specs.declared.limits.TheConstants.{MOST_FIELD, MOST_ZONES};
 ghost use Rattle.gic_fixed.specs.Encloses.{IsWithin};
 ghost use Rattle.gic_fixed.specs.Ends.{ends_of};
-ghost use Rattle.gic_induce.specs.Fields.{field_at};
+ghost use Rattle.gic_induce.specs.Fields.{zone_field};
 ghost use Rattle.gic_superpose.specs.Superposed.{zone_at, low_part, high_part, zone_low, zone_high, sum_low, sum_high, superposed};
 ghost use Rattle.gic_superpose.specs.Pairs.{zone_of, row_of, most_base, IsSmallPair};
 ghost use Rattle.gic_superpose.specs.Compact.{IsCompact};
@@ -52,8 +52,8 @@ fn zone_part(fields: &Fields, row: &[ZonePair], zone: u16) -> Interval
     requires fields { zone < length fields.now }
     requires row { zone < length row.now }
     requires small { All IsSmallPair row.now }
-    ensures low { result.lo ≡ zone_low (field_at fields.now zone) (zone_at (row_of row.now) zone) }
-    ensures high { result.hi ≡ zone_high (field_at fields.now zone) (zone_at (row_of row.now) zone) }
+    ensures low { result.lo ≡ zone_low (zone_field fields.now zone) (zone_at (row_of row.now) zone) }
+    ensures high { result.hi ≡ zone_high (zone_field fields.now zone) (zone_at (row_of row.now) zone) }
     ensures small { IsWithin (2 * MOST_FIELD * most_base) result.lo result.hi }
 {
     let (north, east) = fields.get(zone);

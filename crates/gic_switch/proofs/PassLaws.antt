@@ -15,10 +15,10 @@ use Rattle.gic_base.specs.declared.limits.TheConstants.{MOST_SWITCHINGS}
 use Rattle.gic_model.specs.declared.parts.Switching.{Switching}
 use Rattle.gic_case.specs.Lists.{Lists}
 use Rattle.gic_model.specs.declared.parts.Item.TheVariants as items
-use Rattle.gic_switch.specs.Columns.{is_head, action_in, follows}
+use Rattle.gic_switch.specs.Columns.{is_head, action_in, switching_follows}
 use Rattle.gic_switch.specs.Items.{item_in}
 use Rattle.gic_switch.specs.Pass.{row_in, switching_rows, switchings_from}
-use Rattle.gic_switch.specs.Rules.{action_or_open, breaks_record, broken, switching_of, list_of, switchings_of}
+use Rattle.gic_switch.specs.Rules.{action_or_open, breaks_switching_record, switching_refusals, switching_of, list_of, switchings_of}
 use Rattle.gic_switch.specs.declared.action.Action.TheVariants.{Open}
 use Rattle.gic_switch.specs.declared.refusal.SwitchRefusal.{SwitchRefusal}
 use Rattle.gic_switch.specs.declared.refusal.SwitchRefusal.TheVariants as refusals
@@ -28,7 +28,7 @@ abbrev breaks_columns : Lists → ℕ → Option ℕ → List (List ℕ) → Lis
 breaks_columns case row before columns =
     unless (length columns == 3) (refusals.Shape row)
     ++ (unless (is_some (time_in columns)) (refusals.Number row)
-    ++ (unless (follows before (time_of columns)) (refusals.Order row)
+    ++ (unless (switching_follows before (time_of columns)) (refusals.Order row)
     ++ (unless (is_some (action_in columns)) (refusals.Action row)
     ++ unless (is_some (item_in case (action_or_open columns) (text_at columns 1))) (refusals.Item row))))
 
@@ -39,7 +39,7 @@ unfolding row_in switching_of
 row_law case row before columns =
     then_law _ _ _ _ _ _ (test_law (length columns == 3) (refusals.Shape row))
     (then_law _ _ _ _ _ _ (value_law (time_in columns) (refusals.Number row) 0)
-    (then_law _ _ _ _ _ _ (test_law (follows before (time_of columns)) (refusals.Order row))
+    (then_law _ _ _ _ _ _ (test_law (switching_follows before (time_of columns)) (refusals.Order row))
     (then_law _ _ _ _ _ _ (value_law (action_in columns) (refusals.Action row) Open)
     (last_law _ _ _ _ (value_law (item_in case (action_or_open columns) (text_at columns 1)) (refusals.Item row) (items.Line 0))))))
 
@@ -49,13 +49,13 @@ time_row case columns = refl
 
 -- the records after the first
 rows_law : (case : Lists) (records : List (List (List ℕ)))
-    → switching_rows case records ≡ settle (breaks_records (breaks_record case) 1 None records) (map (switching_of case) records)
-unfolding breaks_record
+    → switching_rows case records ≡ settle (breaks_records (breaks_switching_record case) 1 None records) (map (switching_of case) records)
+unfolding breaks_switching_record
 rows_law case records =
     all_rows_law (row_in case) (λ (s : Switching). s.time) MOST_SWITCHINGS refusals.TooMany (breaks_columns case) (switching_of case) (row_law case) (time_row case) 1 None records
 
 -- all records
-switchings_law : (case : Lists) (records : List (List (List ℕ))) → switchings_from case records ≡ settle (broken case records) (list_of case records)
+switchings_law : (case : Lists) (records : List (List (List ℕ))) → switchings_from case records ≡ settle (switching_refusals case records) (list_of case records)
 unfolding switchings_from
 switchings_law case [] = refl
 switchings_law case (first ∷ records) = then_law _ _ _ _ _ _ (test_law (is_head first) (refusals.Shape 0)) (rows_law case records)

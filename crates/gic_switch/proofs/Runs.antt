@@ -6,7 +6,7 @@ use Rattle.std.proofs.lemmas.Bool.Decides.{nat_tests}
 use Rattle.std.proofs.lemmas.List.{get_or-map, length-map, drop_all}
 use Rattle.std.specs.List.{AllByRecursion}
 use Rattle.std.specs.List.Sorted.{IsNonDecreasingBy}
-use Rattle.gic_storm.specs.declared.row.Row.{Row}
+use Rattle.gic_storm.specs.declared.row.StormRow.{StormRow}
 use Rattle.gic_storm.specs.Steps.{steps_in, first_time, time_of_step}
 use Rattle.gic_storm.proofs.Rising.{times_rise_law}
 use Rattle.gic_model.specs.declared.parts.Switching.{Switching}
@@ -27,7 +27,7 @@ all_runs [] = []
 all_runs (c ∷ cs) = runs_after 1 1 c cs
 
 -- how many switchings are in force at each step
-abbrev pub counts_of : List Row → List Switching → List ℕ
+abbrev pub counts_of : List StormRow → List Switching → List ℕ
 counts_of storm rows = map (λ step. length (rows_in_force (first_time step) rows)) (steps_in storm)
 
 same_count : (c t : ℕ) → (c == t) ≡ true → c ≡ t
@@ -88,7 +88,7 @@ module _ (P : ℕ → ℕ → Type 0) where
       ]
 
 -- the runs of the counts of all steps
-runs_law : (storm : List Row) (rows : List Switching) (c : ℕ) (cs : List ℕ) → length (c ∷ cs) ≡ length (steps_in storm)
+runs_law : (storm : List StormRow) (rows : List Switching) (c : ℕ) (cs : List ℕ) → length (c ∷ cs) ≡ length (steps_in storm)
     → ((k : ℕ) → k < length (c ∷ cs) → AreInForce rows (time_of_step storm (k + 1)) (get_or (c ∷ cs) k 0))
     → AreEpochs storm rows (runs_after 1 1 c cs)
 runs_law storm rows c cs many each = record {
@@ -98,31 +98,31 @@ runs_law storm rows c cs many each = record {
   longest = longest_law 1 1 c cs;
 }
 
-all_law : (storm : List Row) (rows : List Switching) (cs : List ℕ) → length cs ≡ length (steps_in storm)
+all_law : (storm : List StormRow) (rows : List Switching) (cs : List ℕ) → length cs ≡ length (steps_in storm)
     → ((k : ℕ) → k < length cs → AreInForce rows (time_of_step storm (k + 1)) (get_or cs k 0))
     → AreEpochs storm rows (all_runs cs)
 all_law storm rows [] many each = record { cover = omega arith; in_force = tt; longest = tt }
 all_law storm rows (c ∷ cs) many each = runs_law storm rows c cs many each
 
 -- there is a count for each step
-counts-length : (storm : List Row) (rows : List Switching) → length (counts_of storm rows) ≡ length (steps_in storm)
+counts-length : (storm : List StormRow) (rows : List Switching) → length (counts_of storm rows) ≡ length (steps_in storm)
 counts-length storm rows = length-map (steps_in storm) (λ step. length (rows_in_force (first_time step) rows))
 
 -- the count of a step
-count_at : (storm : List Row) (rows : List Switching) (k : ℕ) → k < length (steps_in storm) → get_or (counts_of storm rows) k 0 ≡ length (rows_in_force (time_of_step storm (k + 1)) rows)
+count_at : (storm : List StormRow) (rows : List Switching) (k : ℕ) → k < length (steps_in storm) → get_or (counts_of storm rows) k 0 ≡ length (rows_in_force (time_of_step storm (k + 1)) rows)
 count_at storm rows k within =
     let back : k + 1 - 1 ≡ k = omega arith in
     rw back (get_or-map (λ step. length (rows_in_force (first_time step) rows)) (steps_in storm) k [] 0 within)
 
 -- the runs of the counts of all steps are the epochs
-epochs_law : (storm : List Row) (rows : List Switching) → AreOrdered rows → AreEpochs storm rows (all_runs (counts_of storm rows))
+epochs_law : (storm : List StormRow) (rows : List Switching) → AreOrdered rows → AreEpochs storm rows (all_runs (counts_of storm rows))
 epochs_law storm rows ordered =
     let many = counts-length storm rows in
     all_law storm rows (counts_of storm rows) many (λ k within.
     in_force_law (time_of_step storm (k + 1)) rows (get_or (counts_of storm rows) k 0) ordered (count_at storm rows k (omega arith)))
 
 -- the counts from a step on are its own and those from the next step on
-counts_next : (storm : List Row) (rows : List Switching) (last : ℕ) → last < length (steps_in storm)
+counts_next : (storm : List StormRow) (rows : List Switching) (last : ℕ) → last < length (steps_in storm)
     → drop last (counts_of storm rows) ≡ length (rows_in_force (time_of_step storm (last + 1)) rows) ∷ drop (last + 1) (counts_of storm rows)
 counts_next storm rows last within =
     let many = counts-length storm rows in
@@ -138,26 +138,26 @@ unequal_counts : (c t : ℕ) → c ≢ t → (c == t) ≡ false
 unequal_counts c t h = grind (arith, nat_tests, h)
 
 -- a step with the same count goes on with the run
-pub same_run : (storm : List Row) (rows : List Switching) (first last through : ℕ) → last < length (steps_in storm) → length (rows_in_force (time_of_step storm (last + 1)) rows) ≡ through
+pub same_run : (storm : List StormRow) (rows : List Switching) (first last through : ℕ) → last < length (steps_in storm) → length (rows_in_force (time_of_step storm (last + 1)) rows) ≡ through
     → runs_after first (last + 1) through (drop (last + 1) (counts_of storm rows)) ≡ runs_after first last through (drop last (counts_of storm rows))
 same_run storm rows first last through within same =
     rw (counts_next storm rows last within, same, equal_counts through) refl
 
 -- a step with another count begins a run
-pub next_run : (storm : List Row) (rows : List Switching) (first last through count : ℕ) → last < length (steps_in storm) → count ≡ length (rows_in_force (time_of_step storm (last + 1)) rows) → count ≢ through
+pub next_run : (storm : List StormRow) (rows : List Switching) (first last through count : ℕ) → last < length (steps_in storm) → count ≡ length (rows_in_force (time_of_step storm (last + 1)) rows) → count ≢ through
     → record { first = first; last = last; through = through } ∷ runs_after (last + 1) (last + 1) count (drop (last + 1) (counts_of storm rows)) ≡ runs_after first last through (drop last (counts_of storm rows))
 next_run storm rows first last through count within own other =
     rw (counts_next storm rows last within, ← own, unequal_counts count through other) refl
 
 -- behind the last step the runs are done
-pub last_run : (storm : List Row) (rows : List Switching) (prefix : List Epoch) (e : Epoch) → AreOrdered rows → e.last ≡ length (steps_in storm)
+pub last_run : (storm : List StormRow) (rows : List Switching) (prefix : List Epoch) (e : Epoch) → AreOrdered rows → e.last ≡ length (steps_in storm)
     → prefix ++ runs_after e.first e.last e.through (drop e.last (counts_of storm rows)) ≡ all_runs (counts_of storm rows) → AreEpochs storm rows (prefix ++ e ∷ [])
 last_run storm rows prefix e ordered end all =
     let none : drop e.last (counts_of storm rows) ≡ [] = drop_all e.last (counts_of storm rows) (omega (arith, counts-length storm rows)) in
     subst (AreEpochs storm rows) (sym all ∙ ap (λ cs. prefix ++ runs_after e.first e.last e.through cs) none) (epochs_law storm rows ordered)
 
 -- no fewer are in force at the next step
-pub next_no_fewer : (storm : List Row) (rows : List Switching) (last : ℕ) → IsNonDecreasingBy (λ (r : Row). r.time) storm → 1 ≤ last → last < length (steps_in storm)
+pub next_no_fewer : (storm : List StormRow) (rows : List Switching) (last : ℕ) → IsNonDecreasingBy (λ (r : StormRow). r.time) storm → 1 ≤ last → last < length (steps_in storm)
     → length (rows_in_force (time_of_step storm last) rows) ≤ length (rows_in_force (time_of_step storm (last + 1)) rows)
 next_no_fewer storm rows zero ordered least within = absurd (omega arith)
 next_no_fewer storm rows (suc k) ordered least within =

@@ -24,6 +24,6 @@ opens Block = true
 opens Unblock = false
 
 -- a time may follow the one before: it is no less
-unfoldable pub follows : Option ℕ → ℕ → Bool
-follows None time = true
-follows (Some before) time = nat_le before time
+unfoldable pub switching_follows : Option ℕ → ℕ → Bool
+switching_follows None time = true
+switching_follows (Some before) time = nat_le before time

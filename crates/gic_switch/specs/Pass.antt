@@ -6,7 +6,7 @@ use Rattle.gic_records.specs.Columns.{text_at, time_in}
 use Rattle.gic_records.specs.RowPass.{rows_in}
 use Rattle.gic_case.specs.Lists.{Lists}
 use Rattle.gic_model.specs.declared.parts.Switching.{Switching}
-use Rattle.gic_switch.specs.Columns.{is_head, action_in, opens, follows}
+use Rattle.gic_switch.specs.Columns.{is_head, action_in, opens, switching_follows}
 use Rattle.gic_switch.specs.Items.{item_in}
 use Rattle.gic_switch.specs.declared.refusal.SwitchRefusal.{SwitchRefusal}
 use Rattle.gic_switch.specs.declared.refusal.SwitchRefusal.TheVariants as refusals
@@ -16,7 +16,7 @@ unfoldable pub row_in : Lists → (row : ℕ) → (before : Option ℕ) → (col
 row_in case row before columns = do
   shape ← test (length columns == 3) (refusals.Shape row)
   time ← or_refuse (time_in columns) (refusals.Number row)
-  order ← test (follows before time) (refusals.Order row)
+  order ← test (switching_follows before time) (refusals.Order row)
   action ← or_refuse (action_in columns) (refusals.Action row)
   item ← or_refuse (item_in case action (text_at columns 1)) (refusals.Item row)
   Ok (record { time = time; item = item; opens = opens action })

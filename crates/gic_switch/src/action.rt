@@ -1,7 +1,7 @@
 //! The fields of one record read as an action.
 ghost use Rattle.std.specs.Prelude.{◌≡◌};
 ghost use Rattle.csv.specs.Records.{fields_of};
-ghost use Rattle.gic_switch.specs.Columns.{is_head, action_in, opens, follows};
+ghost use Rattle.gic_switch.specs.Columns.{is_head, action_in, opens, switching_follows};
 
 use csv::ByteRecord;
 use gic_records::{is_word, text_at};
@@ -30,9 +30,9 @@ pub(crate) fn is_head(columns: &ByteRecord) -> bool
 }
 
 /// Whether a time may follow the one before.
-#[tactic(auto, unfolding(crate::specs::Columns::follows))]
+#[tactic(auto, unfolding(crate::specs::Columns::switching_follows))]
 pub(crate) fn follows(before: Option<u32>, time: u32) -> bool
-    ensures { result ≡ follows before time }
+    ensures { result ≡ switching_follows before time }
 {
     match before {
         None => true,

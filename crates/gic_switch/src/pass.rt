@@ -22,7 +22,7 @@ use std::alloc::Global;
 use std::collections::HashMap;
 
 /// The switching that a record is, after a record of the time before.
-#[tactic(auto, unfolding(crate::specs::Pass::row_in, crate::specs::Columns::follows))]
+#[tactic(auto, unfolding(crate::specs::Pass::row_in, crate::specs::Columns::switching_follows))]
 fn row_in(
     case: &Case,
     items: &HashMap<Name, Item>,

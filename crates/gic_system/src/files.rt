@@ -1,19 +1,20 @@
 //! The files of the system.
-ghost use Rattle.std.specs.Prelude.{◌≡◌, ℕ, ◌<◌, ◌≤◌, List, [], length, map, string_bytes, None, Some, IfSome, IsSomeAnd, IfOk};
-ghost use Rattle.std.specs.Prelude.{OnOk, IsErrOf};
+ghost use Rattle.std.specs.Prelude.{◌≡◌, ℕ, ◌<◌, ◌≤◌, List, [], ◌∷◌, ◌++◌, length, map, string_bytes, None, Some, IfSome, IsSomeAnd, IfOk};
+ghost use Rattle.std.specs.Prelude.{OnOk, IsErr, IsErrOf};
 ghost use Rattle.std.specs.declared.option.Option.{Option};
 ghost use Rattle.std.specs.FinMap.{get};
 ghost use Rattle.std.specs.Io.{StartsWith};
 ghost use Rattle.gic_files.specs.Files.{Files};
 
 use crate::tries::read_some;
+use gic_base::OutOfMemory;
 use gic_files::{FetchRefusal, Library, failed_fetch, keep_name};
 use std::alloc::Global;
+use std::fs;
 use std::fs::File;
 use std::io::Read;
-use std::{fs, io};
 
-/// Where files are opened by name.
+/// Where files are opened by name. It keeps a log of the names.
 pub trait Opener {
     /// What an opened file is read through.
     type File: Read + Drop;
@@ -21,24 +22,39 @@ pub trait Opener {
     /// The files, where the opener tells of them.
     ghost content: { Self → Option Files };
 
-    /// Opens the file of this name at its beginning. The content stays.
-    fn open(&mut self, name: &str) -> io::Result<Self::File>
+    /// The names under which a file was opened, or couldn't be, in order.
+    ghost opened: { Self → List (List ℕ) };
+
+    /// Opens the file of this name at its beginning, or answers None where it can't be opened. The content stays.
+    fn open(&mut self, name: &str) -> Result<Option<Self::File>, OutOfMemory>
         ensures content { content self.new ≡ content self.old }
+        // This name is opened, once, and no other; where there is no memory to keep it, none is.
+        ensures opened { OnOk result (opened self.new ≡ opened self.old ++ name.now ∷ []) }
+        ensures none { IsErr result → opened self.new ≡ opened self.old }
         // What is opened is there, and is read whole.
-        ensures bytes { IfOk result (λ file. IfSome (content self.old) (λ files.
-            IsSomeAnd (get files name.now) (λ bytes. Self.File.Read.remaining file ≡ Some bytes))) };
+        ensures bytes { IfOk result (λ found. IfSome found (λ file. IfSome (content self.old) (λ files.
+            IsSomeAnd (get files name.now) (λ bytes. Self.File.Read.remaining file ≡ Some bytes)))) };
 }
 
-/// The files of the system, which tell nothing of what they hold.
+/// The files of the system, which tell nothing of what they hold. Each name is kept before its file is opened.
 #[derive(Drop)]
 pub struct SystemFiles {
     rt: HostRuntime,
+    alloc: Global,
+    opened: Vec<String>,
 }
 
 impl SystemFiles {
-    /// The files that a program with this handle reaches.
-    pub fn new(rt: HostRuntime) -> SystemFiles {
-        SystemFiles { rt }
+    /// The files that a program with this handle reaches, none of them opened. Takes no memory.
+    pub fn new(rt: HostRuntime) -> SystemFiles
+        ensures { result.opened.items ≡ [] }
+    {
+        let alloc = rt.alloc();
+        SystemFiles {
+            rt,
+            alloc,
+            opened: Vec::new(alloc),
+        }
     }
 }
 
@@ -47,32 +63,32 @@ impl Opener for SystemFiles {
 
     ghost content = { λ _. None };
 
-    fn open(&mut self, name: &str) -> io::Result<File> {
-        fs::open(&self.rt, name)
+    ghost opened = { λ s. map string_bytes s.opened.items };
+
+    fn open(&mut self, name: &str) -> Result<Option<File>, OutOfMemory> {
+        keep_name(self.alloc, &mut self.opened, name)?;
+        Ok(fs::open(&self.rt, name).ok())
     }
 }
 
-/// The files that an opener opens. It keeps the names that are fetched, each before its file is opened, and those whose
-/// fetch failed; where no memory is found for one, the answer is out of memory.
+/// The files that an opener opens: what is fetched is what is opened. It keeps the names of failed fetches; where no memory
+/// is found for one, the answer is out of memory.
 #[derive(Drop)]
 pub struct FileLibrary<O> {
     alloc: Global,
     opener: O,
-    fetched: Vec<String>,
     failures: Vec<String>,
 }
 
 impl<O: Opener> FileLibrary<O> {
-    /// A library without fetches. Takes no memory; the handle is kept for later growth.
+    /// A library without failed fetches. Takes no memory; the handle is kept for later growth.
     pub fn new(alloc: Global, opener: O) -> FileLibrary<O>
         ensures opener { result.opener ≡ opener }
-        ensures fetched { result.fetched.items ≡ [] }
         ensures failures { result.failures.items ≡ [] }
     {
         FileLibrary {
             alloc,
             opener,
-            fetched: Vec::new(alloc),
             failures: Vec::new(alloc),
         }
     }
@@ -112,13 +128,12 @@ fn read_to_end<R: Read>(
 impl<O: Opener> Library for FileLibrary<O> {
     ghost content = { λ s. O.content s.opener };
 
-    ghost fetched = { λ s. map string_bytes s.fetched.items };
+    ghost fetched = { λ s. O.opened s.opener };
 
     ghost failures = { λ s. map string_bytes s.failures.items };
 
     fn fetch(&mut self, name: &str, limit: usize, into: &mut Vec<u8>) -> Result<(), FetchRefusal> {
-        keep_name(self.alloc, &mut self.fetched, name)?;
-        let Ok(mut file) = self.opener.open(name) else {
+        let Some(mut file) = self.opener.open(name)? else {
             return Err(failed_fetch(self.alloc, &mut self.failures, name));
         };
         match read_to_end(&mut file, limit, into) {

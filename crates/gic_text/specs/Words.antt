@@ -1,10 +1,10 @@
 -- Words that make a line.
 use Rattle.std.specs.Prelude.{ℕ, ◌≤◌, List, [], ◌∷◌, ◌++◌, ◌≢◌, length}
 use Rattle.std.specs.List.{AllByRecursion}
-use Rattle.gic_text.specs.Lines.{Line}
+use Rattle.gic_text.specs.Lines.{BegunLine}
 
 -- the line fits in the 512 bytes
-abbrev pub FitsLine : Line → Type 0
+abbrev pub FitsLine : BegunLine → Type 0
 FitsLine line = length line.bytes ≤ 512
 
 -- words one after another, each behind a space

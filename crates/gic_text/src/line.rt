@@ -12,9 +12,9 @@ pub struct LineBuilder {
 
 impl Model for LineBuilder {
     ghost use Rattle.std.specs.Prelude.{◌≤◌, vec_capacity};
-    ghost use Rattle.gic_text.specs.Lines.{Line};
+    ghost use Rattle.gic_text.specs.Lines.{BegunLine};
 
-    ghost Value = { Line };
+    ghost Value = { BegunLine };
 
     ghost view = { λ b. record { bytes = b.bytes.items; begun = b.begun } };
 

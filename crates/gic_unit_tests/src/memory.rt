@@ -1,7 +1,7 @@
 //! Runs over files and streams in memory.
 ghost use Rattle.std.specs.Prelude.{◌≡◌, ◌≢◌, [], map, string_bytes};
 ghost use Rattle.gic_files.specs.Shelf.{files_of};
-ghost use Rattle.gic_unit_tests.specs.Told.{IsReport};
+ghost use Rattle.gic_unit_tests.specs.Told.{IsReport, IsLineOfStatus};
 
 use gic_ask::laws::answers_of_files_law;
 use gic_files::MemoryLibrary;
@@ -23,6 +23,8 @@ pub fn run_in_memory(alloc: Global, words: Vec<String>, files: Vec<(String, Vec<
     ensures right { result.status ≡ 0 → IsReport (map string_bytes words.items)
         (files_of (map (λ f. (string_bytes f.0, f.1.items)) files.items)) result.out.items }
     ensures untold { result.status ≡ 0 → result.err.items ≡ [] }
+    // The line of a fault, or a prefix of it where the error stream took no more.
+    ensures told { result.status ≢ 0 → IsLineOfStatus result.status result.err.items }
     // A failed write, status 4, may leave a prefix of a report.
     ensures nothing { result.status ≢ 0 → result.status ≢ 4 → result.out.items ≡ [] }
 {

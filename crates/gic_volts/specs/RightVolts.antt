@@ -8,12 +8,12 @@ use Rattle.gic_criteria.specs.declared.asked.UniformField.{UniformField}
 use Rattle.gic_inputs.specs.declared.inputs.Inputs.{Inputs}
 
 -- the voltage of each line in nanovolts, blocked ones too, in one field for all zones
-abbrev pub line_volts : Lists → ℤ → ℤ → List ℤ
-line_volts case north east = all_line_volts case (uniform_field case north east)
+abbrev pub volts_of_lines : Lists → ℤ → ℤ → List ℤ
+volts_of_lines case north east = all_line_volts case (uniform_field case north east)
 
 -- the text of the report
 abbrev pub volts_text : Lists → UniformField → List ℕ
-volts_text case f = lines_text (volts_report case.lines f.north f.east (line_volts case f.north f.east))
+volts_text case f = lines_text (volts_report case.lines f.north f.east (volts_of_lines case f.north f.east))
 
 -- the text is that of the case and the field
 abbrev pub IsRightVolts : Inputs UniformField → List ℕ → Type 0

@@ -2,7 +2,7 @@
 ghost use Rattle.std.specs.Prelude.{◌≡◌, length, IfOk};
 ghost use Rattle.gic_induce.specs.LineVolts.{all_line_volts};
 ghost use Rattle.gic_criteria.specs.Ranges.{IsWithinField};
-ghost use Rattle.gic_volts.specs.RightVolts.{line_volts};
+ghost use Rattle.gic_volts.specs.RightVolts.{volts_of_lines};
 
 use gic_base::OutOfMemory;
 use gic_case::Case;
@@ -30,7 +30,7 @@ pub(crate) fn line_volts(
     field: &UniformField,
 ) -> Result<Vec<i64>, OutOfMemory>
     requires { IsWithinField field.now }
-    ensures { IfOk result (λ lines. lines.items ≡ line_volts case.now field.now.north field.now.east) }
+    ensures { IfOk result (λ lines. lines.items ≡ volts_of_lines case.now field.now.north field.now.east) }
 {
     let zones = case.zones().len() as u16;
     let fields = Fields::uniform(alloc, zones, field.north, field.east)?;

@@ -24,7 +24,7 @@ use Rattle.gic_words.specs.declared.request.MakeRequest.{MakeRequest}
 use Rattle.gic_words.specs.declared.request.RecheckRequest.{RecheckRequest}
 use Rattle.gic_words.specs.declared.request.SeriesRequest.{SeriesRequest}
 use Rattle.gic_words.specs.declared.request.Request.TheVariants as request
-use Rattle.gic_criteria.specs.Questions.{no_field, usual_criteria}
+use Rattle.gic_criteria.specs.Questions.{no_uniform_field, usual_criteria}
 use Rattle.gic_criteria.specs.declared.asked.Criteria.{Criteria}
 use Rattle.gic_criteria.specs.declared.asked.UniformField.{UniformField}
 use Rattle.gic_words.specs.declared.mode.Use.{Use}
@@ -76,7 +76,7 @@ count_given rows o = option_map unsigned_abs (number_given rows o)
 
 -- the field in one direction, 0 where it is not given
 abbrev pub part_given : List Row → Opt → ℤ
-part_given rows o = unwrap_or (number_given rows o) no_field.north
+part_given rows o = unwrap_or (number_given rows o) no_uniform_field.north
 
 -- the field
 abbrev pub field_given : List Row → UniformField

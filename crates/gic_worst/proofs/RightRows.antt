@@ -17,7 +17,7 @@ use Rattle.gic_criteria.specs.VerdictLaws.{UndecidedIsAcross, WorstBelowIsUnder,
 use Rattle.gic_criteria.specs.Worst.{IsWorstOf}
 use Rattle.gic_uniform.specs.Solving.{IsSolvedView}
 use Rattle.gic_uniform.proofs.Denominators.{some_denominator}
-use Rattle.gic_worst.specs.Rows.{Row, screen_row_at, IsRowOf}
+use Rattle.gic_worst.specs.Rows.{ScreenRowView, screen_row_at, IsRowOf}
 use Rattle.gic_worst.specs.RightRows.{IsRightWorst, IsRightRow, IsThirdOfRight, IsTrueVerdict}
 use Rattle.gic_worst.specs.Screening.{AreScreened}
 
@@ -30,7 +30,7 @@ pub nothing_within : IsFieldWithin (pos 0)
 nothing_within = omega arith
 
 -- a row of two views that were solved to half the width
-row_right : (case : Lists) (standing : List Placed) (north east : ℕ → ℤ) (width half t : ℕ) (north_view east_view : View) (row : Row)
+row_right : (case : Lists) (standing : List Placed) (north east : ℕ → ℤ) (width half t : ℕ) (north_view east_view : View) (row : ScreenRowView)
     → IsSolvedView case standing north half north_view → IsSolvedView case standing east half east_view → t < length case.transformers → 2 ≤ half → 2 * half ≤ width
     → IsRowOf (effective_at north_view t) (effective_at east_view t) row → IsRightRow case standing north east width t row
 row_right case standing north east width half t north_view east_view row one other inside least twice is =
@@ -55,7 +55,7 @@ row_right case standing north east width half t north_view east_view row one oth
     wider e w v h narrow = omega (arith, ints, narrow)
 
 -- all rows
-pub rows_screened : (case : Lists) (standing : List Placed) (north east : ℕ → ℤ) (width half : ℕ) (north_view east_view : View) (rows : List Row)
+pub rows_screened : (case : Lists) (standing : List Placed) (north east : ℕ → ℤ) (width half : ℕ) (north_view east_view : View) (rows : List ScreenRowView)
     → IsSolvedView case standing north half north_view → IsSolvedView case standing east half east_view → 2 ≤ half → 2 * half ≤ width
     → length rows ≡ length case.transformers
     → ((t : ℕ) → t < length rows → IsRowOf (effective_at north_view t) (effective_at east_view t) (screen_row_at rows t))

@@ -12,7 +12,7 @@ use Rattle.gic_criteria.specs.declared.criterion.Verdict.TheVariants.{Below, Rea
 use Rattle.gic_criteria.specs.VerdictLaws.{threshold_square, worst_square}
 use Rattle.gic_criteria.specs.Worst.{EnclosesWorst, IsWorstOf}
 use Rattle.gic_report.specs.VerdictText.{IsAcross, verdict_in}
-use Rattle.gic_worst.specs.Rows.{Row}
+use Rattle.gic_worst.specs.Rows.{ScreenRowView}
 
 -- solutions of one network for the voltages of the field to the north and of the field to the east
 pub record AreSolutionsOf (standing : List Placed) (north east : ℕ → ℤ) (to_north to_east : Solution) : Type 0 where
@@ -27,7 +27,7 @@ pub record IsRightWorst (case : Lists) (standing : List Placed) (north east : �
   pub narrow : IsAtMostWide width worst.low worst.high
 
 -- each interval holds what it stands for in every solution, none is wider than asked, and the third is the worst interval of the other two
-pub record IsRightRow (case : Lists) (standing : List Placed) (north east : ℕ → ℤ) (width t : ℕ) (row : Row) : Type 0 where
+pub record IsRightRow (case : Lists) (standing : List Placed) (north east : ℕ → ℤ) (width t : ℕ) (row : ScreenRowView) : Type 0 where
   pub to_north : IsRightEffective case standing north t row.north
   pub to_east : IsRightEffective case standing east t row.east
   pub at_worst : IsRightWorst case standing north east width t row.worst
@@ -37,7 +37,7 @@ pub record IsRightRow (case : Lists) (standing : List Placed) (north east : ℕ 
 
 -- the interval is the third of a right row
 pub record IsThirdOfRight (case : Lists) (standing : List Placed) (north east : ℕ → ℤ) (width t : ℕ) (worst : Ends) : Type 0 where
-  pub row : Row
+  pub row : ScreenRowView
   pub right : IsRightRow case standing north east width t row
   pub is : worst ≡ row.worst
 

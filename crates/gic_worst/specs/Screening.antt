@@ -11,7 +11,7 @@ use Rattle.gic_uniform.specs.Ready.{IsWorkspaceForCase}
 use Rattle.gic_uniform.specs.Uniform.{uniform_field}
 use Rattle.gic_worst.specs.declared.fields.FieldVolts.{FieldVolts}
 use Rattle.gic_worst.specs.declared.screening.ScreenWorkspace.{ScreenWorkspace}
-use Rattle.gic_worst.specs.Rows.{Row, screen_row_at}
+use Rattle.gic_worst.specs.Rows.{ScreenRowView, screen_row_at}
 use Rattle.gic_worst.specs.RightRows.{IsRightRow}
 
 -- the voltages of a case's elements in the field of an event, to the north and to the east
@@ -32,6 +32,6 @@ pub record IsScreenWorkspaceFor (case : Lists) (workspace : ScreenWorkspace) : T
   pub row_count : length workspace.rows ≡ length case.transformers
 
 -- one right row a transformer
-pub record AreScreened (case : Lists) (standing : List Placed) (north east : ℕ → ℤ) (width : ℕ) (rows : List Row) : Type 0 where
+pub record AreScreened (case : Lists) (standing : List Placed) (north east : ℕ → ℤ) (width : ℕ) (rows : List ScreenRowView) : Type 0 where
   pub count : length rows ≡ length case.transformers
   pub right : (t : ℕ) → t < length case.transformers → IsRightRow case standing north east width t (screen_row_at rows t)

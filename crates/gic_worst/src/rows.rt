@@ -42,9 +42,9 @@ pub struct ScreenRows {
 
 impl Model for ScreenRows {
     ghost use Rattle.std.specs.Prelude.{List, map};
-    ghost use Rattle.gic_worst.specs.Rows.{Row, screen_row_of};
+    ghost use Rattle.gic_worst.specs.Rows.{ScreenRowView, screen_row_of};
 
-    ghost Value = { List Row };
+    ghost Value = { List ScreenRowView };
 
     ghost view = { λ rows. map screen_row_of rows.list.items };
 }

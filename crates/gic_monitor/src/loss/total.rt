@@ -1,7 +1,7 @@
 //! The total of a view.
 ghost use Rattle.std.specs.Prelude.{◌≡◌, ℕ, ◌*◌, ◌^◌, ◌<◌, ◌≤◌, ◌≤ℤ◌, pos, length, take};
 ghost use Rattle.gic_fixed.specs.Ends.{ends_of};
-ghost use Rattle.gic_monitor.specs.LossText.{unit_loss, least_loss, most_loss, total_of};
+ghost use Rattle.gic_monitor.specs.LossText.{unit_loss, least_loss, most_loss, loss_total_of};
 ghost use Rattle.gic_monitor.specs.LossOutlook.{total_seen};
 
 use crate::loss::current::counted_current;
@@ -52,7 +52,7 @@ fn sum_of_losses(factors: &[u32], view: &StepView) -> Interval
 
 /// The total of the view over units with these factors in var per ampere.
 pub(crate) fn total_of(factors: &[u32], view: &StepView) -> SeenTotal
-    ensures { total_seen result ≡ total_of factors.now view.now }
+    ensures { total_seen result ≡ loss_total_of factors.now view.now }
 {
     SeenTotal {
         number: view.number(),

@@ -2,7 +2,7 @@
 ghost use Rattle.std.specs.Prelude.{◌≡◌, ◌<◌, ◌≤◌, ◌++◌, length, All, IfOk, OnOk, map, ℕ, slice_index, count_by, ◌==◌};
 ghost use Rattle.gic_base.specs.declared.limits.TheConstants.{MOST_NODES};
 ghost use Rattle.gic_case.specs.Lists.{node_names};
-ghost use Rattle.gic_review.specs.Parts.{part_told, parts_told, are_several, parts_of, ArePartSizes};
+ghost use Rattle.gic_review.specs.Parts.{part_told, parts_told, are_several, findings_of_parts, ArePartSizes};
 ghost use Rattle.gic_review.specs.PartSizes.{times_first, part_size, sizes_by, sizes_of};
 
 use crate::findings::finding::Finding;
@@ -91,7 +91,7 @@ pub(crate) fn push_parts(
     case: &Case,
     elements: &Elements,
 ) -> Result<(), OutOfMemory>
-    ensures { OnOk result (findings.new.items ≡ findings.old.items ++ parts_of (node_names case.now) (sizes_of elements.now)) }
+    ensures { OnOk result (findings.new.items ≡ findings.old.items ++ findings_of_parts (node_names case.now) (sizes_of elements.now)) }
 {
     let firsts = firsts(alloc, elements)?;
     let sizes = sizes(alloc, &firsts)?;

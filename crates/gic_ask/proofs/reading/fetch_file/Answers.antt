@@ -1,6 +1,6 @@
 use Rattle.std.proofs.Common.{rules, refl, arith}
 use Rattle.gic_files.specs.Files.{fetches}
-use Rattle.gic_ask.specs.Contents.{Nothing, Long}
+use Rattle.gic_ask.specs.Contents.{Absent, Long}
 use Rattle.gic_ask.specs.declared.fault.InputFault.TheVariants.{Refused, CannotRead}
 use Rattle.gic_ask.specs.declared.fault.InputRefusal.TheVariants.{TooLong}
 use Rattle.gic_ask.proofs.InTurn.{renamed, ends_alone, given_whole, not_given, failed_now, memory_wants}
@@ -15,7 +15,7 @@ returns-in-Err-Failed-clause-gives g c =
     let before = fetches g.L.Library.fetched g.L.Library.failures c.args.library.now in
     let now = fetches g.L.Library.fetched g.L.Library.failures c.read_whole.new.library in
     renamed _ _ c.as_str.result.now _ _ _ _ _ c.as_str.ensures
-    (not_given _ c.as_str.result.now c.args.file before now Nothing (CannotRead c.args.file) tt refl (ends_alone c.args.file c.as_str.result.now) (search (rules, c.in-Err-Failed.ensures.fetched))
+    (not_given _ c.as_str.result.now c.args.file before now Absent (CannotRead c.args.file) tt refl (ends_alone c.args.file c.as_str.result.now) (search (rules, c.in-Err-Failed.ensures.fetched))
     (failed_now c.as_str.result.now c.args.file before now (search (rules, c.in-Err-Failed.ensures.failures))))
 
 pub returns-in-Err-TooLong-clause-gives : goal.returns-in-Err-TooLong-clause-gives

@@ -4,7 +4,7 @@ use Rattle.gic_stand.specs.Needs.{Solved, Fails}
 use Rattle.gic_stand.specs.Serves.{shown}
 use Rattle.gic_stand.specs.Standing.{IsSolvable, standing_of, steps_of}
 use Rattle.gic_stand.proofs.Served.{served, met_once, unserved_network}
-use Rattle.gic_outage.specs.declared.outcome.Outcome.{Outcome}
+use Rattle.gic_outage.specs.declared.outcome.OutageOutcome.{OutageOutcome}
 use Rattle.gic_outage.specs.Plan.{plan_of}
 use Rattle.gic_outage.specs.RightOutage.{IsRightOutage}
 use Rattle.gic_outage.specs.Taking.{HasTaken}
@@ -20,7 +20,7 @@ returns g c =
     served Solved inputs.case (steps_of inputs) (IsRightOutage inputs) _ _ _ c.write_report-writing.result c.ended.result
     (met_once Solved (standing_of inputs.case inputs.switchings) (subst (λ (s : List Placed). IsSolvable s) c.requires.workspace.given.stands c.in_ok-expect_solvable.ensures.ready.solvable))
     (right_outages inputs outcomes taken.greatest (ap length same ∙ c.take_items.ensures.outcomes)
-    (subst (λ (xs : List Outcome). HasTaken inputs (length (plan_of inputs.case)) xs taken.greatest) (sym same) c.take_items.ensures.taken))
+    (subst (λ (xs : List OutageOutcome). HasTaken inputs (length (plan_of inputs.case)) xs taken.greatest) (sym same) c.take_items.ensures.taken))
     c.write_report-writing.ensures.all c.write_report-writing.ensures.part c.write_report-writing.ensures.cause c.ended.ensures
 
 pub returns-in_err-expect_solvable : goal.returns-in_err-expect_solvable

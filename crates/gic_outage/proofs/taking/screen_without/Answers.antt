@@ -2,7 +2,7 @@ use Rattle.std.proofs.Common.{◌≡◌, List, map, ap, subst, ◌∙◌}
 use Rattle.gic_model.specs.Voltages.{number_at}
 use Rattle.gic_net.specs.Net.{standing}
 use Rattle.gic_report.specs.Counts.{counts_of}
-use Rattle.gic_worst.specs.Rows.{Row, screen_row_of}
+use Rattle.gic_worst.specs.Rows.{ScreenRowView, screen_row_of}
 use Rattle.gic_outage.specs.RightOutage.{northward_volts, eastward_volts, threshold_asked, worst_verdicts}
 use Rattle.gic_outage.specs.Taking.{worsts_in, AreRaisedBy}
 use Rattle.gic_outage.proofs.Ended.{refused_ended, solved_ended}
@@ -24,8 +24,8 @@ returns-clause-ended c = λ item taken_out without.
     let counts : c.count_verdicts.result ≡ counts_of (worst_verdicts case (threshold_asked inputs) (worsts_in rows)) =
     c.count_verdicts.ensures
     ∙ ap (λ threshold. counts_of (worst_verdicts case threshold (worsts_in (map screen_row_of list)))) c.threshold.ensures
-    ∙ ap (λ (rows : List Row). counts_of (worst_verdicts case (threshold_asked inputs) (worsts_in rows))) shown in
+    ∙ ap (λ (rows : List ScreenRowView). counts_of (worst_verdicts case (threshold_asked inputs) (worsts_in rows))) shown in
     let raised : AreRaisedBy (worsts_in rows) c.args.greatest.now c.raise_all.new.greatest =
-    subst (λ (rows : List Row). AreRaisedBy (worsts_in rows) c.args.greatest.now c.raise_all.new.greatest) shown c.raise_all.ensures in
+    subst (λ (rows : List ScreenRowView). AreRaisedBy (worsts_in rows) c.args.greatest.now c.raise_all.new.greatest) shown c.raise_all.ensures in
     solved_ended inputs item (standing c.args.net.now) (number_at c.args.volts.now.north) (number_at c.args.volts.now.east) rows c.count_verdicts.result c.args.greatest.now c.raise_all.new.greatest
     taken_out without north east c.in_default.ensures.solvable c.in_default.ensures.right counts raised

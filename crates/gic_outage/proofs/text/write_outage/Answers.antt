@@ -8,7 +8,7 @@ use Rattle.gic_report.specs.SharedLines.{Words, word_line}
 use Rattle.gic_report.proofs.Chained.{writes_as, writes_then, writes_stop}
 use Rattle.gic_worst.specs.declared.setting.Setting.{Setting}
 use Rattle.gic_worst.specs.Setting.{event_setting_line}
-use Rattle.gic_outage.specs.declared.outcome.Outcome.{Outcome}
+use Rattle.gic_outage.specs.declared.outcome.OutageOutcome.{OutageOutcome}
 use Rattle.gic_outage.specs.OutageText.{outcome_lines, outage_report, plan_names, greatest_worst_lines}
 use Rattle.gic_outage.proofs.OutageWritten.{framed_blocks}
 use Rattle.gic_outage.proofs.text.write_outage.Goals as goal
@@ -16,14 +16,14 @@ use Rattle.gic_outage.proofs.text.write_outage.Goals as goal
 asked : Setting → Words
 asked s = event_setting_line s.width s.threshold s.field
 
-outages : Lists → List Outcome → List Words
+outages : Lists → List OutageOutcome → List Words
 outages case outcomes = outcome_lines (plan_names case) outcomes
 
 transformers : Lists → Setting → List (Option Interval) → List Words
 transformers case s greatest = greatest_worst_lines s.threshold case.transformers (map optional_ends greatest)
 
 -- the report in the pieces in which it is written
-pieces : (case : Lists) (s : Setting) (outcomes : List Outcome) (greatest : List (Option Interval))
+pieces : (case : Lists) (s : Setting) (outcomes : List OutageOutcome) (greatest : List (Option Interval))
     → line_text (word_line (codes "outage")) ++ (line_text (asked s) ++ (lines_text (outages case outcomes) ++ (lines_text (transformers case s greatest) ++ line_text (word_line (codes "end")))))
     ≡ lines_text (outage_report case s.width s.threshold s.field outcomes (map optional_ends greatest))
 unfolding asked outages transformers

@@ -2,7 +2,7 @@ use Rattle.std.proofs.Common.{◌≡◌, ◌+◌, ◌-◌, ◌<◌, length, slic
 use Rattle.std.proofs.lemmas.List.{length-set}
 use Rattle.gic_effective.proofs.Filled.{filled}
 use Rattle.gic_series.specs.Rows.{no_series_row, series_row_of, series_row_at}
-use Rattle.gic_series.specs.RightSeries.{IsRightRow}
+use Rattle.gic_series.specs.RightSeries.{IsRightSeriesRow}
 use Rattle.gic_series.proofs.steps.fill_rows.Goals as goal
 
 pub loop-place-preserved : goal.loop-place-preserved
@@ -16,8 +16,8 @@ loop-place-preserved c =
     record {
       shows = c.row_of_step-row.ensures.shows;
       one_each = ap length c.set.ensures ∙ length-set rows at row ∙ i.one_each;
-      filled = λ k below. subst (λ rows. IsRightRow inputs c.args.transformer (k + 1) (slice_index_or rows k no_series_row)) (sym c.set.ensures)
-          (filled (λ k row. IsRightRow inputs c.args.transformer (k + 1) row) rows no_series_row row at inside i.filled c.row_of_step-row.ensures.right k below);
+      filled = λ k below. subst (λ rows. IsRightSeriesRow inputs c.args.transformer (k + 1) (slice_index_or rows k no_series_row)) (sym c.set.ensures)
+          (filled (λ k row. IsRightSeriesRow inputs c.args.transformer (k + 1) row) rows no_series_row row at inside i.filled c.row_of_step-row.ensures.right k below);
     }
 
 pub returns : goal.returns
@@ -28,6 +28,6 @@ returns c =
       one_each = i.one_each;
       right = λ number step.
           let same : (number - 1) + 1 ≡ number = omega (arith, step.least) in
-          subst (λ n. IsRightRow inputs c.args.transformer n (series_row_at c.loop-place.rows (number - 1))) same
+          subst (λ n. IsRightSeriesRow inputs c.args.transformer n (series_row_at c.loop-place.rows (number - 1))) same
           (i.filled (number - 1) (omega (arith, step.least, step.most, c.loop-place-test.false, c.steps-place-end.ensures.value)));
     }

@@ -1,6 +1,6 @@
 use Rattle.std.proofs.Common.{◌+◌, ◌*◌, ◌≤◌, length, ◌+ℤ◌, arith, ap₂, sym, ◌∙◌}
 use Rattle.gic_fixed.specs.Encloses.{IsWithin}
-use Rattle.gic_induce.specs.Fields.{field_at}
+use Rattle.gic_induce.specs.Fields.{zone_field}
 use Rattle.gic_superpose.specs.Superposed.{zone_at, zone_low, zone_high}
 use Rattle.gic_superpose.specs.Pairs.{row_of}
 use Rattle.gic_superpose.specs.Compact.{most_compact}
@@ -31,8 +31,8 @@ loop-zone-preserved c =
     let zone = c.loop-zone.zone in
     let part = c.zone_part.ensures in
     record {
-      low = c.added-sum.ensures.low ∙ ap₂ (λ y z. y +ℤ z) i.low part.low ∙ sym (sum_below-next (λ zone. zone_low (field_at fields zone) (zone_at row zone)) zone);
-      high = c.added-sum.ensures.high ∙ ap₂ (λ y z. y +ℤ z) i.high part.high ∙ sym (sum_below-next (λ zone. zone_high (field_at fields zone) (zone_at row zone)) zone);
+      low = c.added-sum.ensures.low ∙ ap₂ (λ y z. y +ℤ z) i.low part.low ∙ sym (sum_below-next (λ zone. zone_low (zone_field fields zone) (zone_at row zone)) zone);
+      high = c.added-sum.ensures.high ∙ ap₂ (λ y z. y +ℤ z) i.high part.high ∙ sym (sum_below-next (λ zone. zone_high (zone_field fields zone) (zone_at row zone)) zone);
       small = same_within _ _ _ _ _ c.added-sum.ensures.low c.added-sum.ensures.high (record {
         low = next_small c.loop-zone.sum.low c.zone_part.result.low zone (40000 * most_compact (length fields)) i.small.low part.small.low;
         high = next_small c.loop-zone.sum.high c.zone_part.result.high zone (40000 * most_compact (length fields)) i.small.high part.small.high;

@@ -1,6 +1,6 @@
 use Rattle.std.proofs.Common.{◌≡◌, ◌*◌, length}
 use Rattle.gic_fixed.specs.Encloses.{IsWithin}
-use Rattle.gic_induce.specs.Fields.{field_at}
+use Rattle.gic_induce.specs.Fields.{zone_field}
 use Rattle.gic_superpose.specs.Sums.{sum_below}
 use Rattle.gic_superpose.specs.Superposed.{zone_at, zone_low, zone_high}
 use Rattle.gic_superpose.specs.Pairs.{row_of}
@@ -9,7 +9,7 @@ use Rattle.gic_superpose.proofs.compact.whole.Given as goal
 
 abbrev pub invariant-loop-zone : goal.invariant-loop-zone
 invariant-loop-zone l = record {
-  low : l.sum.low ≡ sum_below (λ zone. zone_low (field_at l.fields zone) (zone_at (row_of l.row) zone)) l.zone;
-  high : l.sum.high ≡ sum_below (λ zone. zone_high (field_at l.fields zone) (zone_at (row_of l.row) zone)) l.zone;
+  low : l.sum.low ≡ sum_below (λ zone. zone_low (zone_field l.fields zone) (zone_at (row_of l.row) zone)) l.zone;
+  high : l.sum.high ≡ sum_below (λ zone. zone_high (zone_field l.fields zone) (zone_at (row_of l.row) zone)) l.zone;
   small : IsWithin (l.zone * (40000 * most_compact (length l.fields))) l.sum.low l.sum.high;
 }

@@ -1,5 +1,5 @@
 use Rattle.std.proofs.Common.{◌*◌, ◌^◌, ◌<◌, ◌+ℤ◌, arith, ap₂, sym, ◌∙◌}
-use Rattle.gic_induce.specs.Fields.{field_at}
+use Rattle.gic_induce.specs.Fields.{zone_field}
 use Rattle.gic_superpose.specs.Superposed.{zone_at, zone_low, zone_high}
 use Rattle.gic_superpose.specs.Pairs.{row_of, most_base}
 use Rattle.gic_superpose.proofs.Parts.{next_fits, next_small, same_within}
@@ -23,8 +23,8 @@ loop-zone-preserved c =
     let zone = c.loop-zone.zone in
     let part = c.zone_part.ensures in
     record {
-      low = c.add-sum.ensures.low ∙ ap₂ (λ y z. y +ℤ z) i.low part.low ∙ sym (sum_below-next (λ zone. zone_low (field_at fields zone) (zone_at row zone)) zone);
-      high = c.add-sum.ensures.high ∙ ap₂ (λ y z. y +ℤ z) i.high part.high ∙ sym (sum_below-next (λ zone. zone_high (field_at fields zone) (zone_at row zone)) zone);
+      low = c.add-sum.ensures.low ∙ ap₂ (λ y z. y +ℤ z) i.low part.low ∙ sym (sum_below-next (λ zone. zone_low (zone_field fields zone) (zone_at row zone)) zone);
+      high = c.add-sum.ensures.high ∙ ap₂ (λ y z. y +ℤ z) i.high part.high ∙ sym (sum_below-next (λ zone. zone_high (zone_field fields zone) (zone_at row zone)) zone);
       small = same_within _ _ _ _ _ c.add-sum.ensures.low c.add-sum.ensures.high (record {
         low = next_small c.loop-zone.sum.lo c.zone_part.result.lo zone (40000 * most_base) i.small.low part.small.low;
         high = next_small c.loop-zone.sum.hi c.zone_part.result.hi zone (40000 * most_base) i.small.high part.small.high;
