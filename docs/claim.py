@@ -13,6 +13,8 @@ the first to speak of. Words of libraries stand in a list of their own (claim_wo
 
 Two faults are of names: a word of a library that is cited and told nowhere, and a name that two definitions have, or a
 definition and a word of a library. Of the few names in TWICE each definition tells the others, and one that cites that of another crate tells which it is.
+A third is of README.md: a field of `Headline`, or of what is true of a report, that the list in *What is proved* doesn't name, and
+an entry of that list that names none.
 
 Without --write it compares docs/CLAIM.txt, and the table of its parts in docs/DEFINITIONS.md, with what it makes. The
 last line is `N definitions of the claim, M faults`, and the status is 0 only where M is 0.
@@ -79,6 +81,10 @@ TWICE = (
     "total_of",
     "value_at",
 )
+# the list of what is proved, whose entries name the fields of the records behind it
+README = "README.md"
+PROVED = "## What is proved"
+FIELDS_OF = ("gic_headline/Headline.Headline", "gic_headline/TrueReports")
 # the chapters of the first part, and the crates or files of each, in order
 CHAPTERS = (
     ("Whole numbers and intervals", ("gic_fixed",)),
@@ -432,6 +438,25 @@ def name_faults(found: list[Definition]) -> list[str]:
     return told + [f"{name} stands in TWICE and has one meaning" for name in TWICE if name not in several]
 
 
+def fields_of(definition: Definition) -> list[str]:
+    """The fields of a record, in their order."""
+    return [match[1] for line in definition.lines if (match := re.match(r"  pub ([\w'-]+) :", line))]
+
+
+def unsaid(readme: str, found: list[Definition]) -> list[str]:
+    """The fields of the headline and of true reports that the list of what is proved doesn't name, and its entries that name none."""
+    section = readme.partition(f"\n{PROVED}\n")[2].partition("\n## ")[0]
+    entries = re.findall(r"(?m)^\d+\. .*(?:\n   .*)*", section)
+    named = [re.findall(r"`([\w'-]+)`", entry) for entry in entries]
+    fields = dict.fromkeys(name for d in found if d.key in FIELDS_OF or d.file in FIELDS_OF for name in fields_of(d))
+    told = [f"{README} doesn't name the field `{name}` in *{PROVED[3:]}*" for name in fields if not any(name in words for words in named)]
+    return told + [
+        f"entry {number} of *{PROVED[3:]}* in {README} names no field"
+        for number, words in enumerate(named, 1)
+        if not any(name in fields for name in words)
+    ]
+
+
 def cited_outside(found: list[Definition]) -> dict[str, dict[str, str]]:
     """The words of libraries that are cited, by library, each with the file from which it is imported first."""
     words: dict[str, dict[str, str]] = {}
@@ -638,6 +663,7 @@ def main(words: list[str]) -> int:
             for cited in definition.cites:
                 mine[cited].cited_in.append(definition.names[0])
         document = (TOP / WORDS).read_text(encoding="utf-8")
+        readme = (TOP / README).read_text(encoding="utf-8")
         unfiled = without_chapter(parts[0])
         if unfiled:
             raise ClaimError(unfiled[0])
@@ -651,7 +677,7 @@ def main(words: list[str]) -> int:
         print(f"claim.py: {error}", file=sys.stderr)
         return 1
     found = list(mine.values())
-    faults = late_cites(parts, front) + undeclared(TOP, parts) + name_faults(found) + word_faults(found)
+    faults = late_cites(parts, front) + undeclared(TOP, parts) + name_faults(found) + word_faults(found) + unsaid(readme, found)
     if text != shown:
         faults.append(f"{CLAIM} isn't what is made today; run `python3 docs/claim.py --write`")
     if "\n".join(table) not in document:

@@ -207,6 +207,7 @@ class ClaimOfATree(unittest.TestCase):
         "crates/gic_low/src/item.rt": "/// A name.\npub(crate) struct Name(pub u8);\n\n/// A line.\npub struct Line {\n    pub name: Name,\n}\n",
         "crates/gic_study/src/program.rt": "/// The call.\npub fn run() -> u8\n    ensures { said }\n{\n    0\n}\n",
         "docs/DEFINITIONS.md": "| part | files | lines | minutes |\n|---|---|---|---|\n",
+        "README.md": "# All\n\n## What is proved\n\nIn short:\n\n1. A total is one\n   (`total`).\n2. It is told (`is`).\n\n## More\n\n3. `other`\n",
     }
     CONSTANTS = (
         ("CALL", "crates/gic_study/src/program.rt"),
@@ -215,6 +216,7 @@ class ClaimOfATree(unittest.TestCase):
         ("CHAPTERS", (("low", ("gic_low",)), ("far", ("gic_far/First",)))),
         ("OUTSIDE", {"std": {"count": "how many"}}),
         ("TWICE", ()),
+        ("FIELDS_OF", ("gic_study/Top.Top",)),
     )
 
     def setUp(self) -> None:
@@ -292,6 +294,20 @@ class ClaimOfATree(unittest.TestCase):
         self.assertIn("  pub is : spare ≡ 2\n    -- cited by said, low_said, made\n    -- here `spare` is that of gic_low\n", text)
         written(self.top, self.TEXTS)
         self.assertIn("spare stands in TWICE and has one meaning\n", self.run_main("--write")[1])
+
+    def test_a_field_that_the_readme_does_not_name_is_told(self) -> None:
+        readme = self.TEXTS["README.md"]
+        for old, new, told in (
+            ("(`is`)", "(`was`)", ("README.md doesn't name the field `is` in *What is proved*", "entry 2 of *What is proved* in README.md names no field")),
+            ("   (`total`)", "\n(`total`)", ("README.md doesn't name the field `total` in *What is proved*", "entry 1 of *What is proved* in README.md names no field")),
+            ("## What is proved", "## What", ("README.md doesn't name the field `total` in *What is proved*",)),
+        ):
+            with self.subTest(new):
+                written(self.top, {"README.md": readme.replace(old, new)})
+                status, out = self.run_main("--write")
+                self.assertEqual(status, 1)
+                for line in told:
+                    self.assertIn(line + "\n", out)
 
     def test_a_name_of_a_library_counts_as_a_meaning(self) -> None:
         sums = self.TEXTS["crates/gic_low/specs/Sums.antt"].replace("spare", "count")

@@ -87,7 +87,7 @@ pub record IsTrueOutage (inputs : Inputs Criteria) (text : List ℕ) : Type 0 wh
       IsTrueVerdict inputs.case (standing_in_outage inputs item) (northward_volts inputs) (eastward_volts inputs) (threshold_asked inputs) t (worst_at worsts t)
   pub directions : (item : Item) → IsSolvedOutage inputs item → HasWorstDirection inputs (standing_in_outage inputs item)
 
--- of `study`: whatever solves the network of each step, each peak holds the greatest absolute value over the steps, and is no wider than asked; the verdicts on them are true; what monitors of dwells, of earthings and of losses print, where they are among those that see these views is true of the exact currents; and something solves the network of each step
+-- of `study`: whatever solves the network of each step, each peak holds the greatest absolute value over the steps, and is no wider than asked; the verdicts on them are true; what monitors of dwells, of earthings and of losses print, where they are among those that see these views, is true of the exact currents; and something solves the network of each step
 pub record IsTrueStudy (inputs : StormInputs) (detail : Option ℕ) (plans : Plans) (text : List ℕ) : Type 0 where
   pub report : IsRightStudy inputs detail plans text
   pub peaks : (solutions : ℕ → Solution) → AreStepSolutions inputs solutions → AreEnclosing inputs report.peaks solutions
