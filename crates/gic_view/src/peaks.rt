@@ -156,7 +156,10 @@ fn see_transformers(peaks: &mut StepView, view: &StepView)
 {
     let (_, _, count) = view.sizes();
     for transformer in 0..count {
-        let seen = raised(peaks.kept_effective(transformer), view.kept_effective(transformer));
+        let seen = raised(
+            peaks.kept_effective(transformer),
+            view.kept_effective(transformer),
+        );
         peaks.keep_effective(transformer, seen);
     }
 }
