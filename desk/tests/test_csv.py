@@ -393,7 +393,7 @@ class Refusals(DeskTest):
         self.told(
             "time,north,east\n",
             ' line 1: "time,north,east" begins no report; a report begins with one of volts, list, check, field, '
-            "study, screen, outage, series, make, certificate, recheck, review",
+            "study, screen, outage, series, make, certificate, recheck, review, robust",
         )
         self.told(
             SCREEN.encode("utf-16"),

@@ -541,7 +541,7 @@ SCREEN = (
     Mistake(
         "a head of no report", "screen", "screen\n", "screens\n",
         'report.txt line 1: "screens" begins no report; a report begins with one of volts, list, check, field, study, '
-        "screen, outage, series, make, certificate, recheck, review",
+        "screen, outage, series, make, certificate, recheck, review, robust",
     ),
     Mistake(
         "two reports in one file", "screen", "\nend\n", "\nend\nscreen\n",

@@ -451,13 +451,13 @@ READERS: dict[str, Callable[[Lines], Report]] = {
     "field": read_field,
     "study": read_study,
     "screen": read_screen,
-    "robust": read_robust,
     "outage": read_outage,
     "series": read_series,
     "make": read_make,
     "certificate": read_certificate,
     "recheck": read_recheck,
     "review": read_review,
+    "robust": read_robust,
 }
 
 
