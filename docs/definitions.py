@@ -5,8 +5,8 @@
 
 The index has each file of definitions, `crates/NAME/specs/FILE.antt`, once: first those that the headline leads to,
 numbered in the order in which a reader comes to them who follows what is cited, step by step; then those that theorems lead
-to; then the others. A crate's definitions stand together in each of the three. With each file stand the first sentence of its head, and
-where it is cited: in definitions (`specs/`) and in contracts (`src/`); proofs aren't counted.
+to; then the others. A crate's definitions stand together in each of the three. With each file of the first two stands the first
+sentence of its head; the others, which only contracts within the program cite, stand by their names.
 
 Without --write it compares docs/INDEX.md with what it makes. It also looks whether each file begins with a remark,
 whether each is cited, whether docs/DEFINITIONS.md names none that isn't there, and whether each crate of crates.txt
@@ -18,6 +18,7 @@ from __future__ import annotations
 
 import re
 import sys
+import textwrap
 from dataclasses import dataclass, field
 from pathlib import Path
 
@@ -34,12 +35,12 @@ HEAD = """# Index of the definitions
 
 Made by `python3 docs/definitions.py --write`, which without `--write` checks it.
 [DEFINITIONS.md](DEFINITIONS.md) says how to read them. `Y` in the row of `gic_x`, and `gic_x/Y` elsewhere, is the file
-`crates/gic_x/specs/Y.antt`. In brackets stands where it is cited.
+`crates/gic_x/specs/Y.antt`. Its first lines say what it defines, and `grep -rn gic_x.specs.Y crates` where it is cited.
 """
 PARTS = (
     "What the headline leads to, numbered in reading order",
     "What theorems lead to besides",
-    "What other contracts cite",
+    "What other contracts cite, by name",
 )
 
 
@@ -121,19 +122,6 @@ def in_parts(top: Path, crates: list[str], found: dict[str, Definition]) -> list
     return [headline, by_laws, rest]
 
 
-def places(cited_in: list[str]) -> str:
-    """Where something is cited: by file where that is short, else by how many files of which crates."""
-    if len(cited_in) <= 3:
-        return ", ".join(cited_in)
-    counts: dict[str, int] = {}
-    for place in cited_in:
-        crate = place.partition("/")[0]
-        counts[crate] = counts.get(crate, 0) + 1
-    if len(counts) <= 5:
-        return ", ".join(f"{crate} ({count})" if count > 1 else crate for crate, count in counts.items())
-    return f"{len(cited_in)} files of {len(counts)} crates"
-
-
 def crate_rows(found: dict[str, Definition], names: list[str], numbered: bool) -> list[str]:
     """Rows for each crate, with those of its definitions that are named, crates and definitions in the order of names.
 
@@ -143,13 +131,22 @@ def crate_rows(found: dict[str, Definition], names: list[str], numbered: bool) -
     cells: dict[str, list[str]] = {}
     for place, name in enumerate(names, 1):
         crate, _, file = name.partition("/")
-        cited = places(found[name].cited_in).replace(f"{crate}/", "")
         number = f"{place} " if numbered else ""
-        cells.setdefault(crate, []).append(f"{number}**{file}**: {found[name].says} ({cited}).")
+        cells.setdefault(crate, []).append(f"{number}**{file}**: {found[name].says}.")
     alike: dict[tuple[str, ...], list[str]] = {}
     for crate, told in cells.items():
         alike.setdefault(tuple(told), []).append(crate)
     return [row for told_of, names_alike in alike.items() for row in rows_within(", ".join(names_alike), told_of)]
+
+
+def name_lines(names: list[str]) -> list[str]:
+    """The names of definitions by crate, in lines of at most MOST_COLUMNS."""
+    by_crate: dict[str, list[str]] = {}
+    for name in names:
+        crate, _, file = name.partition("/")
+        by_crate.setdefault(crate, []).append(file)
+    told = [f"{crate} {', '.join(files)}" for crate, files in by_crate.items()]
+    return textwrap.wrap("; ".join(told) + ".", MOST_COLUMNS, break_long_words=False, break_on_hyphens=False) if told else []
 
 
 def rows_within(head: str, told: tuple[str, ...]) -> list[str]:
@@ -168,10 +165,11 @@ def index_of(found: dict[str, Definition], parts: list[list[str]]) -> str:
     """The text of the index."""
     lines = [HEAD]
     for title, names in zip(PARTS, parts):
-        in_reading_order = title == PARTS[0]
-        order = names if in_reading_order else [name for name in found if name in names]
-        lines.append(f"## {title}\n\n| crate | definitions, and where each is cited |\n|---|---|")
-        lines.extend(crate_rows(found, order, in_reading_order))
+        order = names if title == PARTS[0] else [name for name in found if name in names]
+        if title == PARTS[-1]:
+            lines += [f"## {title}\n", *name_lines(order)]
+        else:
+            lines += [f"## {title}\n\n| crate | definitions |\n|---|---|", *crate_rows(found, order, title == PARTS[0])]
         lines.append("")
     return "\n".join(lines)
 

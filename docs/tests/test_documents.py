@@ -60,9 +60,7 @@ class Definitions(unittest.TestCase):
         self.assertEqual(parts, [["gic_study/Near", "gic_low/Far"], ["gic_low/Law"], ["gic_low/Own"]])
 
     def test_a_crate_has_one_row_in_each_part(self) -> None:
-        low = "**Law**: What the law says (laws.rt)."
-        far = "**Far**: What is far (Law, gic_study/Near)."
-        near = "**Near**: What is near (study.rt)."
+        low, far, near = "**Law**: What the law says.", "**Far**: What is far.", "**Near**: What is near."
         names = ["gic_low/Law", "gic_study/Near", "gic_low/Far"]
         self.assertEqual(
             definitions.crate_rows(self.found, names, True),
@@ -72,6 +70,10 @@ class Definitions(unittest.TestCase):
         self.assertIn(f"| gic_study | 1 {near} |\n\n## What theorems", index)
         self.assertIn(f"\n| gic_low | {far} {low} |\n\n## What other", index)
 
+    def test_what_other_contracts_cite_stands_by_its_name(self) -> None:
+        self.assertEqual(definitions.name_lines(["gic_low/Far", "gic_study/Near", "gic_low/Law"]), ["gic_low Far, Law; gic_study Near."])
+        self.assertEqual(definitions.name_lines([]), [])
+
     def test_crates_of_which_the_same_is_told_have_one_row(self) -> None:
         found = {
             name: definitions.Definition(name, "What it shows", [], [f"{name.partition('/')[0]}/laws.rt"])
@@ -79,7 +81,7 @@ class Definitions(unittest.TestCase):
         }
         self.assertEqual(
             definitions.crate_rows(found, list(found), False),
-            ["| gic_low, gic_high | **Shows**: What it shows (laws.rt). |"],
+            ["| gic_low, gic_high | **Shows**: What it shows. |"],
         )
 
     def test_what_fits_no_line_goes_on_in_a_row_without_a_crate(self) -> None:
@@ -310,20 +312,6 @@ class ClaimOfATree(unittest.TestCase):
         self.assertIn("  pub is : >>= ≡ 2\n    -- cited by said, low_said, made\n    -- here `>>=` is that of gic_low\n", text)
         written(self.top, self.TEXTS)
         self.assertIn(">>= stands in SIGNS and has one meaning\n", self.run_main("--write")[1])
-
-    def test_a_field_that_the_readme_does_not_name_is_told(self) -> None:
-        readme = self.TEXTS["README.md"]
-        for old, new, told in (
-            ("(`is`)", "(`was`)", ("README.md doesn't name the field `is` in *What is proved*", "entry 2 of *What is proved* in README.md names no field")),
-            ("   (`total`)", "\n(`total`)", ("README.md doesn't name the field `total` in *What is proved*", "entry 1 of *What is proved* in README.md names no field")),
-            ("## What is proved", "## What", ("README.md doesn't name the field `total` in *What is proved*",)),
-        ):
-            with self.subTest(new):
-                written(self.top, {"README.md": readme.replace(old, new)})
-                status, out = self.run_main("--write")
-                self.assertEqual(status, 1)
-                for line in told:
-                    self.assertIn(line + "\n", out)
 
     def test_a_field_that_the_readme_does_not_name_is_told(self) -> None:
         readme = self.TEXTS["README.md"]
