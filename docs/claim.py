@@ -51,7 +51,10 @@ PARTS = (
     ("`certify`", ("gic_headline/TrueReports.IsTrueCertify",)),
     ("`make`", ("gic_headline/TrueReports.IsTrueMake",)),
     ("`review`", ("gic_review/RightReview.IsRightReview",)),
-    ("`volts`, `list` and `check`", ("gic_volts/RightVolts.IsRightVolts", "gic_list/RightList.IsRightList", "gic_headline/TrueReports.IsTrueCheck")),
+    (
+        "`volts`, `list` and `check`",
+        ("gic_volts/RightVolts.IsRightVolts", "gic_list/RightList.IsRightList", "gic_headline/TrueReports.IsTrueCheck"),
+    ),
     ("What words and files ask for", ("gic_ask/Asks.Asks",)),
     ("The lines of faults", ("gic_study/Faults.line_of_fault",)),
     (ENDS, ("gic_study/Answers.moment", "gic_study/ProgramEnds.status_without_words", "gic_headline/Program.ProgramHeadline")),
@@ -67,7 +70,15 @@ CHAPTERS = (
     ("Whole numbers and intervals", ("gic_fixed",)),
     (
         "A network, what stands, and a solution",
-        ("gic_model/Network", "gic_model/Sums", "gic_model/Standing", "gic_model/Voltages", "gic_model/Solution", "gic_exists", "gic_headline/Solved"),
+        (
+            "gic_model/Network",
+            "gic_model/Sums",
+            "gic_model/Standing",
+            "gic_model/Voltages",
+            "gic_model/Solution",
+            "gic_exists",
+            "gic_headline/Solved",
+        ),
     ),
     ("The case and its elements", ("gic_case", "gic_inputs", "gic_winding/ElementList", "gic_winding/InForce")),
     ("The voltages of a field", ("gic_induce", "gic_uniform")),

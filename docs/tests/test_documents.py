@@ -210,7 +210,8 @@ class ClaimOfATree(unittest.TestCase):
         "/// A line.\npub struct Line {\n    pub name: Name,\n}\n",
         "crates/gic_study/src/program.rt": "/// The call.\npub fn run() -> u8\n    ensures { said }\n{\n    0\n}\n",
         "docs/DEFINITIONS.md": "| part | files | lines | minutes |\n|---|---|---|---|\n",
-        "README.md": "# All\n\n## What is proved\n\nIn short:\n\n1. A total is one\n   (`total`).\n2. It is told (`is`).\n\n## More\n\n3. `other`\n",
+        "README.md": "# All\n\n## What is proved\n\nIn short:\n\n1. A total is one\n   (`total`).\n2. It is told (`is`).\n"
+        "\n## More\n\n3. `other`\n",
     }
     CONSTANTS = (
         ("CALL", "crates/gic_study/src/program.rt"),
@@ -291,7 +292,8 @@ class ClaimOfATree(unittest.TestCase):
         """The texts with a further definition of a name that the top cites too."""
         sums = self.TEXTS["crates/gic_low/specs/Sums.antt"].replace("spare", name)
         far = self.TEXTS["crates/gic_far/specs/First.antt"] + f"\n-- another\nabbrev pub {name} : ℕ\n{name} = first 2\n"
-        top = self.TEXTS["crates/gic_study/specs/Top.antt"].replace("{first}", f"{{first, {name} as other}}").replace("first 3", "other").replace("spare", name)
+        top = self.TEXTS["crates/gic_study/specs/Top.antt"].replace("{first}", f"{{first, {name} as other}}")
+        top = top.replace("first 3", "other").replace("spare", name)
         return {"crates/gic_low/specs/Sums.antt": sums, "crates/gic_far/specs/First.antt": far, "crates/gic_study/specs/Top.antt": top}
 
     def test_a_word_of_two_meanings_is_refused(self) -> None:
@@ -315,10 +317,12 @@ class ClaimOfATree(unittest.TestCase):
 
     def test_a_field_that_the_readme_does_not_name_is_told(self) -> None:
         readme = self.TEXTS["README.md"]
+        unnamed = "README.md doesn't name the field `{}` in *What is proved*"
+        empty = "entry {} of *What is proved* in README.md names no field"
         for old, new, told in (
-            ("(`is`)", "(`was`)", ("README.md doesn't name the field `is` in *What is proved*", "entry 2 of *What is proved* in README.md names no field")),
-            ("   (`total`)", "\n(`total`)", ("README.md doesn't name the field `total` in *What is proved*", "entry 1 of *What is proved* in README.md names no field")),
-            ("## What is proved", "## What", ("README.md doesn't name the field `total` in *What is proved*",)),
+            ("(`is`)", "(`was`)", (unnamed.format("is"), empty.format(2))),
+            ("   (`total`)", "\n(`total`)", (unnamed.format("total"), empty.format(1))),
+            ("## What is proved", "## What", (unnamed.format("total"),)),
         ):
             with self.subTest(new):
                 written(self.top, {"README.md": readme.replace(old, new)})
