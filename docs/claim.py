@@ -437,25 +437,6 @@ def unsaid(readme: str, found: list[Definition]) -> list[str]:
     ]
 
 
-def fields_of(definition: Definition) -> list[str]:
-    """The fields of a record, in their order."""
-    return [match[1] for line in definition.lines if (match := re.match(r"  pub ([\w'-]+) :", line))]
-
-
-def unsaid(readme: str, found: list[Definition]) -> list[str]:
-    """The fields of the headline and of true reports that the list of what is proved doesn't name, and its entries that name none."""
-    section = readme.partition(f"\n{PROVED}\n")[2].partition("\n## ")[0]
-    entries = re.findall(r"(?m)^\d+\. .*(?:\n   .*)*", section)
-    named = [re.findall(r"`([\w'-]+)`", entry) for entry in entries]
-    fields = dict.fromkeys(name for d in found if d.key in FIELDS_OF or d.file in FIELDS_OF for name in fields_of(d))
-    told = [f"{README} doesn't name the field `{name}` in *{PROVED[3:]}*" for name in fields if not any(name in words for words in named)]
-    return told + [
-        f"entry {number} of *{PROVED[3:]}* in {README} names no field"
-        for number, words in enumerate(named, 1)
-        if not any(name in fields for name in words)
-    ]
-
-
 def cited_outside(found: list[Definition]) -> dict[str, dict[str, str]]:
     """The words of libraries that are cited, by library, each with the file from which it is imported first."""
     words: dict[str, dict[str, str]] = {}

@@ -325,20 +325,6 @@ class ClaimOfATree(unittest.TestCase):
                 for line in told:
                     self.assertIn(line + "\n", out)
 
-    def test_a_field_that_the_readme_does_not_name_is_told(self) -> None:
-        readme = self.TEXTS["README.md"]
-        for old, new, told in (
-            ("(`is`)", "(`was`)", ("README.md doesn't name the field `is` in *What is proved*", "entry 2 of *What is proved* in README.md names no field")),
-            ("   (`total`)", "\n(`total`)", ("README.md doesn't name the field `total` in *What is proved*", "entry 1 of *What is proved* in README.md names no field")),
-            ("## What is proved", "## What", ("README.md doesn't name the field `total` in *What is proved*",)),
-        ):
-            with self.subTest(new):
-                written(self.top, {"README.md": readme.replace(old, new)})
-                status, out = self.run_main("--write")
-                self.assertEqual(status, 1)
-                for line in told:
-                    self.assertIn(line + "\n", out)
-
     def test_a_name_of_a_library_counts_as_a_meaning(self) -> None:
         sums = self.TEXTS["crates/gic_low/specs/Sums.antt"].replace("spare", "count")
         top = self.TEXTS["crates/gic_study/specs/Top.antt"].replace("{total, spare}", "{total, count as spare}")
