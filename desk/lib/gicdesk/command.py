@@ -192,8 +192,8 @@ def run_mitigate(options: argparse.Namespace) -> None:
 def add_mitigate(commands: Any) -> None:
     words = commands.add_parser("mitigate", help="a blocking device or a resistor at each neutral in turn: where it helps most")
     add_case_file(words)
-    words.add_argument("--ohm", metavar="OHM", help="a resistor of so many ohm in place of a blocking device")
-    pairs = f"two devices at once, in each pair of so many of the best neutrals, from 2 to {mitigate.MOST_PAIRED}"
+    words.add_argument("--ohm", metavar="OHM", help="a resistor of OHM ohm in place of a blocking device")
+    pairs = f"two devices at once, in each pair of the NUMBER best neutrals, from 2 to {mitigate.MOST_PAIRED}"
     words.add_argument("--pairs", metavar="NUMBER", help=pairs)
     words.add_argument("--switch", metavar="FILE", help="switchings that are in force in each run")
     add_event(words)

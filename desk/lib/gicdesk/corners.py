@@ -13,7 +13,6 @@ from .sparse import Factored
 
 MICRO = 1e6
 NANO = 1e9
-EARTH = "*"
 PHASES = 3
 GROUND, LINE, NEUTRAL = "ground", "line", "neutral"  # roles of elements
 MOST_TURNS = 12  # of all grounds at once, and then of single ones

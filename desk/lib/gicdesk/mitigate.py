@@ -170,7 +170,7 @@ def ranked(measures: Iterable[Measure]) -> list[Measure]:
 
 
 def make_mitigation(asked: Asked, device: Device, paired: int) -> Mitigation:
-    """Each device alone, and pairs of the so many best of them."""
+    """Each device alone, and pairs of the best of them, as many as `paired` says."""
     whole_network = whole_result(asked)
     if whole_network.screen is None:
         raise refuse(asked.case, f"its network is {whole_network.outcome.word} at {whole_network.outcome.node}; mend that before")
