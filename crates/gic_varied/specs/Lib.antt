@@ -8,5 +8,6 @@ pub mod Strays
 pub mod Exact
 pub mod Enclosure
 pub mod GroundLaws
+pub mod EachGround
 pub mod Certified
 pub mod WorkedGrounds
