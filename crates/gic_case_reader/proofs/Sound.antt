@@ -361,7 +361,7 @@ formed ms h =
           (All-append (λ n. IsTrue (is_name n)) (map (λ l. l.name) (map (line_of format) (entries_of lists.Line ms))) (map (λ t. t.name) (map (transformer_of format) (entries_of lists.Transformer ms)))
           (named lists.Line (most_rows format lists.Line) (breaks_line format) (line_of format) (λ l. l.name) (line_named format) ms last_two.0) (named lists.Transformer (most_rows format lists.Transformer) (breaks_transformer format) (transformer_of format) (λ t. t.name) (transformer_named format) ms last_two.1))));
       zones = All-map IsZone (zone_of format) (entries_of lists.Zone ms) (all_kept (breaks_zone format) (λ d. IsZone (zone_of format d)) (zone_measured format) 1 (entries_of lists.Zone ms) (rows_kept lists.Zone (most_rows format lists.Zone) (breaks_zone format) ms zones.0));
-      substations = All-map IsSoundSubstation substation_of (entries_of lists.Substation ms) (λ k d lt. natural_holds 1000 1000000000 fields.Ground (members_in (get_or (entries_of lists.Substation ms) k d)));
+      substations = All-map IsSoundSubstation substation_of (entries_of lists.Substation ms) (λ k d lt. record { ohm = natural_holds 1000 1000000000 fields.Ground (members_in (get_or (entries_of lists.Substation ms) k d)); tolerance_most = tt; tolerance_of_ground = λ own. absurd (false≢true own) });
       lines = All-map IsMeasured (line_of format) (entries_of lists.Line ms) (all_kept (breaks_line format) (λ d. IsMeasured (line_of format d)) (line_measured format) 1 (entries_of lists.Line ms) (rows_kept lists.Line (most_rows format lists.Line) (breaks_line format) ms last_two.0));
       transformers = All-map IsMeasuredTransformer (transformer_of format) (entries_of lists.Transformer ms) (all_kept (breaks_transformer format) (λ d. IsMeasuredTransformer (transformer_of format d)) (transformer_measured format) 1 (entries_of lists.Transformer ms) (rows_kept lists.Transformer (most_rows format lists.Transformer) (breaks_transformer format) ms last_two.1));
     }

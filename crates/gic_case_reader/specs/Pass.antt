@@ -86,7 +86,7 @@ substation_row row d = do
   ms ← row_table lists.Substation (fields.Name ∷ []) (fields.Ground ∷ []) row d
   name ← required read_name lists.Substation row fields.Name ms
   earthing ← optional ohm_within lists.Substation row fields.Ground ms
-  Ok (substation_with name earthing)
+  Ok (substation_with name earthing None)
 
 -- a row of the buses
 unfoldable pub bus_row : ℕ → Data → Result BusRow CaseRefusal

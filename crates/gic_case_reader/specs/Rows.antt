@@ -130,7 +130,7 @@ breaks_substation row d =
 abbrev pub substation_of : Data → Substation
 substation_of d =
     let ms = members_in d in
-    substation_with (unwrap_or (value_at read_name fields.Name ms) []) (value_at ohm_within fields.Ground ms)
+    substation_with (unwrap_or (value_at read_name fields.Name ms) []) (value_at ohm_within fields.Ground ms) None
 
 -- the fields of a bus
 abbrev pub bus_fields : List Field

@@ -111,7 +111,11 @@ pub(crate) fn substation_row(row: u32, value: &Value) -> Result<Substation, Case
     )?;
     let name = name_at(CaseList::Substation, row, Field::Name, table)?;
     let ground = optional_ohm_at(CaseList::Substation, row, Field::Ground, table)?;
-    Ok(Substation { name, ground })
+    Ok(Substation {
+        name,
+        ground,
+        tolerance: None,
+    })
 }
 
 /// A row of the buses.

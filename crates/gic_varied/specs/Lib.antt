@@ -10,4 +10,5 @@ pub mod Enclosure
 pub mod GroundLaws
 pub mod EachGround
 pub mod Certified
+pub mod Bounds
 pub mod WorkedGrounds

@@ -1,0 +1,22 @@
+//! A network twice, with its grounds at the least and at the greatest resistances of their ranges, and the interval that
+//! holds a weighted current whatever resistances of their ranges the grounds have.
+#![tactic(auto)]
+
+mod grounding;
+mod lift;
+mod nets;
+mod node_intervals;
+mod range;
+mod stray;
+mod sum;
+mod unit;
+mod weights;
+
+pub use grounding::{Extreme, grounds_at};
+pub use lift::{Side, fill_lifts};
+pub use nets::{GroundNets, ground_nets};
+pub use node_intervals::NodeIntervals;
+pub use range::{least_of, most_of};
+pub use sum::{VariedPotentials, enclosure};
+pub use unit::{ADJOINT_UNIT, MOST_UNITS, potential_unit};
+pub use weights::{fill_weights, stray_unit};
