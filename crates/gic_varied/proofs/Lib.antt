@@ -1,3 +1,4 @@
+mod Bounded
 pub mod Regrounded
 pub mod Within
 pub mod OwnRanges

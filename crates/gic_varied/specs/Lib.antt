@@ -9,4 +9,5 @@ pub mod Exact
 pub mod Enclosure
 pub mod GroundLaws
 pub mod Certified
+pub mod Bounds
 pub mod WorkedGrounds

@@ -3,6 +3,7 @@ ghost use Rattle.gic_model.specs.WorkedLoop.{loop_standing};
 ghost use Rattle.gic_varied.specs.Varied.{IsVaried, WithinIsSomeResistance};
 ghost use Rattle.gic_varied.specs.VariedLaws.{RangesHoldTolerances, OwnGroundsAreInRanges, SolutionsAreVaried, OwnSolutionsAreVaried};
 ghost use Rattle.gic_varied.specs.Certified.{CertifiedEnclosuresHold, GrainsHoldInUnits};
+ghost use Rattle.gic_varied.specs.Bounds.{TolerancesAreModest, VariedCurrentsAreBounded};
 ghost use Rattle.gic_varied.specs.Enclosure.{EnclosuresHold, ProductsHold, VariedPotentialsHold, LiftVoltsLift};
 ghost use Rattle.gic_varied.specs.Exact.{VariedCurrentsAreInReferenceEnclosure};
 ghost use Rattle.gic_varied.specs.GroundLaws.{OtherGroundsEarthToo, BoundVectorsServeLesserGrounds, LesserGroundsEarthWithin};
@@ -79,4 +80,10 @@ pub fn other_grounds_law()
 pub fn certified_enclosure_law()
     ensures holds { CertifiedEnclosuresHold }
     ensures grains { GrainsHoldInUnits }
+{}
+
+/// With tolerances up to 90 per cent no element but a ground carries more than 2^80 nanoamperes in a varied solution.
+pub fn varied_bound_law()
+    ensures modest { TolerancesAreModest }
+    ensures bounded { VariedCurrentsAreBounded }
 {}
