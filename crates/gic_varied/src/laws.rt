@@ -8,6 +8,7 @@ ghost use Rattle.gic_varied.specs.Enclosure.{EnclosuresHold, ProductsHold, Varie
 ghost use Rattle.gic_varied.specs.Exact.{VariedCurrentsAreInReferenceEnclosure};
 ghost use Rattle.gic_varied.specs.GroundLaws.{OtherGroundsEarthToo, BoundVectorsServeLesserGrounds, LesserGroundsEarthWithin};
 ghost use Rattle.gic_varied.specs.GroundLaws.{RangesStayWithinLimits};
+ghost use Rattle.gic_varied.specs.EachGround.{StandingGroundsAreInRanges, AnyGroundsStayWithinLimits, NetworksAreEarthedAlike};
 ghost use Rattle.gic_varied.specs.Lifts.{PotentialsAreRaisedAtMost, PotentialsAreLoweredAtMost};
 ghost use Rattle.gic_varied.specs.Strays.{StrayPowersAreBounded};
 ghost use Rattle.gic_varied.specs.Reciprocal.{VariedCurrentsAreReciprocal, CurrentsAreReciprocal, VariedCurrentsAreOffByStrayPower};
@@ -72,6 +73,14 @@ pub fn other_grounds_law()
     ensures bound { BoundVectorsServeLesserGrounds }
     ensures within { LesserGroundsEarthWithin }
     ensures limits { RangesStayWithinLimits }
+{}
+
+/// A network with any resistances of their ranges at its grounds is within the limits where the network is, and of two
+/// networks that differ in their grounds alone one is earthed where the other is.
+pub fn any_grounds_law()
+    ensures standing { StandingGroundsAreInRanges }
+    ensures limits { AnyGroundsStayWithinLimits }
+    ensures earthed { NetworksAreEarthedAlike }
 {}
 
 /// The enclosure that is made of certain intervals of a reference, an adjoint solution and two lifts, as the solver

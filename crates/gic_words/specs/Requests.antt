@@ -27,7 +27,6 @@ use Rattle.gic_words.specs.declared.request.RobustRequest.{RobustRequest}
 use Rattle.gic_words.specs.declared.request.Request.TheVariants as request
 use Rattle.gic_criteria.specs.Questions.{no_field, usual_criteria}
 use Rattle.gic_criteria.specs.declared.asked.Criteria.{Criteria}
-use Rattle.gic_criteria.specs.declared.asked.RobustCriteria.{RobustCriteria}
 use Rattle.gic_criteria.specs.declared.asked.UniformField.{UniformField}
 use Rattle.gic_words.specs.declared.mode.Use.{Use}
 use Rattle.gic_words.specs.declared.mode.Use.TheVariants.{Required, Allowed, Unused}
