@@ -15,11 +15,11 @@ use Rattle.gic_uniform.specs.declared.solve_workspace.SolveWorkspace.{SolveWorks
 use Rattle.gic_uniform.specs.Ready.{IsSolveWorkspaceFor}
 use Rattle.gic_varied.specs.Certified.{AreLiftVolts, in_units}
 use Rattle.gic_varied.specs.Ranges.{Ranges}
-use Rattle.gic_grounds.specs.declared.lift.Side.{Side}
-use Rattle.gic_grounds.specs.declared.lift.Side.TheVariants.{Lowering, Raising}
+use Rattle.gic_grounds.specs.declared.side.Side.{Side}
+use Rattle.gic_grounds.specs.declared.side.Side.TheVariants.{Lowering, Raising}
 use Rattle.gic_grounds.specs.declared.nets.GroundNets.{GroundNets}
 use Rattle.gic_grounds.specs.declared.reference.Reference.{Reference}
-use Rattle.gic_grounds.specs.declared.sum.VariedPotentials.{VariedPotentials}
+use Rattle.gic_grounds.specs.declared.varied.VariedPotentials.{VariedPotentials}
 use Rattle.gic_grounds.specs.Lifting.{height_at}
 use Rattle.gic_grounds.specs.Nets.{AreExtremesOf}
 use Rattle.gic_grounds.specs.NodeEnds.{AreAllWithin}

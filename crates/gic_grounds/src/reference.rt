@@ -7,11 +7,12 @@ ghost use Rattle.gic_grounds.specs.Lifted.{CanSolve, HasReferenceSpace, IsSolved
 ghost use Rattle.gic_grounds.specs.NodeEnds.{AreAllWithin};
 ghost use Rattle.gic_grounds.specs.Varying.{AreVariedOf};
 
-use crate::lift::{Side, fill_lifts};
+use crate::lift::fill_lifts;
 use crate::nets::GroundNets;
 use crate::node_intervals::NodeIntervals;
 use crate::own::{OwnCurrents, fill_own};
-use crate::sum::VariedPotentials;
+use crate::side::Side;
+use crate::varied::VariedPotentials;
 use gic_base::OutOfMemory;
 use gic_case::Case;
 use gic_model::{Elements, Volts};

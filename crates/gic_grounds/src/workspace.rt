@@ -12,7 +12,8 @@ ghost use Rattle.gic_grounds.specs.VariedCurrent.{AreVariedCurrents, AreCutCurre
 
 use crate::current::varied_current;
 use crate::effect::has_effect;
-use crate::nets::{GroundNets, ground_nets};
+use crate::grounding::ground_nets;
+use crate::nets::GroundNets;
 use crate::node_intervals::NodeIntervals;
 use crate::reference::{Reference, WIDTH, lift_both, new_reference, solve_reference};
 use crate::unit::{ADJOINT_UNIT, potential_unit};
