@@ -11,8 +11,8 @@ use Rattle.gic_varied.specs.Lifts.{with_least, with_most}
 use Rattle.gic_varied.specs.Ranges.{Range}
 use Rattle.gic_winding.specs.ElementList.{elements_of}
 use Rattle.gic_grounds.specs.Tolerances.{case_ranges}
-use Rattle.gic_grounds.specs.declared.grounding.Extreme.{Extreme}
-use Rattle.gic_grounds.specs.declared.grounding.Extreme.TheVariants.{Least, Most}
+use Rattle.gic_grounds.specs.declared.extreme.Extreme.{Extreme}
+use Rattle.gic_grounds.specs.declared.extreme.Extreme.TheVariants.{Least, Most}
 
 -- the end of a range
 abbrev pub extreme_of : Extreme → Range → ℕ

@@ -8,3 +8,9 @@ pub mod Lifting
 pub mod VariedEnds
 pub mod Varying
 pub mod Scale
+pub mod Tolerated
+pub mod OwnCurrent
+pub mod Effect
+pub mod Lifted
+pub mod Varied
+pub mod VariedCurrent

@@ -7,8 +7,8 @@ use Rattle.gic_net.specs.Net.{element_of}
 use Rattle.gic_varied.specs.Enclosure.{lift_volt}
 use Rattle.gic_varied.specs.Grounds.{is_ground}
 use Rattle.gic_varied.specs.Ranges.{Range}
-use Rattle.gic_grounds.specs.declared.lift.Side.{Side}
-use Rattle.gic_grounds.specs.declared.lift.Side.TheVariants.{Lowering, Raising}
+use Rattle.gic_grounds.specs.declared.side.Side.{Side}
+use Rattle.gic_grounds.specs.declared.side.Side.TheVariants.{Lowering, Raising}
 
 -- how far above 0 the potential of a node may be, or below 0, where its lift lowers
 abbrev pub height_at : Side → List Ends → ℕ → ℤ

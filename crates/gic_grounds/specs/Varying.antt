@@ -6,7 +6,7 @@ use Rattle.gic_model.specs.Network.{Network}
 use Rattle.gic_net.specs.Net.{element_of}
 use Rattle.gic_varied.specs.Certified.{Intervals, product_at}
 use Rattle.gic_varied.specs.Enclosure.{stray_ends}
-use Rattle.gic_grounds.specs.declared.sum.VariedPotentials.{VariedPotentials}
+use Rattle.gic_grounds.specs.declared.varied.VariedPotentials.{VariedPotentials}
 use Rattle.gic_grounds.specs.declared.unit.TheConstants.{MOST_UNITS}
 use Rattle.gic_grounds.specs.Lifting.{range_at}
 use Rattle.gic_grounds.specs.NodeEnds.{AreAllWithin}

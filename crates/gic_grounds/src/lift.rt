@@ -16,19 +16,11 @@ ghost use Rattle.gic_grounds.specs.Nets.{AreExtremesOf};
 
 use crate::nets::GroundNets;
 use crate::node_intervals::NodeIntervals;
+use crate::side::Side;
 use crate::unit::MOST_UNITS;
 use gic_base::{ElementId, NodeId};
 use gic_fixed::Interval;
 use gic_model::Volts;
-
-/// To which side a lift moves potentials.
-#[derive(Clone, Copy, Debug, PartialEq, Eq)]
-pub enum Side {
-    /// How far the potentials of varied solutions may lie below those of the reference.
-    Lowering,
-    /// How far they may lie above.
-    Raising,
-}
 
 /// How far above 0 the potential at a node may be, or below 0, where its lift lowers.
 fn height_at(reference: &NodeIntervals, node: NodeId, side: Side) -> i128

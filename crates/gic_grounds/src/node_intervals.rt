@@ -1,7 +1,9 @@
 //! One interval for each node, in whatever unit.
 ghost use Rattle.std.specs.Prelude.{◌≡◌, ◌^◌, ◌*◌, ◌<◌, map, length};
 ghost use Rattle.gic_fixed.specs.Ends.{ends_of};
+ghost use Rattle.gic_model.specs.Guess.{most_guess};
 ghost use Rattle.gic_varied.specs.Certified.{in_units};
+ghost use Rattle.gic_grounds.specs.NodeEnds.{AreAllWithin};
 
 use gic_base::{NodeId, OutOfMemory};
 use gic_enclose::Potentials;
@@ -9,8 +11,8 @@ use gic_fixed::Interval;
 use std::alloc::Global;
 use std::marker::Model;
 
-/// How many bits of a grain, 2^-36 nanovolt, lie behind the point of a nanovolt.
-const GRAIN_BITS: u32 = 36;
+/// The grains of a nanovolt.
+const GRAINS: i128 = 1 << 36;
 
 /// One interval for each node, in a unit that is the holder's to know.
 pub struct NodeIntervals {
@@ -18,12 +20,14 @@ pub struct NodeIntervals {
 }
 
 impl Model for NodeIntervals {
-    ghost use Rattle.std.specs.Prelude.{List, map};
+    ghost use Rattle.std.specs.Prelude.{List, map, length, ◌<◌, ◌^◌};
     ghost use Rattle.gic_fixed.specs.Ends.{Ends, ends_of};
 
     ghost Value = { List Ends };
 
     ghost view = { λ n. map ends_of n.list.items };
+
+    ghost invariant = { λ n. length n.list.items < 2 ^ 16 };
 }
 
 impl Drop for NodeIntervals {
@@ -50,10 +54,10 @@ impl NodeIntervals {
     }
 
     /// How many nodes there are.
-    pub fn nodes(&self) -> usize
+    pub fn nodes(&self) -> u16
         ensures { result ≡ length self.now }
     {
-        self.list.len()
+        self.list.len() as u16
     }
 
     /// The interval at a node.
@@ -87,12 +91,22 @@ impl NodeIntervals {
 
 /// Puts the interval of each node.
 fn keep_all(list: &mut [Interval], potentials: &Potentials)
-    requires { length potentials.now ≡ length list.old }
-    ensures { map ends_of list.new ≡ potentials.now }
+    requires nodes { length potentials.now ≡ length list.old }
+    requires few { length list.old < 2 ^ 16 }
+    ensures same { map ends_of list.new ≡ potentials.now }
+    ensures small { AreAllWithin most_guess potentials.now }
 {
-    for node in 0..list.len() {
-        list[node] = potentials.get(NodeId(node as u16));
+    for node in 0..list.len() as u16 {
+        list[node as usize] = potentials.get(NodeId(node));
     }
+}
+
+/// The interval in grains, rounded outward to units of so many nanovolts.
+fn rounded(grains: &Interval, unit: u32) -> Interval
+    requires { 0 < unit }
+    ensures { ends_of result ≡ in_units unit (ends_of grains.now) }
+{
+    grains.div_out(i128::from(unit) * GRAINS)
 }
 
 /// Rounds each interval outward to units of so many nanovolts.
@@ -100,8 +114,7 @@ fn round_all(list: &mut [Interval], unit: u32)
     requires { 0 < unit }
     ensures { map ends_of list.new ≡ map (in_units unit) (map ends_of list.old) }
 {
-    let grains = i128::from(unit) << GRAIN_BITS;
     for interval in list {
-        *interval = interval.div_out(grains);
+        *interval = rounded(interval, unit);
     }
 }

@@ -6,15 +6,8 @@ ghost use Rattle.gic_fixed.specs.Rounding.{floor_div};
 ghost use Rattle.gic_varied.specs.Enclosure.{varied_ends, product_ends, stray_ends};
 ghost use Rattle.gic_grounds.specs.VariedEnds.{ends_seen};
 
+use crate::varied::VariedEnds;
 use gic_fixed::Interval;
-
-/// The ends of the potentials that a node may have in varied solutions. Which of the two is the greater isn't known where
-/// none has one.
-#[derive(Clone, Copy, Debug)]
-pub(crate) struct VariedEnds {
-    pub low: i128,
-    pub high: i128,
-}
 
 /// A reference's potential, lowered by one lift and raised by another.
 pub(crate) fn varied(reference: &Interval, lowering: &Interval, raising: &Interval) -> VariedEnds
@@ -61,7 +54,7 @@ fn quotient(factor: u64, number: i128, divisor: u64, unit: u64) -> i128
     let factor = i128::from(factor);
     let divisor = i128::from(divisor);
     let whole = factor * number.div_euclid(divisor);
-    let rest = factor * number.rem_euclid(divisor) / divisor;
+    let rest = (factor * number.rem_euclid(divisor)).div_euclid(divisor);
     (whole + rest).div_euclid(i128::from(unit))
 }
 

@@ -14,26 +14,9 @@ ghost use Rattle.gic_grounds.specs.Varying.{intervals_of, stray_power_at, AreVar
 use crate::nets::GroundNets;
 use crate::node_intervals::NodeIntervals;
 use crate::stray::{product, stray, varied};
+use crate::varied::VariedPotentials;
 use gic_base::ElementId;
 use gic_fixed::Interval;
-
-/// The intervals of the potentials of a reference in units, and of the lifts that lower and raise them.
-pub struct VariedPotentials {
-    pub reference: NodeIntervals,
-    pub lowering: NodeIntervals,
-    pub raising: NodeIntervals,
-}
-
-impl Drop for VariedPotentials {
-    /// Lets go of everything, in one step for whoever drops it.
-    fn drop(self) {
-        let VariedPotentials {
-            reference: _reference,
-            lowering: _lowering,
-            raising: _raising,
-        } = self;
-    }
-}
 
 /// The stray power of the ground at a place.
 fn stray_at(

@@ -1,11 +1,13 @@
 //! The units of potentials.
 ghost use Rattle.std.specs.Prelude.{ℕ, ◌≡◌, ◌<◌, ◌≤◌, ◌^◌};
+ghost use Rattle.gic_fixed.specs.Encloses.{IsWithin};
 ghost use Rattle.gic_model.specs.Guess.{most_guess};
 ghost use Rattle.gic_grounds.specs.NodeEnds.{AreAllWithin};
 ghost use Rattle.gic_grounds.specs.Unit.{IsLeastUnit};
 
 use crate::node_intervals::NodeIntervals;
 use gic_base::NodeId;
+use gic_fixed::Interval;
 
 /// The greatest potential of a reference, either way, in units: a lift's voltage is at most 19 times as many nanovolts,
 /// and no voltage may be beyond 60000000000000.
@@ -37,10 +39,18 @@ fn greatest_end(intervals: &NodeIntervals) -> u128
 {
     let mut greatest = 0;
     for node in 0..intervals.nodes() {
-        let interval = intervals.get(NodeId(node as u16));
-        greatest = greatest
-            .max(interval.lo.unsigned_abs())
-            .max(interval.hi.unsigned_abs());
+        greatest = greater_end(greatest, &intervals.get(NodeId(node)));
     }
     greatest
+}
+
+/// The greatest of a number and the ends of an interval, either way.
+fn greater_end(number: u128, interval: &Interval) -> u128
+    ensures number { number ≤ result }
+    ensures within { IsWithin result interval.now.lo interval.now.hi }
+    ensures least { (bound : ℕ) → number ≤ bound → IsWithin bound interval.now.lo interval.now.hi → result ≤ bound }
+{
+    number
+        .max(interval.lo.unsigned_abs())
+        .max(interval.hi.unsigned_abs())
 }
