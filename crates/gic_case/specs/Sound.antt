@@ -1,5 +1,5 @@
 -- What every case keeps.
-use Rattle.std.specs.Prelude.{◌≡◌, ◌≢◌, ◌≤◌, ◌<◌, ◌+◌, ℕ, List, ◌++◌, length, map, true, false, is_some, IfSome, All, AllPairs, IsTrue}
+use Rattle.std.specs.Prelude.{◌≡◌, ◌≢◌, ◌≤◌, ◌<◌, ℕ, List, ◌++◌, length, map, true, false, is_some, IfSome, All, AllPairs, IsTrue}
 use Rattle.gic_base.specs.Name.{is_name}
 use Rattle.gic_base.specs.declared.limits.TheConstants.{MOST_ZONES, MOST_SUBSTATIONS, MOST_BUSES, MOST_LINES, MOST_TRANSFORMERS, MOST_AT_A_NODE}
 use Rattle.gic_case.specs.ZoneView.{ZoneView, IsZone}
