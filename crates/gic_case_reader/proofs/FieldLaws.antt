@@ -6,7 +6,7 @@ use Rattle.gic_base.specs.Passes.{◌>>=◌, or_refuse}
 use Rattle.gic_base.proofs.RefusalLaws.{then_law, last_law, value_law, test_law}
 use Rattle.gic_case_reader.specs.Keys.{key_of, has, fits}
 use Rattle.gic_case_reader.specs.Values.{natural_within, read_name, value_at}
-use Rattle.gic_case_reader.specs.Rows.{members_in, breaks_keys, breaks_value, breaks_present, breaks_optional, ohm_within, volts_within, metres_within, read_neutral, earth_zone_fields, scaled_zone_fields, is_scaled, breaks_earth_zone, breaks_scaled_zone, breaks_zone, earth_zone_of, scaled_zone_of, zone_of, ranged_substation_fields, is_ranged, percent_within, breaks_plain_substation, breaks_ranged_substation, breaks_substation, plain_substation_of, ranged_substation_of, substation_of, bus_fields, breaks_bus, bus_of}
+use Rattle.gic_case_reader.specs.Rows.{members_in, breaks_keys, breaks_value, breaks_present, breaks_optional, ohm_within, volts_within, metres_within, read_neutral, earth_zone_fields, scaled_zone_fields, is_scaled, breaks_earth_zone, breaks_scaled_zone, breaks_zone, earth_zone_of, scaled_zone_of, zone_of, ranged_substation_fields, is_ranged, breaks_plain_substation, breaks_ranged_substation, breaks_substation, plain_substation_of, ranged_substation_of, substation_of, bus_fields, breaks_bus, bus_of}
 use Rattle.gic_case_reader.specs.Lines.{plain_line_fields, parted_line_fields, is_parted, read_parts, breaks_plain_line, breaks_parted_line, breaks_line, plain_line_of, parted_line_of, line_of}
 use Rattle.gic_case_reader.specs.Transformers.{read_kind, kind_of, breaks_bus_name, breaks_ohm, breaks_volts, breaks_third, breaks_wye_wye, breaks_auto, breaks_own, breaks_transformer, name_in, ohm_in, volts_in, third_told, wye_wye_in, auto_in, own_of, transformer_of}
 use Rattle.gic_case_reader.specs.Pass.{required, optional_in, optional, row_table, earth_zone_row, scaled_zone_row, zone_row, plain_substation_row, ranged_substation_row, substation_row, bus_row, plain_line_row, parted_line_row, line_row, table_with, delta_wye_row, third_row, third_if, wye_wye_row, auto_row, reactor_row, kind_row, transformer_row}
