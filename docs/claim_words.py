@@ -9,6 +9,7 @@ from __future__ import annotations
 OUTSIDE: dict[str, dict[str, str]] = {
     "std": {
         "All": "a predicate holds of each entry of a list",
+        "AllByRecursion": "the same, entry after entry: of the first, and of those behind it",
         "Appends": "told bytes (`Some`) are the old ones and then these; of bytes that aren't told (`None`) nothing is said",
         "Bool": "`true` or `false`",
         "Contains": "a value is an entry of the list",
