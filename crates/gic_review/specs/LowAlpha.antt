@@ -1,18 +1,15 @@
 -- Zones at whose latitude L, in degrees, the alpha of the table is below 0.001 e^(0.115 L): a verdict `below` may be too good there.
-use Rattle.std.specs.Prelude.{ℕ, nat_le, Bool, ◌&&◌, ◌||◌, List, [], ◌∷◌, if◌then◌else◌}
+use Rattle.std.specs.Prelude.{ℕ, Bool, ◌||◌, List, [], ◌∷◌, if◌then◌else◌}
+use Rattle.std.specs.Int.{is_in_range}
 use Rattle.gic_case.specs.declared.scaling.Scaling.{Scaling}
 use Rattle.gic_case.specs.declared.scaling.Scaling.TheVariants as scalings
 use Rattle.gic_case.specs.ZoneView.{ZoneView}
 use Rattle.gic_review.specs.declared.findings.finding.Finding.{Finding}
 use Rattle.gic_review.specs.declared.findings.finding.Finding.TheVariants.{Alpha}
 
--- a number lies between two others, or is one of them
-abbrev pub is_from_to : (least most number : ℕ) → Bool
-is_from_to least most number = nat_le least number && nat_le number most
-
--- the latitudes, in hundredths of a degree
+-- the latitudes, in hundredths of a degree, both ends of each range included
 abbrev pub has_low_alpha : (latitude : ℕ) → Bool
-has_low_alpha latitude = is_from_to 4960 5000 latitude || (is_from_to 5563 5600 latitude || is_from_to 5697 5700 latitude)
+has_low_alpha latitude = is_in_range 4960 5000 latitude || is_in_range 5563 5600 latitude || is_in_range 5697 5700 latitude
 
 -- a zone that is given by one number has no latitude
 abbrev pub low_alpha_of : List ℕ → Scaling → List Finding
