@@ -52,6 +52,7 @@ OUTSIDE: dict[str, dict[str, str]] = {
         "int_lt": "whether one whole number is under another",
         "int_max": "the greater of two whole numbers",
         "int_min": "the lesser of two whole numbers",
+        "is_in_range": "whether a natural number lies between two others, or is one of them",
         "is_none": "whether nothing is there",
         "is_some": "whether something is there",
         "is_utf8": "whether bytes are a text in UTF-8",

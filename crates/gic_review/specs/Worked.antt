@@ -129,3 +129,27 @@ third_findings =
     findings.Value lists.Transformer (codes "T") values.ThirdResistance 9999 ∷
     findings.Volts (codes "R") sides.High 5000 20000 ∷
     findings.Volts (codes "U") sides.Third 22223 20000 ∷ []
+
+-- zones at the ends of the latitudes where the alpha of the table is low and just beyond them, one with an unusual beta, and one by its scale
+abbrev pub alpha_case : Lists
+alpha_case = record {
+  zones =
+      zone (codes "Z1") 4959 100 ∷ zone (codes "Z2") 4960 100 ∷ zone (codes "Z3") 5000 100 ∷ zone (codes "Z4") 5001 100 ∷
+      zone (codes "Z5") 5562 100 ∷ zone (codes "Z6") 5563 100 ∷ zone (codes "Z7") 5600 9 ∷ zone (codes "Z8") 5601 100 ∷
+      zone (codes "Z9") 5696 100 ∷ zone (codes "Za") 5697 100 ∷ zone (codes "Zb") 5700 100 ∷ zone (codes "Zc") 5701 100 ∷
+      record { name = codes "Zd"; scaling = Factor 1000 } ∷ [];
+  substations = [];
+  buses = [];
+  lines = [];
+  transformers = [];
+}
+
+abbrev pub alpha_findings : List Finding
+alpha_findings =
+    findings.Value lists.Zone (codes "Z7") values.Beta 9 ∷
+    findings.Alpha (codes "Z2") 4960 ∷
+    findings.Alpha (codes "Z3") 5000 ∷
+    findings.Alpha (codes "Z6") 5563 ∷
+    findings.Alpha (codes "Z7") 5600 ∷
+    findings.Alpha (codes "Za") 5697 ∷
+    findings.Alpha (codes "Zb") 5700 ∷ []
