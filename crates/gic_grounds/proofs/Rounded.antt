@@ -16,9 +16,6 @@ at_map f d e [] k is = sym is
 at_map f d e (x ∷ xs) zero is = refl
 at_map f d e (x ∷ xs) (suc k) is = at_map f d e xs k is
 
-ends_by : ℤ → ℤ → Ends
-ends_by low high = record { low = low; high = high }
-
 zero_in_units : (unit : ℕ) → 0 < unit → in_units unit zero_ends ≡ zero_ends
 zero_in_units unit some =
     let over : 0 < 2 ^ 36 * unit = omega (arith, some) in
