@@ -1,13 +1,21 @@
-use Rattle.std.proofs.Common.{◌≡◌, ◌<◌, ℕ, List, length, get_or, slice_index, ap, sym, subst, ◌∙◌}
+use Rattle.std.proofs.Common.{◌≡◌, ◌^◌, ◌<◌, ℕ, List, length, get_or, slice_index, ap, sym, subst, ◌∙◌}
 use Rattle.std.proofs.lemmas.List.{get_or_default}
 use Rattle.gic_base.specs.declared.limits.TheConstants.{MOST_WALK}
 use Rattle.gic_bound.specs.Entries.{IsBoundWithin}
 use Rattle.gic_case.specs.declared.item.Transformer.{Transformer}
-use Rattle.gic_fixed.specs.Ends.{ends_of}
+use Rattle.gic_fixed.specs.Ends.{Ends, ends_of}
 use Rattle.gic_model.specs.Bound.{IsEarthedWithin}
 use Rattle.gic_model.specs.Limits.{IsWithinLimits}
+use Rattle.gic_model.specs.Network.{Network}
 use Rattle.gic_model.specs.Sums.{Placed}
+use Rattle.gic_uniform.specs.declared.solve_workspace.SolveWorkspace.{SolveWorkspace}
+use Rattle.gic_winding.specs.ElementList.{elements_of}
 use Rattle.gic_winding.specs.Weights.{transformer_at, no_transformer}
+use Rattle.gic_grounds.specs.declared.nets.GroundNets.{GroundNets}
+use Rattle.gic_grounds.specs.declared.reference.Reference.{Reference}
+use Rattle.gic_grounds.specs.Lifted.{CanSolve, HasAdjointSpace, HasReferenceSpace, CanEnclose}
+use Rattle.gic_grounds.specs.NodeEnds.{AreAllWithin}
+use Rattle.gic_grounds.specs.Varying.{AreVariedOf, AreVariedWithin}
 use Rattle.gic_grounds.specs.Scale.{stray_unit, units_of}
 use Rattle.gic_grounds.specs.Tolerated.{Tolerated, tolerated, least_in, AreNetsOf}
 use Rattle.gic_grounds.proofs.Earthings.{own_earthed}
@@ -59,4 +67,57 @@ returns-clause-right c rows percent north east of_nets referred effect =
           (ends_of c.varied_current-north.result) effect (c.varied_current-north.ensures.enclosure v units of_nets (unit_is c));
       to_east = varied_current_is (laws_of c) v studied of_nets.most_percent east w.nets of_nets t w.unit c.adjoin.new.out w.east referred.east_grains some small referred.in_east c.adjoin.ensures.adjoined inside_east c.requires.place
           (ends_of c.varied_current-east.result) effect (c.varied_current-east.ensures.enclosure v units of_nets (unit_is c));
+    }
+
+pub adjoin-requires-clause-ready : goal.adjoin-requires-clause-ready
+adjoin-requires-clause-ready c =
+    subst (λ (n : Network). CanSolve n.nodes (length n.list) c.args.self.now.nets c.args.self.now.solving) (sym c.requires.ready.has_space.elements) c.requires.ready.can_solve
+
+pub adjoin-requires-clause-space : goal.adjoin-requires-clause-space
+adjoin-requires-clause-space c =
+    subst (λ (n : Network). HasAdjointSpace n.nodes (length n.list) c.args.self.now.volts c.args.self.now.adjoint) (sym c.requires.ready.has_space.elements) c.requires.ready.has_space.adjoint_space
+
+-- there is all that an interval is made of
+can_enclose : (nodes count transformers t : ℕ) (nets : GroundNets) (solving : SolveWorkspace) (adjoint : List Ends) (reference : Reference) →
+    CanSolve nodes count nets solving → length adjoint ≡ nodes → AreAllWithin (2 ^ 55) adjoint → HasReferenceSpace nodes transformers reference → AreVariedWithin reference.potentials → AreAllWithin (2 ^ 80) reference.own →
+    t < transformers → CanEnclose nets adjoint reference t
+can_enclose nodes count transformers t nets solving adjoint reference can adjoined small space varied own inside = record {
+  same_count = can.most_count ∙ sym can.least_count;
+  adjoint_count = adjoined ∙ sym can.least_nodes;
+  adjoint_within = small;
+  varied_count = subst (λ n. AreVariedOf n reference.potentials) (sym can.least_nodes) space.varied_count;
+  varied_within = varied;
+  has_own = subst (λ n. t < n) (sym space.own_count) inside;
+  own_within = own;
+}
+
+pub varied_current-requires-clause-space : goal.varied_current-requires-clause-space
+varied_current-requires-clause-space c =
+    let w = c.args.self.now in
+    let space = c.requires.ready.has_space in
+    can_enclose (elements_of c.args.case.now).nodes (length (elements_of c.args.case.now).list) (length c.args.case.now.transformers) c.args.transformer w.nets w.solving c.adjoin.new.out w.north
+    c.requires.ready.can_solve (c.adjoin.ensures.space.adjoint_count ∙ ap (λ (n : Network). n.nodes) space.elements) c.adjoin.ensures.adjoined.within space.north_space c.requires.references.north_within c.requires.references.own_north c.requires.place
+
+pub varied_current-requires-2-clause-space : goal.varied_current-requires-2-clause-space
+varied_current-requires-2-clause-space c =
+    let w = c.args.self.now in
+    let space = c.requires.ready.has_space in
+    can_enclose (elements_of c.args.case.now).nodes (length (elements_of c.args.case.now).list) (length c.args.case.now.transformers) c.args.transformer w.nets w.solving c.adjoin.new.out w.east
+    c.requires.ready.can_solve (c.adjoin.ensures.space.adjoint_count ∙ ap (λ (n : Network). n.nodes) space.elements) c.adjoin.ensures.adjoined.within space.east_space c.requires.references.east_within c.requires.references.own_east c.requires.place
+
+pub returns-clause-ready : goal.returns-clause-ready
+returns-clause-ready c =
+    let space = c.requires.ready.has_space in
+    let can = subst (λ (n : Network). CanSolve n.nodes (length n.list) c.args.self.now.nets c.adjoin.new.solving) space.elements c.adjoin.ensures.ready in
+    record {
+      has_space = record {
+        elements = space.elements;
+        nets = space.nets;
+        solving = can.has_space;
+        adjoint_space = subst (λ (n : Network). HasAdjointSpace n.nodes (length n.list) c.adjoin.new.volts c.adjoin.new.out) space.elements c.adjoin.ensures.space;
+        north_space = space.north_space;
+        east_space = space.east_space;
+      };
+      solvable = c.requires.ready.solvable;
+      can_solve = can;
     }
