@@ -1,4 +1,5 @@
 use Rattle.std.proofs.Common.{◌≡◌, ◌∙◌, ℤ, pos, ap, ap₂}
+use Rattle.gic_effective.proofs.Weighings.{ends_by}
 use Rattle.gic_enclose.specs.Ends.{potential_ends}
 use Rattle.gic_fixed.specs.Ends.{Ends, ends_of}
 use Rattle.gic_fixed.specs.Rounding.{floor_div, ceil_div}
@@ -10,14 +11,11 @@ use Rattle.gic_grounds.specs.VariedCurrent.{cut_current, milli_cut}
 use Rattle.gic_grounds.specs.Varying.{intervals_of}
 use Rattle.gic_grounds.proofs.current.varied_current.Goals as goal
 
-abbrev ends_by : ℤ → ℤ → Ends
-ends_by low high = record { low = low; high = high }
-
 pub returns-clause-enclosure : goal.returns-clause-enclosure
 returns-clause-enclosure c v units of_nets same =
-    let own : ends_of c.get-own.result ≡ potential_ends c.args.reference.now.own c.args.transformer = ap₂ (λ (a b : ℤ). ends_by a b) c.get-own.ensures.low c.get-own.ensures.high in
+    let own : ends_of c.get-own.result ≡ potential_ends c.args.reference.now.own c.args.transformer = ap₂ ends_by c.get-own.ensures.low c.get-own.ensures.high in
     let nano = c.enclosure-nano.ensures.enclosure (elements_of v.case) (stands_after v.rows) (ranges_in v) units of_nets.extremes same
         ∙ ap (λ (o : Ends). certified_enclosure (own_in v) (ranges_in v) units (intervals_of c.args.adjoint.now c.args.reference.now.potentials o)) own in
     let low = c.cut_both.ensures.low ∙ ap cut_current c.milli.ensures.low in
     let high = c.cut_both.ensures.high ∙ ap cut_current c.milli.ensures.high in
-    ap₂ (λ (a b : ℤ). ends_by a b) low high ∙ ap milli_cut nano
+    ap₂ ends_by low high ∙ ap milli_cut nano
