@@ -61,7 +61,10 @@ by_listed law network stands times case t weights s are none =
 
 -- the scales fit: so many products of both units make 3 V nanoamperes of the weights' multiple
 pub scales : (high unit d : ℕ) → weight_times high unit * (3 * high * d) ≡ stray_unit high unit * (32 * unit) * d
-scales high unit d = omega arith
+scales high unit d = plain (multiple high unit) high unit d
+  where
+    plain : (m h u n : ℕ) → m * (32 * u) * (3 * h * n) ≡ 3 * h * m * (32 * u) * n
+    plain m h u n = omega arith
 
 module _ (grains_law : GrainsHoldInUnits) (listed : ListedWeightsCount) (v : Tolerated) (nets : GroundNets) (of_nets : AreNetsOf v nets)
     (t unit : ℕ) (adjoint : List Ends) (reference : Reference) (volts : ℕ → ℤ) (grains : List Ends) (some : 0 < unit)

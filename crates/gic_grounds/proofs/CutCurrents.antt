@@ -46,7 +46,5 @@ milli_cut_holds nano z m volts d some small h =
     let plain = Encloses-cancel nano.low nano.high z (3 * volts * d) m some h in
     let out = Encloses-div_out nano.low nano.high z (3 * volts * d) 1000000 (omega arith) plain in
     let same : 1000000 * (3 * volts * d) ≡ 3000000 * volts * d = omega arith in
-    cut_encloses _ _ z (3000000 * volts * d) small (subst (λ (n : ℕ). Encloses (milli nano).low (milli nano).high z n) same out)
-  where
-    milli : Ends → Ends
-    milli e = record { low = floor_div e.low (pos 1000000); high = ceil_div e.high (pos 1000000) }
+    cut_encloses (floor_div nano.low (pos 1000000)) (ceil_div nano.high (pos 1000000)) z (3000000 * volts * d) small
+    (subst (λ (n : ℕ). Encloses (floor_div nano.low (pos 1000000)) (ceil_div nano.high (pos 1000000)) z n) same out)

@@ -3,16 +3,22 @@ use Rattle.std.proofs.Common.{◌≡◌, ℕ, ◌≤◌, ◌<◌, ◌==◌, ◌&
 use Rattle.std.specs.List.{AllByRecursion}
 use Rattle.std.proofs.lemmas.List.Elements.{All-from_recursion, recursion_from_All}
 use Rattle.gic_base.proofs.Each.{weaker}
+use Rattle.gic_bound.specs.Entries.{IsBoundWithin}
 use Rattle.gic_model.specs.declared.parts.Item.{Item}
 use Rattle.gic_model.specs.declared.parts.Element.{Element}
 use Rattle.gic_model.specs.Earthing.{joins, is_earth, IsChainToEarth, IsEarthed, AreEarthed}
 use Rattle.gic_model.specs.Limits.{IsWithinLimits, IsElementWithin}
 use Rattle.gic_model.specs.Network.{Network}
-use Rattle.gic_model.specs.Standing.{standing_elements, is_standing, IsLive}
+use Rattle.gic_model.specs.Standing.{standing_elements, stands_after, is_standing, IsLive}
 use Rattle.gic_model.specs.Sums.{Placed}
 use Rattle.gic_varied.specs.Grounds.{is_ground, with_grounds}
-use Rattle.gic_varied.specs.GroundLaws.{AreLesser}
+use Rattle.gic_varied.specs.GroundLaws.{AreLesser, BoundVectorsServeLesserGrounds}
 use Rattle.gic_varied.specs.Ranges.{ranges_of, IsInRange, AreInRanges}
+use Rattle.gic_net.specs.Net.{standing}
+use Rattle.gic_winding.specs.ElementList.{elements_of}
+use Rattle.gic_grounds.specs.declared.nets.GroundNets.{GroundNets}
+use Rattle.gic_grounds.specs.Tolerances.{tolerance_at}
+use Rattle.gic_grounds.specs.Tolerated.{Tolerated, AreNetsOf, ranges_in, own_in, least_in, most_in}
 use Rattle.gic_varied.proofs.OwnRanges.{own_in_range, own_grounds}
 use Rattle.gic_varied.proofs.Regrounded.{placed_with, list_any-map, standing_with, live_with}
 
@@ -60,3 +66,16 @@ least_in_range network stands percent limits =
     let most = (own ground).at_most in
     record { above_0 = (own ground).above_0; at_least = omega arith; at_most = omega arith }) (standing_elements network stands)
     (recursion_from_All (λ p. is_ground p.1 ≡ true → IsInRange (ranges_of percent p.1) p.1.micro_ohm) (standing_elements network stands) (own_grounds network stands percent limits)))
+
+-- of the nets of a case
+module _ (v : Tolerated) (nets : GroundNets) (of_nets : AreNetsOf v nets) where
+  -- a bound vector of that with the greatest grounds is one of that with the least
+  pub least_bound : BoundVectorsServeLesserGrounds → IsWithinLimits (elements_of v.case) → (m : ℕ) (entries : ℕ → ℕ) → IsBoundWithin (standing nets.most) m entries → IsBoundWithin (standing nets.least) m entries
+  least_bound law limits m entries h =
+      let most = subst (λ (ps : List Placed). IsBoundWithin ps m entries) of_nets.extremes.most_standing h in
+      let vector = law (elements_of v.case) (stands_after v.rows) (λ e. (ranges_in v e).least) (λ e. (ranges_in v e).most) entries (lesser (elements_of v.case) (tolerance_at v.case v.percent) limits) most.bound in
+      subst (λ (ps : List Placed). IsBoundWithin ps m entries) (sym of_nets.extremes.least_standing) (record { bound = vector; none_above = most.none_above })
+
+  -- and the case itself is earthed where that is
+  pub own_earthed : AreEarthed (standing nets.most) → AreEarthed (own_in v)
+  own_earthed h = earthed_back (elements_of v.case) (stands_after v.rows) (λ e. (ranges_in v e).most) (subst AreEarthed of_nets.extremes.most_standing h)

@@ -40,8 +40,10 @@ use Rattle.gic_grounds.specs.Effect.{HasNoPart}
 use Rattle.gic_grounds.specs.Scale.{weight_times, stray_unit, units_of}
 use Rattle.gic_grounds.specs.Tolerances.{tolerance_at}
 use Rattle.gic_grounds.specs.Tolerated.{Tolerated, AreNetsOf, ranges_in, own_in, least_in}
-use Rattle.gic_grounds.specs.Varied.{IsReferredTo, AreAdjoined}
-use Rattle.gic_grounds.specs.VariedCurrent.{IsVariedCurrent, milli_cut}
+use Rattle.gic_enclose.specs.Certain.{AreCertain}
+use Rattle.gic_grounds.specs.declared.workspace.VariedWorkspace.{VariedWorkspace}
+use Rattle.gic_grounds.specs.Varied.{IsReferredTo, AreAdjoined, AreReferred}
+use Rattle.gic_grounds.specs.VariedCurrent.{References, AreReferences, IsVariedCurrent, milli_cut}
 use Rattle.gic_grounds.specs.Varying.{intervals_of}
 use Rattle.gic_grounds.proofs.Certifying.{given, intervals, certified, of_reference, by_listed, scales}
 use Rattle.gic_grounds.proofs.CutCurrents.{milli_cut_holds}
@@ -169,3 +171,17 @@ module _ (laws : Laws) (v : Tolerated) (studied : IsStudied v) (few : v.percent 
       zeroed = λ none. absurd (effect none);
       pinned = inr (of_reference laws.grains laws.listed v nets of_nets t unit adjoint reference volts grains some refers adjoins inside ends is);
     }
+
+-- the references of a workspace
+abbrev pub references_in : (case : Lists) (north east : ℕ → ℤ) (workspace : VariedWorkspace) → AreReferred case north east workspace → References
+references_in case north east workspace referred = record { north = referred.north_grains; east = referred.east_grains; unit = workspace.unit }
+
+pub references_of : (v : Tolerated) (north east : ℕ → ℤ) (workspace : VariedWorkspace) → AreNetsOf v workspace.nets → (referred : AreReferred v.case north east workspace) →
+    AreReferences v north east (references_in v.case north east workspace referred)
+references_of v north east workspace of_nets referred = record {
+  north_certain = subst (λ (ps : List Placed). AreCertain ps north referred.north_grains) of_nets.extremes.least_standing referred.in_north.certain;
+  north_tight = referred.in_north.tight;
+  east_certain = subst (λ (ps : List Placed). AreCertain ps east referred.east_grains) of_nets.extremes.least_standing referred.in_east.certain;
+  east_tight = referred.in_east.tight;
+  least_unit = referred.least_unit;
+}

@@ -7,7 +7,9 @@ pub mod Strayed
 pub mod Weighing
 pub mod Earthings
 pub mod Rounded
+pub mod Solving
 pub mod CutCurrents
 pub mod WindingBounds
 pub mod Certifying
 pub mod Holding
+pub mod Answered

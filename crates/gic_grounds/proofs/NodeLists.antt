@@ -97,3 +97,7 @@ next_within list i least most new order low high within before k below = ⊎_eli
     subst (λ j. IsWithin most (low_at list j) (high_at list j)) (sym here)
     (subst (λ (e : Ends). IsWithin most e.low e.high) (ends_same new (potential_ends list i) low high) within))
     (cases_lt k i)
+
+-- the interval at a node is within a bound of all
+pub at_node_within : (bound : ℕ) (list : List Ends) (k : ℕ) (interval : Interval) → interval.lo ≡ low_at list k → interval.hi ≡ high_at list k → AreAllWithin bound list → IsWithin bound interval.lo interval.hi
+at_node_within bound list k interval low high small = record { low = omega (arith, ap unsigned_abs low, (small k).low); high = omega (arith, ap unsigned_abs high, (small k).high) }

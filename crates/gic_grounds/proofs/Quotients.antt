@@ -1,10 +1,13 @@
 -- A quotient by a product, taken in parts that fit.
 use Rattle.std.proofs.Common.{◌≡◌, ℕ, ◌+◌, ◌*◌, ◌^◌, ◌<◌, ◌≤◌, ℤ, pos, ◌+ℤ◌, ◌*ℤ◌, ◌≤ℤ◌, ◌<ℤ◌, neg_ℤ, unsigned_abs, arith, ap, sym, refl, ◌∙◌}
-use Rattle.std.proofs.lemmas.Int.{ints, unsigned_abs-mul}
+use Rattle.std.proofs.lemmas.Int.{ints, clamps, unsigned_abs-mul, fits_signed_from_abs}
 use Rattle.std.proofs.Math.Nat.{mul-le-mul_left, mul-le-mul_right, le_of_mul-le-mul_left}
-use Rattle.std.specs.Int.{int_div_euclid, int_rem_euclid}
+use Rattle.std.specs.Int.{w128, int_div_euclid, int_rem_euclid, int_min, int_max}
+use Rattle.std.specs.Prelude.{FitsSigned}
+use Rattle.gic_fixed.specs.Encloses.{IsWithin}
 use Rattle.gic_fixed.specs.Rounding.{floor_div}
 use Rattle.gic_fixed.proofs.Integers.{linear, *ℤ-+ℤ, *ℤ_left_comm, *ℤ-≤ℤ}
+use Rattle.gic_grounds.proofs.NodeLists.{floor_small}
 use Rattle.gic_fixed.proofs.Divisions.{floor_below, floor_above, floor_is, floor_ge, floor_le, floor-floor, quotient_rest, rest_within}
 
 module _ (factor divisor : ℕ) (number : ℤ) (some : 0 < divisor) where
@@ -70,3 +73,55 @@ module _ (factor divisor : ℕ) (number : ℤ) (some : 0 < divisor) where
       let least = floor_ge (pos factor *ℤ rest) divisor (pos 0) some (omega (arith, ints, bounds.0, zero_times)) in
       let most = floor_le (pos factor *ℤ rest) divisor (pos factor) some (omega (arith, ints, bounds.1, some)) in
       (least, most)
+
+-- for numbers and factors of stray powers all parts fit
+pub fits_whole : (factor divisor : ℕ) (number : ℤ) → 0 < divisor → divisor ≤ 10 ^ 18 → factor ≤ 3000 * divisor → unsigned_abs number ≤ 5 * 2 ^ 113 →
+    FitsSigned w128 (pos factor *ℤ int_div_euclid number (pos divisor))
+fits_whole factor divisor number some least few small =
+    fits_signed_from_abs w128 (pos factor *ℤ int_div_euclid number (pos divisor)) (omega (arith, least, whole_within factor divisor number some 3000 (5 * 2 ^ 113) few small))
+
+pub fits_rest : (factor divisor : ℕ) (number : ℤ) → 0 < divisor → divisor ≤ 10 ^ 18 → factor ≤ 3 * 10 ^ 15 → FitsSigned w128 (pos factor *ℤ int_rem_euclid number (pos divisor))
+fits_rest factor divisor number some least few =
+    let bounds = rest_times_within factor divisor number some in
+    let product : factor * divisor ≤ 3 * 10 ^ 15 * 10 ^ 18 = mul-le-mul few least in
+    fits_signed_from_abs w128 (pos factor *ℤ int_rem_euclid number (pos divisor)) (omega (arith, ints, bounds.0, bounds.1, product))
+
+sum_within : (factor divisor : ℕ) (number : ℤ) → 0 < divisor → divisor ≤ 10 ^ 18 → factor ≤ 3000 * divisor → factor ≤ 3 * 10 ^ 15 → unsigned_abs number ≤ 5 * 2 ^ 113 →
+    unsigned_abs (pos factor *ℤ int_div_euclid number (pos divisor) +ℤ int_div_euclid (pos factor *ℤ int_rem_euclid number (pos divisor)) (pos divisor)) < 2 ^ 127
+sum_within factor divisor number some least few most small =
+    let first = whole_within factor divisor number some 3000 (5 * 2 ^ 113) few small in
+    let second = share_within factor divisor number some in
+    omega (arith, ints, least, most, first, second.0, second.1)
+
+pub fits_sum : (factor divisor : ℕ) (number : ℤ) → 0 < divisor → divisor ≤ 10 ^ 18 → factor ≤ 3000 * divisor → factor ≤ 3 * 10 ^ 15 → unsigned_abs number ≤ 5 * 2 ^ 113 →
+    FitsSigned w128 (pos factor *ℤ int_div_euclid number (pos divisor) +ℤ int_div_euclid (pos factor *ℤ int_rem_euclid number (pos divisor)) (pos divisor))
+fits_sum factor divisor number some least few most small =
+    fits_signed_from_abs w128 (pos factor *ℤ int_div_euclid number (pos divisor) +ℤ int_div_euclid (pos factor *ℤ int_rem_euclid number (pos divisor)) (pos divisor))
+    (sum_within factor divisor number some least few most small)
+
+-- and the quotient by a unit that isn't small is within 2^105
+pub quotient_within : (factor divisor unit : ℕ) (number : ℤ) → 0 < divisor → divisor ≤ 10 ^ 18 → factor ≤ 3000 * divisor → factor ≤ 3 * 10 ^ 15 → 2 ^ 22 ≤ unit → unsigned_abs number ≤ 5 * 2 ^ 113 →
+    unsigned_abs (floor_div (pos factor *ℤ int_div_euclid number (pos divisor) +ℤ int_div_euclid (pos factor *ℤ int_rem_euclid number (pos divisor)) (pos divisor)) (pos unit)) ≤ 2 ^ 105
+quotient_within factor divisor unit number some least few most large small =
+    let sum = pos factor *ℤ int_div_euclid number (pos divisor) +ℤ int_div_euclid (pos factor *ℤ int_rem_euclid number (pos divisor)) (pos divisor) in
+    let below = sum_within factor divisor number some least few most small in
+    let enough : 2 ^ 22 * 2 ^ 105 ≤ unit * 2 ^ 105 = mul-le-mul_right (2 ^ 105) large in
+    floor_small sum unit (2 ^ 105) (omega (arith, large)) (omega (arith, below, enough))
+
+-- products of a varied and an adjoint potential
+pub product_within : (a b : ℤ) → unsigned_abs a ≤ 5 * 2 ^ 58 → unsigned_abs b ≤ 2 ^ 55 → unsigned_abs (a *ℤ b) ≤ 5 * 2 ^ 113
+product_within a b one other =
+    let size = unsigned_abs-mul a b in
+    let product : unsigned_abs a * unsigned_abs b ≤ 5 * 2 ^ 58 * 2 ^ 55 = mul-le-mul one other in
+    omega (arith, size, product)
+
+pub product_fits : (a b : ℤ) → unsigned_abs a ≤ 5 * 2 ^ 58 → unsigned_abs b ≤ 2 ^ 55 → FitsSigned w128 (a *ℤ b)
+product_fits a b one other = fits_signed_from_abs w128 (a *ℤ b) (omega (arith, product_within a b one other))
+
+-- the least and the greatest of four numbers within a bound
+pub corners_within : (a b c d : ℤ) (bound : ℕ) → unsigned_abs a ≤ bound → unsigned_abs b ≤ bound → unsigned_abs c ≤ bound → unsigned_abs d ≤ bound →
+    IsWithin bound (int_min (int_min a b) (int_min c d)) (int_max (int_max a b) (int_max c d))
+corners_within a b c d bound one two three four = record {
+  low = omega (arith, ints, clamps, one, two, three, four);
+  high = omega (arith, ints, clamps, one, two, three, four);
+}

@@ -1,9 +1,10 @@
 -- The voltages of lifts, over the standing elements.
 use Rattle.std.proofs.Common.{◌≡◌, ℕ, ◌+◌, ◌-◌, ◌*◌, ◌<◌, ◌≤◌, Bool, true, false, cond, List, length, arith, refl, ap, sym, subst, ◌∙◌, ℤ, pos, ◌*ℤ◌, neg_ℤ, unsigned_abs}
-use Rattle.std.specs.Int.{int_max}
+use Rattle.std.specs.Prelude.{FitsSigned}
+use Rattle.std.specs.Int.{w128, int_max}
 use Rattle.std.specs.List.{AllByRecursion, enumerate_from}
 use Rattle.std.proofs.Math.Nat.{mul-le-mul, mul-le-mul_left, mul-le-mul_right}
-use Rattle.std.proofs.lemmas.Int.{ints, clamps, unsigned_abs-mul}
+use Rattle.std.proofs.lemmas.Int.{ints, clamps, unsigned_abs-mul, fits_signed_from_abs}
 use Rattle.std.proofs.lemmas.List.{length-map}
 use Rattle.std.proofs.lemmas.List.Elements.{All-from_recursion}
 use Rattle.gic_fixed.specs.Rounding.{ceil_div}
@@ -36,16 +37,16 @@ lift_within least most height some modest small =
     let product : (most - least) * unsigned_abs top ≤ 19 * least * 3000000000000 = mul-le-mul reach below in
     ceil_small (pos (most - least) *ℤ top) least 57000000000000 some (omega (arith, size, product))
 
--- a lift's rise before it is divided
-pub rise_within : (least most : ℕ) (height : ℤ) → most ≤ 20 * least → least ≤ 4294967295 → unsigned_abs height ≤ 3000000000000 →
-    unsigned_abs (pos (most - least) *ℤ int_max height (pos 0)) ≤ 19 * 4294967295 * 3000000000000
-rise_within least most height modest few small =
+-- its rise before it is divided fits
+pub rise_fits : (least most : ℕ) (height : ℤ) → IsModest least most → least < 2 ^ 32 → unsigned_abs height ≤ 3000000000000 →
+    FitsSigned w128 (pos (most - least) *ℤ int_max height (pos 0))
+rise_fits least most height modest few small =
     let top = int_max height (pos 0) in
     let below : unsigned_abs top ≤ 3000000000000 = omega (arith, ints, clamps, small) in
     let size = unsigned_abs-mul (pos (most - least)) top in
-    let reach : most - least ≤ 19 * 4294967295 = omega (arith, modest, few) in
-    let product : (most - least) * unsigned_abs top ≤ 19 * 4294967295 * 3000000000000 = mul-le-mul reach below in
-    omega (arith, size, product)
+    let reach : most - least ≤ 19 * 2 ^ 32 = omega (arith, modest.twentyfold, few) in
+    let product : (most - least) * unsigned_abs top ≤ 19 * 2 ^ 32 * 3000000000000 = mul-le-mul reach below in
+    fits_signed_from_abs w128 (pos (most - least) *ℤ top) (omega (arith, size, product))
 
 -- a ground with its resistances in the two networks has its range there
 ranged : (ground : Bool) (range : Range) (ohm : ℕ) (height : ℤ) →

@@ -1,5 +1,6 @@
 -- Intervals in grains, rounded outward to units.
 use Rattle.std.proofs.Common.{◌≡◌, ℕ, ◌^◌, ◌*◌, ◌<◌, List, [], ◌∷◌, zero, suc, map, ℤ, pos, slice_index_or, arith, refl, ap₂, sym, subst, ◌∙◌}
+use Rattle.gic_effective.proofs.Weighings.{ends_by}
 use Rattle.gic_enclose.specs.Certain.{AreCertain}
 use Rattle.gic_enclose.specs.Ends.{potential_ends}
 use Rattle.gic_fixed.specs.Encloses.{Encloses}
@@ -16,15 +17,12 @@ at_map f d e [] k is = sym is
 at_map f d e (x ∷ xs) zero is = refl
 at_map f d e (x ∷ xs) (suc k) is = at_map f d e xs k is
 
-ends_by : ℤ → ℤ → Ends
-ends_by low high = record { low = low; high = high }
-
 zero_in_units : (unit : ℕ) → 0 < unit → in_units unit zero_ends ≡ zero_ends
 zero_in_units unit some =
     let over : 0 < 2 ^ 36 * unit = omega (arith, some) in
     let low : floor_div (pos 0) (pos (2 ^ 36 * unit)) ≡ pos 0 = floor_is (pos 0) (2 ^ 36 * unit) (pos 0) over (omega (arith, linear)) (omega (arith, linear)) in
     let high : ceil_div (pos 0) (pos (2 ^ 36 * unit)) ≡ pos 0 = ceil_is (pos 0) (2 ^ 36 * unit) (pos 0) over (omega (arith, linear)) (omega (arith, linear)) in
-    ap₂ (λ (a b : ℤ). record { low = a; high = b }) low high
+    ap₂ ends_by low high
 
 pub rounded_at : (unit : ℕ) (grains ends : List Ends) → 0 < unit → ends ≡ map (in_units unit) grains → (k : ℕ) → potential_ends ends k ≡ in_units unit (potential_ends grains k)
 rounded_at unit grains ends some is k =

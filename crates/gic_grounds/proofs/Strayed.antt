@@ -1,10 +1,12 @@
 -- The stray powers of the standing grounds, added up place by place.
-use Rattle.std.proofs.Common.{◌≡◌, ℕ, ◌+◌, ◌*◌, ◌<◌, ◌≤◌, Bool, true, false, cond, List, [], ◌∷◌, length, drop, get_or, map, arith, refl, ap, sym, subst, ◌∙◌, ℤ, pos, ◌+ℤ◌, drop-cons, add-one, suc}
+use Rattle.std.proofs.Common.{◌≡◌, ℕ, ◌+◌, ◌*◌, ◌<◌, ◌≤◌, Bool, true, false, cond, List, [], ◌∷◌, length, drop, get_or, map, arith, refl, ap, sym, subst, ◌∙◌, ℤ, pos, ◌+ℤ◌, drop-cons, add-one, suc, ◌⊎◌, inl, inr}
 use Rattle.std.specs.List.{AllByRecursion, filter, enumerate_from}
 use Rattle.std.proofs.lemmas.List.{at_drop_all}
 use Rattle.gic_fixed.proofs.Integers.{linear}
 use Rattle.gic_fixed.proofs.Sums.{sum_of-same}
-use Rattle.gic_fixed.specs.Ends.{Ends}
+use Rattle.gic_fixed.specs.declared.interval.Interval.{Interval}
+use Rattle.gic_fixed.specs.Ends.{Ends, ends_of, zero_ends}
+use Rattle.gic_enclose.specs.Ends.{potential_ends}
 use Rattle.gic_model.specs.declared.parts.Element.{Element}
 use Rattle.gic_model.specs.declared.parts.Item.{Item}
 use Rattle.gic_model.specs.Network.{Network}
@@ -14,12 +16,14 @@ use Rattle.gic_model.proofs.Members.{kept}
 use Rattle.gic_net.proofs.Kept.{IsIn, each_in}
 use Rattle.gic_net.specs.Net.{element_of, no_element}
 use Rattle.gic_varied.proofs.Regrounded.{placed_with, filter-map, sum_of-map, standing_with}
-use Rattle.gic_varied.specs.Enclosure.{stray_at, stray_ends}
+use Rattle.gic_varied.specs.Enclosure.{stray_at, stray_ends, varied_ends, product_ends}
 use Rattle.gic_varied.specs.Certified.{product_at}
 use Rattle.gic_varied.specs.Grounds.{is_ground, regrounded, with_grounds, grounds_among}
 use Rattle.gic_varied.specs.Lifts.{with_least, with_most}
 use Rattle.gic_varied.specs.Ranges.{Range, Ranges}
+use Rattle.gic_grounds.specs.declared.varied.VariedEnds.{VariedEnds}
 use Rattle.gic_grounds.specs.declared.varied.VariedPotentials.{VariedPotentials}
+use Rattle.gic_grounds.specs.VariedEnds.{ends_seen}
 use Rattle.gic_grounds.specs.Varying.{intervals_of, stray_power_at}
 use Rattle.gic_grounds.proofs.Extremes.{element_with}
 
@@ -57,6 +61,34 @@ ranged end unit products false is range place ohm e = absurd (no_way is)
     no_way : false ≡ true → ⊥
     no_way q = cc
 
+-- one path or three
+pub few_paths : (times : ℕ) → (times ≡ 1) ⊎ (times ≡ 3) → times ≤ 3
+few_paths times (inl one) = omega (arith, one)
+few_paths times (inr three) = omega (arith, three)
+
+-- what is chosen of ends is chosen of each
+pub chosen : (ground stand : Bool) (ends : Ends) (end : Ends → ℤ) → end zero_ends ≡ pos 0 →
+    end (cond ground (cond stand ends zero_ends) zero_ends) ≡ cond ground (cond stand (end ends) (pos 0)) (pos 0)
+chosen true true ends end none = refl
+chosen true false ends end none = none
+chosen false stand ends end none = none
+
+-- the interval that is made at a place, from those at its node
+pub stray_is : (least most : Network) (unit : ℕ) (adjoint : List Ends) (varied : VariedPotentials) (place : ℕ) (e m : Element) (a r l h p s : Interval) (v : VariedEnds) →
+    e ≡ element_of least place → m ≡ element_of most place →
+    ends_of a ≡ potential_ends adjoint e.from.0 → ends_of r ≡ potential_ends varied.reference e.from.0 →
+    ends_of l ≡ potential_ends varied.lowering e.from.0 → ends_of h ≡ potential_ends varied.raising e.from.0 →
+    ends_seen v ≡ varied_ends (ends_of r) (ends_of l) (ends_of h) → ends_of p ≡ product_ends (ends_of a) (ends_seen v) →
+    ends_of s ≡ stray_ends (record { least = e.micro_ohm; most = m.micro_ohm }) e.times e.micro_ohm unit (ends_of p) →
+    ends_of s ≡ stray_power_at least most unit adjoint varied place
+stray_is least most unit adjoint varied place e m a r l h p s v is_e is_m is_a is_r is_l is_h is_v is_p is_s =
+    let ends = intervals_of adjoint varied zero_ends in
+    let product : ends_of p ≡ product_at ends (place, e) = rw (is_p, is_v, is_a, is_r, is_l, is_h) in
+    is_s
+    ∙ ap (stray_ends (record { least = e.micro_ohm; most = m.micro_ohm }) e.times e.micro_ohm unit) product
+    ∙ ap (λ (x : Element). stray_ends (record { least = e.micro_ohm; most = x.micro_ohm }) e.times e.micro_ohm unit (product_at ends (place, e))) is_m
+    ∙ ap (λ (x : Element). stray_ends (record { least = x.micro_ohm; most = (element_of most place).micro_ohm }) x.times x.micro_ohm unit (product_at ends (place, x))) is_e
+
 module _ (network : Network) (stands : Item → Bool) (ranges : Ranges) (unit : ℕ) (adjoint : List Ends) (varied : VariedPotentials) (own : Ends) (end : Ends → ℤ) where
   -- the stray power of a ground of the network
   abbrev of_ground : Placed → ℤ
@@ -90,3 +122,15 @@ module _ (network : Network) (stands : Item → Bool) (ranges : Ranges) (unit : 
       ∙ sum_of-same (λ p. at_place (with_least ranges network) (with_most ranges network) p.0) of_ground (grounds_among plain)
       (kept (λ p. is_ground p.1) (IsIn network.list) (λ p. at_place (with_least ranges network) (with_most ranges network) p.0 ≡ of_ground p) same_at plain
       (kept (λ p. stands p.1.item) (IsIn network.list) (IsIn network.list) (λ p is h. h) (enumerate_from 0 network.list) (each_in network.list)))
+
+  -- so where all is added up, that is the end of the enclosure
+  pub end_is : (kept_items : Item → Bool) (least most : Network) (total start : ℤ) (place : ℕ) → length least.list ≤ place →
+      total +ℤ sum_from (at_place least most) kept_items least.list place ≡ start +ℤ sum_from (at_place least most) kept_items least.list 0 →
+      least ≡ with_least ranges network → most ≡ with_most ranges network →
+      standing_elements least kept_items ≡ standing_elements (with_least ranges network) stands →
+      total ≡ start +ℤ sum_of of_ground (grounds_among (standing_elements network stands))
+  end_is kept_items least most total start place past added is_least is_most is_standing =
+      let none = no_stray_left (at_place least most) kept_items least.list place past in
+      let all : sum_from (at_place least most) kept_items least.list 0 ≡ sum_of of_ground (grounds_among (standing_elements network stands)) =
+      strays_are least most (standing_elements least kept_items) is_least is_most is_standing in
+      omega (arith, linear, added, none, all)

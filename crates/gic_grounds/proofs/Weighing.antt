@@ -49,14 +49,30 @@ multiple_enough high unit rated some small =
     let size : high * unit ≤ 2000000 * 524288 = mul-le-mul rated.1 (omega (arith, small)) in
     ⊎_elim
     (λ none.
-      let zero_is : m ≡ 0 = omega (arith, none) in
-      let over : most_volts < high * (32 * unit) * suc 0 = subst (λ k. most_volts < high * (32 * unit) * suc k) zero_is above in
-      absurd (omega (arith, over, size)))
+    let zero_is : m ≡ 0 = omega (arith, none) in
+    let over : most_volts < high * (32 * unit) * suc 0 = subst (λ k. most_volts < high * (32 * unit) * suc k) zero_is above in
+    absurd (omega (arith, over, size)))
     (λ one.
-      let more : high * unit * 1 ≤ high * unit * m = mul-le-mul_left (high * unit) one in
-      let less : high * m * unit ≤ high * m * 524288 = mul-le-mul_left (high * m) (omega (arith, small)) in
-      omega (arith, above, more, less))
+    let more : high * unit * 1 ≤ high * unit * m = mul-le-mul_left (high * unit) one in
+    let less : high * m * unit ≤ high * m * 524288 = mul-le-mul_left (high * m) (omega (arith, small)) in
+    omega (arith, above, more, less))
     (cases_lt m 1)
+
+pub divisor_fits : (high unit : ℕ) → IsRated high → unit < 2 ^ 19 → high * (32 * unit) < 2 ^ 64
+divisor_fits high unit rated small = let size : high * (32 * unit) ≤ 2000000 * (32 * 524288) = mul-le-mul rated.1 (omega (arith, small)) in omega (arith, size)
+
+pub divisor_above : (high unit : ℕ) → IsRated high → 0 < unit → 0 < high * (32 * unit)
+divisor_above high unit rated some = let product : 1 * 1 ≤ high * (32 * unit) = mul-le-mul (omega (arith, rated.0)) (omega (arith, some)) in omega (arith, product)
+
+-- what is made of the multiple fits
+pub stray_fits : (high unit m : ℕ) → 0 < unit → m * (32 * unit) * high ≤ most_volts → 3 * high * m < 2 ^ 64
+stray_fits high unit m some space = let more : high * m * 1 ≤ high * m * unit = mul-le-mul_left (high * m) some in omega (arith, space, more)
+
+pub times_fits : (high unit m : ℕ) → IsRated high → m * (32 * unit) * high ≤ most_volts → m * (32 * unit) < 2 ^ 64
+times_fits high unit m rated space = let more : m * (32 * unit) * 1 ≤ m * (32 * unit) * high = mul-le-mul_left (m * (32 * unit)) (omega (arith, rated.0)) in omega (arith, space, more)
+
+pub scaled_fits : (times weight high : ℕ) (z : ℤ) → pos weight ≡ z → z ≤ℤ pos high → times * high ≤ most_volts → times * weight ≤ most_volts
+scaled_fits times weight high z is most space = let less : times * weight ≤ times * high = mul-le-mul_left times (omega (arith, ints, is, most)) in omega (arith, space, less)
 
 -- of windings that stand one after another at most one is at a place
 none_before : (weight : Winding → ℕ) (n place : ℕ) (ws : List Winding) → place < n → weight_at (map (λ p. weighed weight p.0 p.1) (enumerate_from n ws)) place ≡ pos 0
@@ -124,7 +140,7 @@ module _ (c : Lists) (t : ℕ) (row : Transformer) (inside : t < length c.transf
       let its = winding_part c (t, get_or (neutrals_of c) t d) in
       let it : (get_or (neutrals_of c) t d).1 ≡ row = transformer_of c t 0 row inside at in
       let count : length its ≡ length (windings_of row) =
-          length-map (windings_of (get_or (neutrals_of c) t d).1) (winding_element (length c.substations) t neutral) ∙ ap (λ (w : Transformer). length (windings_of w)) it in
+      length-map (windings_of (get_or (neutrals_of c) t d).1) (winding_element (length c.substations) t neutral) ∙ ap (λ (w : Transformer). length (windings_of w)) it in
       let many : place - first < length (windings_of (get_or (neutrals_of c) t d).1) = subst (λ (w : Transformer). place - first < length (windings_of w)) (sym it) (omega (arith, from, below)) in
       ap (λ l. is_ground (get_or l place no_element)) (around c t d inside)
       ∙ ap is_ground (get_or-append_right (prefix_of c t) (its ++ suffix_of c t) first place no_element refl from)
@@ -135,9 +151,9 @@ module _ (c : Lists) (t : ℕ) (row : Transformer) (inside : t < length c.transf
   no_ground_weight place ground = ⊎_elim
       (λ before. outside place (inl before))
       (λ from. ⊎_elim
-        (λ below. absurd (no_way (sym (its_none place from below) ∙ ground)))
-        (λ behind. outside place (inr behind))
-        (cases_lt place (first + length (windings_of row))))
+      (λ below. absurd (no_way (sym (its_none place from below) ∙ ground)))
+      (λ behind. outside place (inr behind))
+      (cases_lt place (first + length (windings_of row))))
       (cases_lt place first)
 
   -- the voltages that were filled in are the weights, at every place
@@ -157,6 +173,6 @@ module _ (c : Lists) (t : ℕ) (row : Transformer) (inside : t < length c.transf
       All-from_recursion Q (standing_elements (elements_of c) stands)
       (kept (λ p. stands p.1.item) (IsIn (elements_of c).list) Q
       (λ p is in_list ground. are p.0
-        ∙ ap (λ z. pos times *ℤ z) (no_ground_weight p.0 (ap is_ground (sym in_list.1) ∙ ground))
-        ∙ *ℤ-zero (pos times))
+      ∙ ap (λ z. pos times *ℤ z) (no_ground_weight p.0 (ap is_ground (sym in_list.1) ∙ ground))
+      ∙ *ℤ-zero (pos times))
       (enumerate_from 0 (elements_of c).list) (each_in (elements_of c).list))

@@ -66,6 +66,16 @@ pub record AreBothLifted (nets : GroundNets) (potentials : VariedPotentials) : T
   pub raised : AreLifted nets Raising potentials.reference potentials.raising
   pub within : AreVariedWithin potentials
 
+-- there is space for the voltages and the adjoint potentials of a network of so many nodes and elements
+pub record HasAdjointSpace (nodes count : ℕ) (volts : List ℤ) (adjoint : List Ends) : Type 0 where
+  pub volt_count : length volts ≡ count
+  pub adjoint_count : length adjoint ≡ nodes
+
+-- a unit of potentials is at least a nanovolt, and less than 2^19
+pub record IsSmallUnit (unit : ℕ) : Type 0 where
+  pub some : 0 < unit
+  pub small : unit < 2 ^ 19
+
 -- there is all that the interval of a transformer is made of
 pub record CanEnclose (nets : GroundNets) (adjoint : List Ends) (reference : Reference) (transformer : ℕ) : Type 0 where
   pub same_count : length nets.most.network.list ≡ length nets.least.network.list

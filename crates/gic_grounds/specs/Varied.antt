@@ -19,7 +19,7 @@ use Rattle.gic_grounds.specs.declared.nets.GroundNets.{GroundNets}
 use Rattle.gic_grounds.specs.declared.reference.Reference.{Reference}
 use Rattle.gic_grounds.specs.declared.unit.TheConstants.{ADJOINT_UNIT}
 use Rattle.gic_grounds.specs.declared.workspace.VariedWorkspace.{VariedWorkspace}
-use Rattle.gic_grounds.specs.Lifted.{CanSolve, HasReferenceSpace, AreBothLifted}
+use Rattle.gic_grounds.specs.Lifted.{CanSolve, HasReferenceSpace, HasAdjointSpace, IsSmallUnit, AreBothLifted}
 use Rattle.gic_grounds.specs.NodeEnds.{AreAllWithin}
 use Rattle.gic_grounds.specs.OwnCurrent.{IsOwnCurrent}
 use Rattle.gic_grounds.specs.Scale.{weight_times}
@@ -32,8 +32,7 @@ pub record IsVariedWorkspaceFor (case : Lists) (workspace : VariedWorkspace) : T
   pub elements : workspace.elements ≡ elements_of case
   pub nets : AreNetsFor case workspace.nets
   pub solving : IsSolveWorkspaceFor (elements_of case).nodes workspace.solving
-  pub volt_count : length workspace.volts ≡ length (elements_of case).list
-  pub adjoint_count : length workspace.adjoint ≡ (elements_of case).nodes
+  pub adjoint_space : HasAdjointSpace (elements_of case).nodes (length (elements_of case).list) workspace.volts workspace.adjoint
   pub north_space : HasReferenceSpace (elements_of case).nodes (length case.transformers) workspace.north
   pub east_space : HasReferenceSpace (elements_of case).nodes (length case.transformers) workspace.east
 
@@ -67,8 +66,7 @@ pub record AreReferred (case : Lists) (north east : ℕ → ℤ) (workspace : Va
 
 -- there are references from which rows are made
 pub record HasReferences (workspace : VariedWorkspace) : Type 0 where
-  pub some_unit : 0 < workspace.unit
-  pub small_unit : workspace.unit < 2 ^ 19
+  pub small_unit : IsSmallUnit workspace.unit
   pub north_within : AreVariedWithin workspace.north.potentials
   pub east_within : AreVariedWithin workspace.east.potentials
   pub own_north : AreAllWithin (2 ^ 80) workspace.north.own

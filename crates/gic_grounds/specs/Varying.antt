@@ -1,11 +1,12 @@
 -- The intervals of a reference, of its lifts and of an adjoint solution, as lists of the nodes' intervals.
-use Rattle.std.specs.Prelude.{ℕ, ◌≡◌, ◌^◌, List, length}
+use Rattle.std.specs.Prelude.{ℕ, ◌≡◌, ◌^◌, List, length, if◌then◌else◌}
 use Rattle.gic_enclose.specs.Ends.{potential_ends}
 use Rattle.gic_fixed.specs.Ends.{Ends, zero_ends}
 use Rattle.gic_model.specs.Network.{Network}
-use Rattle.gic_net.specs.Net.{element_of}
+use Rattle.gic_net.specs.Net.{NetView, element_of, stands}
 use Rattle.gic_varied.specs.Certified.{Intervals, product_at}
 use Rattle.gic_varied.specs.Enclosure.{stray_ends}
+use Rattle.gic_varied.specs.Grounds.{is_ground}
 use Rattle.gic_grounds.specs.declared.varied.VariedPotentials.{VariedPotentials}
 use Rattle.gic_grounds.specs.declared.unit.TheConstants.{MOST_UNITS}
 use Rattle.gic_grounds.specs.Lifting.{range_at}
@@ -39,3 +40,9 @@ stray_power_at least most unit adjoint varied place =
     let e = element_of least place in
     let range = range_at least most place in
     stray_ends range e.times range.least unit (product_at (intervals_of adjoint varied zero_ends) (place, e))
+
+-- that of a ground that stands, and 0 of every other element
+abbrev pub standing_stray_at : (least : NetView) → (most : Network) → (unit : ℕ) → (adjoint : List Ends) → VariedPotentials → (place : ℕ) → Ends
+standing_stray_at least most unit adjoint varied place =
+    let e = element_of least.network place in
+    if is_ground e then (if stands least e.item then stray_power_at least.network most unit adjoint varied place else zero_ends) else zero_ends

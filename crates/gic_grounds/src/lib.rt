@@ -2,6 +2,7 @@
 //! holds a weighted current whatever resistances of their ranges the grounds have.
 #![tactic(auto)]
 
+mod adjoint;
 mod current;
 mod effect;
 mod extreme;

@@ -6,12 +6,13 @@ ghost use Rattle.gic_fixed.specs.Rounding.{floor_div};
 ghost use Rattle.gic_varied.specs.Enclosure.{varied_ends, product_ends, stray_ends};
 ghost use Rattle.gic_grounds.specs.VariedEnds.{ends_seen};
 
+use crate::unit::MOST_UNITS;
 use crate::varied::VariedEnds;
 use gic_fixed::Interval;
 
 /// A reference's potential, lowered by one lift and raised by another.
 pub(crate) fn varied(reference: &Interval, lowering: &Interval, raising: &Interval) -> VariedEnds
-    requires reference { IsWithin (2 ^ 42) reference.now.lo reference.now.hi }
+    requires reference { IsWithin MOST_UNITS reference.now.lo reference.now.hi }
     requires lowering { IsWithin (2 ^ 60) lowering.now.lo lowering.now.hi }
     requires raising { IsWithin (2 ^ 60) raising.now.lo raising.now.hi }
     ensures value { ends_seen result ≡ varied_ends (ends_of reference.now) (ends_of lowering.now) (ends_of raising.now) }
@@ -24,6 +25,7 @@ pub(crate) fn varied(reference: &Interval, lowering: &Interval, raising: &Interv
 }
 
 /// The products of an adjoint potential and a varied one.
+#[tactic(auto, using(crate::proofs::Quotients::product_fits))]
 pub(crate) fn product(one: &Interval, other: &VariedEnds) -> Interval
     requires one { IsWithin (2 ^ 55) one.now.lo one.now.hi }
     requires other { IsWithin (5 * 2 ^ 58) other.now.low other.now.high }
@@ -41,6 +43,7 @@ pub(crate) fn product(one: &Interval, other: &VariedEnds) -> Interval
 }
 
 /// `number` times `factor` over `divisor` times `unit`, rounded down. The factor is at most 3000 times the divisor.
+#[tactic(auto, using(crate::proofs::Quotients::fits_whole, crate::proofs::Quotients::fits_rest, crate::proofs::Quotients::fits_sum))]
 fn quotient(factor: u64, number: i128, divisor: u64, unit: u64) -> i128
     requires divisor { 0 < divisor }
     requires least_divisor { divisor ≤ 10 ^ 18 }

@@ -9,7 +9,7 @@ ghost use Rattle.gic_varied.specs.Certified.{Units, certified_enclosure};
 ghost use Rattle.gic_varied.specs.Ranges.{Ranges};
 ghost use Rattle.gic_grounds.specs.NodeEnds.{AreAllWithin};
 ghost use Rattle.gic_grounds.specs.Nets.{AreExtremesOf};
-ghost use Rattle.gic_grounds.specs.Varying.{intervals_of, stray_power_at, AreVariedOf, AreVariedWithin};
+ghost use Rattle.gic_grounds.specs.Varying.{intervals_of, stray_power_at, standing_stray_at, AreVariedOf, AreVariedWithin};
 
 use crate::nets::GroundNets;
 use crate::node_intervals::NodeIntervals;
@@ -18,7 +18,8 @@ use crate::varied::VariedPotentials;
 use gic_base::ElementId;
 use gic_fixed::Interval;
 
-/// The stray power of the ground at a place.
+/// The stray power of the element at a place, as of a ground.
+#[tactic(auto, using(crate::proofs::NodeLists::at_node_within, crate::proofs::Strayed::few_paths))]
 fn stray_at(
     nets: &GroundNets,
     unit: u64,
@@ -48,6 +49,33 @@ fn stray_at(
     stray(ground.times, ground.micro_ohm, most, unit, &product)
 }
 
+/// That of a ground that stands, and 0 of every other element.
+fn standing_stray_at(
+    nets: &GroundNets,
+    unit: u64,
+    adjoint: &NodeIntervals,
+    potentials: &VariedPotentials,
+    place: ElementId,
+) -> Interval
+    requires place { place.0 < length nets.now.least.network.list }
+    requires count { length nets.now.most.network.list ≡ length nets.now.least.network.list }
+    requires unit { 2 ^ 22 ≤ unit }
+    requires adjoint_count { length adjoint.now ≡ nets.now.least.network.nodes }
+    requires adjoint { AreAllWithin (2 ^ 55) adjoint.now }
+    requires varied_count { AreVariedOf nets.now.least.network.nodes potentials.now }
+    requires varied { AreVariedWithin potentials.now }
+    ensures value { ends_of result ≡ standing_stray_at nets.now.least nets.now.most.network unit adjoint.now potentials.now place.0 }
+    ensures small { IsWithin (2 ^ 105) result.lo result.hi }
+{
+    if !nets.least.element(place).to.is_earth() {
+        return Interval::point(0);
+    }
+    if !nets.least.stands(place) {
+        return Interval::point(0);
+    }
+    stray_at(nets, unit, adjoint, potentials, place)
+}
+
 /// The interval of a weighted current: the reference's own, and the stray powers of all standing grounds, so many of which
 /// make a unit of it. Adjoint potentials are at most 2^55 units from 0, and the own interval 2^100.
 pub fn enclosure(
@@ -71,10 +99,8 @@ pub fn enclosure(
 {
     let mut total = own;
     for place in 0..nets.least.count() {
-        let place = ElementId(place);
-        if nets.least.element(place).to.is_earth() && nets.least.stands(place) {
-            total = total.add(stray_at(nets, unit, adjoint, potentials, place));
-        }
+        let stray = standing_stray_at(nets, unit, adjoint, potentials, ElementId(place));
+        total = total.add(stray);
     }
     total
 }

@@ -24,6 +24,7 @@ use gic_winding::{Weights, effective_weights};
 const MOST_VOLTS: u64 = 60_000_000_000_000;
 
 /// The greatest multiple for which no weight's voltage is beyond the limit, for potentials in units of so many nanovolts.
+#[tactic(auto, using(crate::proofs::Weighing::divisor_fits, crate::proofs::Weighing::divisor_above, crate::proofs::Weighing::multiple_space, crate::proofs::Weighing::multiple_enough))]
 fn multiple(high_volts: u32, unit: u32) -> u64
     requires volts { IsRated high_volts }
     requires unit { 0 < unit }
@@ -37,6 +38,7 @@ fn multiple(high_volts: u32, unit: u32) -> u64
 
 /// So many products of a unit of potentials and one of adjoint potentials make a nanoampere per phase of the weighted current
 /// of a transformer with this high voltage.
+#[tactic(auto, using(crate::proofs::Weighing::stray_fits))]
 pub fn stray_unit(high_volts: u32, unit: u32) -> u64
     requires volts { IsRated high_volts }
     requires unit { 0 < unit }
@@ -48,6 +50,7 @@ pub fn stray_unit(high_volts: u32, unit: u32) -> u64
 }
 
 /// A volt of a weight is this many nanovolts.
+#[tactic(auto, using(crate::proofs::Weighing::times_fits))]
 fn weight_times(high_volts: u32, unit: u32) -> u64
     requires volts { IsRated high_volts }
     requires unit { 0 < unit }
@@ -84,13 +87,15 @@ fn weight_at(weights: &Weights, place: ElementId) -> u64
         + weight_there(weights.third, place)
 }
 
-/// A weight so many times, as a voltage.
-fn scaled(times: u64, weight: u64) -> i64
-    requires { times * weight ≤ most_volts }
-    ensures value { result ≡ pos (times * weight) }
+/// The voltage of the element at a place: its weight so many times.
+#[tactic(auto, using(crate::proofs::Weighing::scaled_fits))]
+fn volts_at(weights: &Weights, times: u64, place: ElementId) -> i64
+    requires most { weight_at (windings_in weights.now) place.0 ≤ℤ pos weights.now.high_volts }
+    requires space { times * weights.now.high_volts ≤ most_volts }
+    ensures value { result ≡ weights_from times (windings_in weights.now) place.0 }
     ensures limit { unsigned_abs result ≤ most_volts }
 {
-    (times * weight) as i64
+    (times * weight_at(weights, place)) as i64
 }
 
 /// Leaves in `out`, which has so many voltages, the weight of each element so many times.
@@ -103,7 +108,8 @@ fn fill_scaled(weights: &Weights, times: u64, count: u16, out: &mut Volts)
 {
     for place in 0..count {
         let place = ElementId(place);
-        out.set(place, scaled(times, weight_at(weights, place)));
+        let nanovolts = volts_at(weights, times, place);
+        out.set(place, nanovolts);
     }
 }
 

@@ -1,5 +1,6 @@
 //! What the currents of transformers are enclosed in, whatever resistances of their ranges the grounds have.
 ghost use Rattle.std.specs.Prelude.{ℕ, ◌≡◌, ◌≤◌, ◌<◌, List, length, ℤ, IfErr, IfOk, OnOk};
+ghost use Rattle.gic_effective.specs.RightView.{HasNoEffect};
 ghost use Rattle.gic_inputs.specs.Inputs.{rows_in};
 ghost use Rattle.gic_model.specs.declared.parts.Switching.{Switching};
 ghost use Rattle.gic_model.specs.Earthing.{AreEarthed};
@@ -7,18 +8,19 @@ ghost use Rattle.gic_model.specs.Voltages.{number_at};
 ghost use Rattle.gic_stand.specs.Needs.{Solved, Fails};
 ghost use Rattle.gic_winding.specs.ElementList.{elements_of};
 ghost use Rattle.gic_grounds.specs.Tolerated.{Tolerated, tolerated, AreNetsOf, own_in, most_in};
-ghost use Rattle.gic_grounds.specs.Varied.{IsVariedWorkspaceFor, IsReadyToVary, HasNoGroundVolts, AreReferred, AreAdjoined, HasReferences};
+ghost use Rattle.gic_grounds.specs.Varied.{IsVariedWorkspaceFor, IsReadyToVary, HasNoGroundVolts, AreReferred, HasReferences};
 ghost use Rattle.gic_grounds.specs.VariedCurrent.{AreVariedCurrents, AreCutCurrents};
 
+use crate::adjoint::adjoin;
 use crate::current::varied_current;
 use crate::effect::has_effect;
 use crate::grounding::ground_nets;
 use crate::nets::GroundNets;
 use crate::node_intervals::NodeIntervals;
-use crate::reference::{Reference, WIDTH, lift_both, new_reference, solve_reference};
-use crate::unit::{ADJOINT_UNIT, potential_unit};
+use crate::reference::{Reference, lift_both, new_reference, solve_reference};
+use crate::unit::potential_unit;
 use crate::varied_currents::VariedCurrents;
-use crate::weights::{fill_weights, stray_unit};
+use crate::weights::stray_unit;
 use gic_base::OutOfMemory;
 use gic_case::Case;
 use gic_fixed::Interval;
@@ -26,9 +28,7 @@ use gic_model::{Elements, Volts};
 use gic_stand::NetworkRefusal;
 use gic_switch::Switchings;
 use gic_uniform::SolveWorkspace;
-use gic_varied::laws::{
-    certified_enclosure_law, other_grounds_law, range_law, reciprocity_law, varied_bound_law,
-};
+use gic_varied::laws::{certified_enclosure_law, other_grounds_law, reciprocity_law, varied_bound_law};
 use std::alloc::Global;
 
 /// The nets of a case with its grounds at both ends of their ranges, and all that its transformers' currents are worked
@@ -163,27 +163,6 @@ impl VariedWorkspace {
         );
     }
 
-    /// Solves the adjoint network of a transformer. Takes no memory.
-    fn adjoin(&mut self, case: &Case, transformer: u16)
-        requires ready { IsReadyToVary case.now self.old }
-        requires references { HasReferences self.old }
-        requires place { transformer < length case.now.transformers }
-        ensures adjoined { AreAdjoined case.now self.new.nets transformer self.new.unit self.new.adjoint }
-        ensures ready { IsReadyToVary case.now self.new }
-        ensures rest { self.new ≡ record self.old { solving = self.new.solving; volts = self.new.volts; adjoint = self.new.adjoint } }
-    {
-        fill_weights(
-            case,
-            self.elements.list(),
-            transformer,
-            self.unit,
-            &mut self.volts,
-        );
-        self.solving.solve(&self.nets.least, &self.volts, WIDTH);
-        self.adjoint.keep(&self.solving.potentials);
-        self.adjoint.in_units(ADJOINT_UNIT);
-    }
-
     /// The currents of a transformer in both fields, whatever resistances of their ranges the grounds have. Takes no memory.
     pub fn row(&mut self, case: &Case, transformer: u16) -> VariedCurrents
         requires ready { IsReadyToVary case.now self.old }
@@ -196,25 +175,49 @@ impl VariedWorkspace {
         ensures ready { IsReadyToVary case.now self.new }
         ensures rest { self.new ≡ record self.old { solving = self.new.solving; volts = self.new.volts; adjoint = self.new.adjoint } }
     {
+        if has_effect(case, self.elements.list(), &self.nets.least, transformer) {
+            self.enclose(case, transformer)
+        } else {
+            let none = Interval::point(0);
+            VariedCurrents {
+                north: none,
+                east: none,
+            }
+        }
+    }
+
+    /// The same of a transformer that has an effect.
+    fn enclose(&mut self, case: &Case, transformer: u16) -> VariedCurrents
+        requires ready { IsReadyToVary case.now self.old }
+        requires references { HasReferences self.old }
+        requires place { transformer < length case.now.transformers }
+        ensures right { (rows : List Switching) (percent : ℕ) (north east : ℕ → ℤ) →
+            AreNetsOf (tolerated case.now rows percent) self.old.nets → AreReferred case.now north east self.old →
+            (HasNoEffect case.now (own_in (tolerated case.now rows percent)) transformer → ⊥) →
+            AreVariedCurrents (tolerated case.now rows percent) north east transformer result }
+        ensures cut { AreCutCurrents result }
+        ensures ready { IsReadyToVary case.now self.new }
+        ensures rest { self.new ≡ record self.old { solving = self.new.solving; volts = self.new.volts; adjoint = self.new.adjoint } }
+    {
         certified_enclosure_law();
         reciprocity_law();
         varied_bound_law();
         other_grounds_law();
-        range_law();
-        case.keeps_rules();
         self.elements.within_limits();
-        if !has_effect(case, self.elements.list(), &self.nets.least, transformer) {
-            return VariedCurrents {
-                north: Interval::point(0),
-                east: Interval::point(0),
-            };
-        }
-        self.adjoin(case, transformer);
-        let high_volts = case.transformers()[transformer as usize].high_volts;
-        let unit = stray_unit(high_volts, self.unit);
-        VariedCurrents {
-            north: varied_current(&self.nets, unit, &self.adjoint, &self.north, transformer),
-            east: varied_current(&self.nets, unit, &self.adjoint, &self.east, transformer),
-        }
+        adjoin(
+            case,
+            &self.elements,
+            &self.nets,
+            transformer,
+            self.unit,
+            &mut self.volts,
+            &mut self.solving,
+            &mut self.adjoint,
+        );
+        let row = &case.transformers()[transformer as usize];
+        let unit = stray_unit(row.high_volts, self.unit);
+        let north = varied_current(&self.nets, unit, &self.adjoint, &self.north, transformer);
+        let east = varied_current(&self.nets, unit, &self.adjoint, &self.east, transformer);
+        VariedCurrents { north, east }
     }
 }
