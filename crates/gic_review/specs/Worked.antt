@@ -43,7 +43,7 @@ unit name high_volts high high_resistance = unit_of name high_volts (kinds.Delta
 abbrev pub ungrounded_case : Lists
 ungrounded_case = record {
   zones = zone (codes "Z") 60 100 ∷ [];
-  substations = substation_with (codes "A") (Some 1000000) ∷ substation_with (codes "B") None ∷ [];
+  substations = substation_with (codes "A") (Some 1000000) None ∷ substation_with (codes "B") None None ∷ [];
   buses = bus (codes "a") 0 ∷ bus (codes "b") 1 ∷ [];
   lines = line (codes "L") 0 1 (One (part (pos 90) (pos 0))) false ∷ [];
   transformers = unit (codes "TA") 345000 0 300000 ∷ unit (codes "TB") 34500 1 3000 ∷ [];
@@ -61,7 +61,7 @@ ungrounded_findings =
 abbrev pub turned_case : Lists
 turned_case = record {
   zones = zone (codes "Z") 6000 100 ∷ [];
-  substations = substation_with (codes "A") (Some 400000) ∷ substation_with (codes "B") (Some 400000) ∷ substation_with (codes "C") (Some 400000) ∷ [];
+  substations = substation_with (codes "A") (Some 400000) None ∷ substation_with (codes "B") (Some 400000) None ∷ substation_with (codes "C") (Some 400000) None ∷ [];
   buses = bus (codes "a") 0 ∷ bus (codes "b") 1 ∷ bus (codes "c") 2 ∷ [];
   lines =
       line (codes "AB") 0 1 (One (part (pos 100000) (pos 0))) false ∷
@@ -78,7 +78,7 @@ turned_findings = findings.Closure (codes "CA") (pos 0) (neg_ℤ (pos 400000)) �
 abbrev pub parted_case : Lists
 parted_case = record {
   zones = zone (codes "Z") 6000 100 ∷ [];
-  substations = substation_with (codes "East") (Some 200000) ∷ substation_with (codes "West") (Some 300000) ∷ [];
+  substations = substation_with (codes "East") (Some 200000) None ∷ substation_with (codes "West") (Some 300000) None ∷ [];
   buses = bus (codes "e") 0 ∷ bus (codes "w") 1 ∷ bus (codes "x") 1 ∷ [];
   lines = [];
   transformers = unit (codes "Te") 345000 0 200000 ∷ unit (codes "Tw") 345000 1 250000 ∷ [];
@@ -91,7 +91,7 @@ parted_findings = findings.Part 2 (codes "East") ∷ findings.Part 2 (codes "Wes
 abbrev pub levels_case : Lists
 levels_case = record {
   zones = zone (codes "Z") 6000 100 ∷ [];
-  substations = substation_with (codes "A") (Some 200000) ∷ [];
+  substations = substation_with (codes "A") (Some 200000) None ∷ [];
   buses = bus (codes "a") 0 ∷ [];
   lines = [];
   transformers =
@@ -110,7 +110,7 @@ third bus volts resistance = record { bus = bus; volts = volts; resistance = res
 abbrev pub third_case : Lists
 third_case = record {
   zones = record { name = codes "Z"; scaling = Factor 1000 } ∷ [];
-  substations = substation_with (codes "A") (Some 200000) ∷ substation_with (codes "B") None ∷ [];
+  substations = substation_with (codes "A") (Some 200000) None ∷ substation_with (codes "B") None None ∷ [];
   buses = bus (codes "a") 0 ∷ bus (codes "b") 0 ∷ bus (codes "c") 0 ∷ bus (codes "d") 1 ∷ [];
   lines =
       line (codes "L") 0 3 (Several (part (pos 60000) (pos 30) ∷ part (neg_ℤ (pos 59950)) (neg_ℤ (pos 10)) ∷ [])) false ∷
