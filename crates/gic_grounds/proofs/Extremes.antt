@@ -1,11 +1,14 @@
 -- Networks with their grounds at the ends of their ranges.
-use Rattle.std.proofs.Common.{◌≡◌, ℕ, ◌+◌, ◌-◌, ◌*◌, ◌<◌, ◌≤◌, ◌++◌, Bool, true, false, List, [], map, length, sym, subst, ap, arith, ⊎_elim}
+use Rattle.std.proofs.Common.{◌≡◌, ℕ, ◌+◌, ◌-◌, ◌*◌, ◌<◌, ◌≤◌, ◌++◌, Bool, true, false, List, [], map, get_or, length, Option, Some, None, IfSome, sym, subst, ap, arith, ⊎_elim}
 use Rattle.std.specs.Prelude.{if◌then◌else◌}
 use Rattle.std.proofs.Math.Nat.{mul-le-mul_left}
 use Rattle.std.proofs.lemmas.Bool.{cases_lt}
 use Rattle.std.proofs.lemmas.List.{get_or_past, get_or-map, length-map}
-use Rattle.std.proofs.lemmas.List.Elements.{All-from_recursion}
+use Rattle.std.proofs.lemmas.List.Elements.{All-from_recursion, All-get_or}
+use Rattle.std.specs.Prelude.{All, unwrap_or}
+use Rattle.gic_case.specs.declared.item.Substation.{Substation}
 use Rattle.gic_case.specs.Lists.{Lists}
+use Rattle.gic_case.specs.Sound.{IsSound, IsSoundSubstation}
 use Rattle.gic_model.specs.declared.parts.Element.{Element}
 use Rattle.gic_model.specs.declared.parts.Item.{Item}
 use Rattle.gic_model.specs.declared.parts.Item.TheVariants as item
@@ -21,7 +24,7 @@ use Rattle.gic_winding.specs.ElementList.{elements_of}
 use Rattle.gic_grounds.specs.declared.extreme.Extreme.{Extreme}
 use Rattle.gic_grounds.specs.declared.extreme.Extreme.TheVariants.{Least, Most}
 use Rattle.gic_grounds.specs.Modest.{IsModest, AreModest}
-use Rattle.gic_grounds.specs.Tolerances.{tolerance_at, case_ranges}
+use Rattle.gic_grounds.specs.Tolerances.{tolerance_in, tolerance_at, case_ranges}
 use Rattle.gic_grounds.specs.Grounded.{extreme_of, extreme_network}
 
 -- they are within the limits
@@ -79,15 +82,32 @@ modest_with network percent within few place = ⊎_elim
     past_end ohm past = get_or_past (map (regrounded ohm) network.list) place no_element (omega (arith, past, length-map network.list (regrounded ohm)))
 
 -- a tolerance of a case is at most 90 per cent
-pub few_percent : (case : Lists) (percent : ℕ) → percent ≤ 90 → (item : Item) → tolerance_at case percent item ≤ 90
-few_percent case percent few (item.Ground place) = few
-few_percent case percent few (item.Line place) = few
-few_percent case percent few (item.Transformer place) = few
-few_percent case percent few (item.Neutral place) = few
+no_substation : Substation
+no_substation = record { name = []; ground = None; tolerance = None }
 
-pub modest_extremes : (case : Lists) (percent : ℕ) (least most : Network) → IsWithinLimits (elements_of case) → percent ≤ 90 →
+pub own_few : (substations : List Substation) (percent place : ℕ) → All IsSoundSubstation substations → percent ≤ 90 → tolerance_in substations percent place ≤ 90
+own_few substations percent place sound few = ⊎_elim
+    (λ inside.
+    subst (λ (o : Option ℕ). unwrap_or o percent ≤ 90) (sym (get_or-map (λ s. s.tolerance) substations place no_substation None inside))
+    (by (get_or substations place no_substation).tolerance (All-get_or IsSoundSubstation substations place no_substation inside sound).tolerance_most))
+    (λ past.
+    subst (λ (o : Option ℕ). unwrap_or o percent ≤ 90)
+    (sym (get_or_past (map (λ s. s.tolerance) substations) place None (omega (arith, past, length-map substations (λ s. s.tolerance))))) few)
+    (cases_lt place (length substations))
+  where
+    by : (o : Option ℕ) → IfSome o (λ p. p ≤ 90) → unwrap_or o percent ≤ 90
+    by None h = few
+    by (Some p) h = h
+
+pub few_percent : (case : Lists) (percent : ℕ) → IsSound case → percent ≤ 90 → (item : Item) → tolerance_at case percent item ≤ 90
+few_percent case percent sound few (item.Ground place) = own_few case.substations percent place sound.substations_sound few
+few_percent case percent sound few (item.Line place) = few
+few_percent case percent sound few (item.Transformer place) = few
+few_percent case percent sound few (item.Neutral place) = few
+
+pub modest_extremes : (case : Lists) (percent : ℕ) (least most : Network) → IsSound case → IsWithinLimits (elements_of case) → percent ≤ 90 →
     least ≡ extreme_network Least case percent → most ≡ extreme_network Most case percent → AreModest least most
-modest_extremes case percent least most within few is_least is_most =
+modest_extremes case percent least most sound within few is_least is_most =
     subst (λ n. AreModest n most) (sym is_least)
     (subst (λ n. AreModest (extreme_network Least case percent) n) (sym is_most)
-    (modest_with (elements_of case) (tolerance_at case percent) within (few_percent case percent few)))
+    (modest_with (elements_of case) (tolerance_at case percent) within (few_percent case percent sound few)))

@@ -1,5 +1,5 @@
 -- The tolerances of grounds in per cent, and the ranges that they give.
-use Rattle.std.specs.Prelude.{ℕ, List}
+use Rattle.std.specs.Prelude.{ℕ, List, map, None, slice_index_or, unwrap_or}
 use Rattle.gic_case.specs.declared.item.Substation.{Substation}
 use Rattle.gic_case.specs.Lists.{Lists}
 use Rattle.gic_model.specs.declared.parts.Item.{Item}
@@ -8,7 +8,7 @@ use Rattle.gic_varied.specs.Ranges.{Ranges, ranges_of}
 
 -- that of the substation at a place: its own, or else this one
 abbrev pub tolerance_in : List Substation → (percent place : ℕ) → ℕ
-tolerance_in substations percent place = percent
+tolerance_in substations percent place = unwrap_or (slice_index_or (map (λ s. s.tolerance) substations) place None) percent
 
 -- that of an item: a ground has that of its substation, every other item this one
 abbrev pub tolerance_at : Lists → (percent : ℕ) → Item → ℕ

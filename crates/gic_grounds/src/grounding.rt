@@ -1,12 +1,13 @@
 //! The network of a case with its grounds at the ends of their ranges.
-ghost use Rattle.std.specs.Prelude.{◌≡◌, ◌≤◌, ◌++◌, map, IfOk, OnOk};
+ghost use Rattle.std.specs.Prelude.{◌≡◌, ◌≤◌, ◌++◌, map, unwrap_or, All, IfOk, OnOk};
+ghost use Rattle.gic_case.specs.Sound.{IsSoundSubstation};
 ghost use Rattle.gic_inputs.specs.Inputs.{rows_in};
 ghost use Rattle.gic_model.specs.Standing.{standing_elements, stands_after};
 ghost use Rattle.gic_net.specs.Net.{standing};
 ghost use Rattle.gic_varied.specs.Grounds.{regrounded};
 ghost use Rattle.gic_varied.specs.Ranges.{range_of};
 ghost use Rattle.gic_winding.specs.ElementList.{elements_of};
-ghost use Rattle.gic_grounds.specs.Tolerances.{tolerance_at, case_ranges};
+ghost use Rattle.gic_grounds.specs.Tolerances.{tolerance_in, tolerance_at, case_ranges};
 ghost use Rattle.gic_grounds.specs.Grounded.{extreme_of, extreme_network};
 ghost use Rattle.gic_grounds.specs.Nets.{AreExtremesOf};
 
@@ -14,7 +15,7 @@ use crate::extreme::Extreme;
 use crate::nets::GroundNets;
 use crate::range::{least_of, most_of};
 use gic_base::OutOfMemory;
-use gic_case::Case;
+use gic_case::{Case, Substation};
 use gic_model::{Element, Elements, Item};
 use gic_net::Net;
 use gic_stand::standing_net;
@@ -22,14 +23,45 @@ use gic_switch::Switchings;
 use gic_varied::laws::other_grounds_law;
 use std::alloc::Global;
 
-/// The tolerance of an item in per cent: that of the ground of a substation which has its own is this, and that of every
-/// other the one given.
-fn tolerance_of(_case: &Case, percent: u8, _item: Item) -> u8
+/// The tolerance of the ground of the substation at a place in per cent: its own, or else this.
+fn tolerance_in(substations: &[Substation], percent: u8, place: u16) -> u8
     requires percent { percent ≤ 90 }
-    ensures value { result ≡ tolerance_at _case.now percent _item }
+    requires sound { All IsSoundSubstation substations.now }
+    ensures value { result ≡ tolerance_in substations.now percent place }
     ensures most { result ≤ 90 }
 {
-    percent
+    match substations.get(place as usize) {
+        Some(substation) => own_or(substation, percent),
+        None => percent,
+    }
+}
+
+/// The tolerance of a substation's ground: its own, or else this.
+fn own_or(substation: &Substation, percent: u8) -> u8
+    requires percent { percent ≤ 90 }
+    requires sound { IsSoundSubstation substation.now }
+    ensures value { result ≡ unwrap_or substation.now.tolerance percent }
+    ensures most { result ≤ 90 }
+{
+    match substation.tolerance {
+        Some(own) => own,
+        None => percent,
+    }
+}
+
+/// The tolerance of an item in per cent: a ground has that of its substation, every other item the one given.
+fn tolerance_of(case: &Case, percent: u8, item: Item) -> u8
+    requires percent { percent ≤ 90 }
+    ensures value { result ≡ tolerance_at case.now percent item }
+    ensures most { result ≤ 90 }
+{
+    match item {
+        Item::Ground(place) => {
+            case.keeps_rules();
+            tolerance_in(case.substations(), percent, place)
+        }
+        Item::Line(_) | Item::Transformer(_) | Item::Neutral(_) => percent,
+    }
 }
 
 /// A resistance at an end of its range.
@@ -109,6 +141,7 @@ pub fn ground_nets(
     ensures { IfOk result (AreExtremesOf (elements_of case.now) (stands_after (rows_in switchings.now)) (case_ranges case.now percent)) }
 {
     elements.within_limits();
+    case.keeps_rules();
     let least = extreme_net(alloc, case, percent, elements, switchings, Extreme::Least)?;
     let most = extreme_net(alloc, case, percent, elements, switchings, Extreme::Most)?;
     Ok(GroundNets { least, most })
