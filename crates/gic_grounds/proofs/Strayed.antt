@@ -1,7 +1,10 @@
 -- The stray powers of the standing grounds, added up place by place.
-use Rattle.std.proofs.Common.{◌≡◌, ℕ, ◌+◌, ◌*◌, ◌<◌, ◌≤◌, Bool, true, false, cond, List, [], ◌∷◌, length, drop, get_or, map, arith, refl, ap, sym, subst, ◌∙◌, ℤ, pos, ◌+ℤ◌, drop-cons, add-one, suc, ◌⊎◌, inl, inr}
+use Rattle.std.proofs.Common.{◌≡◌, ℕ, ◌+◌, ◌*◌, ◌<◌, ◌≤◌, Bool, true, false, cond, List, [], ◌∷◌, length, drop, get_or, map, arith, refl, ap, sym, subst, ◌∙◌, ℤ, pos, ◌+ℤ◌, drop-cons, add-one, suc, ◌⊎◌, inl, inr, unsigned_abs, ◌^◌}
 use Rattle.std.specs.List.{AllByRecursion, filter, enumerate_from}
 use Rattle.std.proofs.lemmas.List.{at_drop_all}
+use Rattle.std.specs.Prelude.{FitsSigned}
+use Rattle.std.specs.Int.{w128}
+use Rattle.std.proofs.lemmas.Int.{ints, fits_signed_from_abs}
 use Rattle.gic_fixed.proofs.Integers.{linear}
 use Rattle.gic_fixed.proofs.Sums.{sum_of-same}
 use Rattle.gic_fixed.specs.declared.interval.Interval.{Interval}
@@ -60,6 +63,17 @@ ranged end unit products false is range place ohm e = absurd (no_way is)
   where
     no_way : false ≡ true → ⊥
     no_way q = cc
+
+-- one more is added to what was added before
+pub next_sum : (total part rest left all : ℤ) → total +ℤ left ≡ all → left ≡ part +ℤ rest → (total +ℤ part) +ℤ rest ≡ all
+next_sum total part rest left all before split = omega (arith, linear, before, split)
+
+-- a sum of so many parts fits
+pub sum_fits : (total part : ℤ) (place : ℕ) → unsigned_abs total ≤ 2 ^ 100 + place * 2 ^ 105 → unsigned_abs part ≤ 2 ^ 105 → place < 61440 → FitsSigned w128 (total +ℤ part)
+sum_fits total part place before small few = fits_signed_from_abs w128 (total +ℤ part) (omega (arith, ints, before, small, few))
+
+pub next_small : (total part : ℤ) (place : ℕ) → unsigned_abs total ≤ 2 ^ 100 + place * 2 ^ 105 → unsigned_abs part ≤ 2 ^ 105 → unsigned_abs (total +ℤ part) ≤ 2 ^ 100 + (place + 1) * 2 ^ 105
+next_small total part place before small = omega (arith, ints, before, small)
 
 -- one path or three
 pub few_paths : (times : ℕ) → (times ≡ 1) ⊎ (times ≡ 3) → times ≤ 3

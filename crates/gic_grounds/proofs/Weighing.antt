@@ -4,7 +4,7 @@ use Rattle.std.proofs.Math.Nat.{mul-le-mul, mul-le-mul_left, mul-div-le, lt-mul-
 use Rattle.std.proofs.lemmas.Bool.{cases_lt, ne_eqb}
 use Rattle.std.proofs.lemmas.Int.{ints}
 use Rattle.std.proofs.lemmas.List.{get_or_past, get_or_default, get_or-append_right, get_or_append_left, length-map}
-use Rattle.std.proofs.lemmas.List.Elements.{All-from_recursion}
+use Rattle.std.proofs.lemmas.List.Elements.{All-from_recursion, All-get_or}
 use Rattle.std.specs.List.{AllByRecursion, enumerate_from}
 use lib.IntN.{*ℤ-zero}
 use Rattle.gic_base.specs.declared.id.ElementId.{ElementId}
@@ -44,13 +44,15 @@ multiple_space high unit = let below = mul-div-le most_volts (high * (32 * unit)
 pub multiple_enough : (high unit : ℕ) → IsRated high → 0 < unit → unit < 2 ^ 19 → 2 ^ 22 ≤ 3 * high * (most_volts / (high * (32 * unit)))
 multiple_enough high unit rated some small =
     let m = most_volts / (high * (32 * unit)) in
-    let product : 1 * 1 ≤ high * unit = mul-le-mul (omega (arith, rated.0)) some in
-    let above : most_volts < high * (32 * unit) * suc m = lt-mul-div-succ most_volts (omega (arith, product)) in
-    let size : high * unit ≤ 2000000 * 524288 = mul-le-mul rated.1 (omega (arith, small)) in
+    let first_one : 1 ≤ high = omega (arith, rated.0) in
+    let product : 1 * 1 ≤ high * unit = mul-le-mul first_one some in
+    let above : most_volts < high * (32 * unit) * (m + 1) = lt-mul-div-succ most_volts (omega (arith, product)) in
+    let few : unit ≤ 524288 = omega (arith, small) in
+    let size : high * unit ≤ 2000000 * 524288 = mul-le-mul rated.1 few in
     ⊎_elim
     (λ none.
     let zero_is : m ≡ 0 = omega (arith, none) in
-    let over : most_volts < high * (32 * unit) * suc 0 = subst (λ k. most_volts < high * (32 * unit) * suc k) zero_is above in
+    let over : most_volts < high * (32 * unit) * (0 + 1) = subst (λ k. most_volts < high * (32 * unit) * (k + 1)) zero_is above in
     absurd (omega (arith, over, size)))
     (λ one.
     let more : high * unit * 1 ≤ high * unit * m = mul-le-mul_left (high * unit) one in
@@ -59,10 +61,17 @@ multiple_enough high unit rated some small =
     (cases_lt m 1)
 
 pub divisor_fits : (high unit : ℕ) → IsRated high → unit < 2 ^ 19 → high * (32 * unit) < 2 ^ 64
-divisor_fits high unit rated small = let size : high * (32 * unit) ≤ 2000000 * (32 * 524288) = mul-le-mul rated.1 (omega (arith, small)) in omega (arith, size)
+divisor_fits high unit rated small =
+    let few : 32 * unit ≤ 32 * 524288 = omega (arith, small) in
+    let size : high * (32 * unit) ≤ 2000000 * (32 * 524288) = mul-le-mul rated.1 few in
+    omega (arith, size)
 
 pub divisor_above : (high unit : ℕ) → IsRated high → 0 < unit → 0 < high * (32 * unit)
-divisor_above high unit rated some = let product : 1 * 1 ≤ high * (32 * unit) = mul-le-mul (omega (arith, rated.0)) (omega (arith, some)) in omega (arith, product)
+divisor_above high unit rated some =
+    let one : 1 ≤ high = omega (arith, rated.0) in
+    let other : 1 ≤ 32 * unit = omega (arith, some) in
+    let product : 1 * 1 ≤ high * (32 * unit) = mul-le-mul one other in
+    omega (arith, product)
 
 -- what is made of the multiple fits
 pub stray_fits : (high unit m : ℕ) → 0 < unit → m * (32 * unit) * high ≤ most_volts → 3 * high * m < 2 ^ 64
@@ -176,3 +185,23 @@ module _ (c : Lists) (t : ℕ) (row : Transformer) (inside : t < length c.transf
       ∙ ap (λ z. pos times *ℤ z) (no_ground_weight p.0 (ap is_ground (sym in_list.1) ∙ ground))
       ∙ *ℤ-zero (pos times))
       (enumerate_from 0 (elements_of c).list) (each_in (elements_of c).list))
+
+-- what the weights of a case's transformer weigh at a place
+pub weights_most_at : (c : Lists) (t : ℕ) (w : Weights) → IsSound c → t < length c.transformers → w ≡ weights_of c t → weighted_windings c t ≡ windings_in w →
+    (place : ℕ) → weight_at (windings_in w) place ≤ℤ pos w.high_volts
+weights_most_at c t w sound inside is all place =
+    let row = transformer_at c t in
+    let at = get_or_default c.transformers t no_transformer row inside in
+    subst (λ l. weight_at l place ≤ℤ pos w.high_volts) all
+    (subst (λ (v : ℕ). weight_at (weighted_windings c t) place ≤ℤ pos v) (sym (ap (λ (x : Weights). x.high_volts) is))
+    (weight_most c t row inside at place (All-get_or (IsSoundTransformer c) c.transformers t no_transformer inside sound.transformers_sound)))
+
+-- no ground has a voltage where these are filled in
+pub none_filled_in : (c : Lists) (t times : ℕ) (w : Weights) (volts : List ℤ) → t < length c.transformers → weighted_windings c t ≡ windings_in w → length volts ≡ length (elements_of c).list →
+    ((place : ℕ) → place < length (elements_of c).list → number_at volts place ≡ weights_from times (windings_in w) place) →
+    (stands : Item → Bool) → HaveNoGroundVolts (standing_elements (elements_of c) stands) (number_at volts)
+none_filled_in c t times w volts inside all count each stands =
+    let row = transformer_at c t in
+    let at = get_or_default c.transformers t no_transformer row inside in
+    none_at_grounds c t row inside at times (number_at volts)
+    (filled_weights c t row inside at times volts count (λ place less. each place less ∙ ap (λ l. weights_from times l place) (sym all))) stands
