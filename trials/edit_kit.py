@@ -10,7 +10,9 @@ words for either over such libraries, so this calls its Python, and the status i
 expected here."""
 
 import os
+import shutil
 import sys
+from collections.abc import Iterator
 from typing import Any
 
 import paths  # noqa: F401 - it finds the modules below
@@ -18,20 +20,49 @@ import paths  # noqa: F401 - it finds the modules below
 from kit import UNKNOWN_TOOLCHAIN, UnknownToolchain, crate_of, load
 
 PASSED, FAILED = "passed: ", "failed: "
+JOB = ["--jobs", "1"]
 
 
 def prove(crate: Any) -> int:
     """Proves the crate with one job, and builds its library where it is one."""
     if crate.is_program:
-        status: int = crate.prove(["check", *crate.words(["--jobs", "1"], keeps=False)])
+        status: int = crate.prove(["check", *crate.words(JOB, keeps=False)])
     else:
-        status = crate.build_rlib(["--jobs", "1"], anew=True)
+        status = crate.build_rlib(JOB, anew=True)
     return status
+
+
+def tried(kit: Any, crate: Any, edit: str, room: str | None) -> tuple[Any, str]:
+    """What an edit comes to, and what is said of it: over a copy of what the crate's own check proved, and from nothing what isn't settled there."""
+    if room is not None:
+        over = f"{room}/edit"
+        kit.linked(f"{room}/seed", over)
+        kind, said = kit.must_fail(crate, edit, JOB, over)
+        shutil.rmtree(over, ignore_errors=True)
+        if kind in kit.SETTLED:
+            return kind, said
+    kind, said = kit.must_fail(crate, edit, JOB)
+    return kind, said
+
+
+def outcomes(kit: Any, crate: Any, edits: list[str]) -> Iterator[tuple[bool, str]]:
+    """Whether each edit is refused, and what is said of it. An older toolchain has one call for all."""
+    if hasattr(kit, "must_fail_all"):
+        yield from kit.must_fail_all(crate, edits, JOB)
+        return
+    settled = (kit.REFUSED, kit.AT_LIMIT)
+    room: str | None = kit.seeded(crate, JOB)
+    try:
+        for edit in edits:
+            kind, said = tried(kit, crate, edit, room)
+            yield kind in settled, said
+    finally:
+        shutil.rmtree(room or "", ignore_errors=True)
 
 
 def try_edits(kit: Any, crate: Any, edits: list[str]) -> int:
     """Tries the edits over what the crate's own check proves, and prints a line for each."""
-    for is_refused, said in kit.must_fail_all(crate, edits, ["--jobs", "1"]):
+    for is_refused, said in outcomes(kit, crate, edits):
         print((PASSED if is_refused else FAILED) + " ".join(said.split()), flush=True)
     return 0
 
@@ -44,11 +75,11 @@ def main(words: list[str]) -> int:
     try:
         kit: Any = load(os.path.realpath(rt), "rt_of_toolchain")
         crate = crate_of(kit.rtlib, os.getcwd(), name)
+        os.makedirs(f"{crate.folder}/out", exist_ok=True)
+        return prove(crate) if verb == "prove" else try_edits(kit, crate, edits)
     except (UnknownToolchain, AttributeError) as error:
         print(f"the toolchain of {rt} isn't laid out as the trial of edits expects it: {error}", flush=True)
         return UNKNOWN_TOOLCHAIN
-    os.makedirs(f"{crate.folder}/out", exist_ok=True)
-    return prove(crate) if verb == "prove" else try_edits(kit, crate, edits)
 
 
 if __name__ == "__main__":
