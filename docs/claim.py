@@ -44,6 +44,7 @@ FRONT = ("gic_headline/Program", "gic_headline/Headline", "gic_headline/TrueRepo
 PARTS = (
     (FIRST, ("gic_headline/TrueReports.IsTrueField",)),
     ("`screen`", ("gic_headline/TrueReports.IsTrueScreen",)),
+    ("`robust`", ("gic_headline/TrueReports.IsTrueRobust",)),
     ("`study`", ("gic_headline/TrueReports.IsTrueStudy",)),
     ("`outage`", ("gic_headline/TrueReports.IsTrueOutage",)),
     ("`recheck`", ("gic_headline/TrueReports.IsTrueRecheck", "gic_recheck/Accepted.IsAccepted", "gic_recheck/Accepted.IsRefused")),

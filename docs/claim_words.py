@@ -9,6 +9,7 @@ from __future__ import annotations
 OUTSIDE: dict[str, dict[str, str]] = {
     "std": {
         "All": "a predicate holds of each entry of a list",
+        "AllByRecursion": "the same, entry after entry: of the first, and of those behind it",
         "Appends": "told bytes (`Some`) are the old ones and then these; of bytes that aren't told (`None`) nothing is said",
         "Bool": "`true` or `false`",
         "Contains": "a value is an entry of the list",
@@ -51,6 +52,7 @@ OUTSIDE: dict[str, dict[str, str]] = {
         "int_lt": "whether one whole number is under another",
         "int_max": "the greater of two whole numbers",
         "int_min": "the lesser of two whole numbers",
+        "is_in_range": "whether a natural number lies between two others, or is one of them",
         "is_none": "whether nothing is there",
         "is_some": "whether something is there",
         "is_utf8": "whether bytes are a text in UTF-8",

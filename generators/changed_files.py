@@ -27,6 +27,7 @@ PIECES = {
         '"blocked"', "blocked = true\n", "neutral = 5000\n", 'neutral = "blocked"\n', "zone = []\n", "x = {}\n", "name",
         "high", "low", "ground", "# c\n", "{ name = 1, }", "[1, 2, ]", "[,]", "{,}", "a = 1 b = 2", "key\n=\n1",
         "scale", "scale = 1000\n", "scale = 1501\n", "part", "part = []\n", "[[line.part]]\n", "[line.part]\n", "third",
+        "tolerance", "tolerance = 90\n", "tolerance = 91\n",
         "third_volts = 2000\n", "third_resistance = 5000\n", '"wye-wye-wye"', '"auto-wye"', '"reactor"',
         'part = [{ zone = "Z0", north = 1, east = 1 }, { zone = "Z0", north = -1, east = 1000000 }]\n',
         ', { zone = "Z0", north = 1000000, east = 0 }', 'zone = "Z0"\nnorth = 1\neast = 1\n',

@@ -10,8 +10,8 @@ COUNT networks are written (100), the same ones for the same SEED (1), each of a
 Transformers are of all kinds, with and without neutral resistors and blocking devices; some lines are blocked, some
 substations have no ground, and some networks are not earthed, or not well enough to be solved: then the answer is a
 refusal. Three networks in four are made so that each bus has a way to earth before anything is switched. Half of the
-networks are of format 3, with zones by their scale, lines in parts, third windings and reactors. With --limits all
-resistances are near one of the two ends of their range.
+networks are of format 3, with zones by their scale, tolerances of grounds, lines in parts, third windings and reactors.
+With --limits all resistances are near one of the two ends of their range.
 """
 
 from __future__ import annotations
@@ -28,6 +28,8 @@ import paths  # noqa: F401 - it finds the modules below
 from referee.case import OHM, PARTS
 from referee.storm import FIELD
 
+# The ends of the latitudes, in hundredths of a degree, at which the alpha of the table is below that of the formula.
+LOW_ALPHA_ENDS = (4960, 5000, 5563, 5600, 5697, 5700)
 MODES = ("field", "screen", "outage", "study", "series", "review")
 OVER_STORMS = ("study", "series")
 KINDS = ("delta-wye", "wye-wye", "auto", "delta-delta")
@@ -89,7 +91,13 @@ class Drawing:
         """The rows of a zone but its name."""
         if self.is_third and self.draw.random() < 0.5:
             return [f"scale = {self.draw.choice([1, 1500, self.draw.randint(1, 1500), self.draw.randint(1, 1500)])}"]
-        return [f"latitude = {self.draw.randint(0, 9000)}", f"beta = {self.draw.randint(1, 150)}"]
+        return [f"latitude = {self.latitude()}", f"beta = {self.draw.randint(1, 150)}"]
+
+    def latitude(self) -> int:
+        """Mostly anywhere, and at times at an end of those where the alpha of the table is low, or just beyond it."""
+        if self.draw.random() < 0.1:
+            return self.draw.choice(LOW_ALPHA_ENDS) + self.draw.randint(-1, 1)
+        return self.draw.randint(0, 9000)
 
     def add_station(self) -> None:
         """A substation, with its buses and their transformers."""
@@ -99,7 +107,9 @@ class Drawing:
         self.nodes += 1 + len(buses)
         is_grounded = self.is_earthed or self.draw.random() < 0.85
         ground = f"\nground = {self.usual(100000, 3000000)}" if is_grounded else ""
-        self.tables.append(f'[[substation]]\nname = "{station}"{ground}')
+        has_tolerance = is_grounded and self.is_third and self.draw.random() < 0.3
+        tolerance = f"\ntolerance = {self.draw.choice([0, 90, self.draw.randint(0, 90)])}" if has_tolerance else ""
+        self.tables.append(f'[[substation]]\nname = "{station}"{ground}{tolerance}')
         self.items += [station] if is_grounded else []
         self.buses += [(bus, station) for bus in buses]
         for bus in buses if self.is_earthed else []:

@@ -79,7 +79,7 @@ PART: Fields = {"zone": ZONE, "north": METRES, "east": METRES}
 # What a row of a list, or a transformer of a kind, has under each key. `neutral` may also be the word `blocked`.
 FIELDS: dict[str, Fields] = KINDS | {
     "zone": {"name": str, "latitude": range(9001), "beta": range(1, 151), "scale": range(1, 1501)},
-    "substation": {"name": str, "ground": OHMS},
+    "substation": {"name": str, "ground": OHMS, "tolerance": range(91)},
     "bus": {"name": str, "substation": Reference("substation")},
     "line": {"name": str, "from": BUS, "to": BUS, "zone": ZONE, "resistance": OHMS, "north": METRES, "east": METRES,
              "blocked": bool, "part": list},
@@ -87,14 +87,15 @@ FIELDS: dict[str, Fields] = KINDS | {
 # The order in which the program looks at the fields of a transformer.
 ORDER = ("kind", "name", "high_volts", "high", "low", "low_volts", "high_resistance", "low_resistance",
          "series_resistance", "common_resistance", "third", "third_volts", "third_resistance", "neutral")
-# Of these groups a row has one whole, and nothing of the other.
+# What a row has of the fields in these groups is one of them.
 CHOICES: dict[str, list[set[str]]] = {
     "zone": [{"latitude", "beta"}, {"scale"}],
+    "substation": [set(), {"ground"}, {"ground", "tolerance"}],
     "line": [{"zone", "north", "east"}, {"part"}],
 }
-OPTIONAL = {"ground", "blocked", "neutral"}.union(*CHOICES["zone"], *CHOICES["line"])
+OPTIONAL = {"ground", "tolerance", "blocked", "neutral"}.union(*CHOICES["zone"], *CHOICES["line"])
 # The first format that has a key or a kind, where it isn't the first one.
-SINCE = {"neutral": 2, "scale": 3, "part": 3, "wye-wye-wye": 3, "auto-wye": 3, "reactor": 3}
+SINCE = {"neutral": 2, "scale": 3, "part": 3, "tolerance": 3, "wye-wye-wye": 3, "auto-wye": 3, "reactor": 3}
 
 
 # A row by itself ------------------------------------------------------------------------------------------------------
@@ -121,7 +122,7 @@ def fields_of(of: str, version: int) -> Fields:
 
 
 def has_one_choice(of: str, row: Row) -> bool:
-    """Whether a row has all of one group of fields, and nothing of another one."""
+    """Whether a row has just one group of fields, of all in these groups."""
     choices = CHOICES.get(of, [set()])
     return row.keys() & set().union(*choices) in choices
 

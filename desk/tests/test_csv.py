@@ -282,8 +282,8 @@ class Csv(DeskTest):
         self.assertEqual(
             self.table(
                 "review\nungrounded B\npart 4 A\nclosure L -90 12345\nvalue zone Z latitude 60\n"
-                "value transformer TB high_resistance 3000\nvolts TB high_volts 34500 345000\noutside D\n"
-                "findings 7\nend\n"
+                "value transformer TB high_resistance 3000\nalpha Y 5000\nvolts TB high_volts 34500 345000\noutside D\n"
+                "findings 8\nend\n"
             ),
             "kind,list,name,field,number,unit,other,north_m,east_m\n"
             "ungrounded,,B,,,,,,\n"
@@ -291,6 +291,7 @@ class Csv(DeskTest):
             "closure,,L,,,,,-90,12345\n"
             "value,zone,Z,latitude,60,hundredths of a degree,,,\n"
             "value,transformer,TB,high_resistance,3000,micro-ohm,,,\n"
+            "alpha,zone,Y,latitude,5000,hundredths of a degree,,,\n"
             "volts,transformer,TB,high_volts,34500,V,345000,,\n"
             "outside,,D,,,,,,\n",
         )

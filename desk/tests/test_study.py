@@ -253,10 +253,11 @@ class Page(StudyTest):
         self.assertIn("so whether it is a proved one isn't known here either", asked)
 
     def test_findings_are_open_questions(self) -> None:
-        self.prints("review", "review\nungrounded B\nclosure K -1500 20\nfindings 2\nend\n")
+        self.prints("review", "review\nungrounded B\nclosure K -1500 20\nalpha Z 4980\nfindings 3\nend\n")
         asked = self.text_of("questions", self.page())
         self.assertIn("B has no ground, and a winding ends at its grid: is its ground forgotten?", asked)
         self.assertIn("stays open by -1.5 km to the north and 0.02 km to the east", asked)
+        self.assertIn("zone Z: at 49.8 degrees alpha of the table is below that of the formula", asked)
         self.assertIn("question: B has no ground", self.shown)
 
     def test_meridians_explain_a_gap_to_the_east_alone(self) -> None:

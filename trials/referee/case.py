@@ -65,11 +65,13 @@ FIELDS_3 = FIELDS | {
         for key in FIELDS["line"]
     ]
     + [Key("part", "parts", False)],
+    "substation": FIELDS["substation"] + [Key("tolerance", Range(0, 90), False)],
 }
-# In format 3 a row has all keys of one of these two groups, and none of the other.
-Choices = tuple[set[bytes], set[bytes]]
+# In format 3 what a row has of all these keys is one of these groups.
+Choices = tuple[set[bytes], ...]
 CHOICES: dict[str, Choices] = {
     "zone": ({b"latitude", b"beta"}, {b"scale"}),
+    "substation": (set(), {b"ground"}, {b"ground", b"tolerance"}),
     "line": ({b"zone", b"north", b"east"}, {b"part"}),
 }
 # The keys of each kind of transformer behind `kind`, `name` and `high_volts`; all are required.
@@ -169,8 +171,11 @@ class Zone(NamedTuple):
 
 
 class Substation(NamedTuple):
+    """A substation, whose ground may have a tolerance of its own, in per cent."""
+
     name: str
     ground: Optional[int]
+    tolerance: Optional[int] = None
 
 
 class Bus(NamedTuple):
@@ -428,7 +433,7 @@ def transformer_fields(row: TomlTable, rules: Format, where: str) -> list[Key]:
 
 
 def has_one_choice(row: TomlTable, choices: Choices) -> bool:
-    """Whether the row has all keys of one of the groups, and none of the others."""
+    """Whether the row has just one of the groups, of all their keys."""
     return row.keys() & set().union(*choices) in choices
 
 
@@ -528,7 +533,7 @@ def lists_of(rows: dict[str, list[Row]]) -> Lists:
     """The lists of rows whose references are places."""
     return Lists(
         [Zone(row["name"], row.get("latitude"), row.get("beta"), row.get("scale")) for row in rows["zone"]],
-        [Substation(row["name"], row.get("ground")) for row in rows["substation"]],
+        [Substation(row["name"], row.get("ground"), row.get("tolerance")) for row in rows["substation"]],
         [Bus(row["name"], row["substation"]) for row in rows["bus"]],
         [line_of(row) for row in rows["line"]],
         [transformer_of(row) for row in rows["transformer"]],

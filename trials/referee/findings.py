@@ -34,6 +34,8 @@ USUAL = {
     "winding": Usual(10000, 5000000),
     "neutral": Usual(None, 100000000),
 }
+# The latitudes, in hundredths of a degree, at which the alpha of the table is below that of the formula.
+LOW_ALPHA = (range(4960, 5001), range(5563, 5601), range(5697, 5701))
 KILOMETRE = 1000
 GAP, SPAN_FOR_A_METRE = 2000, 20
 
@@ -144,6 +146,13 @@ def values(case: Case) -> Iterator[Words]:
                 yield "value", kind, name, field, number
 
 
+def low_alphas(case: Case) -> Iterator[Words]:
+    """The zones at whose latitude the alpha of the table is low."""
+    for zone in case.zones:
+        if zone.latitude is not None and any(zone.latitude in latitudes for latitudes in LOW_ALPHA):
+            yield "alpha", zone.name, zone.latitude
+
+
 def volts(case: Case) -> Iterator[Words]:
     """The rated voltages that don't fit that of the first side at their bus."""
     measures: dict[int, int] = {}
@@ -163,7 +172,7 @@ def outside(case: Case) -> Iterator[Words]:
             yield "outside", unit.name
 
 
-RULES: tuple[Callable[[Case], Iterable[Words]], ...] = (ungrounded, parts, closures, values, volts, outside)
+RULES: tuple[Callable[[Case], Iterable[Words]], ...] = (ungrounded, parts, closures, values, low_alphas, volts, outside)
 
 
 def findings(case: Case) -> list[Words]:

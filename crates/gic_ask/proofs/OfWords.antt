@@ -102,6 +102,7 @@ module _ (u : Usage) (contents : Contents) where
       (λ lists any. then_meets u Any Any (reading (λ refusal. refusal) (transformer_asked lists r.transformer)) _ (found_meets u (transformer_named lists r.transformer))
       (λ place any. made_meets u _ _ (over_meets r.switch _ lists)))
   asking_meets (request.Review case) = made_meets u _ _ (network_meets None _)
+  asking_meets (request.Robust r) = made_meets u _ _ (network_meets r.switch _)
 
 -- so no refusal of the words
 unrefused : (u : Usage) (o : Outcome Asked) → Meets Any u o → ¬ (o ≡ Refuses (UsageRefusal u))

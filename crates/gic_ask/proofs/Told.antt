@@ -143,6 +143,7 @@ asked_same files (request.Series r) contents may =
     (λ lists. next_same (reading (λ refusal. refusal) (transformer_asked lists r.transformer)) _ _
     (λ place. made_same _ _ (series_given r place) (over_same files n contents may _ r.storm refl lists)))
 asked_same files (request.Review case) contents may = made_same _ _ asked.Review (network_same files (of_case case None) contents may _ case refl)
+asked_same files (request.Robust r) contents may = made_same _ _ asked.Robust (network_same files (of_case r.case r.switch) contents may _ r.case refl)
 
 same_words : (files : Files) (r : Result Request Usage) (contents : Contents) → IfOk r (λ q. MayHandOut (Some files) (names_in q) contents)
     → IsSameOrLacks (reading UsageRefusal r >>= (λ q. asking q contents)) (reading UsageRefusal r >>= (λ q. asking q (held_for files r)))

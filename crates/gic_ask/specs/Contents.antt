@@ -34,6 +34,7 @@ names_in (request.Make r) = record { case = None; storm = None; switch = None; c
 names_in (request.Recheck r) = record (of_case r.case r.switch) { cert = Some r.cert }
 names_in (request.Series r) = record (of_case r.case r.switch) { storm = Some r.storm }
 names_in (request.Review case) = of_case case None
+names_in (request.Robust r) = of_case r.case r.switch
 
 -- the name of a file
 abbrev pub name_of_file : File → Names → Option (List ℕ)

@@ -174,6 +174,9 @@ asking (request.Series r) contents = do
 asking (request.Review case) contents = do
   inputs ← reading_network None (tt {0}) contents
   Accepts (asked.Review inputs)
+asking (request.Robust r) contents = do
+  inputs ← reading_network r.switch r.criteria contents
+  Accepts (asked.Robust inputs)
 
 -- the words, and then the files that they name, one after another
 abbrev pub outcome : List (List ℕ) → Contents → Outcome Asked

@@ -1,6 +1,6 @@
 -- The ranges of what is asked for.
 use Rattle.std.specs.Prelude.{◌<◌, length, ⊤}
-use Rattle.gic_criteria.specs.Ranges.{IsWithinCriteria, IsWithinField, IsWithinRanges}
+use Rattle.gic_criteria.specs.Ranges.{IsWithinCriteria, IsWithinField, IsWithinRanges, IsWithinRobust}
 use Rattle.gic_inputs.specs.Inputs.{IsStormOf}
 use Rattle.gic_words.specs.Accepted.{IsSize}
 use Rattle.gic_ask.specs.declared.request.Asked.{Asked}
@@ -16,4 +16,5 @@ IsAskedWithinRanges (asked.Outage inputs) = IsWithinCriteria inputs.question
 IsAskedWithinRanges (asked.Study a) = IsWithinCriteria a.inputs.question × IsStormOf a.inputs
 IsAskedWithinRanges (asked.Make r) = IsSize r.size
 IsAskedWithinRanges (asked.Series a) = IsWithinCriteria a.inputs.question × (IsStormOf a.inputs × (a.transformer < length a.inputs.case.transformers))
+IsAskedWithinRanges (asked.Robust inputs) = IsWithinRobust inputs.question
 IsAskedWithinRanges _ = ⊤

@@ -205,5 +205,9 @@ pub(crate) fn gather<L: Library>(
             let inputs = network(alloc, library, case, &None, ())?;
             Ok(Asked::Review(inputs))
         }
+        Request::Robust(r) => {
+            let inputs = network(alloc, library, &r.case, &r.switch, r.criteria)?;
+            Ok(Asked::Robust(inputs))
+        }
     }
 }

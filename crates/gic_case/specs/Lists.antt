@@ -23,9 +23,9 @@ pub record Lists : Type 0 where
   pub lines : List Line
   pub transformers : List Transformer
 
--- the substation of this name, with this earthing
-abbrev pub substation_with : List ℕ → (ground : Option ℕ) → Substation
-substation_with name ground = record { name = name; ground = ground }
+-- the substation of this name, with this earthing and this tolerance of its own
+abbrev pub substation_with : List ℕ → (ground : Option ℕ) → (tolerance : Option ℕ) → Substation
+substation_with name ground tolerance = record { name = name; ground = ground; tolerance = tolerance }
 
 -- the transformers that have a neutral device, and with it a neutral node of their own
 abbrev pub with_device : List Transformer → List Transformer

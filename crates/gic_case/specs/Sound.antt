@@ -1,5 +1,5 @@
 -- What every case keeps.
-use Rattle.std.specs.Prelude.{◌≡◌, ◌≢◌, ◌≤◌, ◌<◌, ◌+◌, ℕ, List, ◌++◌, length, map, false, is_some, IfSome, All, AllPairs, IsTrue}
+use Rattle.std.specs.Prelude.{◌≡◌, ◌≢◌, ◌≤◌, ◌<◌, ℕ, List, ◌++◌, length, map, true, false, is_some, IfSome, All, AllPairs, IsTrue}
 use Rattle.gic_base.specs.Name.{is_name}
 use Rattle.gic_base.specs.declared.limits.TheConstants.{MOST_ZONES, MOST_SUBSTATIONS, MOST_BUSES, MOST_LINES, MOST_TRANSFORMERS, MOST_AT_A_NODE}
 use Rattle.gic_case.specs.ZoneView.{ZoneView, IsZone}
@@ -33,9 +33,11 @@ IsResistance ohm = (1000 ≤ ohm) × (ohm ≤ 1000000000)
 abbrev pub IsRated : ℕ → Type 0
 IsRated volts = (1000 ≤ volts) × (volts ≤ 2000000)
 
--- what every substation keeps: an earthing within the range, if any
-abbrev pub IsSoundSubstation : Substation → Type 0
-IsSoundSubstation s = IfSome s.ground IsResistance
+-- what every substation keeps: an earthing within the range, if any, and a tolerance in per cent of its own at most where it has an earthing
+pub record IsSoundSubstation (s : Substation) : Type 0 where
+  pub ohm : IfSome s.ground IsResistance
+  pub tolerance_most : IfSome s.tolerance (λ percent. percent ≤ 90)
+  pub tolerance_of_ground : is_some s.tolerance ≡ true → is_some s.ground ≡ true
 
 -- what every line keeps: two different buses of the case, parts in its zones, a resistance and ways within their ranges
 pub record IsSoundLine (c : Lists) (l : Line) : Type 0 where

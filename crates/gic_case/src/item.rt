@@ -4,11 +4,13 @@ use crate::course::Course;
 use crate::kind::Kind;
 use gic_base::Name;
 
-/// A node with its earthing, if it has one, in micro-ohm from 1000 to 1000000000, for the three phases together.
+/// A node with its earthing, if it has one, in micro-ohm from 1000 to 1000000000, for the three phases together. The
+/// tolerance of its ground is in per cent, from 0 to 90, where it has one of its own; without a ground it has none.
 #[derive(Clone, Copy, Debug, PartialEq, Eq)]
 pub struct Substation {
     pub name: Name,
     pub ground: Option<u32>,
+    pub tolerance: Option<u8>,
 }
 
 /// A bus, with the place of its substation in the case's list, from 0.

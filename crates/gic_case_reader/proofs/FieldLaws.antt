@@ -6,10 +6,10 @@ use Rattle.gic_base.specs.Passes.{◌>>=◌, or_refuse}
 use Rattle.gic_base.proofs.RefusalLaws.{then_law, last_law, value_law, test_law}
 use Rattle.gic_case_reader.specs.Keys.{key_of, has, fits}
 use Rattle.gic_case_reader.specs.Values.{natural_within, read_name, field_value}
-use Rattle.gic_case_reader.specs.Rows.{members_in, breaks_keys, breaks_value, breaks_present, breaks_optional, ohm_within, volts_within, metres_within, read_neutral, earth_zone_fields, scaled_zone_fields, is_scaled, breaks_earth_zone, breaks_scaled_zone, breaks_zone, earth_zone_of, scaled_zone_of, zone_of, breaks_substation, substation_of, bus_fields, breaks_bus, bus_of}
+use Rattle.gic_case_reader.specs.Rows.{members_in, breaks_keys, breaks_value, breaks_present, breaks_optional, ohm_within, volts_within, metres_within, read_neutral, earth_zone_fields, scaled_zone_fields, is_scaled, breaks_earth_zone, breaks_scaled_zone, breaks_zone, earth_zone_of, scaled_zone_of, zone_of, ranged_substation_fields, is_ranged, breaks_plain_substation, breaks_ranged_substation, breaks_substation, plain_substation_of, ranged_substation_of, substation_of, bus_fields, breaks_bus, bus_of}
 use Rattle.gic_case_reader.specs.Lines.{plain_line_fields, parted_line_fields, is_parted, read_parts, breaks_plain_line, breaks_parted_line, breaks_line, plain_line_of, parted_line_of, line_row_of}
 use Rattle.gic_case_reader.specs.Transformers.{read_kind, kind_of, breaks_bus_name, breaks_ohm, breaks_volts, breaks_third, breaks_wye_wye, breaks_auto, breaks_own, breaks_transformer, name_in, ohm_in, volts_in, third_told, wye_wye_in, auto_in, own_of, transformer_of}
-use Rattle.gic_case_reader.specs.Pass.{required, optional_in, optional, row_table, earth_zone_row, scaled_zone_row, zone_row, substation_row, bus_row, plain_line_row, parted_line_row, line_row, table_with, delta_wye_row, third_row, third_if, wye_wye_row, auto_row, reactor_row, kind_row, transformer_row}
+use Rattle.gic_case_reader.specs.Pass.{required, optional_in, optional, row_table, earth_zone_row, scaled_zone_row, zone_row, plain_substation_row, ranged_substation_row, substation_row, bus_row, plain_line_row, parted_line_row, line_row, table_with, delta_wye_row, third_row, third_if, wye_wye_row, auto_row, reactor_row, kind_row, transformer_row}
 use Rattle.gic_case_reader.specs.declared.field.Field.{Field}
 use Rattle.gic_case_reader.specs.declared.field.Field.TheVariants as fields
 use Rattle.gic_case_reader.specs.declared.format.Format.{Format}
@@ -97,13 +97,26 @@ pub zone_law : (format : Format) (row : ℕ) (d : Data) → zone_row format row 
 unfolding zone_row
 zone_law format row d = either_law (is_scaled format d) _ _ _ _ _ _ (scaled_zone_law row d) (earth_zone_law row d)
 
-pub substation_law : (row : ℕ) (d : Data) → substation_row row d ≡ settle (breaks_substation row d) (substation_of d)
-unfolding substation_row
-substation_law row d =
+plain_substation_law : (row : ℕ) (d : Data) → plain_substation_row row d ≡ settle (breaks_plain_substation row d) (plain_substation_of d)
+unfolding plain_substation_row
+plain_substation_law row d =
     let ms = members_in d in
     table_law lists.Substation (fields.Name ∷ []) (fields.Ground ∷ []) row d _ _ _
     (then_law _ _ _ _ _ _ (name_law lists.Substation row fields.Name ms)
     (last_law _ _ _ _ (optional_law ohm_within lists.Substation row fields.Ground ms)))
+
+ranged_substation_law : (row : ℕ) (d : Data) → ranged_substation_row row d ≡ settle (breaks_ranged_substation row d) (ranged_substation_of d)
+unfolding ranged_substation_row
+ranged_substation_law row d =
+    let ms = members_in d in
+    table_law lists.Substation ranged_substation_fields [] row d _ _ _
+    (then_law _ _ _ _ _ _ (name_law lists.Substation row fields.Name ms)
+    (then_law _ _ _ _ _ _ (natural_law 1000 1000000000 lists.Substation row fields.Ground ms)
+    (last_law _ _ _ _ (natural_law 0 90 lists.Substation row fields.Tolerance ms))))
+
+pub substation_law : (format : Format) (row : ℕ) (d : Data) → substation_row format row d ≡ settle (breaks_substation format row d) (substation_of format d)
+unfolding substation_row
+substation_law format row d = either_law (is_ranged format d) _ _ _ _ _ _ (ranged_substation_law row d) (plain_substation_law row d)
 
 pub bus_law : (row : ℕ) (d : Data) → bus_row row d ≡ settle (breaks_bus row d) (bus_of d)
 unfolding bus_row

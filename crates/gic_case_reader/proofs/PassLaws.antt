@@ -92,7 +92,7 @@ rows_of_law ms =
     then_law _ _ _ _ _ _ (test_law _ _)
     (then_law _ _ _ _ _ _ (required_law read_format lists.Document 0 fields.Format ms formats.One)
     (then_law _ _ _ _ _ _ (list_law lists.Zone (most_rows format lists.Zone) (zone_row format) (breaks_zone format) (zone_of format) (zone_law format) ms)
-    (then_law _ _ _ _ _ _ (list_law lists.Substation (most_rows format lists.Substation) substation_row breaks_substation substation_of substation_law ms)
+    (then_law _ _ _ _ _ _ (list_law lists.Substation (most_rows format lists.Substation) (substation_row format) (breaks_substation format) (substation_of format) (substation_law format) ms)
     (then_law _ _ _ _ _ _ (list_law lists.Bus (most_rows format lists.Bus) bus_row breaks_bus bus_of bus_law ms)
     (then_law _ _ _ _ _ _ (list_law lists.Line (most_rows format lists.Line) (line_row format) (breaks_line format) (line_row_of format) (line_law format) ms)
     (last_law _ _ _ _ (list_law lists.Transformer (most_rows format lists.Transformer) (transformer_row format) (breaks_transformer format) (transformer_of format) (transformer_law format) ms)))))))

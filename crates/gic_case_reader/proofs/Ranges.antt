@@ -16,9 +16,9 @@ use Rattle.gic_case_reader.specs.declared.refusal.CaseRefusal.{CaseRefusal}
 use Rattle.gic_case_reader.specs.Keys.{key_of, is_key_of, has, has_only, has_all, fits}
 use Rattle.gic_case.specs.Names.{same}
 use Rattle.gic_case_reader.specs.Values.{whole_within, natural_within, near_zero, span_within, read_name, field_value}
-use Rattle.gic_case_reader.specs.Rows.{members_in, breaks_keys, breaks_value, breaks_optional, ohm_within, metres_within, device_in, read_neutral, earth_zone_fields, scaled_zone_fields, is_scaled, breaks_earth_zone, breaks_scaled_zone, breaks_zone, earth_zone_of, scaled_zone_of, zone_of, breaks_substation, substation_of, bus_fields, breaks_bus, bus_of}
+use Rattle.gic_case_reader.specs.Rows.{members_in, breaks_keys, breaks_value, breaks_optional, ohm_within, metres_within, device_in, read_neutral, earth_zone_fields, scaled_zone_fields, is_scaled, breaks_earth_zone, breaks_scaled_zone, breaks_zone, earth_zone_of, scaled_zone_of, zone_of, ranged_substation_fields, is_ranged, percent_within, breaks_plain_substation, breaks_ranged_substation, breaks_substation, plain_substation_of, ranged_substation_of, substation_of, bus_fields, breaks_bus, bus_of}
 use Rattle.gic_case_reader.specs.Lines.{plain_line_fields, parted_line_fields, is_parted, parts_in, north_way, east_way, are_parts, read_parts, breaks_plain_line, breaks_parted_line, breaks_line, plain_line_of, parted_line_of, line_row_of}
-use Rattle.gic_case.specs.Sound.{IsResistance, IsRated, IsSoundDevice}
+use Rattle.gic_case.specs.Sound.{IsResistance, IsRated, IsSoundSubstation, IsSoundDevice}
 use Rattle.gic_case_reader.specs.Transformers.{read_kind, fields_of, others_of, kind_of, breaks_bus_name, breaks_ohm, breaks_volts, breaks_third, breaks_wye_wye, breaks_auto, breaks_one_winding, breaks_own, breaks_transformer, ohm_in, volts_in, third_told, wye_wye_in, auto_in, own_of, transformer_of}
 use Rattle.gic_case_reader.specs.declared.field.Field.{Field}
 use Rattle.gic_case_reader.specs.declared.field.Field.TheVariants as fields
@@ -115,8 +115,10 @@ zone_named format row d h =
     either_holds (λ z. IsTrue (is_name z.name)) (is_scaled format d) (breaks_scaled_zone row d) (breaks_earth_zone row d) (scaled_zone_of d) (earth_zone_of d)
     (λ none. first_name lists.Zone scaled_zone_fields [] row d _ none) (λ none. first_name lists.Zone earth_zone_fields [] row d _ none) h
 
-pub substation_named : (row : ℕ) (d : Data) → breaks_substation row d ≡ [] → IsTrue (is_name (substation_of d).name)
-substation_named row d h = first_name lists.Substation (fields.Name ∷ []) (fields.Ground ∷ []) row d _ h
+pub substation_named : (format : Format) (row : ℕ) (d : Data) → breaks_substation format row d ≡ [] → IsTrue (is_name (substation_of format d).name)
+substation_named format row d h =
+    either_holds (λ s. IsTrue (is_name s.name)) (is_ranged format d) (breaks_ranged_substation row d) (breaks_plain_substation row d) (ranged_substation_of d) (plain_substation_of d)
+    (λ none. first_name lists.Substation ranged_substation_fields [] row d _ none) (λ none. first_name lists.Substation (fields.Name ∷ []) (fields.Ground ∷ []) row d _ none) h
 
 pub bus_named : (row : ℕ) (d : Data) → breaks_bus row d ≡ [] → IsTrue (is_name (bus_of d).name)
 bus_named row d h = first_name lists.Bus bus_fields [] row d _ h
@@ -149,6 +151,31 @@ scaled_zone_measured row d h =
 pub zone_measured : (format : Format) (row : ℕ) (d : Data) → breaks_zone format row d ≡ [] → IsZone (zone_of format d)
 zone_measured format row d h =
     either_holds IsZone (is_scaled format d) (breaks_scaled_zone row d) (breaks_earth_zone row d) (scaled_zone_of d) (earth_zone_of d) (scaled_zone_measured row d) (earth_zone_measured row d) h
+
+plain_substation_measured : (row : ℕ) (d : Data) → breaks_plain_substation row d ≡ [] → IsSoundSubstation (plain_substation_of d)
+plain_substation_measured row d h = record {
+  ohm = natural_holds 1000 1000000000 fields.Ground (members_in d);
+  tolerance_most = tt;
+  tolerance_of_ground = λ own. absurd (false≢true own);
+}
+
+ranged_substation_measured : (row : ℕ) (d : Data) → breaks_ranged_substation row d ≡ [] → IsSoundSubstation (ranged_substation_of d)
+ranged_substation_measured row d h =
+    let ms = members_in d in
+    let list = lists.Substation in
+    let keys = none_of_both (breaks_keys list ranged_substation_fields [] row d) _ h in
+    let name = none_of_both (breaks_value read_name list row fields.Name ms) _ keys.1 in
+    let numbers = none_of_both (breaks_value ohm_within list row fields.Ground ms) (breaks_value percent_within list row fields.Tolerance ms) name.1 in
+    record {
+      ohm = natural_taken 1000 1000000000 list row fields.Ground ms numbers.0;
+      tolerance_most = (natural_taken 0 90 list row fields.Tolerance ms numbers.1).1;
+      tolerance_of_ground = λ own. refl;
+    }
+
+-- the ranges of a substation
+pub substation_measured : (format : Format) (row : ℕ) (d : Data) → breaks_substation format row d ≡ [] → IsSoundSubstation (substation_of format d)
+substation_measured format row d h =
+    either_holds IsSoundSubstation (is_ranged format d) (breaks_ranged_substation row d) (breaks_plain_substation row d) (ranged_substation_of d) (plain_substation_of d) (ranged_substation_measured row d) (plain_substation_measured row d) h
 
 -- the parts of a course as it is written
 abbrev pub written_parts : CourseRow → List PartRow

@@ -25,7 +25,7 @@ use Rattle.gic_case.specs.Sound.{names_of, IsRated, IsResistance, IsSoundSubstat
 use Rattle.gic_case_reader.specs.Sides.{sides_differ, are_together, are_ordered}
 use Rattle.gic_case_reader.specs.Transformers.{breaks_transformer, transformer_of}
 use Rattle.gic_case_reader.specs.Formats.{is_third, format_in, most_rows}
-use Rattle.gic_case_reader.specs.Rows.{members_in, breaks_zone, zone_of, breaks_substation, substation_of, breaks_bus, bus_of}
+use Rattle.gic_case_reader.specs.Rows.{breaks_zone, zone_of, breaks_substation, substation_of, breaks_bus, bus_of}
 use Rattle.gic_case_reader.specs.Lines as written_lines
 use Rattle.gic_case_reader.specs.Lines.{breaks_line, line_row_of}
 use Rattle.gic_case_reader.specs.Rules.{entries_of, breaks_list, breaks_form, WrittenRows, written_in, written_names, duplicate_at, breaks_once, breaks_bus_reference, is_in_zone, breaks_course_reference, breaks_line_references, breaks_side_reference, breaks_third_reference, breaks_kind_references, breaks_references, bus_with_place, part_with_place, course_with_places, line_with_places, side_place, third_with_place, kind_with_places, transformer_with_places, resolved, breaks_same_ends, breaks_same_sides, breaks_apart, breaks_voltage_order, breaks_degree, broken_in, case_refusals, lists_of, document_of, case_of}
@@ -53,7 +53,7 @@ use Rattle.gic_case_reader.specs.declared.row.CourseRow.TheVariants as courses
 use Rattle.gic_case_reader.specs.declared.row.LineRow.{LineRow}
 use Rattle.gic_case.specs.declared.kind.Third.{Third}
 use Rattle.gic_case_reader.specs.declared.row.TransformerRow.{TransformerRow}
-use Rattle.gic_case_reader.proofs.Ranges.{zone_measured, zone_named, substation_named, bus_named, line_named, few_of, taken_holds, natural_holds, written_parts, AreFewWritten, IsMeasured, line_measured, IsMeasuredThird, IsMeasuredKind, HasPlaceFor, IsMeasuredTransformer, transformer_named, transformer_measured}
+use Rattle.gic_case_reader.proofs.Ranges.{zone_measured, zone_named, substation_named, substation_measured, bus_named, line_named, few_of, taken_holds, written_parts, AreFewWritten, IsMeasured, line_measured, IsMeasuredThird, IsMeasuredKind, HasPlaceFor, IsMeasuredTransformer, transformer_named, transformer_measured}
 use Rattle.gic_case_reader.proofs.PassLaws.{case_in_law}
 
 -- what each row that breaks no rule has, all rows have
@@ -344,7 +344,7 @@ formed ms h =
     let buses = none_of_both _ _ substations.1 in
     let last_two = none_of_both _ _ buses.1 in
     let z = few_rows lists.Zone (most_rows format lists.Zone) (breaks_zone format) ms zones.0 in
-    let s = few_rows lists.Substation (most_rows format lists.Substation) breaks_substation ms substations.0 in
+    let s = few_rows lists.Substation (most_rows format lists.Substation) (breaks_substation format) ms substations.0 in
     let b = few_rows lists.Bus (most_rows format lists.Bus) breaks_bus ms buses.0 in
     let l = few_rows lists.Line (most_rows format lists.Line) (breaks_line format) ms last_two.0 in
     let t = few_rows lists.Transformer (most_rows format lists.Transformer) (breaks_transformer format) ms last_two.1 in
@@ -356,12 +356,12 @@ formed ms h =
       few_transformers = rw length-map (few_by (is_third format) _ MOST_TRANSFORMERS MOST_TRANSFORMERS_BEFORE_FORMAT_3 refl t);
       names =
           All-append (λ n. IsTrue (is_name n)) (map (λ z. z.name) (map (zone_of format) (entries_of lists.Zone ms))) _ (named lists.Zone (most_rows format lists.Zone) (breaks_zone format) (zone_of format) (λ z. z.name) (zone_named format) ms zones.0)
-          (All-append (λ n. IsTrue (is_name n)) (map (λ s. s.name) (map substation_of (entries_of lists.Substation ms))) _ (named lists.Substation (most_rows format lists.Substation) breaks_substation substation_of (λ s. s.name) substation_named ms substations.0)
+          (All-append (λ n. IsTrue (is_name n)) (map (λ s. s.name) (map (substation_of format) (entries_of lists.Substation ms))) _ (named lists.Substation (most_rows format lists.Substation) (breaks_substation format) (substation_of format) (λ s. s.name) (substation_named format) ms substations.0)
           (All-append (λ n. IsTrue (is_name n)) (map (λ b. b.name) (map bus_of (entries_of lists.Bus ms))) _ (named lists.Bus (most_rows format lists.Bus) breaks_bus bus_of (λ b. b.name) bus_named ms buses.0)
           (All-append (λ n. IsTrue (is_name n)) (map (λ l. l.name) (map (line_row_of format) (entries_of lists.Line ms))) (map (λ t. t.name) (map (transformer_of format) (entries_of lists.Transformer ms)))
           (named lists.Line (most_rows format lists.Line) (breaks_line format) (line_row_of format) (λ l. l.name) (line_named format) ms last_two.0) (named lists.Transformer (most_rows format lists.Transformer) (breaks_transformer format) (transformer_of format) (λ t. t.name) (transformer_named format) ms last_two.1))));
       zones = All-map IsZone (zone_of format) (entries_of lists.Zone ms) (all_kept (breaks_zone format) (λ d. IsZone (zone_of format d)) (zone_measured format) 1 (entries_of lists.Zone ms) (rows_kept lists.Zone (most_rows format lists.Zone) (breaks_zone format) ms zones.0));
-      substations = All-map IsSoundSubstation substation_of (entries_of lists.Substation ms) (λ k d lt. natural_holds 1000 1000000000 fields.Ground (members_in (get_or (entries_of lists.Substation ms) k d)));
+      substations = All-map IsSoundSubstation (substation_of format) (entries_of lists.Substation ms) (all_kept (breaks_substation format) (λ d. IsSoundSubstation (substation_of format d)) (substation_measured format) 1 (entries_of lists.Substation ms) (rows_kept lists.Substation (most_rows format lists.Substation) (breaks_substation format) ms substations.0));
       lines = All-map IsMeasured (line_row_of format) (entries_of lists.Line ms) (all_kept (breaks_line format) (λ d. IsMeasured (line_row_of format d)) (line_measured format) 1 (entries_of lists.Line ms) (rows_kept lists.Line (most_rows format lists.Line) (breaks_line format) ms last_two.0));
       transformers = All-map IsMeasuredTransformer (transformer_of format) (entries_of lists.Transformer ms) (all_kept (breaks_transformer format) (λ d. IsMeasuredTransformer (transformer_of format d)) (transformer_measured format) 1 (entries_of lists.Transformer ms) (rows_kept lists.Transformer (most_rows format lists.Transformer) (breaks_transformer format) ms last_two.1));
     }

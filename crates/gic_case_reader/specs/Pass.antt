@@ -9,7 +9,7 @@ use Rattle.gic_case_reader.specs.Keys.{key_of, has, fits, fits_document}
 use Rattle.gic_case.specs.ListWord.{list_word}
 use Rattle.gic_case_reader.specs.Values.{natural_within, read_name, field_value}
 use Rattle.gic_case_reader.specs.Formats.{read_format, most_rows}
-use Rattle.gic_case_reader.specs.Rows.{ohm_within, volts_within, metres_within, read_neutral, is_scaled, earth_zone_fields, scaled_zone_fields, bus_fields}
+use Rattle.gic_case_reader.specs.Rows.{ohm_within, volts_within, metres_within, percent_within, read_neutral, is_scaled, earth_zone_fields, scaled_zone_fields, is_ranged, ranged_substation_fields, bus_fields}
 use Rattle.gic_case_reader.specs.Lines.{is_parted, plain_line_fields, parted_line_fields, read_parts}
 use Rattle.gic_case.specs.Lists.{substation_with, Lists}
 use Rattle.gic_case_reader.specs.Transformers.{read_kind, fields_of, others_of}
@@ -80,13 +80,26 @@ scaled_zone_row row d = do
 unfoldable pub zone_row : Format → ℕ → Data → Result ZoneView CaseRefusal
 zone_row format row d = if is_scaled format d then scaled_zone_row row d else earth_zone_row row d
 
--- a row of the substations
-unfoldable pub substation_row : ℕ → Data → Result Substation CaseRefusal
-substation_row row d = do
+-- a row of the substations without a tolerance
+unfoldable pub plain_substation_row : ℕ → Data → Result Substation CaseRefusal
+plain_substation_row row d = do
   ms ← row_table lists.Substation (fields.Name ∷ []) (fields.Ground ∷ []) row d
   name ← required read_name lists.Substation row fields.Name ms
   earthing ← optional ohm_within lists.Substation row fields.Ground ms
-  Ok (substation_with name earthing)
+  Ok (substation_with name earthing None)
+
+-- a row of the substations with a tolerance
+unfoldable pub ranged_substation_row : ℕ → Data → Result Substation CaseRefusal
+ranged_substation_row row d = do
+  ms ← row_table lists.Substation ranged_substation_fields [] row d
+  name ← required read_name lists.Substation row fields.Name ms
+  earthing ← required ohm_within lists.Substation row fields.Ground ms
+  tolerance ← required percent_within lists.Substation row fields.Tolerance ms
+  Ok (substation_with name (Some earthing) (Some tolerance))
+
+-- a row of the substations
+unfoldable pub substation_row : Format → ℕ → Data → Result Substation CaseRefusal
+substation_row format row d = if is_ranged format d then ranged_substation_row row d else plain_substation_row row d
 
 -- a row of the buses
 unfoldable pub bus_row : ℕ → Data → Result BusRow CaseRefusal
@@ -229,7 +242,7 @@ rows_of ms = do
   keys ← test (fits_document ms) (refusals.Key lists.Document 0)
   format ← required read_format lists.Document 0 fields.Format ms
   zones ← list_at lists.Zone (most_rows format lists.Zone) (zone_row format) ms
-  substations ← list_at lists.Substation (most_rows format lists.Substation) substation_row ms
+  substations ← list_at lists.Substation (most_rows format lists.Substation) (substation_row format) ms
   buses ← list_at lists.Bus (most_rows format lists.Bus) bus_row ms
   lines ← list_at lists.Line (most_rows format lists.Line) (line_row format) ms
   transformers ← list_at lists.Transformer (most_rows format lists.Transformer) (transformer_row format) ms

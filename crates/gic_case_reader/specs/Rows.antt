@@ -118,19 +118,54 @@ scaled_zone_of d =
 abbrev pub zone_of : Format → Data → ZoneView
 zone_of format d = if is_scaled format d then scaled_zone_of d else earth_zone_of d
 
--- a substation has a name, and perhaps an earthing
-abbrev pub breaks_substation : ℕ → Data → List CaseRefusal
-breaks_substation row d =
+-- the fields of a substation whose ground has a tolerance of its own
+abbrev pub ranged_substation_fields : List Field
+ranged_substation_fields = fields.Name ∷ fields.Ground ∷ fields.Tolerance ∷ []
+
+-- a ground has a tolerance of its own: in the third format, where the row has one
+abbrev pub is_ranged : Format → Data → Bool
+is_ranged format d = is_third format && has fields.Tolerance (members_in d)
+
+-- a tolerance in per cent
+abbrev pub percent_within : Data → Option ℕ
+percent_within = natural_within 0 90
+
+-- a substation without a tolerance has a name, and perhaps an earthing
+abbrev pub breaks_plain_substation : ℕ → Data → List CaseRefusal
+breaks_plain_substation row d =
     let ms = members_in d in
     breaks_keys lists.Substation (fields.Name ∷ []) (fields.Ground ∷ []) row d
     ++ (breaks_value read_name lists.Substation row fields.Name ms
     ++ breaks_optional ohm_within lists.Substation row fields.Ground ms)
 
--- the substation that a row is
-abbrev pub substation_of : Data → Substation
-substation_of d =
+-- a substation with a tolerance has a name, an earthing, and the tolerance of that
+abbrev pub breaks_ranged_substation : ℕ → Data → List CaseRefusal
+breaks_ranged_substation row d =
     let ms = members_in d in
-    substation_with (unwrap_or (field_value read_name fields.Name ms) []) (field_value ohm_within fields.Ground ms)
+    breaks_keys lists.Substation ranged_substation_fields [] row d
+    ++ (breaks_value read_name lists.Substation row fields.Name ms
+    ++ (breaks_value ohm_within lists.Substation row fields.Ground ms
+    ++ breaks_value percent_within lists.Substation row fields.Tolerance ms))
+
+-- a substation keeps the rules of one with a tolerance, or of one without
+abbrev pub breaks_substation : Format → ℕ → Data → List CaseRefusal
+breaks_substation format row d = if is_ranged format d then breaks_ranged_substation row d else breaks_plain_substation row d
+
+-- the substation without a tolerance that a row is
+abbrev pub plain_substation_of : Data → Substation
+plain_substation_of d =
+    let ms = members_in d in
+    substation_with (unwrap_or (field_value read_name fields.Name ms) []) (field_value ohm_within fields.Ground ms) None
+
+-- the substation with a tolerance that a row is
+abbrev pub ranged_substation_of : Data → Substation
+ranged_substation_of d =
+    let ms = members_in d in
+    substation_with (unwrap_or (field_value read_name fields.Name ms) []) (Some (unwrap_or (field_value ohm_within fields.Ground ms) 0)) (Some (unwrap_or (field_value percent_within fields.Tolerance ms) 0))
+
+-- the substation that a row is
+abbrev pub substation_of : Format → Data → Substation
+substation_of format d = if is_ranged format d then ranged_substation_of d else plain_substation_of d
 
 -- the fields of a bus
 abbrev pub bus_fields : List Field

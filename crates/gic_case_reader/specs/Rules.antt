@@ -73,7 +73,7 @@ breaks_form ms =
     unless (fits_document ms) (refusals.Key lists.Document 0)
     ++ (breaks_value read_format lists.Document 0 fields.Format ms
     ++ (breaks_list lists.Zone (most_rows format lists.Zone) (breaks_zone format) ms
-    ++ (breaks_list lists.Substation (most_rows format lists.Substation) breaks_substation ms
+    ++ (breaks_list lists.Substation (most_rows format lists.Substation) (breaks_substation format) ms
     ++ (breaks_list lists.Bus (most_rows format lists.Bus) breaks_bus ms
     ++ (breaks_list lists.Line (most_rows format lists.Line) (breaks_line format) ms
     ++ breaks_list lists.Transformer (most_rows format lists.Transformer) (breaks_transformer format) ms)))))
@@ -90,7 +90,7 @@ pub record WrittenRows : Type 0 where
 unfoldable pub written_in : Members → WrittenRows
 written_in ms = record {
   zones = map (zone_of (format_in ms)) (entries_of lists.Zone ms);
-  substations = map substation_of (entries_of lists.Substation ms);
+  substations = map (substation_of (format_in ms)) (entries_of lists.Substation ms);
   buses = map bus_of (entries_of lists.Bus ms);
   lines = map (line_row_of (format_in ms)) (entries_of lists.Line ms);
   transformers = map (transformer_of (format_in ms)) (entries_of lists.Transformer ms);

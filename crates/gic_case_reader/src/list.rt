@@ -60,7 +60,7 @@ impl Row for Zone {
 }
 
 impl Row for Substation {
-    ghost reads = { λ _. substation_row };
+    ghost reads = { substation_row };
 
     ghost named = { λ x. x.name };
 
@@ -70,11 +70,11 @@ impl Row for Substation {
 
     fn read(
         _alloc: Global,
-        _format: Format,
+        format: Format,
         row: u32,
         value: &Value,
     ) -> Result<Substation, ReadFault<CaseRefusal>> {
-        Ok(substation_row(row, value)?)
+        Ok(substation_row(format, row, value)?)
     }
 }
 

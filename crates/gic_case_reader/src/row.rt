@@ -1,7 +1,8 @@
 //! Rows, read from tables.
 ghost use Rattle.toml.specs.View.{view};
 ghost use Rattle.gic_base.specs.Refusals.{AnswersExactly, AnswersRead};
-ghost use Rattle.gic_case_reader.specs.Pass.{earth_zone_row, scaled_zone_row, zone_row, substation_row, bus_row};
+ghost use Rattle.gic_case_reader.specs.Pass.{earth_zone_row, scaled_zone_row, zone_row};
+ghost use Rattle.gic_case_reader.specs.Pass.{plain_substation_row, ranged_substation_row, substation_row, bus_row};
 ghost use Rattle.gic_case_reader.specs.Pass.{plain_line_row, parted_line_row, line_row};
 
 use crate::field::Field;
@@ -97,10 +98,10 @@ pub(crate) fn zone_row(format: Format, row: u32, value: &Value) -> Result<Zone, 
     }
 }
 
-/// A row of the substations.
-#[tactic(auto, unfolding(crate::specs::Pass::substation_row))]
-pub(crate) fn substation_row(row: u32, value: &Value) -> Result<Substation, CaseRefusal>
-    ensures { AnswersExactly (λ s. s) result (substation_row row (view value.now)) }
+/// A row of the substations without a tolerance.
+#[tactic(auto, unfolding(crate::specs::Pass::plain_substation_row))]
+fn plain_substation_row(row: u32, value: &Value) -> Result<Substation, CaseRefusal>
+    ensures { AnswersExactly (λ s. s) result (plain_substation_row row (view value.now)) }
 {
     let table = row_table(
         CaseList::Substation,
@@ -111,7 +112,44 @@ pub(crate) fn substation_row(row: u32, value: &Value) -> Result<Substation, Case
     )?;
     let name = name_at(CaseList::Substation, row, Field::Name, table)?;
     let ground = optional_ohm_at(CaseList::Substation, row, Field::Ground, table)?;
-    Ok(Substation { name, ground })
+    Ok(Substation {
+        name,
+        ground,
+        tolerance: None,
+    })
+}
+
+/// A row of the substations whose ground has a tolerance of its own.
+#[tactic(auto, unfolding(crate::specs::Pass::ranged_substation_row))]
+fn ranged_substation_row(row: u32, value: &Value) -> Result<Substation, CaseRefusal>
+    ensures { AnswersExactly (λ s. s) result (ranged_substation_row row (view value.now)) }
+{
+    let required = [Field::Name, Field::Ground, Field::Tolerance];
+    let table = row_table(CaseList::Substation, &required, &[], row, value)?;
+    let name = name_at(CaseList::Substation, row, Field::Name, table)?;
+    let ground = ohm_at(CaseList::Substation, row, Field::Ground, table)?;
+    let tolerance = natural_at(CaseList::Substation, row, Field::Tolerance, 0, 90, table)?;
+    Ok(Substation {
+        name,
+        ground: Some(ground),
+        tolerance: Some(tolerance as u8),
+    })
+}
+
+/// A row of the substations.
+#[tactic(auto, unfolding(crate::specs::Pass::substation_row))]
+pub(crate) fn substation_row(
+    format: Format,
+    row: u32,
+    value: &Value,
+) -> Result<Substation, CaseRefusal>
+    ensures { AnswersExactly (λ s. s) result (substation_row format row (view value.now)) }
+{
+    if format.is_third() && has_in(value, Field::Tolerance) {
+        ranged_substation_row(row, value)
+    } else {
+        plain_substation_row(row, value)
+    }
 }
 
 /// A row of the buses.

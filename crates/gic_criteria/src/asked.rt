@@ -42,3 +42,11 @@ pub struct Question {
     pub field: UniformField,
     pub criteria: Criteria,
 }
+
+/// What a report on all networks goes by whose grounds lie within a tolerance.
+#[derive(Clone, Copy, Debug)]
+pub struct RobustCriteria {
+    pub criteria: Criteria,
+    /// How far each ground may lie from that of the case, in per cent: from 1 to 90.
+    pub tolerance: u8,
+}

@@ -9,7 +9,7 @@ mod judge;
 pub mod laws;
 mod orientation;
 
-pub use asked::{Criteria, Question, UniformField};
+pub use asked::{Criteria, Question, RobustCriteria, UniformField};
 pub use criterion::Verdict;
 pub use event::Event;
 pub use judge::verdict;

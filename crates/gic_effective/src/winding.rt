@@ -1,8 +1,10 @@
 //! The current of a transformer's winding.
 ghost use Rattle.std.specs.Prelude.{◌<◌, length, IfSome};
 ghost use Rattle.gic_fixed.specs.Encloses.{IsWithin};
+ghost use Rattle.gic_fixed.specs.Ends.{IsAtMostWide};
 ghost use Rattle.gic_model.specs.Voltages.{number_at};
 ghost use Rattle.gic_net.specs.Net.{standing};
+ghost use Rattle.gic_enclose.specs.Certain.{AreTight};
 ghost use Rattle.gic_effective.specs.Holds.{AreOfNetwork};
 ghost use Rattle.gic_effective.specs.Ohm.{most_current};
 ghost use Rattle.gic_effective.specs.Shown.{IsShownCurrent, IsShownWinding};
@@ -25,8 +27,11 @@ fn current_or_zero(
     requires element { element.0 < length net.now.network.list }
     ensures shown { IsShownCurrent (standing net.now) (number_at volts.now) potentials.now element.0 result.lo result.hi }
     ensures small { IsWithin most_current result.lo result.hi }
+    ensures tight { AreTight potentials.now → IsAtMostWide 400 result.lo result.hi }
 {
     if net.stands(element) {
+        // Brings that the element is within its limits.
+        let _row = net.element(element);
         current_na(net, volts, potentials, element)
     } else {
         Interval::point(0)
@@ -44,6 +49,7 @@ pub(crate) fn winding_current(
     requires winding { IfSome winding (λ w. w.0.0 < length net.now.network.list) }
     ensures shown { IsShownWinding (standing net.now) (number_at volts.now) potentials.now winding result.lo result.hi }
     ensures small { IsWithin most_current result.lo result.hi }
+    ensures tight { AreTight potentials.now → IsAtMostWide 400 result.lo result.hi }
 {
     match winding {
         Some((element, _)) => current_or_zero(net, volts, potentials, element),

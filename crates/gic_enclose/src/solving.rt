@@ -5,6 +5,7 @@ ghost use Rattle.gic_model.specs.Voltages.{number_at};
 ghost use Rattle.gic_model.specs.Guess.{IsSettled};
 ghost use Rattle.gic_net.specs.Net.{standing};
 ghost use Rattle.gic_bound.specs.Entries.{IsBoundWithin};
+ghost use Rattle.gic_enclose.specs.Certain.{AreTight};
 ghost use Rattle.gic_enclose.specs.Together.{BelongTogether};
 ghost use Rattle.gic_enclose.specs.Solved.{IsSolvedWithin};
 
@@ -38,6 +39,7 @@ pub fn solve<L: Ledger>(
     requires width { 2 ≤ width }
     ensures settled { IsSettled (standing net.now) (number_at volts.now) (number_at solver.new) }
     ensures solved { IsSolvedWithin (standing net.now) (number_at volts.now) width out.new }
+    ensures tight { AreTight out.new }
     ensures together { BelongTogether net.now.network volts.now solver.new bound.now out.new }
     ensures ticks { steps.new ≤ steps.old + MOST_TICKS }
 {

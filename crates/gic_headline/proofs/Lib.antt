@@ -2,6 +2,7 @@ pub mod EveryDirection
 pub mod OneSolution
 pub mod MadeAsked
 pub mod TrueOfNetworks
+pub mod TrueOfGrounds
 pub mod TrueOfStorms
 pub mod TrueReport
 pub mod Kept

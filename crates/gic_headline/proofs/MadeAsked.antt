@@ -11,7 +11,7 @@ use Rattle.gic_ask.specs.declared.fault.File.TheVariants as file
 use Rattle.gic_ask.specs.declared.fault.InputRefusal.TheVariants as refusals
 use Rattle.gic_inputs.specs.declared.inputs.Inputs.{Inputs}
 use Rattle.gic_ask.specs.declared.request.Asked.{Asked}
-use Rattle.gic_ask.specs.declared.request.Asked.TheVariants.{Volts, List as ListAsked, Check, Field, Screen, Certify, Outage, Study, Make, Recheck, Series, Review}
+use Rattle.gic_ask.specs.declared.request.Asked.TheVariants.{Volts, List as ListAsked, Check, Field, Screen, Certify, Outage, Study, Make, Recheck, Series, Review, Robust}
 use Rattle.gic_study.specs.Answers.{Call, AsksFor}
 use Rattle.gic_study.proofs.Accepting.{Holds, Any, then_holds, anyway, reading_holds, made_holds}
 
@@ -45,6 +45,7 @@ module _ (contents : Contents) where
       (λ lists any. then_holds Any IsMadeInRange (reading (λ refusal. refusal) (transformer_asked lists r.transformer)) _ (anyway (reading (λ refusal. refusal) (transformer_asked lists r.transformer)))
       (λ place other. made_holds Any IsMadeInRange _ (series_given r place) (anyway (reading_over r.switch _ lists contents)) (λ inputs more. tt)))
   asking_in_range (request.Review case) can = none_made _ Review (λ inputs. tt)
+  asking_in_range (request.Robust r) can = none_made _ Robust (λ inputs. tt)
 
 outcome_in_range : MadeInRange → (words : List (List ℕ)) (contents : Contents) → Holds IsMadeInRange (outcome words contents)
 outcome_in_range ranges words contents =

@@ -2,9 +2,12 @@
 use Rattle.std.proofs.Common.{ℕ, ℤ, List}
 use Rattle.gic_case.specs.Lists.{Lists}
 use Rattle.gic_case.specs.Sound.{IsSound}
+use Rattle.gic_model.specs.declared.parts.Item.{Item}
 use Rattle.gic_model.specs.declared.parts.Switching.{Switching}
 use Rattle.gic_model.specs.Earthing.{AreEarthed}
-use Rattle.gic_model.specs.Standing.{stands_after}
+use Rattle.gic_model.specs.Limits.{IsWithinLimits}
+use Rattle.gic_model.specs.Network.{Network}
+use Rattle.gic_model.specs.Standing.{standing_elements, stands_after}
 use Rattle.gic_exists.specs.Exists.{EarthedNetworksAreSolved, SolutionsAgree}
 use Rattle.gic_winding.specs.Degrees.{ElementsAreWithinLimits}
 use Rattle.gic_winding.specs.ElementList.{elements_of}
@@ -26,25 +29,29 @@ use Rattle.gic_headline.specs.Solved.{HasOneSolution, AreStepsSolved}
 use Rattle.gic_headline.proofs.EveryDirection.{under_everywhere}
 
 module _ (exist : EarthedNetworksAreSolved) (agree : SolutionsAgree) (limits : ElementsAreWithinLimits) where
+  -- in any network within the limits that is earthed
+  pub solved_where_earthed : (network : Network) (stands : Item → Bool) → IsWithinLimits network → AreEarthed (standing_elements network stands) → (volts : ℕ → ℤ)
+      → HasOneSolution (standing_elements network stands) volts
+  solved_where_earthed network stands within earthed volts = record { exists = exist network stands volts within earthed; agree = agree network stands volts within earthed }
+
   pub one_solution : (case : Lists) → IsSound case → (rows : List Switching) → AreEarthed (standing_in case rows) → (volts : ℕ → ℤ) → HasOneSolution (standing_in case rows) volts
-  one_solution case sound rows earthed volts = record {
-    exists = exist (elements_of case) (stands_after rows) volts (limits case sound) earthed;
-    agree = agree (elements_of case) (stands_after rows) volts (limits case sound) earthed;
-  }
+  one_solution case sound rows earthed volts = solved_where_earthed (elements_of case) (stands_after rows) (limits case sound) earthed volts
 
   pub steps_solved : (inputs : StormInputs) → IsSound inputs.case → IsMet Solved (storm_steps inputs) → AreStepsSolved inputs
   steps_solved inputs sound met number own =
       one_solution inputs.case sound (rows_in_force (time_of_step inputs.storm.rows number) (rows_in inputs.switchings))
       (solvable_at inputs number met own).earthed (storm_volts inputs number)
 
-  -- in the field of the event that is asked for, with these switchings in force
-  pub worst_direction : NoFieldGivesMore → AlignedFieldGivesAsMuch → (inputs : Inputs Criteria) → IsSound inputs.case → (rows : List Switching)
-      → AreEarthed (standing_in inputs.case rows) → HasWorstDirection inputs (standing_in inputs.case rows)
-  worst_direction more aligned inputs sound rows earthed = record {
-    solved = λ north east. one_solution inputs.case sound rows earthed (uniform_volts inputs.case north east);
-    none_gives_more = λ north east parts in_north in_east s t solve within.
-        more inputs.case (stands_after rows) (strength_asked inputs) north east parts in_north in_east s t sound earthed solve within;
-    aligned_gives_as_much = λ north east parts in_north in_east s t solve goes.
-        aligned inputs.case (stands_after rows) (strength_asked inputs) north east parts in_north in_east s t sound earthed solve goes;
-    under = under_everywhere more inputs sound rows earthed (one_solution inputs.case sound rows earthed (northward_volts inputs)) (one_solution inputs.case sound rows earthed (eastward_volts inputs));
-  }
+  -- in the field of the event that is asked for
+  pub worst_direction : NoFieldGivesMore → AlignedFieldGivesAsMuch → (inputs : Inputs Criteria) → IsSound inputs.case → (network : Network) (stands : Item → Bool) → IsWithinLimits network
+      → AreEarthed (standing_elements network stands) → HasWorstDirection inputs (standing_elements network stands)
+  worst_direction more aligned inputs sound network stands within earthed =
+      let one = solved_where_earthed network stands within earthed in
+      record {
+        solved = λ north east. one (uniform_volts inputs.case north east);
+        none_gives_more = λ north east parts in_north in_east s t solve weaker.
+            more inputs.case network stands (strength_asked inputs) north east parts in_north in_east s t within earthed solve weaker;
+        aligned_gives_as_much = λ north east parts in_north in_east s t solve goes.
+            aligned inputs.case network stands (strength_asked inputs) north east parts in_north in_east s t within earthed solve goes;
+        under = under_everywhere more inputs sound network stands within earthed (one (northward_volts inputs)) (one (eastward_volts inputs));
+      }

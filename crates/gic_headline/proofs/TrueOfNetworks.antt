@@ -55,7 +55,7 @@ module _ (exist : EarthedNetworksAreSolved) (agree : SolutionsAgree) (limits : E
   true_screen inputs text sound verdicts more aligned met right = record {
     report = right;
     verdicts = verdicts inputs.case (standing_of inputs.case inputs.switchings) (northward_volts inputs) (eastward_volts inputs) inputs.question text right;
-    directions = worst_direction exist agree limits more aligned inputs sound (rows_in inputs.switchings) (solvable_once inputs met).earthed;
+    directions = worst_direction exist agree limits more aligned inputs sound (elements_of inputs.case) (stands_after (rows_in inputs.switchings)) (limits inputs.case sound) (solvable_once inputs met).earthed;
   }
 
   pub true_outage : (inputs : Inputs Criteria) (text : List ℕ) → IsSound inputs.case → GreatestWorstIsEnclosed → GreatestWorstIsNarrow → NoneIsWithoutSolvedOutage → GreatestVerdictIsTrue → WorstVerdictIsTrue → NoFieldGivesMore → AlignedFieldGivesAsMuch
@@ -68,7 +68,7 @@ module _ (exist : EarthedNetworksAreSolved) (agree : SolutionsAgree) (limits : E
     verdicts = verdicts inputs right.outages sound right.answer;
     counted = λ item worsts counts own. each inputs item worsts counts sound own;
     directions = λ item out.
-        worst_direction exist agree limits more aligned inputs sound (rows_in inputs.switchings ++ opening item ∷ []) out.solvable.earthed;
+        worst_direction exist agree limits more aligned inputs sound (elements_of inputs.case) (stands_after (rows_in inputs.switchings ++ opening item ∷ [])) (limits inputs.case sound) out.solvable.earthed;
   }
 
   pub true_certify : (inputs : Inputs UniformField) (text : List ℕ) → IsSound inputs.case → RightCertificatesHold → IsMet Solved (steps_of inputs) → IsRightCertify inputs text → IsTrueCertify inputs text

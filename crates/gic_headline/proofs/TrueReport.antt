@@ -2,13 +2,14 @@
 use Rattle.std.proofs.Common.{ℕ, List}
 use Rattle.gic_case.specs.Sound.{IsSound}
 use Rattle.gic_ask.specs.declared.request.Asked.{Asked}
-use Rattle.gic_ask.specs.declared.request.Asked.TheVariants.{Volts, List as ListAsked, Check, Field, Screen, Certify, Outage, Study, Make, Recheck, Series, Review}
+use Rattle.gic_ask.specs.declared.request.Asked.TheVariants.{Volts, List as ListAsked, Check, Field, Screen, Certify, Outage, Study, Make, Recheck, Series, Review, Robust}
 use Rattle.gic_exists.specs.Exists.{EarthedNetworksAreSolved, SolutionsAgree}
 use Rattle.gic_claims.specs.Claims.{BoundNetworksAreEarthed}
 use Rattle.gic_winding.specs.Degrees.{ElementsAreWithinLimits}
 use Rattle.gic_stand.specs.Needs.{IsMet}
 use Rattle.gic_field.specs.Follows.{AbsolutesAreRight, FieldVerdictsAreTrue}
 use Rattle.gic_screen_mode.specs.Follows.{ScreenVerdictsAreTrue}
+use Rattle.gic_robust.specs.Follows.{RobustVerdictsAreTrue}
 use Rattle.gic_outage.specs.Follows.{GreatestWorstIsEnclosed, GreatestWorstIsNarrow, NoneIsWithoutSolvedOutage, GreatestVerdictIsTrue, WorstVerdictIsTrue}
 use Rattle.gic_study_mode.specs.Follows.{PeaksAreNarrow, PeaksEnclose, PeakVerdictsAreTrue}
 use Rattle.gic_certify.specs.Follows.{RightCertificatesHold}
@@ -22,6 +23,7 @@ use Rattle.gic_study.specs.Laws.{need_of, case_asked, steps_asked, StormHasStep}
 use Rattle.gic_study.specs.Modes.{Plans, IsRightText}
 use Rattle.gic_headline.specs.TrueReports.{IsTrueReport}
 use Rattle.gic_headline.proofs.MadeAsked.{IsMadeInRange}
+use Rattle.gic_headline.proofs.TrueOfGrounds.{GroundTheorems, true_robust}
 use Rattle.gic_headline.proofs.TrueOfNetworks.{true_check, true_field, true_screen, true_outage, true_certify, true_recheck}
 use Rattle.gic_headline.proofs.TrueOfStorms.{true_study, true_series, true_make}
 
@@ -38,6 +40,8 @@ pub record Theorems : Type 0 where
   pub absolutes : AbsolutesAreRight
   pub field_verdicts : FieldVerdictsAreTrue
   pub screen_verdicts : ScreenVerdictsAreTrue
+  pub robust_verdicts : RobustVerdictsAreTrue
+  pub grounds : GroundTheorems
   pub greatest : GreatestWorstIsEnclosed
   pub greatest_narrow : GreatestWorstIsNarrow
   pub none_solved : NoneIsWithoutSolvedOutage
@@ -63,6 +67,8 @@ true_report law plans (Field inputs) text sound stepped range met right =
     true_field law.exist law.agree law.limits inputs text sound law.absolutes law.field_verdicts met right
 true_report law plans (Screen inputs) text sound stepped range met right =
     true_screen law.exist law.agree law.limits inputs text sound law.screen_verdicts law.more law.aligned met right
+true_report law plans (Robust inputs) text sound stepped range met right =
+    true_robust law.exist law.agree law.limits law.more law.aligned law.robust_verdicts law.grounds inputs text sound met right
 true_report law plans (Certify inputs) text sound stepped range met right =
     true_certify law.exist law.agree law.limits inputs text sound law.certificates met right
 true_report law plans (Outage inputs) text sound stepped range met right =

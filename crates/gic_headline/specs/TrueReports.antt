@@ -2,6 +2,7 @@
 use Rattle.std.specs.Prelude.{◌≡◌, ℕ, ◌<◌, List, length, Option, None, IfSome}
 use Rattle.gic_case.specs.Lists.{node_names}
 use Rattle.gic_fixed.specs.Ends.{Ends}
+use Rattle.gic_model.specs.declared.parts.Element.{Element}
 use Rattle.gic_model.specs.declared.parts.Item.{Item}
 use Rattle.gic_model.specs.Earthing.{AreEarthed}
 use Rattle.gic_model.specs.Solution.{Solution}
@@ -11,11 +12,12 @@ use Rattle.gic_effective.specs.RightView.{IsRightNode}
 use Rattle.gic_criteria.specs.Event.{threshold_of}
 use Rattle.gic_criteria.specs.declared.asked.Criteria.{Criteria}
 use Rattle.gic_criteria.specs.declared.asked.Question.{Question}
+use Rattle.gic_criteria.specs.declared.asked.RobustCriteria.{RobustCriteria}
 use Rattle.gic_criteria.specs.declared.asked.UniformField.{UniformField}
 use Rattle.gic_inputs.specs.declared.inputs.Inputs.{Inputs}
 use Rattle.gic_inputs.specs.declared.inputs.StormInputs.{StormInputs}
 use Rattle.gic_ask.specs.declared.request.Asked.{Asked}
-use Rattle.gic_ask.specs.declared.request.Asked.TheVariants.{Volts, List as ListAsked, Check, Field, Screen, Certify, Outage, Study, Make, Recheck, Series, Review}
+use Rattle.gic_ask.specs.declared.request.Asked.TheVariants.{Volts, List as ListAsked, Check, Field, Screen, Certify, Outage, Study, Make, Recheck, Series, Review, Robust}
 use Rattle.gic_monitor.specs.DwellText.{dwell_text}
 use Rattle.gic_monitor.specs.EarthText.{earth_text}
 use Rattle.gic_monitor.specs.RosterView.{RosterView}
@@ -27,6 +29,9 @@ use Rattle.gic_worst.specs.Rows.{screen_row_at}
 use Rattle.gic_volts.specs.RightVolts.{IsRightVolts}
 use Rattle.gic_list.specs.RightList.{IsRightList}
 use Rattle.gic_review.specs.RightReview.{IsRightReview}
+use Rattle.gic_robust.specs.Follows.{IsTrueWhateverGrounds}
+use Rattle.gic_robust.specs.RightRobust.{IsRightRobust}
+use Rattle.gic_robust.specs.Steps.{tolerated_of}
 use Rattle.gic_check.specs.RightCheck.{IsRightCheck}
 use Rattle.gic_field.specs.Follows.{AreRightAbsolutes, AreTrueVerdicts}
 use Rattle.gic_field.specs.RightField.{IsRightField, asked_volts}
@@ -51,6 +56,7 @@ use Rattle.gic_laws.specs.Losses.{AreTrueLosses}
 use Rattle.gic_laws.specs.Printed.{HasTrueLines}
 use Rattle.gic_study.specs.Modes.{Plans}
 use Rattle.gic_headline.specs.Directions.{HasWorstDirection}
+use Rattle.gic_headline.specs.Grounds.{screened, AreGroundsOf, AreTrueWith}
 use Rattle.gic_headline.specs.Solved.{HasOneSolution, AreStepsSolved}
 
 -- what monitors are told of the case
@@ -75,6 +81,13 @@ pub record IsTrueScreen (inputs : Inputs Criteria) (text : List ℕ) : Type 0 wh
   pub verdicts : (t : ℕ) → t < length inputs.case.transformers →
       IsTrueVerdict inputs.case (standing_of inputs.case inputs.switchings) (northward_volts inputs) (eastward_volts inputs) (threshold_of inputs.question.event) t (screen_row_at report.rows t).worst
   pub directions : HasWorstDirection inputs (standing_of inputs.case inputs.switchings)
+
+-- of `robust`: each verdict is true of every two varied solutions, whose grounds may have any resistance of their ranges, whole or not; and in every network whose grounds have resistances of their ranges, in whole micro-ohm, the intervals hold and the verdicts are true, whatever solves it, something does, and no direction of the event's field gives more than the worst current
+pub record IsTrueRobust (inputs : Inputs RobustCriteria) (text : List ℕ) : Type 0 where
+  pub report : IsRightRobust inputs text
+  pub verdicts : (t : ℕ) → t < length inputs.case.transformers →
+      IsTrueWhateverGrounds (tolerated_of inputs) (northward_volts (screened inputs)) (eastward_volts (screened inputs)) (threshold_of inputs.question.criteria.event) t (screen_row_at report.rows t).worst
+  pub whatever_grounds : (ohm : Element → ℕ) → AreGroundsOf inputs ohm → AreTrueWith inputs report.rows ohm
 
 -- of `outage`: the interval of each transformer holds its greatest worst current over all outages that can be solved, and is no wider than asked; there is none only where no outage can be solved; the verdict on it is true, and so is each verdict that an outage counts; and in each of these networks no direction gives more
 pub record IsTrueOutage (inputs : Inputs Criteria) (text : List ℕ) : Type 0 where
@@ -137,3 +150,4 @@ IsTrueReport plans (Make r) = IsTrueMake r.seed r.size
 IsTrueReport plans (Recheck asked) = IsTrueRecheck asked.inputs asked.certificate
 IsTrueReport plans (Series asked) = IsTrueSeries asked.inputs asked.transformer
 IsTrueReport plans (Review inputs) = IsRightReview inputs
+IsTrueReport plans (Robust inputs) = IsTrueRobust inputs

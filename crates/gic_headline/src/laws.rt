@@ -11,11 +11,13 @@ use gic_laws::laws::{
 use gic_make::laws::made_cases_law;
 use gic_outage::laws::right_outages_law;
 use gic_recheck::laws::accepted_certificates_law;
+use gic_robust::laws::robust_verdicts_law;
 use gic_screen_mode::laws::screen_verdicts_law;
 use gic_study::laws::{
     accepted_is_reported_law, asked_cases_are_sound_law, asked_storms_have_steps_law,
 };
 use gic_study_mode::laws::peaks_of_studies_law;
+use gic_varied::laws::{any_grounds_law, varied_law};
 use gic_winding::laws::limits_law;
 use gic_words::laws::made_in_range_law;
 
@@ -36,6 +38,9 @@ pub fn headline_law()
     worst_orientation_law();
     field_verdicts_law();
     screen_verdicts_law();
+    varied_law();
+    any_grounds_law();
+    robust_verdicts_law();
     right_outages_law();
     peaks_of_studies_law();
     dwells_of_studies_law();

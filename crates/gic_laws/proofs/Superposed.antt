@@ -7,12 +7,12 @@ use Rattle.gic_base.specs.declared.id.ElementId.{ElementId}
 use Rattle.gic_case.specs.Lists.{Lists}
 use Rattle.gic_induce.specs.Linear.{VoltsAreLinear}
 use Rattle.gic_model.specs.declared.parts.Item.{Item}
+use Rattle.gic_model.specs.Network.{Network}
 use Rattle.gic_model.specs.Solution.{Solution, IsSolution}
 use Rattle.gic_model.specs.SolutionLaws.{SolutionsCombine, combined}
 use Rattle.gic_model.specs.Standing.{standing_elements}
 use Rattle.gic_model.specs.Sums.{Placed}
 use Rattle.gic_exists.specs.Exists.{AnyTwoAgree, Agree}
-use Rattle.gic_winding.specs.ElementList.{elements_of}
 use Rattle.gic_winding.specs.Weights.{transformer_at, weighted_windings}
 use Rattle.gic_effective.specs.Weighted.{effective_numerator, effective_denominator}
 use Rattle.gic_criteria.specs.Worst.{square_of}
@@ -66,21 +66,21 @@ first_of_nothing : (n k : ℕ) → 0 < k → n * k ≤ 0 → n ≤ 0
 first_of_nothing zero k some h = omega arith
 first_of_nothing (suc n) k some h = absurd (omega (arith, some, h))
 
-module _ (linear_volts : VoltsAreLinear) (superpose : SolutionsCombine) (case : Lists) (stands : Item → Bool) (strength north east : ℤ) (parts : ℕ) (to_north to_east part : Solution)
-    (agree : (volts : ℕ → ℤ) → AnyTwoAgree (standing_elements (elements_of case) stands) volts)
-    (solved : AreSolutions case (standing_elements (elements_of case) stands) strength north east parts to_north to_east part) where
+module _ (linear_volts : VoltsAreLinear) (superpose : SolutionsCombine) (case : Lists) (network : Network) (stands : Item → Bool) (strength north east : ℤ) (parts : ℕ) (to_north to_east part : Solution)
+    (agree : (volts : ℕ → ℤ) → AnyTwoAgree (standing_elements network stands) volts)
+    (solved : AreSolutions case (standing_elements network stands) strength north east parts to_north to_east part) where
   -- a solution in the field (north, east)
   abbrev s : Solution
   s = times parts part
 
   abbrev standing : List Placed
-  standing = standing_elements (elements_of case) stands
+  standing = standing_elements network stands
 
   -- the two fields together, and the one as often as they are strong
   both_agree : Agree standing (combined north to_north east to_east) (combined strength s (pos 0) s)
   both_agree =
-      let together = superpose (elements_of case) stands (uniform_volts case strength (pos 0)) (uniform_volts case (pos 0) strength) to_north to_east north east solved.in_north solved.in_east in
-      let often = superpose (elements_of case) stands (uniform_volts case north east) (uniform_volts case north east) s s strength (pos 0) solved.in_both solved.in_both in
+      let together = superpose network stands (uniform_volts case strength (pos 0)) (uniform_volts case (pos 0) strength) to_north to_east north east solved.in_north solved.in_east in
+      let often = superpose network stands (uniform_volts case north east) (uniform_volts case north east) s s strength (pos 0) solved.in_both solved.in_both in
       agree _ (combined north to_north east to_east) (combined strength s (pos 0) s) together
       (subst (λ (v : ℕ → ℤ). IsSolution standing v (combined strength s (pos 0) s)) (volts_combined linear_volts case strength north east) often)
 

@@ -1,13 +1,13 @@
 -- The currents of a transformer over all orientations of a uniform field.
 use Rattle.std.specs.Prelude.{◌≡◌, ℕ, ◌+◌, ◌*◌, ◌<◌, ◌≤◌, Bool, List, ℤ, pos, ◌*ℤ◌}
 use Rattle.gic_case.specs.Lists.{Lists}
-use Rattle.gic_case.specs.Sound.{IsSound}
 use Rattle.gic_model.specs.declared.parts.Item.{Item}
 use Rattle.gic_model.specs.Earthing.{AreEarthed}
+use Rattle.gic_model.specs.Limits.{IsWithinLimits}
+use Rattle.gic_model.specs.Network.{Network}
 use Rattle.gic_model.specs.Solution.{Solution, IsSolution}
 use Rattle.gic_model.specs.Standing.{standing_elements}
 use Rattle.gic_model.specs.Sums.{Placed}
-use Rattle.gic_winding.specs.ElementList.{elements_of}
 use Rattle.gic_effective.specs.Weighted.{effective_numerator, effective_denominator}
 use Rattle.gic_criteria.specs.Worst.{square_of}
 use Rattle.gic_criteria.specs.VerdictLaws.{worst_square}
@@ -21,7 +21,7 @@ times parts s = record {
   denominator = s.denominator;
 }
 
--- solutions of one network of a case: in a field of this strength to the north, in the same field to the east, and in the field (north/parts, east/parts), which they solve where that many times they solve (north, east)
+-- solutions of one network, for voltages of a case: in a field of this strength to the north, in the same field to the east, and in the field (north/parts, east/parts), which they solve where that many times they solve (north, east)
 pub record AreSolutions (case : Lists) (standing : List Placed) (strength north east : ℤ) (parts : ℕ) (to_north to_east s : Solution) : Type 0 where
   pub some_parts : 0 < parts
   pub in_north : IsSolution standing (uniform_volts case strength (pos 0)) to_north
@@ -46,18 +46,18 @@ worst_squared case t to_north to_east s =
     worst_square (effective_numerator case to_north t) (effective_denominator case t to_north) (effective_numerator case to_east t) (effective_denominator case t to_east)
     * square_of (pos (effective_denominator case t s))
 
--- whichever elements stand: in no field of at most this strength, its two parts any rational numbers, is a transformer's current greater
+-- whatever the network, and whichever of its elements stand: in no field of at most this strength, its two parts any rational numbers, is a transformer's current greater
 abbrev pub NoFieldGivesMore : Type 0
-NoFieldGivesMore = (case : Lists) (stands : Item → Bool) (strength north east : ℤ) (parts : ℕ) (to_north to_east s : Solution) (t : ℕ) →
-    let standing = standing_elements (elements_of case) stands in
-    IsSound case → AreEarthed standing → AreSolutions case standing strength north east parts to_north to_east s →
+NoFieldGivesMore = (case : Lists) (network : Network) (stands : Item → Bool) (strength north east : ℤ) (parts : ℕ) (to_north to_east s : Solution) (t : ℕ) →
+    let standing = standing_elements network stands in
+    IsWithinLimits network → AreEarthed standing → AreSolutions case standing strength north east parts to_north to_east s →
     square_of north + square_of east ≤ square_of (strength *ℤ pos parts) →
     current_squared case t to_north to_east s ≤ worst_squared case t to_north to_east s
 
 -- and in a field that goes as these two currents do it is as great, in proportion to the field's strength
 abbrev pub AlignedFieldGivesAsMuch : Type 0
-AlignedFieldGivesAsMuch = (case : Lists) (stands : Item → Bool) (strength north east : ℤ) (parts : ℕ) (to_north to_east s : Solution) (t : ℕ) →
-    let standing = standing_elements (elements_of case) stands in
-    IsSound case → AreEarthed standing → AreSolutions case standing strength north east parts to_north to_east s →
+AlignedFieldGivesAsMuch = (case : Lists) (network : Network) (stands : Item → Bool) (strength north east : ℤ) (parts : ℕ) (to_north to_east s : Solution) (t : ℕ) →
+    let standing = standing_elements network stands in
+    IsWithinLimits network → AreEarthed standing → AreSolutions case standing strength north east parts to_north to_east s →
     north *ℤ east_current case t to_north to_east ≡ east *ℤ north_current case t to_north to_east →
     square_of (strength *ℤ pos parts) * current_squared case t to_north to_east s ≡ (square_of north + square_of east) * worst_squared case t to_north to_east s

@@ -10,7 +10,6 @@ use gic_exists::laws::agreement_law;
 use gic_induce::laws::linearity_law;
 use gic_model::laws::superposition_law;
 use gic_monitor::laws::{losses_are_bounded_law, monitors_bound_the_exact_currents_law};
-use gic_winding::laws::limits_law;
 
 /// Whatever solves the network of each step: the exact absolute effective current of a transformer is the threshold or
 /// more at no fewer steps than the first count of its line of dwells, and at no more than the second one.
@@ -41,15 +40,14 @@ pub fn losses_of_studies_law()
     losses_are_bounded_law();
 }
 
-/// In a sound case whose live nodes are earthed, let a and b be a transformer's signed effective currents in a uniform
-/// field of one strength to the north and to the east. No uniform field of at most that strength gives a current whose
+/// In a network within the limits whose live nodes are earthed, let a and b be a transformer's signed effective currents
+/// in a uniform field of one strength to the north and to the east. No uniform field of at most that strength gives a current whose
 /// square is above a² + b², and one of just that strength that goes as a and b do gives as much. The two parts of these
 /// fields are any rational numbers of mV/km.
 pub fn worst_orientation_law()
     ensures most { NoFieldGivesMore }
     ensures reached { AlignedFieldGivesAsMuch }
 {
-    limits_law();
     linearity_law();
     superposition_law();
     agreement_law();

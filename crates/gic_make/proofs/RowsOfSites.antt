@@ -20,7 +20,7 @@ span_small : (drawn : ℕ) → drawn < 2001 → unsigned_abs (span drawn) ≤ 10
 span_small drawn h = omega (arith, ints)
 
 pub substation_sound : (states : List ℕ) (i : ℕ) → IsSoundSubstation (made_substation states i)
-substation_sound states i = let small = draw_small states (first_draw i) 900 (omega arith) in (omega arith, omega arith)
+substation_sound states i = let small = draw_small states (first_draw i) 900 (omega arith) in record { ohm = (omega arith, omega arith); tolerance_most = tt; tolerance_of_ground = λ own. refl }
 
 pub transformer_sound : (c : Lists) (states : List ℕ) (i : ℕ) → i < length c.buses → IsSoundTransformer c (made_transformer states i)
 transformer_sound c states i within =

@@ -26,7 +26,7 @@ made_zone = record { name = 90 ∷ []; scaling = Earth 6000 100 }
 
 -- substation `S` of a site, whose ground is the site's first draw
 abbrev pub made_substation : (states : List ℕ) → (site : ℕ) → Substation
-made_substation states site = substation_with (numbered 83 site) (Some (100000 + 1000 * draw states (first_draw site) 900))
+made_substation states site = substation_with (numbered 83 site) (Some (100000 + 1000 * draw states (first_draw site) 900)) None
 
 -- bus `B` of a site
 abbrev pub made_bus : (site : ℕ) → Bus

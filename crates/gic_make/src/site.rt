@@ -82,6 +82,7 @@ pub(crate) fn substation(states: &[u32], site: u16) -> Substation
     Substation {
         name: numbered(b'S', site),
         ground: Some(100_000 + 1000 * draw(states, first_draw(site) + GROUND, 900)),
+        tolerance: None,
     }
 }
 

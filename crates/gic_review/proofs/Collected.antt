@@ -10,28 +10,30 @@ use Rattle.gic_review.specs.Parts.{findings_of_parts}
 use Rattle.gic_review.specs.PartSizes.{sizes_of}
 use Rattle.gic_review.specs.Closures.{closures_of}
 use Rattle.gic_review.specs.Readings.{values_of}
+use Rattle.gic_review.specs.LowAlpha.{low_alpha_told}
 use Rattle.gic_review.specs.Sides.{unfit_volts}
 use Rattle.gic_review.specs.Outside.{outside_told}
 use Rattle.gic_review.specs.Findings.{findings_with}
 
--- six lists, each behind those before
-six : (a b c d e f l0 l1 l2 l3 l4 l5 l6 : List Finding) → l0 ≡ [] → l1 ≡ l0 ++ a → l2 ≡ l1 ++ b → l3 ≡ l2 ++ c → l4 ≡ l3 ++ d → l5 ≡ l4 ++ e → l6 ≡ l5 ++ f
-    → l6 ≡ a ++ (b ++ (c ++ (d ++ (e ++ f))))
-six a b c d e f l0 l1 l2 l3 l4 l5 l6 e0 e1 e2 e3 e4 e5 e6 =
-    let one : l1 ≡ a = e1 ∙ ap (λ l. l ++ a) e0 in
-    let two : l2 ≡ a ++ b = e2 ∙ ap (λ l. l ++ b) one in
-    let three : l3 ≡ a ++ (b ++ c) = e3 ∙ ap (λ l. l ++ c) two ∙ append_assoc a b c in
-    let four : l4 ≡ a ++ (b ++ (c ++ d)) = e4 ∙ ap (λ l. l ++ d) three ∙ append_assoc a (b ++ c) d ∙ ap (λ l. a ++ l) (append_assoc b c d) in
-    let five : l5 ≡ a ++ (b ++ (c ++ (d ++ e))) = e5 ∙ ap (λ l. l ++ e) four ∙ append_assoc a (b ++ (c ++ d)) e ∙ ap (λ l. a ++ l) (append_assoc b (c ++ d) e ∙ ap (λ l. b ++ l) (append_assoc c d e)) in
-    e6 ∙ ap (λ l. l ++ f) five ∙ append_assoc a (b ++ (c ++ (d ++ e))) f
-    ∙ ap (λ l. a ++ l) (append_assoc b (c ++ (d ++ e)) f ∙ ap (λ l. b ++ l) (append_assoc c (d ++ e) f ∙ ap (λ l. c ++ l) (append_assoc d e f)))
+-- what was added to a list stands in front of what comes behind it
+behind : (l a m rest : List Finding) → m ≡ l ++ a → m ++ rest ≡ l ++ (a ++ rest)
+behind l a m rest e = ap (λ k. k ++ rest) e ∙ append_assoc l a rest
 
-pub collected : (c : Lists) (network : Network) (l0 l1 l2 l3 l4 l5 l6 : List Finding) → network ≡ elements_of c → l0 ≡ [] → l1 ≡ l0 ++ ungrounded_of c.substations network.list
-    → l2 ≡ l1 ++ findings_of_parts (node_names c) (sizes_of network) → l3 ≡ l2 ++ closures_of c → l4 ≡ l3 ++ values_of c → l5 ≡ l4 ++ unfit_volts c → l6 ≡ l5 ++ flat_map outside_told c.transformers
-    → l6 ≡ findings_with c (sizes_of (elements_of c))
-collected c network l0 l1 l2 l3 l4 l5 l6 same e0 e1 e2 e3 e4 e5 e6 =
-    six (ungrounded_of c.substations (elements_of c).list) (findings_of_parts (node_names c) (sizes_of (elements_of c))) (closures_of c) (values_of c) (unfit_volts c) (flat_map outside_told c.transformers)
-    l0 l1 l2 l3 l4 l5 l6 e0
-    (e1 ∙ ap (λ (n : Network). l0 ++ ungrounded_of c.substations n.list) same)
-    (e2 ∙ ap (λ (n : Network). l1 ++ findings_of_parts (node_names c) (sizes_of n)) same)
-    e3 e4 e5 e6
+pub collected : (c : Lists) (network : Network) (l0 l1 l2 l3 l4 l5 l6 l7 : List Finding) → network ≡ elements_of c → l0 ≡ [] → l1 ≡ l0 ++ ungrounded_of c.substations network.list
+    → l2 ≡ l1 ++ findings_of_parts (node_names c) (sizes_of network) → l3 ≡ l2 ++ closures_of c → l4 ≡ l3 ++ values_of c → l5 ≡ l4 ++ flat_map low_alpha_told c.zones → l6 ≡ l5 ++ unfit_volts c
+    → l7 ≡ l6 ++ flat_map outside_told c.transformers → l7 ≡ findings_with c (sizes_of (elements_of c))
+collected c network l0 l1 l2 l3 l4 l5 l6 l7 same e0 e1 e2 e3 e4 e5 e6 e7 =
+    let ungrounded = ungrounded_of c.substations (elements_of c).list in
+    let parts = findings_of_parts (node_names c) (sizes_of (elements_of c)) in
+    let from_volts = unfit_volts c ++ flat_map outside_told c.transformers in
+    let from_alphas = flat_map low_alpha_told c.zones ++ from_volts in
+    let from_values = values_of c ++ from_alphas in
+    let from_closures = closures_of c ++ from_values in
+    e7
+    ∙ behind l5 (unfit_volts c) l6 (flat_map outside_told c.transformers) e6
+    ∙ behind l4 (flat_map low_alpha_told c.zones) l5 from_volts e5
+    ∙ behind l3 (values_of c) l4 from_alphas e4
+    ∙ behind l2 (closures_of c) l3 from_values e3
+    ∙ behind l1 parts l2 from_closures (e2 ∙ ap (λ (n : Network). l1 ++ findings_of_parts (node_names c) (sizes_of n)) same)
+    ∙ behind l0 ungrounded l1 (parts ++ from_closures) (e1 ∙ ap (λ (n : Network). l0 ++ ungrounded_of c.substations n.list) same)
+    ∙ ap (λ l. l ++ findings_with c (sizes_of (elements_of c))) e0

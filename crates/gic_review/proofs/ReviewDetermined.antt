@@ -8,7 +8,7 @@ use Rattle.gic_text.specs.Lines.{lines_text}
 use Rattle.gic_text.proofs.Injective.{lines_injective}
 use Rattle.gic_text.proofs.Words.{word_from_test, word_decimal, word_signed, word_name, signed_decimal_injective_wide}
 use Rattle.gic_review.specs.declared.findings.finding.Finding.{Finding}
-use Rattle.gic_review.specs.declared.findings.finding.Finding.TheVariants.{Ungrounded, Part, Closure, Value, Volts, Outside}
+use Rattle.gic_review.specs.declared.findings.finding.Finding.TheVariants.{Ungrounded, Part, Closure, Value, Alpha, Volts, Outside}
 use Rattle.gic_case.specs.declared.case_list.CaseList.{CaseList}
 use Rattle.gic_case.specs.declared.case_list.CaseList.TheVariants as lists
 use Rattle.gic_review.specs.declared.findings.finding.Side.{Side}
@@ -137,6 +137,7 @@ finding_is_line (Closure name north east) h =
     (word_from_test (codes "closure") refl, (word_name name h.0, (word_signed north (omega (arith, h.1.0.sfits)), (word_signed east (omega (arith, h.1.1.sfits)), tt))))
 finding_is_line (Value list name measured number) h =
     (word_from_test (codes "value") refl, (list_is_word list, (word_name name h.0, (field_is_word measured, (number_is_word number h.1, tt)))))
+finding_is_line (Alpha name latitude) h = (word_from_test (codes "alpha") refl, (word_name name h.0, (number_is_word latitude h.1, tt)))
 finding_is_line (Volts name side volts measure) h =
     (word_from_test (codes "volts") refl, (word_name name h.0, (side_is_word side, (number_is_word volts h.1.0, (number_is_word measure h.1.1, tt)))))
 finding_is_line (Outside name) h = (word_from_test (codes "outside") refl, (word_name name h, tt))
@@ -163,6 +164,10 @@ same_finding (Value l a m x) (Value r b n y) h k e =
     let measured : m ≡ n = same_field m n (ap (λ (w : Words). word_at w 3) e) in
     let number : x ≡ y = same_long x y h.1 k.1 (ap (λ (w : Words). word_at w 4) e) in
     cc
+same_finding (Alpha a x) (Alpha b y) h k e =
+    let name : a ≡ b = ap (λ (w : Words). word_at w 1) e in
+    let latitude : x ≡ y = same_long x y h.1 k.1 (ap (λ (w : Words). word_at w 2) e) in
+    cc
 same_finding (Volts a s x m) (Volts b t y n) h k e =
     let name : a ≡ b = ap (λ (w : Words). word_at w 1) e in
     let side : s ≡ t = same_side s t (ap (λ (w : Words). word_at w 2) e) in
@@ -174,6 +179,7 @@ same_finding (Ungrounded a) g h k e = let z : kind_of (finding_line (Ungrounded 
 same_finding (Part m a) g h k e = let z : kind_of (finding_line (Part m a)) ≡ kind_of (finding_line g) = ap kind_of e in absurd (omega (arith, z))
 same_finding (Closure a n x) g h k e = let z : kind_of (finding_line (Closure a n x)) ≡ kind_of (finding_line g) = ap kind_of e in absurd (omega (arith, z))
 same_finding (Value l a m x) g h k e = let z : kind_of (finding_line (Value l a m x)) ≡ kind_of (finding_line g) = ap kind_of e in absurd (omega (arith, z))
+same_finding (Alpha a x) g h k e = let z : kind_of (finding_line (Alpha a x)) ≡ kind_of (finding_line g) = ap kind_of e in absurd (omega (arith, z))
 same_finding (Volts a s x m) g h k e = let z : kind_of (finding_line (Volts a s x m)) ≡ kind_of (finding_line g) = ap kind_of e in absurd (omega (arith, z))
 same_finding (Outside a) g h k e = let z : kind_of (finding_line (Outside a)) ≡ kind_of (finding_line g) = ap kind_of e in absurd (omega (arith, z))
 
@@ -184,6 +190,7 @@ no_count (Ungrounded name) n e = let z : kind_of (finding_line (Ungrounded name)
 no_count (Part nodes first) n e = let z : kind_of (finding_line (Part nodes first)) ≡ kind_of (findings_line n) = ap kind_of e in omega (arith, z)
 no_count (Closure name north east) n e = let z : kind_of (finding_line (Closure name north east)) ≡ kind_of (findings_line n) = ap kind_of e in omega (arith, z)
 no_count (Value list name measured number) n e = let z : kind_of (finding_line (Value list name measured number)) ≡ kind_of (findings_line n) = ap kind_of e in omega (arith, z)
+no_count (Alpha name latitude) n e = let z : kind_of (finding_line (Alpha name latitude)) ≡ kind_of (findings_line n) = ap kind_of e in omega (arith, z)
 no_count (Volts name side volts measure) n e = let z : kind_of (finding_line (Volts name side volts measure)) ≡ kind_of (findings_line n) = ap kind_of e in omega (arith, z)
 no_count (Outside name) n e = let z : kind_of (finding_line (Outside name)) ≡ kind_of (findings_line n) = ap kind_of e in omega (arith, z)
 

@@ -5,7 +5,7 @@ use Rattle.std.specs.List.{AllByRecursion}
 use Rattle.gic_base.specs.Name.{is_name}
 use Rattle.gic_text.specs.Lines.{lines_text}
 use Rattle.gic_review.specs.declared.findings.finding.Finding.{Finding}
-use Rattle.gic_review.specs.declared.findings.finding.Finding.TheVariants.{Ungrounded, Part, Closure, Value, Volts, Outside}
+use Rattle.gic_review.specs.declared.findings.finding.Finding.TheVariants.{Ungrounded, Part, Closure, Value, Alpha, Volts, Outside}
 use Rattle.gic_review.specs.ReviewText.{review_report}
 
 -- a finding with a name and with numbers of 64 bits
@@ -14,6 +14,7 @@ CanBeTold (Ungrounded name) = IsTrue (is_name name)
 CanBeTold (Part nodes first) = (nodes < 2 ^ 64) × IsTrue (is_name first)
 CanBeTold (Closure name north east) = IsTrue (is_name name) × (FitsSigned w64 north × FitsSigned w64 east)
 CanBeTold (Value list name measured number) = IsTrue (is_name name) × (number < 2 ^ 64)
+CanBeTold (Alpha name latitude) = IsTrue (is_name name) × (latitude < 2 ^ 64)
 CanBeTold (Volts name side volts measure) = IsTrue (is_name name) × ((volts < 2 ^ 64) × (measure < 2 ^ 64))
 CanBeTold (Outside name) = IsTrue (is_name name)
 

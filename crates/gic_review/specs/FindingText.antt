@@ -2,7 +2,7 @@
 use Rattle.std.specs.Prelude.{ℕ, List, [], ◌∷◌, codes, decimal}
 use Rattle.std.specs.Fmt.{signed_decimal}
 use Rattle.gic_review.specs.declared.findings.finding.Finding.{Finding}
-use Rattle.gic_review.specs.declared.findings.finding.Finding.TheVariants.{Ungrounded, Part, Closure, Value, Volts, Outside}
+use Rattle.gic_review.specs.declared.findings.finding.Finding.TheVariants.{Ungrounded, Part, Closure, Value, Alpha, Volts, Outside}
 use Rattle.gic_case.specs.ListWord.{list_word}
 use Rattle.gic_review.specs.declared.findings.finding.Side.{Side}
 use Rattle.gic_review.specs.declared.findings.finding.Side.TheVariants.{High, Low, Third}
@@ -38,5 +38,6 @@ finding_line (Ungrounded name) = codes "ungrounded" ∷ name ∷ []
 finding_line (Part nodes first) = codes "part" ∷ decimal nodes ∷ first ∷ []
 finding_line (Closure name north east) = codes "closure" ∷ name ∷ signed_decimal north ∷ signed_decimal east ∷ []
 finding_line (Value list name measured number) = codes "value" ∷ list_word list ∷ name ∷ field_word measured ∷ decimal number ∷ []
+finding_line (Alpha name latitude) = codes "alpha" ∷ name ∷ decimal latitude ∷ []
 finding_line (Volts name side volts measure) = codes "volts" ∷ name ∷ side_word side ∷ decimal volts ∷ decimal measure ∷ []
 finding_line (Outside name) = codes "outside" ∷ name ∷ []

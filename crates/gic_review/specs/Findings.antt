@@ -7,6 +7,7 @@ use Rattle.gic_review.specs.Ungrounded.{ungrounded_of}
 use Rattle.gic_review.specs.Parts.{findings_of_parts, ArePartSizes}
 use Rattle.gic_review.specs.Closures.{closures_of}
 use Rattle.gic_review.specs.Readings.{values_of}
+use Rattle.gic_review.specs.LowAlpha.{low_alpha_told}
 use Rattle.gic_review.specs.Sides.{unfit_volts}
 use Rattle.gic_review.specs.Outside.{outside_told}
 
@@ -17,8 +18,9 @@ findings_with c sizes =
     ++ (findings_of_parts (node_names c) sizes
     ++ (closures_of c
     ++ (values_of c
+    ++ (flat_map low_alpha_told c.zones
     ++ (unfit_volts c
-    ++ flat_map outside_told c.transformers))))
+    ++ flat_map outside_told c.transformers)))))
 
 -- with the sizes that the parts have
 pub record AreFindingsOf (c : Lists) (findings : List Finding) : Type 0 where

@@ -1,6 +1,7 @@
 pub mod Usual
 pub mod Spans
 pub mod Readings
+pub mod LowAlpha
 pub mod Outside
 pub mod Sides
 pub mod Places

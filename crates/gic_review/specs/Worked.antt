@@ -43,7 +43,7 @@ unit name high_volts high high_resistance = unit_of name high_volts (kinds.Delta
 abbrev pub ungrounded_case : Lists
 ungrounded_case = record {
   zones = zone (codes "Z") 60 100 ∷ [];
-  substations = substation_with (codes "A") (Some 1000000) ∷ substation_with (codes "B") None ∷ [];
+  substations = substation_with (codes "A") (Some 1000000) None ∷ substation_with (codes "B") None None ∷ [];
   buses = bus (codes "a") 0 ∷ bus (codes "b") 1 ∷ [];
   lines = line (codes "L") 0 1 (One (part (pos 90) (pos 0))) false ∷ [];
   transformers = unit (codes "TA") 345000 0 300000 ∷ unit (codes "TB") 34500 1 3000 ∷ [];
@@ -61,7 +61,7 @@ ungrounded_findings =
 abbrev pub turned_case : Lists
 turned_case = record {
   zones = zone (codes "Z") 6000 100 ∷ [];
-  substations = substation_with (codes "A") (Some 400000) ∷ substation_with (codes "B") (Some 400000) ∷ substation_with (codes "C") (Some 400000) ∷ [];
+  substations = substation_with (codes "A") (Some 400000) None ∷ substation_with (codes "B") (Some 400000) None ∷ substation_with (codes "C") (Some 400000) None ∷ [];
   buses = bus (codes "a") 0 ∷ bus (codes "b") 1 ∷ bus (codes "c") 2 ∷ [];
   lines =
       line (codes "AB") 0 1 (One (part (pos 100000) (pos 0))) false ∷
@@ -78,7 +78,7 @@ turned_findings = findings.Closure (codes "CA") (pos 0) (neg_ℤ (pos 400000)) �
 abbrev pub parted_case : Lists
 parted_case = record {
   zones = zone (codes "Z") 6000 100 ∷ [];
-  substations = substation_with (codes "East") (Some 200000) ∷ substation_with (codes "West") (Some 300000) ∷ [];
+  substations = substation_with (codes "East") (Some 200000) None ∷ substation_with (codes "West") (Some 300000) None ∷ [];
   buses = bus (codes "e") 0 ∷ bus (codes "w") 1 ∷ bus (codes "x") 1 ∷ [];
   lines = [];
   transformers = unit (codes "Te") 345000 0 200000 ∷ unit (codes "Tw") 345000 1 250000 ∷ [];
@@ -91,7 +91,7 @@ parted_findings = findings.Part 2 (codes "East") ∷ findings.Part 2 (codes "Wes
 abbrev pub levels_case : Lists
 levels_case = record {
   zones = zone (codes "Z") 6000 100 ∷ [];
-  substations = substation_with (codes "A") (Some 200000) ∷ [];
+  substations = substation_with (codes "A") (Some 200000) None ∷ [];
   buses = bus (codes "a") 0 ∷ [];
   lines = [];
   transformers =
@@ -110,7 +110,7 @@ third bus volts resistance = record { bus = bus; volts = volts; resistance = res
 abbrev pub third_case : Lists
 third_case = record {
   zones = record { name = codes "Z"; scaling = Factor 1000 } ∷ [];
-  substations = substation_with (codes "A") (Some 200000) ∷ substation_with (codes "B") None ∷ [];
+  substations = substation_with (codes "A") (Some 200000) None ∷ substation_with (codes "B") None None ∷ [];
   buses = bus (codes "a") 0 ∷ bus (codes "b") 0 ∷ bus (codes "c") 0 ∷ bus (codes "d") 1 ∷ [];
   lines =
       line (codes "L") 0 3 (Several (part (pos 60000) (pos 30) ∷ part (neg_ℤ (pos 59950)) (neg_ℤ (pos 10)) ∷ [])) false ∷
@@ -129,3 +129,27 @@ third_findings =
     findings.Value lists.Transformer (codes "T") values.ThirdResistance 9999 ∷
     findings.Volts (codes "R") sides.High 5000 20000 ∷
     findings.Volts (codes "U") sides.Third 22223 20000 ∷ []
+
+-- zones at the ends of the latitudes where the alpha of the table is low and just beyond them, one with an unusual beta, and one by its scale
+abbrev pub alpha_case : Lists
+alpha_case = record {
+  zones =
+      zone (codes "Z1") 4959 100 ∷ zone (codes "Z2") 4960 100 ∷ zone (codes "Z3") 5000 100 ∷ zone (codes "Z4") 5001 100 ∷
+      zone (codes "Z5") 5562 100 ∷ zone (codes "Z6") 5563 100 ∷ zone (codes "Z7") 5600 9 ∷ zone (codes "Z8") 5601 100 ∷
+      zone (codes "Z9") 5696 100 ∷ zone (codes "Za") 5697 100 ∷ zone (codes "Zb") 5700 100 ∷ zone (codes "Zc") 5701 100 ∷
+      record { name = codes "Zd"; scaling = Factor 1000 } ∷ [];
+  substations = [];
+  buses = [];
+  lines = [];
+  transformers = [];
+}
+
+abbrev pub alpha_findings : List Finding
+alpha_findings =
+    findings.Value lists.Zone (codes "Z7") values.Beta 9 ∷
+    findings.Alpha (codes "Z2") 4960 ∷
+    findings.Alpha (codes "Z3") 5000 ∷
+    findings.Alpha (codes "Z6") 5563 ∷
+    findings.Alpha (codes "Z7") 5600 ∷
+    findings.Alpha (codes "Za") 5697 ∷
+    findings.Alpha (codes "Zb") 5700 ∷ []

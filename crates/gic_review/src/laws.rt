@@ -6,7 +6,7 @@ ghost use Rattle.gic_review.specs.Findings.{findings_with};
 ghost use Rattle.gic_review.specs.FindingsLaws.{PartsAreOne, FindingsAreOne};
 ghost use Rattle.gic_review.specs.PartSizes.{sizes_of};
 ghost use Rattle.gic_review.specs.Worked.{ungrounded_case, ungrounded_findings, turned_case, turned_findings, parted_case, parted_findings};
-ghost use Rattle.gic_review.specs.Worked.{levels_case, levels_findings, third_case, third_findings};
+ghost use Rattle.gic_review.specs.Worked.{levels_case, levels_findings, third_case, third_findings, alpha_case, alpha_findings};
 
 /// Texts that are equal tell the same findings.
 pub fn text_determines_findings_law()
@@ -31,4 +31,5 @@ pub fn worked_cases_law()
     ensures parted { findings_with parted_case (sizes_of (elements_of parted_case)) ≡ parted_findings }
     ensures levels { findings_with levels_case (sizes_of (elements_of levels_case)) ≡ levels_findings }
     ensures third { findings_with third_case (sizes_of (elements_of third_case)) ≡ third_findings }
+    ensures alphas { findings_with alpha_case (sizes_of (elements_of alpha_case)) ≡ alpha_findings }
 {}

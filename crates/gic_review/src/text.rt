@@ -61,6 +61,11 @@ fn write_finding<S: Sink>(
             add_value(*list, name, *measured, line);
             line.number(i128::from(*number));
         }
+        Finding::Alpha { name, latitude } => {
+            line.word(b"alpha");
+            line.word(name.as_bytes());
+            line.number(i128::from(*latitude));
+        }
         Finding::Volts {
             name,
             side,

@@ -3,15 +3,10 @@ use Rattle.std.specs.Prelude.{◌≡◌, ℕ, ◌<◌, ◌^◌, ℤ, List, lengt
 use mir.Syntax.{w32}
 use Rattle.gic_case.specs.Lists.{Lists}
 use Rattle.gic_text.specs.Lines.{lines_text}
-use Rattle.gic_report.specs.Fits.{AreInRange, HasNames}
+use Rattle.gic_report.specs.Fits.{HasNames}
 use Rattle.gic_worst.specs.Rows.{ScreenRowView}
+use Rattle.gic_worst.specs.ScreenLines.{IsRowInRange}
 use Rattle.gic_screen_mode.specs.ScreenText.{screen_report}
-
--- each end of the row is a number of 128 bits
-pub record IsRowInRange (row : ScreenRowView) : Type 0 where
-  pub north_fits : AreInRange row.north
-  pub east_fits : AreInRange row.east
-  pub worst_fits : AreInRange row.worst
 
 -- a width, a threshold, a field and rows that can be shown of a case: numbers of their types, and one row a transformer
 pub record AreShownOf (case : Lists) (width threshold : ℕ) (field : ℤ) (rows : List ScreenRowView) : Type 0 where

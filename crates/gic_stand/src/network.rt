@@ -65,7 +65,7 @@ pub fn expect_earthed(
     step: u32,
     scratch: &mut Scratch,
 ) -> Result<(), NetworkRefusal>
-    requires network { net.now.network ≡ elements_of case.now }
+    requires nodes { net.now.network.nodes ≡ (elements_of case.now).nodes }
     requires scratch { scratch.old.nodes ≡ net.now.network.nodes }
     ensures earthed { OnOk result (AreEarthed (standing net.now)) }
     ensures err { IfErr result (Fails Earthed case.now step (standing net.now)) }
@@ -90,7 +90,7 @@ pub fn expect_resolved(
     vector: &mut BoundVector,
     start: &mut Start,
 ) -> Result<(), NetworkRefusal>
-    requires network { net.now.network ≡ elements_of case.now }
+    requires nodes { net.now.network.nodes ≡ (elements_of case.now).nodes }
     requires workspace { IsStartForNodes net.now.network.nodes vector.old start.old }
     requires earthed { AreEarthed (standing net.now) }
     ensures within { OnOk result (IsEarthedWithin (standing net.now) MOST_WALK) }

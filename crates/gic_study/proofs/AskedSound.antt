@@ -19,7 +19,7 @@ use Rattle.gic_inputs.specs.declared.inputs.Inputs.{Inputs}
 use Rattle.gic_inputs.specs.declared.inputs.StormInputs.{StormInputs}
 use Rattle.gic_criteria.specs.declared.asked.Criteria.{Criteria}
 use Rattle.gic_ask.specs.declared.request.Asked.{Asked}
-use Rattle.gic_ask.specs.declared.request.Asked.TheVariants.{Volts, List as ListAsked, Check, Field, Screen, Certify, Outage, Study, Make, Recheck, Series, Review}
+use Rattle.gic_ask.specs.declared.request.Asked.TheVariants.{Volts, List as ListAsked, Check, Field, Screen, Certify, Outage, Study, Make, Recheck, Series, Review, Robust}
 use Rattle.gic_study.specs.Laws.{case_asked, AskedCasesAreSound}
 use Rattle.gic_study.proofs.Accepting.{Holds, Any, then_holds, anyway, reading_holds, made_holds}
 
@@ -80,6 +80,7 @@ module _ (accepted : AcceptedCasesAreSound) (made : MadeCasesAreSound) (contents
       (λ lists sound. then_holds Any IsAskedSound (reading (λ refusal. refusal) (transformer_asked lists r.transformer)) _ (anyway (reading (λ refusal. refusal) (transformer_asked lists r.transformer)))
       (λ place any. made_holds IsStormOverSound IsAskedSound _ (series_given r place) (over_sound r.switch _ lists sound) (λ inputs is_sound. is_sound)))
   asking_sound (request.Review case) can = over_network None _ Review (λ inputs sound. sound)
+  asking_sound (request.Robust r) can = over_network r.switch _ Robust (λ inputs sound. sound)
 
 outcome_sound : MadeInRange → AcceptedCasesAreSound → MadeCasesAreSound → (words : List (List ℕ)) (contents : Contents) → Holds IsAskedSound (outcome words contents)
 outcome_sound ranges accepted made words contents =

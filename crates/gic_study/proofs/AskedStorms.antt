@@ -18,7 +18,7 @@ use Rattle.gic_inputs.specs.declared.inputs.Inputs.{Inputs}
 use Rattle.gic_inputs.specs.declared.inputs.StormInputs.{StormInputs}
 use Rattle.gic_criteria.specs.declared.asked.Criteria.{Criteria}
 use Rattle.gic_ask.specs.declared.request.Asked.{Asked}
-use Rattle.gic_ask.specs.declared.request.Asked.TheVariants.{Volts, List as ListAsked, Check, Field, Screen, Certify, Outage, Study, Make, Recheck, Series, Review}
+use Rattle.gic_ask.specs.declared.request.Asked.TheVariants.{Volts, List as ListAsked, Check, Field, Screen, Certify, Outage, Study, Make, Recheck, Series, Review, Robust}
 use Rattle.gic_study.specs.Laws.{StormHasStep, AskedStormsHaveSteps}
 use Rattle.gic_study.proofs.Accepting.{Holds, Any, then_holds, anyway, reading_holds, made_holds}
 
@@ -72,6 +72,7 @@ module _ (accepted : AcceptedStormsHaveSteps) (contents : Contents) where
       (λ lists any. then_holds Any StormHasStep (reading (λ refusal. refusal) (transformer_asked lists r.transformer)) _ (anyway (reading (λ refusal. refusal) (transformer_asked lists r.transformer)))
       (λ place other. made_holds IsOverStepped StormHasStep _ (series_given r place) (over_stepped r.switch _ lists) (λ inputs some. record { least = omega arith; most = some })))
   asking_stepped (request.Review case) = no_storm _ Review (λ inputs. tt)
+  asking_stepped (request.Robust r) = no_storm _ Robust (λ inputs. tt)
 
 outcome_stepped : AcceptedStormsHaveSteps → (words : List (List ℕ)) (contents : Contents) → Holds StormHasStep (outcome words contents)
 outcome_stepped accepted words contents =

@@ -3,7 +3,7 @@ use Rattle.std.proofs.Common.{◌≡◌, ◌∙◌, ℕ, ◌+◌, ◌*◌, ◌==
 use Rattle.gic_words.specs.Table.{mode_rows}
 use Rattle.gic_words.specs.declared.mode.Mode.{Mode}
 use Rattle.gic_ask.specs.declared.request.Asked.{Asked}
-use Rattle.gic_ask.specs.declared.request.Asked.TheVariants.{Volts, List as ListAsked, Check, Field, Screen, Certify, Outage, Study, Make, Recheck, Series, Review}
+use Rattle.gic_ask.specs.declared.request.Asked.TheVariants.{Volts, List as ListAsked, Check, Field, Screen, Certify, Outage, Study, Make, Recheck, Series, Review, Robust}
 use Rattle.gic_recheck.specs.Determines.{AcceptedIsNotRefused}
 use Rattle.gic_recheck.specs.declared.fault.CertificateRefusal.{CertificateRefusal}
 use Rattle.gic_stand.specs.Needs.{Nothing, IsUnmet}
@@ -37,6 +37,7 @@ begins plans (Study asked) text right = ap mode_begun right.text_is
 begins plans (Make r) text right = ap mode_begun right.text_is
 begins plans (Series asked) text right = ap mode_begun right.text_is
 begins plans (Review inputs) text right = ap mode_begun right.text_is
+begins plans (Robust inputs) text right = ap mode_begun right.text_is
 begins plans (Recheck asked) text right = ap mode_begun right.text_is
 
 same_mode : (m n : Mode) → Some m ≡ Some n → m ≡ n
@@ -61,6 +62,7 @@ refused_or_accepted never (Study asked) refusal refused accepted = refused
 refused_or_accepted never (Make r) refusal refused accepted = refused
 refused_or_accepted never (Series asked) refusal refused accepted = refused
 refused_or_accepted never (Review inputs) refusal refused accepted = refused
+refused_or_accepted never (Robust inputs) refusal refused accepted = refused
 refused_or_accepted never (Recheck asked) refusal refused accepted = never asked.inputs.case (standing_of asked.inputs.case asked.inputs.switchings) asked.certificate accepted.0 refusal accepted.1 refused
 
 -- what is right of a certificate shows that it is accepted
@@ -76,6 +78,7 @@ right_accepts plans (Study asked) text right = tt
 right_accepts plans (Make r) text right = tt
 right_accepts plans (Series asked) text right = tt
 right_accepts plans (Review inputs) text right = tt
+right_accepts plans (Robust inputs) text right = tt
 right_accepts plans (Recheck asked) text right = (right.certificate, right.accepted)
 
 -- where a certificate is asked to be checked, nothing is needed of the network
@@ -91,4 +94,5 @@ refused_needs_nothing (Study asked) refusal network refused unmet = refused
 refused_needs_nothing (Make r) refusal network refused unmet = refused
 refused_needs_nothing (Series asked) refusal network refused unmet = refused
 refused_needs_nothing (Review inputs) refusal network refused unmet = refused
+refused_needs_nothing (Robust inputs) refusal network refused unmet = refused
 refused_needs_nothing (Recheck asked) refusal network refused unmet = unmet_or_met Nothing asked.inputs.case (steps_of asked.inputs) network unmet (met_nothing (steps_of asked.inputs))

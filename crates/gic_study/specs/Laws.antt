@@ -25,7 +25,7 @@ use Rattle.gic_ask.specs.declared.fault.InputFault.TheVariants.{Refused, CannotR
 use Rattle.gic_ask.specs.declared.fault.InputRefusal.{InputRefusal}
 use Rattle.gic_ask.specs.declared.fault.InputRefusal.TheVariants.{Usage, TooLong, Case, UnknownTransformer, Storm, Switch}
 use Rattle.gic_ask.specs.declared.request.Asked.{Asked}
-use Rattle.gic_ask.specs.declared.request.Asked.TheVariants.{Volts, List as ListAsked, Check, Field, Screen, Certify, Outage, Study, Make, Recheck, Series, Review}
+use Rattle.gic_ask.specs.declared.request.Asked.TheVariants.{Volts, List as ListAsked, Check, Field, Screen, Certify, Outage, Study, Make, Recheck, Series, Review, Robust}
 use Rattle.gic_course.specs.Steps.{IsStepOf}
 use Rattle.gic_stand.specs.Needs.{Need, IsMet, IsUnmet}
 use Rattle.gic_stand.specs.Standing.{standing_of}
@@ -56,6 +56,7 @@ mode_asked (Make r) = mode.Make
 mode_asked (Recheck asked) = mode.Recheck
 mode_asked (Series asked) = mode.Series
 mode_asked (Review inputs) = mode.Review
+mode_asked (Robust inputs) = mode.Robust
 
 abbrev pub need_of : Asked → Need
 need_of asked = (meaning_of asked).need

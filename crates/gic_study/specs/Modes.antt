@@ -7,7 +7,7 @@ use Rattle.gic_inputs.specs.declared.inputs.StormInputs.{StormInputs}
 use Rattle.gic_stand.specs.Needs.{Need, Nothing, Earthed, Solved}
 use Rattle.gic_stand.specs.Standing.{standing_of, steps_of}
 use Rattle.gic_ask.specs.declared.request.Asked.{Asked}
-use Rattle.gic_ask.specs.declared.request.Asked.TheVariants.{Volts, List as ListAsked, Check, Field, Screen, Certify, Outage, Study, Make, Recheck, Series, Review}
+use Rattle.gic_ask.specs.declared.request.Asked.TheVariants.{Volts, List as ListAsked, Check, Field, Screen, Certify, Outage, Study, Make, Recheck, Series, Review, Robust}
 use Rattle.gic_make.specs.MadeCase.{made_case}
 use Rattle.gic_volts.specs.RightVolts.{IsRightVolts}
 use Rattle.gic_list.specs.RightList.{IsRightList}
@@ -17,6 +17,8 @@ use Rattle.gic_screen_mode.specs.RightScreen.{IsRightScreen}
 use Rattle.gic_certify.specs.RightCertify.{IsRightCertify}
 use Rattle.gic_outage.specs.RightOutage.{IsRightOutage}
 use Rattle.gic_review.specs.RightReview.{IsRightReview}
+use Rattle.gic_robust.specs.Steps.{most_steps}
+use Rattle.gic_robust.specs.RightRobust.{IsRightRobust}
 use Rattle.gic_recheck.specs.Accepted.{IsRefused}
 use Rattle.gic_recheck.specs.RightRecheck.{IsRightRecheck}
 use Rattle.gic_recheck.specs.declared.fault.CertificateRefusal.{CertificateRefusal}
@@ -61,6 +63,7 @@ meaning_of (Make r) = record { need = Nothing; case = made_case r.seed r.size; s
 meaning_of (Recheck asked) = over_network Nothing (λ i. IsRightRecheck i asked.certificate) asked.inputs
 meaning_of (Series asked) = over_storm asked.inputs (λ plans. IsRightSeries asked.inputs asked.transformer)
 meaning_of (Review inputs) = over_network Nothing IsRightReview inputs
+meaning_of (Robust inputs) = record { need = Solved; case = inputs.case; steps = most_steps inputs; IsRight = λ plans. IsRightRobust inputs }
 
 -- a text is a right report of what is asked for
 abbrev pub IsRightText : Plans → Asked → (text : List ℕ) → Type 0

@@ -1,7 +1,7 @@
 //! The modes.
 ghost use Rattle.std.specs.Prelude.{◌≡◌, ◌<◌, ◌≤◌, length, map, IfOk, IfErr};
 ghost use Rattle.std.specs.Prelude as std;
-ghost use Rattle.gic_criteria.specs.Ranges.{IsWithinCriteria, IsWithinField, IsWithinRanges};
+ghost use Rattle.gic_criteria.specs.Ranges.{IsWithinCriteria, IsWithinField, IsWithinRanges, IsWithinRobust};
 ghost use Rattle.gic_inputs.specs.Inputs.{IsStormOf};
 ghost use Rattle.gic_monitor.specs.OnBoard.{monitors_of};
 ghost use Rattle.gic_monitor.specs.RosterView.{RosterView};
@@ -12,7 +12,7 @@ ghost use Rattle.gic_study_mode.specs.Roster.{roster_of};
 ghost use Rattle.gic_view.specs.View.{View};
 ghost use Rattle.gic_ask.specs.Within.{IsAskedWithinRanges};
 ghost use Rattle.gic_ask.specs.declared.request.Asked.TheVariants.{Volts, List, Check, Field, Screen, Certify, Outage, Study, Make};
-ghost use Rattle.gic_ask.specs.declared.request.Asked.TheVariants.{Recheck, Series, Review};
+ghost use Rattle.gic_ask.specs.declared.request.Asked.TheVariants.{Recheck, Series, Review, Robust};
 ghost use Rattle.gic_study.specs.Concluding.{Concludes};
 ghost use Rattle.gic_study.specs.ModeCalls.{TellsMaking, without_workspace};
 ghost use Rattle.gic_study.specs.Modes.{Plans};
@@ -26,6 +26,7 @@ ghost use Rattle.gic_screen_mode.specs.Made as screen;
 ghost use Rattle.gic_certify.specs.Made as certify;
 ghost use Rattle.gic_outage.specs.Made as outage;
 ghost use Rattle.gic_review.specs.Made as review;
+ghost use Rattle.gic_robust.specs.Made as robust;
 ghost use Rattle.gic_make.specs.Made as make;
 ghost use Rattle.gic_series.specs.Made as series;
 ghost use Rattle.gic_study_mode.specs.Made as study;
@@ -36,7 +37,7 @@ use gic_ask::{Asked, RecheckAsked, SeriesAsked, StudyAsked};
 use gic_base::{OutOfMemory, Sink};
 use gic_certify::certify;
 use gic_check::check;
-use gic_criteria::{Criteria, Question, UniformField};
+use gic_criteria::{Criteria, Question, RobustCriteria, UniformField};
 use gic_field::field;
 use gic_inputs::Inputs;
 use gic_list::list;
@@ -45,6 +46,7 @@ use gic_monitor::Monitor;
 use gic_outage::outage;
 use gic_recheck::{WorkspaceFault, recheck};
 use gic_review::review;
+use gic_robust::robust;
 use gic_screen_mode::screen;
 use gic_series::series;
 use gic_study_mode::study;
@@ -177,6 +179,22 @@ fn serve_review<S: Sink>(
     reported(review(inputs, &mut workspace, out))
 }
 
+/// Writes the report of `robust` in its workspace, where that was made.
+fn serve_robust<S: Sink>(
+    inputs: &Inputs<RobustCriteria>,
+    made: Result<gic_robust::Workspace, OutOfMemory>,
+    out: &mut S,
+) -> Result<(), Fault>
+    requires ranges { IsWithinRobust inputs.now.question }
+    requires made { IfOk made (robust.IsMadeFor inputs.now) }
+    ensures ends { (plans : Plans) → Concludes plans (Robust inputs.now)
+        (shown S.written S.faults out.old) (shown S.written S.faults out.new) result }
+    ensures memory { TellsMaking (λ e. Memory Workspace) made result }
+{
+    let mut workspace = made?;
+    reported(robust(inputs, &mut workspace, out))
+}
+
 /// Writes the report of a study in its workspace, where that was made. The monitors there see the steps.
 fn serve_study<S: Sink>(
     alloc: Global,
@@ -302,6 +320,11 @@ pub(crate) fn serve<S: Sink>(
         Asked::Review(inputs) => serve_review(
             inputs,
             gic_review::make_workspace(alloc, inputs),
+            out,
+        ),
+        Asked::Robust(inputs) => serve_robust(
+            inputs,
+            gic_robust::make_workspace(alloc, inputs),
             out,
         ),
     }

@@ -6,6 +6,7 @@ ghost use Rattle.gic_model.specs.Guess.{IsSettled};
 ghost use Rattle.gic_model.specs.Voltages.{number_at};
 ghost use Rattle.gic_net.specs.Net.{standing};
 ghost use Rattle.gic_bound.specs.Entries.{IsBoundWithin};
+ghost use Rattle.gic_enclose.specs.Certain.{AreTight};
 ghost use Rattle.gic_enclose.specs.Solved.{IsSolvedWithin};
 ghost use Rattle.gic_enclose.specs.Together.{BelongTogether};
 ghost use Rattle.gic_winding.specs.ElementList.{elements_of};
@@ -88,6 +89,7 @@ fn solve_uncounted<L: Ledger>(
     requires bound { IsBoundWithin (standing net.now) MOST_WALK (slice_index vector.now) }
     requires width { 2 ≤ width }
     ensures solved { IsSolvedWithin (standing net.now) (number_at volts.now) width out.new }
+    ensures tight { AreTight out.new }
     ensures together { BelongTogether net.now.network volts.now solver.new vector.now out.new }
 {
     let mut steps: Steps<L> = Steps::new(blank);
@@ -117,7 +119,7 @@ impl SolveWorkspace {
     /// it. A bound vector of the network is left for every solve, found from the entries there. The guesses and the
     /// intervals stay. Takes no memory.
     pub fn look(&mut self, case: &Case, net: &Net, step: u32) -> Result<(), NetworkRefusal>
-        requires network { net.now.network ≡ elements_of case.now }
+        requires nodes { net.now.network.nodes ≡ (elements_of case.now).nodes }
         requires space { IsWorkspaceForCase case.now self.old }
         ensures ready { OnOk result (IsReadyFor case.now (standing net.now) self.new) }
         ensures err { IfErr result (Fails Solved case.now step (standing net.now)) }
@@ -161,6 +163,7 @@ impl SolveWorkspace {
         requires space { IsSolveWorkspaceFor net.now.network.nodes self.old }
         requires bound { IsBoundWithin (standing net.now) MOST_WALK (slice_index self.old.vector) }
         ensures solved { IsSolvedWithin (standing net.now) (number_at volts.now) width self.new.potentials }
+        ensures tight { AreTight self.new.potentials }
         ensures space { IsSolveWorkspaceFor net.now.network.nodes self.new }
         ensures rest { self.new ≡ record self.old { solver = self.new.solver; potentials = self.new.potentials } }
     {

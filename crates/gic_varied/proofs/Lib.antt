@@ -1,3 +1,4 @@
+mod Bounded
 pub mod Regrounded
 pub mod Within
 pub mod OwnRanges
@@ -13,6 +14,7 @@ pub mod Strays
 pub mod Intervals
 pub mod Enclosed
 pub mod OtherGrounds
+pub mod AnyGrounds
 pub mod Resistances
 pub mod Scaled
 pub mod Certain

@@ -146,12 +146,12 @@ length_with : (ohm : Element → ℕ) (es : List Element) → length (map (regro
 length_with ohm [] = refl
 length_with ohm (e ∷ es) = let rest = length_with ohm es in cc
 
-pub limits_with : (network : Network) (ohm : Element → ℕ) → ((e : Element) → IsElementWithin network.nodes e → (1000 ≤ ohm e) × (ohm e ≤ 1000000000)) →
+pub limits_by : (network : Network) (ohm : Element → ℕ) → AllByRecursion (IsElementWithin network.nodes) (map (regrounded ohm) network.list) →
     IsWithinLimits network → IsWithinLimits (with_grounds ohm network)
-limits_with network ohm inside h = record {
+limits_by network ohm each h = record {
   few_nodes = h.few_nodes;
   few_elements = let same = length_with ohm network.list in let few = h.few_elements in omega arith;
-  each_element = elements_with network.nodes ohm network.list inside h.each_element;
+  each_element = each;
   few_at_a_node = λ k below. let same = counted k network.list in let few = h.few_at_a_node k below in omega arith;
 }
   where
@@ -161,8 +161,12 @@ limits_with network ohm inside h = record {
         sum_by-cons (λ x. cond (ends_at x k) 1 0) (regrounded ohm e) (map (regrounded ohm) es) ∙ ap (λ n. cond (ends_at e k) 1 0 + n) (counted k es) ∙
         sym (sum_by-cons (λ x. cond (ends_at x k) 1 0) e es)
 
+limits_with : (network : Network) (ohm : Element → ℕ) → ((e : Element) → IsElementWithin network.nodes e → (1000 ≤ ohm e) × (ohm e ≤ 1000000000)) →
+    IsWithinLimits network → IsWithinLimits (with_grounds ohm network)
+limits_with network ohm inside h = limits_by network ohm (elements_with network.nodes ohm network.list inside h.each_element) h
+
 -- the ends of a range of a tolerance
-ends_inside : (percent ohm : ℕ) → 1000 ≤ ohm → ohm ≤ 1000000000 →
+pub ends_inside : (percent ohm : ℕ) → 1000 ≤ ohm → ohm ≤ 1000000000 →
     ((1000 ≤ (range_of percent ohm).least) × ((range_of percent ohm).least ≤ 1000000000)) × ((1000 ≤ (range_of percent ohm).most) × ((range_of percent ohm).most ≤ 1000000000))
 ends_inside percent ohm least most =
     let own = own_in_range percent ohm least most in

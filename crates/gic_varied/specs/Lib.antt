@@ -8,5 +8,7 @@ pub mod Strays
 pub mod Exact
 pub mod Enclosure
 pub mod GroundLaws
+pub mod EachGround
 pub mod Certified
+pub mod Bounds
 pub mod WorkedGrounds

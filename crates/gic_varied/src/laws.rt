@@ -3,10 +3,12 @@ ghost use Rattle.gic_model.specs.WorkedLoop.{loop_standing};
 ghost use Rattle.gic_varied.specs.Varied.{IsVaried, WithinIsSomeResistance};
 ghost use Rattle.gic_varied.specs.VariedLaws.{RangesHoldTolerances, OwnGroundsAreInRanges, SolutionsAreVaried, OwnSolutionsAreVaried};
 ghost use Rattle.gic_varied.specs.Certified.{CertifiedEnclosuresHold, GrainsHoldInUnits};
+ghost use Rattle.gic_varied.specs.Bounds.{TolerancesAreModest, VariedCurrentsAreBounded};
 ghost use Rattle.gic_varied.specs.Enclosure.{EnclosuresHold, ProductsHold, VariedPotentialsHold, LiftVoltsLift};
 ghost use Rattle.gic_varied.specs.Exact.{VariedCurrentsAreInReferenceEnclosure};
 ghost use Rattle.gic_varied.specs.GroundLaws.{OtherGroundsEarthToo, BoundVectorsServeLesserGrounds, LesserGroundsEarthWithin};
 ghost use Rattle.gic_varied.specs.GroundLaws.{RangesStayWithinLimits};
+ghost use Rattle.gic_varied.specs.EachGround.{StandingGroundsAreInRanges, AnyGroundsStayWithinLimits, NetworksAreEarthedAlike};
 ghost use Rattle.gic_varied.specs.Lifts.{PotentialsAreRaisedAtMost, PotentialsAreLoweredAtMost};
 ghost use Rattle.gic_varied.specs.Strays.{StrayPowersAreBounded};
 ghost use Rattle.gic_varied.specs.Reciprocal.{VariedCurrentsAreReciprocal, CurrentsAreReciprocal, VariedCurrentsAreOffByStrayPower};
@@ -73,10 +75,24 @@ pub fn other_grounds_law()
     ensures limits { RangesStayWithinLimits }
 {}
 
+/// A network with any resistances of their ranges at its grounds is within the limits where the network is, and of two
+/// networks that differ in their grounds alone one is earthed where the other is.
+pub fn any_grounds_law()
+    ensures standing { StandingGroundsAreInRanges }
+    ensures limits { AnyGroundsStayWithinLimits }
+    ensures earthed { NetworksAreEarthedAlike }
+{}
+
 /// The enclosure that is made of certain intervals of a reference, an adjoint solution and two lifts, as the solver
 /// certifies them, and of an interval of the reference's weighted current, holds the weighted current of every varied
 /// solution.
 pub fn certified_enclosure_law()
     ensures holds { CertifiedEnclosuresHold }
     ensures grains { GrainsHoldInUnits }
+{}
+
+/// With tolerances up to 90 per cent no element but a ground carries more than 2^80 nanoamperes in a varied solution.
+pub fn varied_bound_law()
+    ensures modest { TolerancesAreModest }
+    ensures bounded { VariedCurrentsAreBounded }
 {}

@@ -93,7 +93,7 @@ each_element c sound =
     let neutrals : AllByRecursion (IsPlaced (length (neutrals_of c)) (IsNeutral c nodes)) (enumerate_from 0 (neutrals_of c)) =
     all_placed (length (neutrals_of c)) (IsNeutral c nodes) 0 (neutrals_of c) (omega arith)
     (neutrals_within c sound nodes (first_bus + length c.buses) c.transformers (omega arith) (omega arith) (omega arith) (recursion_from_All (IsSoundTransformer c) c.transformers sound.transformers_sound)) in
-    let earthings = all_of_parts (IsPlaced first_bus IsSoundSubstation) within earthing_part (λ p h. earthing_within nodes p.0 p.1.ground (omega (arith, h.below)) h.fact) (enumerate_from 0 c.substations)
+    let earthings = all_of_parts (IsPlaced first_bus IsSoundSubstation) within earthing_part (λ p h. earthing_within nodes p.0 p.1.ground (omega (arith, h.below)) h.fact.ohm) (enumerate_from 0 c.substations)
     (all_placed first_bus IsSoundSubstation 0 c.substations (omega arith) (recursion_from_All IsSoundSubstation c.substations sound.substations_sound)) in
     let lines = all_of_parts (IsPlaced (length c.lines) (IsSoundLine c)) within (line_part c) (λ p h. line_within c nodes p.0 p.1 (omega arith) h.fact) (enumerate_from 0 c.lines)
     (all_placed (length c.lines) (IsSoundLine c) 0 c.lines (omega arith) (recursion_from_All (IsSoundLine c) c.lines sound.lines_sound)) in

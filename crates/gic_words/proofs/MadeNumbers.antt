@@ -82,6 +82,7 @@ made_by mode.Make rows = as_made request.Make _ (make_in_range rows)
 made_by mode.Recheck rows = as_other request.Recheck _ (λ r. tt)
 made_by mode.Series rows = as_other request.Series _ (λ r. tt)
 made_by mode.Review rows = as_other request.Review _ (λ case. tt)
+made_by mode.Robust rows = as_other request.Robust _ (λ r. tt)
 
 made_unless : (asked : Result Request Usage) (u : Option Usage) → IfOk asked CanBeMade → IfOk (unless_refused u asked) CanBeMade
 made_unless asked None h = h

@@ -1,14 +1,14 @@
 -- What accepted words give: what their mode requires, with numbers in their ranges.
 use Rattle.std.specs.Prelude.{ℕ, ◌≤◌, ◌≡◌, List, IsSome, IsOk, IfOk, IfSome, None, ⊤}
 use Rattle.clap.specs.Words.{Row}
-use Rattle.gic_criteria.specs.Ranges.{IsWidth, IsWithinCriteria, IsWithinField}
+use Rattle.gic_criteria.specs.Ranges.{IsWidth, IsWithinCriteria, IsWithinField, IsWithinRobust}
 use Rattle.gic_words.specs.Command.{given}
 use Rattle.gic_words.specs.Requests.{first_fault, mode_in, number_given, request_by, request_of}
 use Rattle.gic_words.specs.Table.{all_options}
 use Rattle.gic_words.specs.Values.{event_of}
 use Rattle.gic_words.specs.declared.mode.Mode.{Mode}
 use Rattle.gic_words.specs.declared.mode.Mode.TheVariants as mode
-use Rattle.gic_words.specs.declared.option.Opt.TheVariants.{Case, Storm, Seed, Size, Event, Cert, Transformer}
+use Rattle.gic_words.specs.declared.option.Opt.TheVariants.{Case, Storm, Seed, Size, Event, Cert, Transformer, Tolerance}
 use Rattle.gic_words.specs.declared.request.Request.{Request}
 use Rattle.gic_words.specs.declared.request.Request.TheVariants as request
 
@@ -26,6 +26,7 @@ HasRequiredOf mode.Make rows = IsSome (number_given rows Seed) × IsSome (number
 HasRequiredOf mode.Recheck rows = IsSome (given rows Case) × IsSome (given rows Cert)
 HasRequiredOf mode.Series rows = IsSome (given rows Case) × (IsSome (given rows Storm) × IsSome (given rows Transformer))
 HasRequiredOf mode.Review rows = IsSome (given rows Case)
+HasRequiredOf mode.Robust rows = IsSome (given rows Case) × IsSome (number_given rows Tolerance)
 
 -- an event that is given is one by its name
 abbrev pub NamesEvent : List Row → Type 0
@@ -69,4 +70,5 @@ AreWithinRanges (request.Outage r) = IsWithinCriteria r.criteria
 AreWithinRanges (request.Study r) = IsWithinCriteria r.criteria
 AreWithinRanges (request.Make r) = IsSize r.size
 AreWithinRanges (request.Series r) = IsWidth r.width
+AreWithinRanges (request.Robust r) = IsWithinRobust r.criteria
 AreWithinRanges _ = ⊤

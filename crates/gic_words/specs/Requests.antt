@@ -8,7 +8,7 @@ use Rattle.gic_words.specs.Command.{given, given_mode, faults_of, matches_of_wor
 use Rattle.gic_criteria.specs.declared.event.Event.{Event as NamedEvent}
 use Rattle.gic_words.specs.Values.{event_of, number_in}
 use Rattle.gic_words.specs.declared.option.Opt.{Opt}
-use Rattle.gic_words.specs.declared.option.Opt.TheVariants.{Case, Storm, Switch, North, East, Width, Detail, Seed, Size, Event, Cert, Transformer}
+use Rattle.gic_words.specs.declared.option.Opt.TheVariants.{Case, Storm, Switch, North, East, Width, Detail, Seed, Size, Event, Cert, Transformer, Tolerance}
 use Rattle.gic_words.specs.declared.option.Form.{Form}
 use Rattle.gic_words.specs.declared.option.Form.TheVariants as form
 use Rattle.gic_words.specs.declared.mode.Mode.{Mode}
@@ -23,6 +23,7 @@ use Rattle.gic_words.specs.declared.request.StudyRequest.{StudyRequest}
 use Rattle.gic_words.specs.declared.request.MakeRequest.{MakeRequest}
 use Rattle.gic_words.specs.declared.request.RecheckRequest.{RecheckRequest}
 use Rattle.gic_words.specs.declared.request.SeriesRequest.{SeriesRequest}
+use Rattle.gic_words.specs.declared.request.RobustRequest.{RobustRequest}
 use Rattle.gic_words.specs.declared.request.Request.TheVariants as request
 use Rattle.gic_criteria.specs.Questions.{no_uniform_field, usual_criteria}
 use Rattle.gic_criteria.specs.declared.asked.Criteria.{Criteria}
@@ -153,6 +154,12 @@ series_request rows = do
   transformer ← text_of rows Transformer
   Ok (record { case = case; storm = storm; switch = given rows Switch; width = width_given rows; transformer = transformer })
 
+abbrev pub robust_request : List Row → Result RobustRequest Usage
+robust_request rows = do
+  case ← text_of rows Case
+  tolerance ← count_of rows Tolerance
+  Ok (record { case = case; switch = given rows Switch; criteria = record { criteria = criteria_given rows; tolerance = tolerance } })
+
 -- what is asked for, where it is asked rightly
 abbrev pub as_request : {A : Type 0} → (A → Request) → Result A Usage → Result Request Usage
 as_request make (Ok a) = Ok (make a)
@@ -172,6 +179,7 @@ request_by mode.Make rows = as_request request.Make (make_request rows)
 request_by mode.Recheck rows = as_request request.Recheck (recheck_request rows)
 request_by mode.Series rows = as_request request.Series (series_request rows)
 request_by mode.Review rows = as_request request.Review (text_of rows Case)
+request_by mode.Robust rows = as_request request.Robust (robust_request rows)
 
 -- ---- the words
 

@@ -11,7 +11,7 @@ use Rattle.gic_words.specs.declared.mode.Mode.TheVariants as mode
 use Rattle.gic_words.specs.declared.mode.Use.{Use}
 use Rattle.gic_words.specs.declared.mode.Use.TheVariants.{Required, Allowed, Unused}
 use Rattle.gic_words.specs.declared.option.Opt.{Opt}
-use Rattle.gic_words.specs.declared.option.Opt.TheVariants.{Case, Storm, Switch, North, East, Width, Detail, Seed, Size, Event, Cert, Transformer}
+use Rattle.gic_words.specs.declared.option.Opt.TheVariants.{Case, Storm, Switch, North, East, Width, Detail, Seed, Size, Event, Cert, Transformer, Tolerance}
 
 -- ---- the options
 
@@ -24,7 +24,7 @@ pub record OptionRow : Type 0 where
 abbrev option_row : (place : ℕ) → (name : List ℕ) → Form → OptionRow
 option_row place name form = record { place = place; name = name; form = form }
 
--- one row an option; fields are within `MOST_FIELD`, 20000 mV/km, either way, widths from 10 to 10000 mV or mA, a storm has at most `MOST_ROWS`, 20000, steps, seeds are numbers of 32 bits, and made cases have from 2 to 1000 sites
+-- one row an option; fields are within `MOST_FIELD`, 20000 mV/km, either way, widths from 10 to 10000 mV or mA, a storm has at most `MOST_ROWS`, 20000, steps, seeds are numbers of 32 bits, made cases have from 2 to 1000 sites, and tolerances are from 1 to 90 per cent
 abbrev pub row_of_option : Opt → OptionRow
 row_of_option Case = option_row 0 (codes "case") form.Name
 row_of_option Storm = option_row 1 (codes "storm") form.Name
@@ -38,6 +38,7 @@ row_of_option Size = option_row 8 (codes "size") (form.Number (pos 2) (pos 1000)
 row_of_option Event = option_row 9 (codes "event") form.Event
 row_of_option Cert = option_row 10 (codes "cert") form.Name
 row_of_option Transformer = option_row 11 (codes "transformer") form.Name
+row_of_option Tolerance = option_row 12 (codes "tolerance") (form.Number (pos 1) (pos 90))
 
 abbrev pub place_of : Opt → ℕ
 place_of o = (row_of_option o).place
@@ -54,7 +55,7 @@ flag option = codes "--" ++ name_of option
 
 -- in the order of their places
 abbrev pub all_options : List Opt
-all_options = Case ∷ Storm ∷ Switch ∷ North ∷ East ∷ Width ∷ Detail ∷ Seed ∷ Size ∷ Event ∷ Cert ∷ Transformer ∷ []
+all_options = Case ∷ Storm ∷ Switch ∷ North ∷ East ∷ Width ∷ Detail ∷ Seed ∷ Size ∷ Event ∷ Cert ∷ Transformer ∷ Tolerance ∷ []
 
 -- whether an option is one of these
 unfoldable pub is_among : Opt → List Opt → Bool
@@ -87,6 +88,7 @@ mode_rows =
     ∷ mode_row mode.Recheck (codes "recheck") (Case ∷ Cert ∷ []) (Switch ∷ [])
     ∷ mode_row mode.Series (codes "series") (Case ∷ Storm ∷ Transformer ∷ []) (Switch ∷ Width ∷ [])
     ∷ mode_row mode.Review (codes "review") (Case ∷ []) []
+    ∷ mode_row mode.Robust (codes "robust") (Case ∷ Tolerance ∷ []) (Switch ∷ Width ∷ Event ∷ [])
     ∷ []
 
 -- the first of these rows that has the word

@@ -3,7 +3,7 @@ ghost use Rattle.std.specs.Prelude.{◌≡◌, IsSome, List, [], ◌∷◌, code
 ghost use Rattle.clap.specs.Words.{Row};
 ghost use Rattle.gic_words.specs.declared.mode.Use.TheVariants.{Required};
 ghost use Rattle.gic_words.specs.declared.option.Opt.{Opt};
-ghost use Rattle.gic_words.specs.declared.option.Opt.TheVariants.{Case, Switch, North, Event};
+ghost use Rattle.gic_words.specs.declared.option.Opt.TheVariants.{Case, Switch, North, Event, Tolerance};
 ghost use Rattle.gic_criteria.specs.declared.event.Event.TheVariants.{Supplemental};
 ghost use Rattle.gic_criteria.specs.Questions.{usual_criteria};
 ghost use Rattle.gic_words.specs.declared.fault.Usage.TheVariants as usage;
@@ -37,6 +37,8 @@ pub fn refused_words_law()
     ensures case_before_north { request_of (codes "volts" ∷ codes "--north=x" ∷ []) ≡ Err (usage.Missing Case) }
     ensures switch_before_north { request_of (codes "volts" ∷ codes "--case=p" ∷ codes "--north=x" ∷ codes "--switch=s" ∷ []) ≡ Err (usage.Extra Switch) }
     ensures north_too_far { request_of (codes "volts" ∷ codes "--case=p" ∷ codes "--north=20001" ∷ []) ≡ Err (usage.Number North) }
+    ensures tolerance_too_wide { request_of (codes "robust" ∷ codes "--case=p" ∷ codes "--tolerance=91" ∷ []) ≡ Err (usage.Number Tolerance) }
+    ensures tolerance_of_no_use { request_of (codes "screen" ∷ codes "--case=p" ∷ codes "--tolerance=20" ∷ []) ≡ Err (usage.Extra Tolerance) }
     ensures no_such_event { request_of (codes "field" ∷ codes "--case=p" ∷ codes "--event=storm" ∷ []) ≡ Err (usage.Value Event) }
 {}
 
@@ -53,4 +55,6 @@ pub fn accepted_words_law()
         ≡ Ok (request.Recheck (record { case = codes "p"; switch = Some (codes "s"); cert = [] })) }
     ensures whole_series { request_of (codes "series" ∷ codes "--transformer=TA" ∷ codes "--width=10" ∷ codes "--switch=w" ∷ codes "--storm=s" ∷ codes "--case=p" ∷ [])
         ≡ Ok (request.Series (record { case = codes "p"; storm = codes "s"; switch = Some (codes "w"); width = 10; transformer = codes "TA" })) }
+    ensures whole_robust { request_of (codes "robust" ∷ codes "--tolerance=90" ∷ codes "--event=supplemental" ∷ codes "--width=10" ∷ codes "--switch=w" ∷ codes "--case=p" ∷ [])
+        ≡ Ok (request.Robust (record { case = codes "p"; switch = Some (codes "w"); criteria = record { criteria = record { width = 10; event = Supplemental }; tolerance = 90 } })) }
 {}

@@ -32,6 +32,8 @@ pub enum Mode {
     Series,
     /// What the case says that its writer may not have meant.
     Review,
+    /// The worst orientations in all networks whose grounds lie within a tolerance, with verdicts.
+    Robust,
 }
 
 /// Whether a mode has a use for an option.
@@ -57,7 +59,7 @@ pub(crate) struct ModeRow {
 }
 
 /// One row a mode.
-static ROWS: [ModeRow; 12] = [
+static ROWS: [ModeRow; 13] = [
     ModeRow {
         mode: Mode::Volts,
         word: "volts",
@@ -129,6 +131,12 @@ static ROWS: [ModeRow; 12] = [
         word: "review",
         required: &[Opt::Case],
         allowed: &[],
+    },
+    ModeRow {
+        mode: Mode::Robust,
+        word: "robust",
+        required: &[Opt::Case, Opt::Tolerance],
+        allowed: &[Opt::Switch, Opt::Width, Opt::Event],
     },
 ];
 

@@ -2,14 +2,14 @@
 ghost use Rattle.std.specs.Prelude.{◌≡◌, ◌≤◌, IfOk, IfSome, IsSome, Ok, Some, map, option_map, string_bytes, unsigned_abs};
 ghost use Rattle.clap.specs.Words.{rows_of, found_of};
 ghost use Rattle.gic_base.specs.declared.limits.TheConstants.{MOST_FIELD};
-ghost use Rattle.gic_criteria.specs.Ranges.{IsWidth, IsWithinCriteria, IsWithinField};
+ghost use Rattle.gic_criteria.specs.Ranges.{IsTolerance, IsWidth, IsWithinCriteria, IsWithinField, IsWithinRobust};
 ghost use Rattle.gic_words.specs.Accepted.{AreWithinRanges, HasRequiredOf, IsSize, NamesEvent};
 ghost use Rattle.gic_words.specs.Command.{given};
 ghost use Rattle.gic_words.specs.Within.{IsWithinOption};
 ghost use Rattle.gic_words.specs.Requests.{number_given, count_given, part_given, field_given, width_given, event_given, criteria_given};
 ghost use Rattle.gic_words.specs.Requests.{mode_in};
 ghost use Rattle.gic_words.specs.Requests.{volts_request, check_request, field_request, worst_request, certify_request, study_request};
-ghost use Rattle.gic_words.specs.Requests.{make_request, recheck_request, series_request};
+ghost use Rattle.gic_words.specs.Requests.{make_request, recheck_request, series_request, robust_request};
 ghost use Rattle.gic_words.specs.Requests.{request_by, request_of, request_of_rows};
 ghost use Rattle.gic_words.specs.Reads.{ReadsWords, KeepsTaken};
 ghost use Rattle.gic_words.specs.Seen.{row_seen};
@@ -21,7 +21,7 @@ use crate::name::{FileName, Text};
 use crate::option::Opt;
 use crate::value::{read_event, read_number};
 use clap::ArgMatches;
-use gic_criteria::{Criteria, Event, UniformField};
+use gic_criteria::{Criteria, Event, RobustCriteria, UniformField};
 use std::alloc::{AllocError, Global};
 
 /// What `volts` is asked.
@@ -121,6 +121,16 @@ pub struct SeriesRequest {
     pub transformer: Text,
 }
 
+/// What `robust` is asked.
+#[derive(Drop)]
+pub struct RobustRequest {
+    /// The name of the case's file.
+    pub case: FileName,
+    /// The name of the switchings' file.
+    pub switch: Option<FileName>,
+    pub criteria: RobustCriteria,
+}
+
 /// What words ask for: a mode, and what that mode is asked.
 #[derive(Drop)]
 pub enum Request {
@@ -148,6 +158,8 @@ pub enum Request {
     Series(SeriesRequest),
     /// What the case of this file says that its writer may not have meant.
     Review(FileName),
+    /// The worst orientations in all networks whose grounds lie within a tolerance, with verdicts.
+    Robust(RobustRequest),
 }
 
 /// The text of an option that is given.
@@ -289,6 +301,15 @@ fn size(matches: &ArgMatches<'_>) -> u16
     number(matches, Opt::Size).unwrap() as u16
 }
 
+/// The tolerance of grounds, in per cent, which is given.
+fn tolerance(matches: &ArgMatches<'_>) -> u8
+    requires { IsSome (number_given (rows_of (found_of matches.now)) Opt.Tolerance) }
+    ensures value { count_given (rows_of (found_of matches.now)) Opt.Tolerance ≡ Some result }
+    ensures within { IsTolerance result }
+{
+    number(matches, Opt::Tolerance).unwrap() as u8
+}
+
 /// What `volts` is asked.
 fn volts_request(alloc: Global, matches: &ArgMatches<'_>) -> Result<VoltsRequest, AllocError>
     requires { IsSome (given (rows_of (found_of matches.now)) Opt.Case) }
@@ -401,6 +422,24 @@ fn series_request(alloc: Global, matches: &ArgMatches<'_>) -> Result<SeriesReque
     })
 }
 
+/// What `robust` is asked.
+fn robust_request(alloc: Global, matches: &ArgMatches<'_>) -> Result<RobustRequest, AllocError>
+    requires case { IsSome (given (rows_of (found_of matches.now)) Opt.Case) }
+    requires tolerance { IsSome (number_given (rows_of (found_of matches.now)) Opt.Tolerance) }
+    requires event { NamesEvent (rows_of (found_of matches.now)) }
+    ensures value { IfOk result (λ r. robust_request (rows_of (found_of matches.now)) ≡ Ok r) }
+    ensures within { IfOk result (λ r. IsWithinRobust r.criteria) }
+{
+    Ok(RobustRequest {
+        case: file(alloc, matches, Opt::Case)?,
+        switch: switchings_file(alloc, matches)?,
+        criteria: RobustCriteria {
+            criteria: criteria(matches),
+            tolerance: tolerance(matches),
+        },
+    })
+}
+
 /// What `make` is asked.
 fn make_request(matches: &ArgMatches<'_>) -> MakeRequest
     requires seed { IsSome (number_given (rows_of (found_of matches.now)) Opt.Seed) }
@@ -434,6 +473,7 @@ fn request_by(alloc: Global, mode: Mode, matches: &ArgMatches<'_>) -> Result<Req
         Mode::Recheck => Ok(Request::Recheck(recheck_request(alloc, matches)?)),
         Mode::Series => Ok(Request::Series(series_request(alloc, matches)?)),
         Mode::Review => Ok(Request::Review(file(alloc, matches, Opt::Case)?)),
+        Mode::Robust => Ok(Request::Robust(robust_request(alloc, matches)?)),
     }
 }
 

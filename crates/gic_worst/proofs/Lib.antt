@@ -1,2 +1,3 @@
 pub mod RightRows
 pub mod SettingDetermined
+pub mod RowsDetermined

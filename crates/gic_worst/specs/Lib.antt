@@ -1,4 +1,5 @@
 pub mod Rows
 pub mod RightRows
 pub mod Setting
+pub mod ScreenLines
 pub mod Screening

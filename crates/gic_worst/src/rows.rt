@@ -54,7 +54,7 @@ impl ScreenRows {
     ghost use Rattle.gic_worst.specs.Rows.{screen_row_of, no_screen_row};
 
     /// A given number of rows, in which each interval holds 0 alone.
-    pub(crate) fn new(alloc: Global, count: usize) -> Result<ScreenRows, OutOfMemory>
+    pub fn new(alloc: Global, count: usize) -> Result<ScreenRows, OutOfMemory>
         ensures { IfOk result (λ rows. rows ≡ replicate count no_screen_row) }
     {
         let zero = Interval::point(0);
@@ -68,7 +68,7 @@ impl ScreenRows {
     }
 
     /// Changes the row of this transformer alone.
-    fn set(&mut self, transformer: u16, row: ScreenRow)
+    pub fn set(&mut self, transformer: u16, row: ScreenRow)
         requires { transformer < length self.old }
         ensures { self.new ≡ slice_set self.old transformer (screen_row_of row) }
     {

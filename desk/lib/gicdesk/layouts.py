@@ -320,6 +320,7 @@ LAYOUTS: dict[str, Layout] = {
             "part": "name number unit",
             "closure": "name north_m east_m",
             "value": "list name field number unit",
+            "alpha": "list name field number unit",
             "volts": "list name field number unit other",
             "outside": "name",
         },

@@ -65,6 +65,11 @@ def question_text(question: Question) -> str:
         case "value" if question.number is not None:
             what = f"{question.list} {question.name}: {named(question.field)} is"
             return f"{what} {quantity(question.field, question.number)}, as few have it: is it meant?"
+        case "alpha" if question.number is not None:
+            return (
+                f"zone {question.name}: at {quantity('latitude', question.number)} alpha of the table is below that of the "
+                "formula, and `below` may be too good: is its beta meant for this alpha?"
+            )
         case "volts" if question.number is not None and question.other is not None:
             number, other = (quantity(question.field, volts) for volts in (question.number, question.other))
             return (

@@ -225,6 +225,7 @@ REVIEW_FORMS = (
     "part COUNT NODE",
     "closure NAME NUMBER NUMBER",
     "value LIST NAME FIELD NUMBER",
+    "alpha NAME NUMBER",
     "volts NAME FIELD NUMBER OTHER",
     "outside NAME",
 )
@@ -431,6 +432,8 @@ def question_of(form: str, values: Values) -> Question:
             return Question(kind, words[0], gap=(numbers[0], numbers[1]))
         case "value":
             return Question(kind, words[1], words[0], words[2], numbers[0])
+        case "alpha":
+            return Question(kind, words[0], "zone", "latitude", numbers[0])
         case "volts":
             return Question(kind, words[0], "transformer", words[1], numbers[0], numbers[1])
     return Question(kind, words[0])

@@ -36,6 +36,11 @@ pub enum Finding {
         measured: Quantity,
         number: u64,
     },
+    /// At the latitude of this zone, in hundredths of a degree, the alpha of the table is below 0.001 e^(0.115 L), L in degrees.
+    Alpha {
+        name: Name,
+        latitude: u16,
+    },
     /// The rated voltage of this side doesn't fit that of the first side at its bus, both in V.
     Volts {
         name: Name,

@@ -4,6 +4,7 @@ ghost use Rattle.gic_winding.specs.ElementList.{elements_of};
 ghost use Rattle.gic_review.specs.Findings.{findings_with, AreFindingsOf};
 ghost use Rattle.gic_review.specs.PartSizes.{sizes_of};
 
+use crate::findings::alpha::push_low_alphas;
 use crate::findings::closing::push_closures;
 use crate::findings::finding::Finding;
 use crate::findings::outside::push_outside;
@@ -17,7 +18,7 @@ use gic_winding::elements;
 use std::alloc::Global;
 
 /// What is found in a case, in the order of the rules: substations without a ground, parts, loops that don't close, unusual
-/// values, voltages that don't fit, transformers outside.
+/// values, zones where the alpha of the table is low, voltages that don't fit, transformers outside.
 pub fn findings(alloc: Global, case: &Case) -> Result<Vec<Finding>, OutOfMemory>
     ensures { IfOk result (λ v. AreFindingsOf case.now v.items) }
 {
@@ -27,6 +28,7 @@ pub fn findings(alloc: Global, case: &Case) -> Result<Vec<Finding>, OutOfMemory>
     push_parts(alloc, &mut findings, case, &elements)?;
     push_closures(alloc, &mut findings, case)?;
     push_values(&mut findings, case)?;
+    push_low_alphas(&mut findings, case.zones())?;
     push_levels(alloc, &mut findings, case)?;
     push_outside(&mut findings, case.transformers())?;
     Ok(findings)

@@ -16,6 +16,13 @@ returns c =
       absolutes = c.field_verdicts_law.ensures.absolutes;
       field_verdicts = c.field_verdicts_law.ensures.verdicts;
       screen_verdicts = c.screen_verdicts_law.ensures;
+      robust_verdicts = c.robust_verdicts_law.ensures;
+      grounds = record {
+        varied = c.varied_law.ensures.others;
+        in_ranges = c.any_grounds_law.ensures.standing;
+        limits = c.any_grounds_law.ensures.limits;
+        alike = c.any_grounds_law.ensures.earthed;
+      };
       greatest = c.right_outages_law.ensures.enclosed;
       greatest_narrow = c.right_outages_law.ensures.narrow;
       none_solved = c.right_outages_law.ensures.none;

@@ -21,3 +21,7 @@ returns-clause-levels c = refl
 pub returns-clause-third : goal.returns-clause-third
 unfolding elements_of
 returns-clause-third c = refl
+
+pub returns-clause-alphas : goal.returns-clause-alphas
+unfolding elements_of
+returns-clause-alphas c = refl

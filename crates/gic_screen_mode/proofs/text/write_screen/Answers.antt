@@ -9,7 +9,8 @@ use Rattle.gic_worst.specs.declared.rows.ScreenRow.{ScreenRow}
 use Rattle.gic_worst.specs.declared.setting.Setting.{Setting}
 use Rattle.gic_worst.specs.Rows.{screen_row_of}
 use Rattle.gic_worst.specs.Setting.{event_setting_line}
-use Rattle.gic_screen_mode.specs.ScreenText.{screened_transformer_lines, screen_report}
+use Rattle.gic_worst.specs.ScreenLines.{screened_transformer_lines}
+use Rattle.gic_screen_mode.specs.ScreenText.{screen_report}
 use Rattle.gic_screen_mode.proofs.text.write_screen.Goals as goal
 
 asked : Setting → Words

@@ -1,7 +1,6 @@
 use Rattle.std.proofs.Common.{ℕ, zero, suc, ◌≡◌, ◌<◌, List, [], ◌∷◌, length, refl, ap, subst, ◌∙◌, arith}
 use Rattle.std.specs.Prelude.{slice_index}
 use Rattle.gic_case.specs.Lists.{node_names}
-use Rattle.gic_model.specs.Network.{Network}
 use Rattle.gic_net.specs.Net.{standing}
 use Rattle.gic_stand.specs.Standing.{IsFirstUnresolved}
 use Rattle.gic_winding.proofs.Limits.{nodes_named}
@@ -16,7 +15,7 @@ within_by_index (x ∷ xs) (suc k) n h = omega (arith, within_by_index xs k n h)
 pub node_name-node-requires : goal.node_name-node-requires
 node_name-node-requires c =
     let nodes : length c.find_bound.new.out ≡ length (node_names c.args.case.now) =
-    c.find_bound.ensures.workspace.entry_count ∙ ap (λ (n : Network). n.nodes) c.requires.network ∙ nodes_named c.args.case.now in
+    c.find_bound.ensures.workspace.entry_count ∙ c.requires.nodes ∙ nodes_named c.args.case.now in
     subst (λ (n : ℕ). c.in-Err.refusal.node.0 < n) nodes (within_by_index c.find_bound.new.out c.in-Err.refusal.node.0 4096 c.in-Err.ensures.first.full)
 
 pub returns-in-Err-clause-err : goal.returns-in-Err-clause-err

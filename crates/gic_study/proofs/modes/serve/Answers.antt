@@ -51,3 +51,7 @@ returns-in-Series g c =
 pub returns-in-Review : goal.returns-in-Review
 returns-in-Review g c =
     of_asked _ c.args.asked.now _ (shown g.S.Sink.written g.S.Sink.faults c.args.out.now) (shown g.S.Sink.written g.S.Sink.faults c.serve_review.new.out) c.serve_review.result c.in-Review.is (c.serve_review.ensures.ends _)
+
+pub returns-in-Robust : goal.returns-in-Robust
+returns-in-Robust g c =
+    of_asked _ c.args.asked.now _ (shown g.S.Sink.written g.S.Sink.faults c.args.out.now) (shown g.S.Sink.written g.S.Sink.faults c.serve_robust.new.out) c.serve_robust.result c.in-Robust.is (c.serve_robust.ensures.ends _)

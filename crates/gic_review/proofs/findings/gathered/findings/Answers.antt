@@ -1,5 +1,6 @@
 use Rattle.std.proofs.Common.{ap, arith, ◌∙◌, ◌++◌}
 use Rattle.std.specs.List.{flat_map}
+use Rattle.gic_review.specs.LowAlpha.{low_alpha_told}
 use Rattle.gic_review.specs.Outside.{outside_told}
 use Rattle.gic_model.specs.Network.{Network}
 use Rattle.gic_winding.specs.ElementList.{elements_of}
@@ -21,6 +22,7 @@ returns c =
     record {
       sizes = sizes_of (elements_of case);
       of_parts = sizes_right (elements_of case) (within_limits case c.transformers.ensures.sound);
-      all = collected case c.in_ok-elements.elements _ _ _ _ _ _ _ c.in_ok-elements.ensures c.new-findings.ensures.items c.in_ok-push_ungrounded.ensures c.in_ok-push_parts.ensures c.in_ok-push_closures.ensures
-          c.in_ok-push_values.ensures c.in_ok-push_levels.ensures (c.in_ok-push_outside.ensures ∙ ap (λ ts. c.push_levels.new.findings.items ++ flat_map outside_told ts) c.transformers.ensures.value);
+      all = collected case c.in_ok-elements.elements _ _ _ _ _ _ _ _ c.in_ok-elements.ensures c.new-findings.ensures.items c.in_ok-push_ungrounded.ensures c.in_ok-push_parts.ensures c.in_ok-push_closures.ensures
+          c.in_ok-push_values.ensures (c.in_ok-push_low_alphas.ensures ∙ ap (λ zs. c.push_values.new.findings.items ++ flat_map low_alpha_told zs) c.zones.ensures.value) c.in_ok-push_levels.ensures
+          (c.in_ok-push_outside.ensures ∙ ap (λ ts. c.push_levels.new.findings.items ++ flat_map outside_told ts) c.transformers.ensures.value);
     }

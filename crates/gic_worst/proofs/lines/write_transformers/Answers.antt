@@ -7,8 +7,8 @@ use Rattle.gic_case.specs.declared.item.Transformer.{Transformer}
 use Rattle.gic_report.proofs.Written.{begins, goes_on, stops, ends}
 use Rattle.gic_worst.specs.declared.rows.ScreenRow.{ScreenRow}
 use Rattle.gic_worst.specs.Rows.{screen_row_of}
-use Rattle.gic_screen_mode.specs.ScreenText.{screened_transformer_line, screened_transformer_lines}
-use Rattle.gic_screen_mode.proofs.text.write_transformers.Goals as goal
+use Rattle.gic_worst.specs.ScreenLines.{screened_transformer_line, screened_transformer_lines}
+use Rattle.gic_worst.proofs.lines.write_transformers.Goals as goal
 
 -- what is left begins with the next line
 next_line : (threshold : ℕ) (ts later : List Transformer) (rows others : List ScreenRow) (t : Transformer) (row : ScreenRow) → (ts ≡ t ∷ later) × (rows ≡ row ∷ others)

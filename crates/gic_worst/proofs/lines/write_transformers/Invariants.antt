@@ -4,8 +4,8 @@ use Rattle.std.specs.Slice.Iter.{iter_rest}
 use Rattle.gic_text.specs.Lines.{lines_text}
 use Rattle.gic_report.proofs.Written.{Written}
 use Rattle.gic_worst.specs.Rows.{screen_row_of}
-use Rattle.gic_screen_mode.specs.ScreenText.{screened_transformer_lines}
-use Rattle.gic_screen_mode.proofs.text.write_transformers.Given as goal
+use Rattle.gic_worst.specs.ScreenLines.{screened_transformer_lines}
+use Rattle.gic_worst.proofs.lines.write_transformers.Given as goal
 
 -- all is written but the lines that are left
 abbrev pub invariant-loop-transformer : goal.invariant-loop-transformer

@@ -1,0 +1,152 @@
+-- What solves left makes a certified enclosure of a transformer's current, and it holds that of every varied solution.
+use Rattle.std.proofs.Common.{◌≡◌, ℕ, ◌+◌, ◌*◌, ◌^◌, ◌<◌, ◌≤◌, Bool, false, true, List, [], ◌∷◌, length, get_or, map, ℤ, pos, neg_ℤ, ◌*ℤ◌, unsigned_abs, arith, refl, ap, sym, subst, ◌∙◌, inl, inr}
+use Rattle.std.specs.List.{All, AllByRecursion}
+use Rattle.std.proofs.Math.Nat.{mul-le-mul_left}
+use Rattle.std.proofs.lemmas.List.Elements.{All-from_recursion, recursion_from_All, All-get_or}
+use Rattle.gic_base.proofs.Each.{weaker}
+use Rattle.gic_case.specs.declared.item.Transformer.{Transformer}
+use Rattle.gic_case.specs.Lists.{Lists}
+use Rattle.gic_case.specs.Sound.{IsSound, IsSoundTransformer}
+use Rattle.gic_effective.specs.RightView.{HasNoEffect}
+use Rattle.gic_effective.specs.Weighted.{effective_numerator, effective_denominator}
+use Rattle.gic_enclose.specs.Certain.{AreCertain, AreTight}
+use Rattle.gic_enclose.specs.Ends.{potential_ends}
+use Rattle.gic_fixed.specs.Encloses.{Encloses}
+use Rattle.gic_fixed.specs.Ends.{Ends, zero_ends, IsAtMostWide}
+use Rattle.gic_fixed.proofs.Enclosures.{Encloses-common}
+use Rattle.gic_fixed.proofs.Divisions.{positive_product}
+use Rattle.gic_fixed.proofs.Sums.{sum_of-same}
+use Rattle.gic_model.specs.declared.parts.Item.{Item}
+use Rattle.gic_model.specs.Bound.{IsEarthedWithin}
+use Rattle.gic_model.specs.Earthing.{AreEarthed}
+use Rattle.gic_model.specs.Limits.{IsWithinLimits, AreVolts}
+use Rattle.gic_model.specs.Network.{Network}
+use Rattle.gic_model.specs.Solution.{Solution, IsSolution}
+use Rattle.gic_model.specs.Standing.{standing_elements, stands_after, is_standing}
+use Rattle.gic_model.specs.Sums.{Placed, sum_of}
+use Rattle.gic_net.specs.Net.{standing}
+use Rattle.gic_varied.specs.Certified.{Voltages, Units, Intervals, HoldPotentials, AreCertified, AreLiftVolts, GrainsHoldInUnits, CertifiedEnclosuresHold, in_units, certified_enclosure}
+use Rattle.gic_varied.specs.Grounds.{HaveNoGroundVolts}
+use Rattle.gic_varied.specs.Lifts.{with_least, with_most}
+use Rattle.gic_varied.specs.Ranges.{Ranges}
+use Rattle.gic_varied.specs.Reciprocal.{current_by_weights, weights_from, ListedWeightsCount}
+use Rattle.gic_varied.specs.Varied.{IsVaried}
+use Rattle.gic_varied.proofs.Regrounded.{solves_with}
+use Rattle.gic_winding.specs.ElementList.{elements_of}
+use Rattle.gic_winding.specs.Weights.{transformer_at, weighted_windings}
+use Rattle.gic_grounds.specs.declared.side.Side.TheVariants.{Lowering, Raising}
+use Rattle.gic_grounds.specs.declared.nets.GroundNets.{GroundNets}
+use Rattle.gic_grounds.specs.declared.reference.Reference.{Reference}
+use Rattle.gic_grounds.specs.Lifted.{AreLifted}
+use Rattle.gic_grounds.specs.Scale.{multiple, weight_times, stray_unit, units_of}
+use Rattle.gic_grounds.specs.Tolerated.{Tolerated, AreNetsOf, ranges_in, own_in, least_in, most_in}
+use Rattle.gic_grounds.specs.Varied.{IsReferredTo, AreAdjoined}
+use Rattle.gic_grounds.specs.VariedCurrent.{AreMadeOfTight, IsOfReference, milli_cut}
+use Rattle.gic_grounds.specs.Varying.{intervals_of}
+use Rattle.gic_grounds.proofs.Rounded.{rounded_at, held_in_units}
+
+-- a weighted current by weights that are listed
+pub by_listed : ListedWeightsCount → (network : Network) (stands : Item → Bool) (times : ℕ) (case : Lists) (t : ℕ) (weights : ℕ → ℤ) (s : Solution) →
+    ((place : ℕ) → weights place ≡ weights_from times (weighted_windings case t) place) →
+    ((place : ℕ) → is_standing (standing_elements network stands) place ≡ false → s.current place ≡ pos 0) →
+    current_by_weights (standing_elements network stands) weights s ≡ pos times *ℤ effective_numerator case s t
+by_listed law network stands times case t weights s are none =
+    sum_of-same (λ p. weights p.0 *ℤ s.current p.0) (λ p. weights_from times (weighted_windings case t) p.0 *ℤ s.current p.0) (standing_elements network stands)
+    (everywhere (standing_elements network stands)) ∙
+    law network stands (weighted_windings case t) times s none
+  where
+    everywhere : (ps : List Placed) → AllByRecursion (λ p. weights p.0 *ℤ s.current p.0 ≡ weights_from times (weighted_windings case t) p.0 *ℤ s.current p.0) ps
+    everywhere [] = tt
+    everywhere (p ∷ ps) = (ap (λ z. z *ℤ s.current p.0) (are p.0), everywhere ps)
+
+-- the scales fit: so many products of both units make 3 V nanoamperes of the weights' multiple
+pub scales : (high unit d : ℕ) → weight_times high unit * (3 * high * d) ≡ stray_unit high unit * (32 * unit) * d
+scales high unit d = plain (multiple high unit) high unit d
+  where
+    plain : (m h u n : ℕ) → m * (32 * u) * (3 * h * n) ≡ 3 * h * m * (32 * u) * n
+    plain m h u n = omega arith
+
+module _ (grains_law : GrainsHoldInUnits) (listed : ListedWeightsCount) (v : Tolerated) (nets : GroundNets) (of_nets : AreNetsOf v nets)
+    (t unit : ℕ) (adjoint : List Ends) (reference : Reference) (volts : ℕ → ℤ) (grains : List Ends) (some : 0 < unit)
+    (refers : IsReferredTo v.case nets volts unit grains reference) (adjoins : AreAdjoined v.case nets t unit adjoint) (inside : t < length reference.own) where
+  abbrev network : Network
+  network = elements_of v.case
+
+  abbrev stands : Item → Bool
+  stands = stands_after v.rows
+
+  abbrev high : ℕ
+  high = (transformer_at v.case t).high_volts
+
+  abbrev pub given : Voltages
+  given = record { field = volts; weights = adjoins.weights; lowering = refers.lifted.lowered.volts; raising = refers.lifted.raised.volts }
+
+  abbrev pub intervals : Intervals
+  intervals = intervals_of adjoint reference.potentials (potential_ends reference.own t)
+
+  in_least : AreCertain (least_in v) volts grains
+  in_least = subst (λ (ps : List Placed). AreCertain ps volts grains) of_nets.extremes.least_standing refers.certain
+
+  adjoint_certain : AreCertain (least_in v) adjoins.weights adjoins.grains
+  adjoint_certain = subst (λ (ps : List Placed). AreCertain ps adjoins.weights adjoins.grains) of_nets.extremes.least_standing adjoins.certain
+
+  lowered_certain : AreCertain (most_in v) refers.lifted.lowered.volts refers.lifted.lowered.grains
+  lowered_certain = subst (λ (ps : List Placed). AreCertain ps refers.lifted.lowered.volts refers.lifted.lowered.grains) of_nets.extremes.most_standing refers.lifted.lowered.certain
+
+  raised_certain : AreCertain (most_in v) refers.lifted.raised.volts refers.lifted.raised.grains
+  raised_certain = subst (λ (ps : List Placed). AreCertain ps refers.lifted.raised.volts refers.lifted.raised.grains) of_nets.extremes.most_standing refers.lifted.raised.certain
+
+  pub reference_rounded : (k : ℕ) → intervals.reference k ≡ in_units unit (potential_ends grains k)
+  reference_rounded = rounded_at unit grains reference.potentials.reference some refers.rounded
+
+  adjoint_rounded : (k : ℕ) → intervals.adjoint k ≡ in_units 32 (potential_ends adjoins.grains k)
+  adjoint_rounded = rounded_at 32 adjoins.grains adjoint (omega arith) adjoins.rounded
+
+  lowering_rounded : (k : ℕ) → intervals.lowering k ≡ in_units 1 (potential_ends refers.lifted.lowered.grains k)
+  lowering_rounded = rounded_at 1 refers.lifted.lowered.grains reference.potentials.lowering (omega arith) refers.lifted.lowered.rounded
+
+  raising_rounded : (k : ℕ) → intervals.raising k ≡ in_units 1 (potential_ends refers.lifted.raised.grains k)
+  raising_rounded = rounded_at 1 refers.lifted.raised.grains reference.potentials.raising (omega arith) refers.lifted.raised.rounded
+
+  -- a solution of the reference has no current where nothing stands
+  quiet_places : (s : Solution) → IsSolution (least_in v) volts s → (place : ℕ) → is_standing (own_in v) place ≡ false → s.current place ≡ pos 0
+  quiet_places s solves = (solves_with network stands (λ e. (ranges_in v e).least) volts s solves).none_if_open
+
+  own_holds : (s : Solution) → IsSolution (least_in v) volts s →
+      Encloses intervals.own.low intervals.own.high (current_by_weights (own_in v) adjoins.weights s) (stray_unit high unit * (32 * unit) * s.denominator)
+  own_holds s solves =
+      let in_net = subst (λ (ps : List Placed). IsSolution ps volts s) (sym of_nets.extremes.least_standing) solves in
+      let own = (refers.own t inside).holds s in_net (λ k live. (refers.certain k).live live s in_net) in
+      let times = Encloses-common intervals.own.low intervals.own.high (effective_numerator v.case s t) (3 * high * s.denominator) (weight_times high unit) own in
+      let number = by_listed listed network stands (weight_times high unit) v.case t adjoins.weights s adjoins.by_weights (quiet_places s solves) in
+      subst (λ (n : ℤ). Encloses intervals.own.low intervals.own.high n (stray_unit high unit * (32 * unit) * s.denominator)) (sym number)
+      (subst (λ (n : ℕ). Encloses intervals.own.low intervals.own.high (pos (weight_times high unit) *ℤ effective_numerator v.case s t) n) (scales high unit s.denominator) times)
+
+  pub certified : AreCertified network stands (ranges_in v) given (units_of high unit) intervals
+  certified = record {
+    field = refers.no_ground stands;
+    weights = adjoins.no_ground stands;
+    lowering_volts = refers.lifted.lowered.lifts network stands (ranges_in v) of_nets.extremes;
+    raising_volts = refers.lifted.raised.lifts network stands (ranges_in v) of_nets.extremes;
+    reference = held_in_units grains_law (least_in v) volts unit grains intervals.reference some in_least reference_rounded;
+    adjoint = held_in_units grains_law (least_in v) adjoins.weights 32 adjoins.grains intervals.adjoint (omega arith) adjoint_certain adjoint_rounded;
+    lowering = held_in_units grains_law (most_in v) refers.lifted.lowered.volts 1 refers.lifted.lowered.grains intervals.lowering (omega arith) lowered_certain lowering_rounded;
+    raising = held_in_units grains_law (most_in v) refers.lifted.raised.volts 1 refers.lifted.raised.grains intervals.raising (omega arith) raised_certain raising_rounded;
+    own = own_holds;
+  }
+
+  -- so the ends that are made of them are of the reference
+  pub of_reference : (ends : Ends) → ends ≡ milli_cut (certified_enclosure (own_in v) (ranges_in v) (units_of high unit) intervals) → IsOfReference v volts unit grains t ends
+  of_reference ends is = record {
+    given = given;
+    intervals = intervals;
+    in_field = refl;
+    by_weights = adjoins.by_weights;
+    certified = certified;
+    of_reference = reference_rounded;
+    tight_adjoint = record { grains = adjoins.grains; certain = adjoint_certain; tight = adjoins.tight; rounded = adjoint_rounded };
+    tight_lowering = record { grains = refers.lifted.lowered.grains; certain = lowered_certain; tight = refers.lifted.lowered.tight; rounded = lowering_rounded };
+    tight_raising = record { grains = refers.lifted.raised.grains; certain = raised_certain; tight = refers.lifted.raised.tight; rounded = raising_rounded };
+    tight_own = (refers.own t inside).tight refers.tight;
+    is = is;
+  }

@@ -1,0 +1,15 @@
+pub mod NodeLists
+pub mod Extremes
+pub mod Quotients
+pub mod Units
+pub mod Raised
+pub mod Strayed
+pub mod Weighing
+pub mod Earthings
+pub mod Rounded
+pub mod Solving
+pub mod CutCurrents
+pub mod WindingBounds
+pub mod Certifying
+pub mod Holding
+pub mod Answered

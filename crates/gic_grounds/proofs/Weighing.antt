@@ -1,0 +1,207 @@
+-- The weights of a transformer's windings, by places.
+use Rattle.std.proofs.Common.{◌≡◌, ℕ, zero, suc, ◌+◌, ◌-◌, ◌*◌, ◌/◌, ◌^◌, ◌<◌, ◌≤◌, ◌==◌, Bool, true, false, cond, List, [], ◌∷◌, ◌++◌, length, get_or, map, arith, refl, ap, sym, subst, ◌∙◌, ⊎_elim, inl, inr, ◌⊎◌, ℤ, pos, ◌+ℤ◌, ◌*ℤ◌, ◌≤ℤ◌, eqb-true}
+use Rattle.std.proofs.Math.Nat.{mul-le-mul, mul-le-mul_left, mul-div-le, lt-mul-div-succ}
+use Rattle.std.proofs.lemmas.Bool.{cases_lt, ne_eqb}
+use Rattle.std.proofs.lemmas.Int.{ints}
+use Rattle.std.proofs.lemmas.List.{get_or_past, get_or_default, get_or-append_right, get_or_append_left, length-map}
+use Rattle.std.proofs.lemmas.List.Elements.{All-from_recursion, All-get_or}
+use Rattle.std.specs.List.{AllByRecursion, enumerate_from}
+use lib.IntN.{*ℤ-zero}
+use Rattle.gic_base.specs.declared.id.ElementId.{ElementId}
+use Rattle.gic_case.specs.declared.item.Transformer.{Transformer}
+use Rattle.gic_case.specs.declared.winding.Winding.{Winding}
+use Rattle.gic_case.specs.Lists.{Lists, neutrals_of}
+use Rattle.gic_case.specs.Sound.{IsRated, IsSound, IsSoundTransformer, IsSoundWinding}
+use Rattle.gic_case.specs.Windings.{windings_of}
+use Rattle.gic_fixed.proofs.Integers.{linear}
+use Rattle.gic_model.specs.declared.parts.Element.{Element}
+use Rattle.gic_model.specs.declared.parts.Item.{Item}
+use Rattle.gic_model.specs.Limits.{most_volts}
+use Rattle.gic_model.specs.Standing.{standing_elements}
+use Rattle.gic_model.specs.Sums.{Placed}
+use Rattle.gic_model.specs.Voltages.{number_at}
+use Rattle.gic_model.proofs.Members.{kept}
+use Rattle.gic_net.proofs.Kept.{IsIn, each_in}
+use Rattle.gic_net.specs.Net.{no_element}
+use Rattle.gic_varied.specs.Grounds.{is_ground, HaveNoGroundVolts}
+use Rattle.gic_varied.specs.Reciprocal.{weights_from}
+use Rattle.gic_effective.proofs.Weighings.{weights_at_most}
+use Rattle.gic_winding.specs.declared.weights.Weights.{Weights}
+use Rattle.gic_winding.specs.ElementList.{elements_of, winding_element, winding_elements}
+use Rattle.gic_winding.specs.Order.{weighted_from}
+use Rattle.gic_winding.specs.WeightParts.{weights_of}
+use Rattle.gic_winding.specs.Weights.{weight_of, transformer_at, no_transformer, weighted_windings}
+use Rattle.gic_winding.proofs.Around.{prefix_of, suffix_of, around}
+use Rattle.gic_winding.proofs.Parts.{winding_part}
+use Rattle.gic_winding.proofs.Neutrals.{transformer_of}
+use Rattle.gic_winding.proofs.Weighted.{weighed, weighted_there, windings_fit}
+use Rattle.gic_grounds.specs.Scale.{weight_times, windings_in, weight_at}
+
+-- how the greatest multiple lies to its limits
+pub multiple_space : (high unit : ℕ) → most_volts / (high * (32 * unit)) * (32 * unit) * high ≤ most_volts
+multiple_space high unit = let below = mul-div-le most_volts (high * (32 * unit)) in omega (arith, below)
+
+pub multiple_enough : (high unit : ℕ) → IsRated high → 0 < unit → unit < 2 ^ 19 → 2 ^ 22 ≤ 3 * high * (most_volts / (high * (32 * unit)))
+multiple_enough high unit rated some small =
+    let m = most_volts / (high * (32 * unit)) in
+    let first_one : 1 ≤ high = omega (arith, rated.0) in
+    let product : 1 * 1 ≤ high * unit = mul-le-mul first_one some in
+    let above : most_volts < high * (32 * unit) * (m + 1) = lt-mul-div-succ most_volts (omega (arith, product)) in
+    let few : unit ≤ 524288 = omega (arith, small) in
+    let size : high * unit ≤ 2000000 * 524288 = mul-le-mul rated.1 few in
+    ⊎_elim
+    (λ none.
+    let zero_is : m ≡ 0 = omega (arith, none) in
+    let over : most_volts < high * (32 * unit) * (0 + 1) = subst (λ k. most_volts < high * (32 * unit) * (k + 1)) zero_is above in
+    absurd (omega (arith, over, size)))
+    (λ one.
+    let more : high * unit * 1 ≤ high * unit * m = mul-le-mul_left (high * unit) one in
+    let less : high * m * unit ≤ high * m * 524288 = mul-le-mul_left (high * m) (omega (arith, small)) in
+    omega (arith, above, more, less))
+    (cases_lt m 1)
+
+pub divisor_fits : (high unit : ℕ) → IsRated high → unit < 2 ^ 19 → high * (32 * unit) < 2 ^ 64
+divisor_fits high unit rated small =
+    let few : 32 * unit ≤ 32 * 524288 = omega (arith, small) in
+    let size : high * (32 * unit) ≤ 2000000 * (32 * 524288) = mul-le-mul rated.1 few in
+    omega (arith, size)
+
+pub divisor_above : (high unit : ℕ) → IsRated high → 0 < unit → 0 < high * (32 * unit)
+divisor_above high unit rated some =
+    let one : 1 ≤ high = omega (arith, rated.0) in
+    let other : 1 ≤ 32 * unit = omega (arith, some) in
+    let product : 1 * 1 ≤ high * (32 * unit) = mul-le-mul one other in
+    omega (arith, product)
+
+-- what is made of the multiple fits
+pub stray_fits : (high unit m : ℕ) → 0 < unit → m * (32 * unit) * high ≤ most_volts → 3 * high * m < 2 ^ 64
+stray_fits high unit m some space = let more : high * m * 1 ≤ high * m * unit = mul-le-mul_left (high * m) some in omega (arith, space, more)
+
+pub times_fits : (high unit m : ℕ) → IsRated high → m * (32 * unit) * high ≤ most_volts → m * (32 * unit) < 2 ^ 64
+times_fits high unit m rated space = let more : m * (32 * unit) * 1 ≤ m * (32 * unit) * high = mul-le-mul_left (m * (32 * unit)) (omega (arith, rated.0)) in omega (arith, space, more)
+
+pub scaled_fits : (times weight high : ℕ) (z : ℤ) → pos weight ≡ z → z ≤ℤ pos high → times * high ≤ most_volts → times * weight ≤ most_volts
+scaled_fits times weight high z is most space = let less : times * weight ≤ times * high = mul-le-mul_left times (omega (arith, ints, is, most)) in omega (arith, space, less)
+
+-- of windings that stand one after another at most one is at a place
+none_before : (weight : Winding → ℕ) (n place : ℕ) (ws : List Winding) → place < n → weight_at (map (λ p. weighed weight p.0 p.1) (enumerate_from n ws)) place ≡ pos 0
+none_before weight n place [] less = refl
+none_before weight n place (w ∷ ws) less =
+    let rest = none_before weight (n + 1) place ws (omega (arith, less)) in
+    let other : (n == place) ≡ false = ne_eqb n place (λ same. absurd (omega (arith, less, same))) in
+    ap (λ b. cond b (pos (weight w)) (pos 0) +ℤ weight_at (map (λ p. weighed weight p.0 p.1) (enumerate_from (n + 1) ws)) place) other ∙ omega (arith, linear, rest)
+
+none_after : (weight : Winding → ℕ) (n place : ℕ) (ws : List Winding) → n + length ws ≤ place → weight_at (map (λ p. weighed weight p.0 p.1) (enumerate_from n ws)) place ≡ pos 0
+none_after weight n place [] past = refl
+none_after weight n place (w ∷ ws) past =
+    let rest = none_after weight (n + 1) place ws (omega (arith, past)) in
+    let other : (n == place) ≡ false = ne_eqb n place (λ same. absurd (omega (arith, past, same))) in
+    ap (λ b. cond b (pos (weight w)) (pos 0) +ℤ weight_at (map (λ p. weighed weight p.0 p.1) (enumerate_from (n + 1) ws)) place) other ∙ omega (arith, linear, rest)
+
+one_most : (weight : Winding → ℕ) (n place most : ℕ) (ws : List Winding) → AllByRecursion (λ w. weight w ≤ most) ws →
+    weight_at (map (λ p. weighed weight p.0 p.1) (enumerate_from n ws)) place ≤ℤ pos most
+one_most weight n place most [] h = omega (arith, ints)
+one_most weight n place most (w ∷ ws) h = by (n == place) refl (one_most weight (n + 1) place most ws h.1)
+  where
+    rest : ℤ
+    rest = weight_at (map (λ p. weighed weight p.0 p.1) (enumerate_from (n + 1) ws)) place
+
+    by : (b : Bool) → (n == place) ≡ b → rest ≤ℤ pos most → (cond b (pos (weight w)) (pos 0) +ℤ rest) ≤ℤ pos most
+    by true is later =
+        let same = eqb-true n place is in
+        let none = none_before weight (n + 1) place ws (omega (arith, same)) in
+        omega (arith, linear, none, h.0)
+    by false is later = omega (arith, linear, later)
+
+-- a winding is no ground
+winding_is_none : (place first_bus neutral : ℕ) (ws : List Winding) (i : ℕ) (d : Element) → i < length ws → is_ground (get_or (winding_elements first_bus place neutral ws) i d) ≡ false
+winding_is_none place first_bus neutral [] i d inside = absurd (omega (arith, inside))
+winding_is_none place first_bus neutral (w ∷ ws) zero d inside = refl
+winding_is_none place first_bus neutral (w ∷ ws) (suc i) d inside = winding_is_none place first_bus neutral ws i d (omega (arith, inside))
+
+no_way : false ≡ true → ⊥
+no_way e = cc
+
+module _ (c : Lists) (t : ℕ) (row : Transformer) (inside : t < length c.transformers) (at : row ≡ get_or c.transformers t row) where
+  -- the weighted windings are at the places from here on
+  abbrev first : ℕ
+  first = length (prefix_of c t)
+
+  -- where they aren't there is no weight
+  outside : (place : ℕ) → (place < first) ⊎ (first + length (windings_of row) ≤ place) → weight_at (weighted_windings c t) place ≡ pos 0
+  outside place (inl before) = ap (λ l. weight_at l place) (weighted_there c t row inside at) ∙ none_before (weight_of row) first place (windings_of row) before
+  outside place (inr behind) = ap (λ l. weight_at l place) (weighted_there c t row inside at) ∙ none_after (weight_of row) first place (windings_of row) behind
+
+  pub weight_most : (place : ℕ) → IsSoundTransformer c row → weight_at (weighted_windings c t) place ≤ℤ pos row.high_volts
+  weight_most place sound =
+      subst (λ l. weight_at l place ≤ℤ pos row.high_volts) (sym (weighted_there c t row inside at))
+      (one_most (weight_of row) first place row.high_volts (windings_of row) (weights_at_most c row sound))
+
+  pub past_all : (place : ℕ) → length (elements_of c).list ≤ place → weight_at (weighted_windings c t) place ≡ pos 0
+  past_all place past = outside place (inr (omega (arith, past, windings_fit c t row inside at)))
+
+  -- none is at a ground
+  pub its_none : (place : ℕ) → first ≤ place → place < first + length (windings_of row) → is_ground (get_or (elements_of c).list place no_element) ≡ false
+  unfolding elements_of
+  its_none place from below =
+      let d : ℕ × Transformer = (0, row) in
+      let neutral = (get_or (neutrals_of c) t d).0 in
+      let its = winding_part c (t, get_or (neutrals_of c) t d) in
+      let it : (get_or (neutrals_of c) t d).1 ≡ row = transformer_of c t 0 row inside at in
+      let count : length its ≡ length (windings_of row) =
+      length-map (windings_of (get_or (neutrals_of c) t d).1) (winding_element (length c.substations) t neutral) ∙ ap (λ (w : Transformer). length (windings_of w)) it in
+      let many : place - first < length (windings_of (get_or (neutrals_of c) t d).1) = subst (λ (w : Transformer). place - first < length (windings_of w)) (sym it) (omega (arith, from, below)) in
+      ap (λ l. is_ground (get_or l place no_element)) (around c t d inside)
+      ∙ ap is_ground (get_or-append_right (prefix_of c t) (its ++ suffix_of c t) first place no_element refl from)
+      ∙ ap is_ground (get_or_append_left its (suffix_of c t) no_element (place - first) (omega (arith, from, below, count)))
+      ∙ winding_is_none t (length c.substations) neutral (windings_of (get_or (neutrals_of c) t d).1) (place - first) no_element many
+
+  pub no_ground_weight : (place : ℕ) → is_ground (get_or (elements_of c).list place no_element) ≡ true → weight_at (weighted_windings c t) place ≡ pos 0
+  no_ground_weight place ground = ⊎_elim
+      (λ before. outside place (inl before))
+      (λ from. ⊎_elim
+      (λ below. absurd (no_way (sym (its_none place from below) ∙ ground)))
+      (λ behind. outside place (inr behind))
+      (cases_lt place (first + length (windings_of row))))
+      (cases_lt place first)
+
+  -- the voltages that were filled in are the weights, at every place
+  pub filled_weights : (times : ℕ) (volts : List ℤ) → length volts ≡ length (elements_of c).list →
+      ((place : ℕ) → place < length (elements_of c).list → number_at volts place ≡ weights_from times (weighted_windings c t) place) →
+      (place : ℕ) → number_at volts place ≡ weights_from times (weighted_windings c t) place
+  filled_weights times volts count each place = ⊎_elim
+      (λ less. each place less)
+      (λ past. get_or_past volts place (pos 0) (omega (arith, past, count)) ∙ sym (ap (λ z. pos times *ℤ z) (past_all place past) ∙ *ℤ-zero (pos times)))
+      (cases_lt place (length (elements_of c).list))
+
+  -- and no ground has one
+  pub none_at_grounds : (times : ℕ) (volts : ℕ → ℤ) → ((place : ℕ) → volts place ≡ weights_from times (weighted_windings c t) place) →
+      (stands : Item → Bool) → HaveNoGroundVolts (standing_elements (elements_of c) stands) volts
+  none_at_grounds times volts are stands =
+      let Q = λ (p : Placed). is_ground p.1 ≡ true → volts p.0 ≡ pos 0 in
+      All-from_recursion Q (standing_elements (elements_of c) stands)
+      (kept (λ p. stands p.1.item) (IsIn (elements_of c).list) Q
+      (λ p is in_list ground. are p.0
+      ∙ ap (λ z. pos times *ℤ z) (no_ground_weight p.0 (ap is_ground (sym in_list.1) ∙ ground))
+      ∙ *ℤ-zero (pos times))
+      (enumerate_from 0 (elements_of c).list) (each_in (elements_of c).list))
+
+-- what the weights of a case's transformer weigh at a place
+pub weights_most_at : (c : Lists) (t : ℕ) (w : Weights) → IsSound c → t < length c.transformers → w ≡ weights_of c t → weighted_windings c t ≡ windings_in w →
+    (place : ℕ) → weight_at (windings_in w) place ≤ℤ pos w.high_volts
+weights_most_at c t w sound inside is all place =
+    let row = transformer_at c t in
+    let at = get_or_default c.transformers t no_transformer row inside in
+    subst (λ l. weight_at l place ≤ℤ pos w.high_volts) all
+    (subst (λ (v : ℕ). weight_at (weighted_windings c t) place ≤ℤ pos v) (sym (ap (λ (x : Weights). x.high_volts) is))
+    (weight_most c t row inside at place (All-get_or (IsSoundTransformer c) c.transformers t no_transformer inside sound.transformers_sound)))
+
+-- no ground has a voltage where these are filled in
+pub none_filled_in : (c : Lists) (t times : ℕ) (w : Weights) (volts : List ℤ) → t < length c.transformers → weighted_windings c t ≡ windings_in w → length volts ≡ length (elements_of c).list →
+    ((place : ℕ) → place < length (elements_of c).list → number_at volts place ≡ weights_from times (windings_in w) place) →
+    (stands : Item → Bool) → HaveNoGroundVolts (standing_elements (elements_of c) stands) (number_at volts)
+none_filled_in c t times w volts inside all count each stands =
+    let row = transformer_at c t in
+    let at = get_or_default c.transformers t no_transformer row inside in
+    none_at_grounds c t row inside at times (number_at volts)
+    (filled_weights c t row inside at times volts count (λ place less. each place less ∙ ap (λ l. weights_from times l place) (sym all))) stands

@@ -1,0 +1,24 @@
+use Rattle.std.proofs.Common.{◌^◌, map, ap, subst, ◌∙◌}
+use Rattle.gic_model.specs.Voltages.{number_at}
+use Rattle.gic_uniform.specs.declared.solve_workspace.SolveWorkspace.{SolveWorkspace}
+use Rattle.gic_uniform.specs.Ready.{IsSolveWorkspaceFor}
+use Rattle.gic_varied.specs.Certified.{in_units}
+use Rattle.gic_grounds.proofs.Solving.{still_solves}
+use Rattle.gic_grounds.proofs.adjoint.adjoin.Goals as goal
+
+pub returns-clause-adjoined : goal.returns-clause-adjoined
+returns-clause-adjoined c = record {
+  weights = number_at c.fill_weights.new.out;
+  grains = c.solve.new.self.potentials;
+  by_weights = c.fill_weights.ensures.weights;
+  no_ground = c.fill_weights.ensures.no_ground;
+  certain = c.solve.ensures.solved.certain;
+  tight = c.solve.ensures.tight;
+  rounded = c.in_units.ensures.rounded ∙ ap (map (in_units 32)) c.keep.ensures.same;
+  within = c.in_units.ensures.within (2 ^ 55) c.keep.ensures.small;
+}
+
+pub returns-clause-ready : goal.returns-clause-ready
+returns-clause-ready c =
+    still_solves _ _ c.args.nets.now c.args.solving.now c.solve.new.self c.requires.ready
+    (subst (λ n. IsSolveWorkspaceFor n c.solve.new.self) c.requires.ready.least_nodes c.solve.ensures.space) (ap (λ (w : SolveWorkspace). w.vector) c.solve.ensures.rest)

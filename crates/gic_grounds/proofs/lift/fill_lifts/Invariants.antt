@@ -1,0 +1,11 @@
+use Rattle.std.proofs.Common.{◌≡◌, ◌<◌, ℕ, length}
+use Rattle.gic_model.specs.Voltages.{number_at}
+use Rattle.gic_grounds.specs.Lifting.{height_at, lift_at}
+use Rattle.gic_grounds.proofs.lift.fill_lifts.Given as goal
+
+-- the elements so far have their voltages
+abbrev pub invariant-loop-place : goal.invariant-loop-place
+invariant-loop-place l = record {
+  count : length l.out ≡ length l.nets.least.network.list;
+  filled : (k : ℕ) → k < l.place → number_at l.out k ≡ lift_at l.nets.least.network l.nets.most.network (height_at l.side l.reference) k;
+}

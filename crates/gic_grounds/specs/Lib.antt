@@ -1,0 +1,16 @@
+pub mod Tolerances
+pub mod Grounded
+pub mod NodeEnds
+pub mod Unit
+pub mod Modest
+pub mod Nets
+pub mod Lifting
+pub mod VariedEnds
+pub mod Varying
+pub mod Scale
+pub mod Tolerated
+pub mod OwnCurrent
+pub mod Effect
+pub mod Lifted
+pub mod Varied
+pub mod VariedCurrent

@@ -1,0 +1,21 @@
+//! Two nets of one network.
+ghost use Rattle.gic_grounds.specs.Modest.{AreModest};
+
+use gic_net::Net;
+
+/// A network twice: with each ground at the least resistance of its range, and with each at its greatest.
+pub struct GroundNets {
+    pub least: Net,
+    pub most: Net,
+    pub ghost modest: { AreModest least.network most.network },
+}
+
+impl Drop for GroundNets {
+    /// Lets go of everything, in one step for whoever drops it.
+    fn drop(self) {
+        let GroundNets {
+            least: _least,
+            most: _most,
+        } = self;
+    }
+}

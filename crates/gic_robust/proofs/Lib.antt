@@ -1,0 +1,3 @@
+pub mod GroundVolts
+pub mod RobustDetermined
+pub mod TrueWhateverGrounds

@@ -1,0 +1,6 @@
+pub mod Steps
+pub mod RobustText
+pub mod RightRobust
+pub mod Follows
+pub mod Determines
+pub mod Made
