@@ -19,7 +19,7 @@ use Rattle.gic_net.specs.Net.{element_of, no_element}
 use Rattle.gic_varied.proofs.OwnRanges.{own_in_range}
 use Rattle.gic_varied.specs.Grounds.{is_ground, regrounded, with_grounds}
 use Rattle.gic_varied.specs.Lifts.{with_least, with_most}
-use Rattle.gic_varied.specs.Ranges.{range_of, ranges_of}
+use Rattle.gic_varied.specs.Ranges.{ground_range, ranges_of}
 use Rattle.gic_winding.specs.ElementList.{elements_of}
 use Rattle.gic_grounds.specs.declared.extreme.Extreme.{Extreme}
 use Rattle.gic_grounds.specs.declared.extreme.Extreme.TheVariants.{Least, Most}
@@ -44,7 +44,7 @@ pushed_is extreme case percent elements nodes list before pushed of_case same_no
     cc (first, second)
 
 -- with a tolerance of at most 90 per cent the greatest resistance is at most 20 times the least
-modest_range : (percent ohm : ℕ) → percent ≤ 90 → 1000 ≤ ohm → ohm ≤ 1000000000 → IsModest (range_of percent ohm).least (range_of percent ohm).most
+modest_range : (percent ohm : ℕ) → percent ≤ 90 → 1000 ≤ ohm → ohm ≤ 1000000000 → IsModest (ground_range percent ohm).least (ground_range percent ohm).most
 modest_range percent ohm few least most =
     let own = own_in_range percent ohm least most in
     let low : ohm * 10 ≤ ohm * (100 - percent) = mul-le-mul_left ohm (omega (arith, few)) in
@@ -55,7 +55,7 @@ modest_range percent ohm few least most =
     }
 
 modest_by : (ground : Bool) (percent ohm : ℕ) → percent ≤ 90 → 1000 ≤ ohm → ohm ≤ 1000000000 →
-    IsModest (if ground then (range_of percent ohm).least else ohm) (if ground then (range_of percent ohm).most else ohm)
+    IsModest (if ground then (ground_range percent ohm).least else ohm) (if ground then (ground_range percent ohm).most else ohm)
 modest_by true percent ohm few least most = modest_range percent ohm few least most
 modest_by false percent ohm few least most = record { ordered = omega arith; twentyfold = omega arith }
 

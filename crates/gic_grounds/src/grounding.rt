@@ -5,7 +5,7 @@ ghost use Rattle.gic_inputs.specs.Inputs.{rows_in};
 ghost use Rattle.gic_model.specs.Standing.{standing_elements, stands_after};
 ghost use Rattle.gic_net.specs.Net.{standing};
 ghost use Rattle.gic_varied.specs.Grounds.{regrounded};
-ghost use Rattle.gic_varied.specs.Ranges.{range_of};
+ghost use Rattle.gic_varied.specs.Ranges.{ground_range};
 ghost use Rattle.gic_winding.specs.ElementList.{elements_of};
 ghost use Rattle.gic_grounds.specs.Tolerances.{tolerance_in, tolerance_at, case_ranges};
 ghost use Rattle.gic_grounds.specs.Grounded.{extreme_of, extreme_network};
@@ -67,7 +67,7 @@ fn tolerance_of(case: &Case, percent: u8, item: Item) -> u8
 /// A resistance at an end of its range.
 fn resistance_at(percent: u8, extreme: Extreme, micro_ohm: u32) -> u32
     requires percent { percent ≤ 90 }
-    ensures { result ≡ extreme_of extreme (range_of percent micro_ohm) }
+    ensures { result ≡ extreme_of extreme (ground_range percent micro_ohm) }
 {
     match extreme {
         Extreme::Least => least_of(percent, micro_ohm),

@@ -28,7 +28,7 @@ use Rattle.gic_model.proofs.Members.{kept, both}
 use Rattle.gic_model.proofs.Pushes.{potentials_bounded}
 use Rattle.gic_varied.specs.Grounds.{is_ground, HaveNoGroundVolts}
 use Rattle.gic_varied.specs.Lifts.{IsLift, AreLifts, with_least}
-use Rattle.gic_varied.specs.Ranges.{Range, Ranges, range_of, ranges_of, AreInRanges, IsInRange}
+use Rattle.gic_varied.specs.Ranges.{Range, Ranges, ground_range, ranges_of, AreInRanges, IsInRange}
 use Rattle.gic_varied.specs.Varied.{IsVaried}
 use Rattle.gic_varied.specs.Bounds.{AreModest}
 use Rattle.gic_varied.proofs.Lifted.{raised, lowered}
@@ -291,7 +291,7 @@ varied_bounded network stands ranges volts varied limits least_limits earthed wi
         (carries p.1.micro_ohm (p.1.times * 1000000) dv (neg_ℤ (varied.current p.0)) (neg_ℤ f) (neg_ℤ t) (neg_ℤ u) h.least_ohm (few_paths p.1.times h.one_or_three) (low_at p.1.from.0 from_live) (omega (arith, linear)) both_volts.1 turned)
 
 -- the ranges of tolerances up to 90 per cent
-modest_range : (percent ohm : ℕ) → percent ≤ 90 → 1000 ≤ ohm → (range_of percent ohm).most ≤ 20 * (range_of percent ohm).least
+modest_range : (percent ohm : ℕ) → percent ≤ 90 → 1000 ≤ ohm → (ground_range percent ohm).most ≤ 20 * (ground_range percent ohm).least
 modest_range percent ohm few least =
     let low : ohm * 10 ≤ ohm * (100 - percent) = mul-le-mul_left ohm (omega arith) in
     let high : ohm * (100 + percent) ≤ ohm * 190 = mul-le-mul_left ohm (omega arith) in

@@ -18,7 +18,7 @@ use Rattle.gic_model.specs.Standing.{standing_elements, is_live, IsLive, element
 use Rattle.gic_model.specs.Sums.{Placed, sum_of}
 use Rattle.gic_model.proofs.Members.{kept, placed}
 use Rattle.gic_varied.specs.Grounds.{is_ground, regrounded, with_grounds}
-use Rattle.gic_varied.specs.Ranges.{range_of, ranges_of}
+use Rattle.gic_varied.specs.Ranges.{ground_range, ranges_of}
 use Rattle.gic_varied.specs.Lifts.{with_least, with_most}
 use Rattle.gic_varied.specs.GroundLaws.{AreLesser}
 use Rattle.gic_varied.proofs.Regrounded.{placed_with, filter-map, list_any-map, sum_of-map, standing_with, live_with}
@@ -167,7 +167,7 @@ limits_with network ohm inside h = limits_by network ohm (elements_with network.
 
 -- the ends of a range of a tolerance
 pub ends_inside : (percent ohm : ℕ) → 1000 ≤ ohm → ohm ≤ 1000000000 →
-    ((1000 ≤ (range_of percent ohm).least) × ((range_of percent ohm).least ≤ 1000000000)) × ((1000 ≤ (range_of percent ohm).most) × ((range_of percent ohm).most ≤ 1000000000))
+    ((1000 ≤ (ground_range percent ohm).least) × ((ground_range percent ohm).least ≤ 1000000000)) × ((1000 ≤ (ground_range percent ohm).most) × ((ground_range percent ohm).most ≤ 1000000000))
 ends_inside percent ohm least most =
     let own = own_in_range percent ohm least most in
     let from = own.at_least in

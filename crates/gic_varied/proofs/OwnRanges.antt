@@ -11,7 +11,7 @@ use Rattle.gic_model.specs.Network.{Network}
 use Rattle.gic_model.specs.Standing.{standing_elements}
 use Rattle.gic_model.proofs.Ends.{standing_within}
 use Rattle.gic_varied.specs.Grounds.{is_ground}
-use Rattle.gic_varied.specs.Ranges.{range_of, ranges_of, IsInRange, AreInRanges}
+use Rattle.gic_varied.specs.Ranges.{ground_range, ranges_of, IsInRange, AreInRanges}
 use Rattle.gic_varied.specs.VariedLaws.{HoldsTolerance}
 
 either_max : (m n : ℕ) → (max m n ≡ m) ⊎ (max m n ≡ n)
@@ -46,7 +46,7 @@ holds_tolerance percent ohm a b low high least most = record {
   at_most = min_times 1000000000 (div_ceil (ohm * (100 + percent)) 100) b a most (ceil_times (ohm * (100 + percent)) b a high);
 }
 
-pub own_in_range : (percent ohm : ℕ) → 1000 ≤ ohm → ohm ≤ 1000000000 → IsInRange (range_of percent ohm) ohm
+pub own_in_range : (percent ohm : ℕ) → 1000 ≤ ohm → ohm ≤ 1000000000 → IsInRange (ground_range percent ohm) ohm
 own_in_range percent ohm least most =
     let less : ohm * (100 - percent) ≤ ohm * 100 = mul-le-mul_left ohm (omega arith) in
     let more : ohm * 100 ≤ ohm * (100 + percent) = mul-le-mul_left ohm (omega arith) in

@@ -13,8 +13,8 @@ pub record Range : Type 0 where
   pub most : ℕ
 
 -- the range of a resistance with a tolerance in per cent, rounded outward, and within what a case can have
-abbrev pub range_of : (percent ohm : ℕ) → Range
-range_of percent ohm = record {
+abbrev pub ground_range : (percent ohm : ℕ) → Range
+ground_range percent ohm = record {
   least = max 1000 (ohm * (100 - percent) / 100);
   most = min 1000000000 (div_ceil (ohm * (100 + percent)) 100);
 }
@@ -25,7 +25,7 @@ Ranges = Element → Range
 
 -- those of tolerances in per cent, one for each item
 abbrev pub ranges_of : (Item → ℕ) → Ranges
-ranges_of percent e = range_of (percent e.item) e.micro_ohm
+ranges_of percent e = ground_range (percent e.item) e.micro_ohm
 
 -- a resistance of the range, which begins above 0
 pub record IsInRange (range : Range) (ohm : ℕ) : Type 0 where

@@ -7,13 +7,13 @@ use Rattle.gic_model.specs.Limits.{IsWithinLimits}
 use Rattle.gic_model.specs.Standing.{standing_elements}
 use Rattle.gic_model.specs.Solution.{Solution, IsSolution}
 use Rattle.gic_varied.specs.Grounds.{HaveNoGroundVolts, with_grounds}
-use Rattle.gic_varied.specs.Ranges.{Ranges, range_of, ranges_of, AreInRanges}
+use Rattle.gic_varied.specs.Ranges.{Ranges, ground_range, ranges_of, AreInRanges}
 use Rattle.gic_varied.specs.Varied.{IsVaried}
 
 -- the range holds each resistance a/b within the tolerance that a case can have, whole or not
 pub record HoldsTolerance (percent ohm a b : ℕ) : Type 0 where
-  pub at_least : (range_of percent ohm).least * b ≤ a
-  pub at_most : a ≤ (range_of percent ohm).most * b
+  pub at_least : (ground_range percent ohm).least * b ≤ a
+  pub at_most : a ≤ (ground_range percent ohm).most * b
 
 abbrev pub RangesHoldTolerances : Type 0
 RangesHoldTolerances = (percent ohm a b : ℕ) →
