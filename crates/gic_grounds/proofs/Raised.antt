@@ -1,12 +1,12 @@
 -- The voltages of lifts, over the standing elements.
-use Rattle.std.proofs.Common.{◌≡◌, ℕ, ◌+◌, ◌-◌, ◌*◌, ◌^◌, ◌<◌, ◌≤◌, Bool, true, false, cond, List, length, set, arith, refl, ap, ap₂, sym, subst, ⊎_elim, ◌∙◌, ℤ, pos, ◌-ℤ◌, ◌*ℤ◌, neg_ℤ, unsigned_abs, to_z, of_z, w64}
+use Rattle.std.proofs.Common.{◌≡◌, ℕ, ◌+◌, ◌-◌, ◌*◌, ◌^◌, ◌<◌, ◌≤◌, Bool, true, false, cond, List, length, set, arith, refl, ap, ap₂, sym, ⊎_elim, ◌∙◌, ℤ, pos, ◌-ℤ◌, ◌*ℤ◌, neg_ℤ, unsigned_abs, to_z, of_z, w64}
 use Rattle.std.specs.Prelude.{FitsSigned}
 use Rattle.std.specs.Int.{w128, int_max}
-use Rattle.std.specs.List.{AllByRecursion, enumerate_from}
-use Rattle.std.proofs.Math.Nat.{mul-le-mul, mul-le-mul_left, mul-le-mul_right}
+use Rattle.std.specs.List.{enumerate_from}
+use Rattle.std.proofs.Math.Nat.{mul-le-mul}
 use Rattle.std.proofs.lemmas.Bool.{cases_lt}
 use Rattle.std.proofs.lemmas.Int.{ints, clamps, unsigned_abs-mul, fits_signed_from_abs, to_z-of_z}
-use Rattle.std.proofs.lemmas.List.{length-map, get_or-set_same, get_or-set_other}
+use Rattle.std.proofs.lemmas.List.{get_or-set_same, get_or-set_other}
 use Rattle.std.proofs.lemmas.List.Elements.{All-from_recursion}
 use Rattle.gic_fixed.specs.Rounding.{ceil_div}
 use Rattle.gic_model.specs.declared.parts.Element.{Element}
@@ -20,10 +20,10 @@ use Rattle.gic_net.proofs.Kept.{IsIn, each_in}
 use Rattle.gic_net.specs.Net.{element_of}
 use Rattle.gic_varied.specs.Certified.{AreLiftVolts}
 use Rattle.gic_varied.specs.Enclosure.{lift_volt}
-use Rattle.gic_varied.specs.Grounds.{is_ground, regrounded, with_grounds}
+use Rattle.gic_varied.specs.Grounds.{is_ground, regrounded}
 use Rattle.gic_varied.specs.Lifts.{with_least, with_most}
 use Rattle.gic_varied.specs.Ranges.{Range, Ranges}
-use Rattle.gic_grounds.specs.Lifting.{range_at, lift_at}
+use Rattle.gic_grounds.specs.Lifting.{lift_at}
 use Rattle.gic_grounds.specs.Modest.{IsModest}
 use Rattle.gic_grounds.proofs.Extremes.{element_with}
 use Rattle.gic_grounds.proofs.NodeLists.{ceil_small}

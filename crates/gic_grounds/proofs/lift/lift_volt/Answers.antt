@@ -1,8 +1,7 @@
-use Rattle.std.proofs.Common.{◌≡◌, ◌-◌, ◌*◌, ◌^◌, ◌<◌, ◌≤◌, ◌∙◌, ℤ, ap, arith, pos, ◌-ℤ◌, ◌*ℤ◌, neg_ℤ, rules, subst, subst₂, sym, to_z, of_z, w64, unsigned_abs}
+use Rattle.std.proofs.Common.{◌≡◌, ◌-◌, ◌≤◌, ◌∙◌, ℤ, ap, arith, pos, ◌-ℤ◌, ◌*ℤ◌, neg_ℤ, rules, subst, subst₂, sym, to_z, of_z, w64, unsigned_abs}
 use Rattle.std.specs.Prelude.{FitsSigned}
 use Rattle.std.proofs.lemmas.Int.{ints, fits_signed_from_abs}
 use Rattle.std.specs.Int.{w128, int_max}
-use Rattle.gic_fixed.specs.Rounding.{ceil_div}
 use Rattle.gic_grounds.proofs.Raised.{lift_within, rise_fits, lifted, lowered}
 use Rattle.gic_grounds.proofs.lift.lift_volt.Goals as goal
 

@@ -1,4 +1,4 @@
-use Rattle.std.proofs.Common.{◌≤◌, ◌^◌, arith, unsigned_abs}
+use Rattle.std.proofs.Common.{arith}
 use Rattle.gic_fixed.specs.Ends.{ends_of}
 use Rattle.gic_grounds.proofs.Quotients.{varied_is}
 use Rattle.gic_grounds.proofs.stray.varied.Goals as goal
