@@ -1,6 +1,6 @@
 -- The stray powers of the standing grounds, added up place by place.
-use Rattle.std.proofs.Common.{◌≡◌, ℕ, ◌+◌, ◌*◌, ◌<◌, ◌≤◌, Bool, true, false, cond, List, [], ◌∷◌, length, drop, get_or, map, arith, refl, ap, sym, subst, ◌∙◌, ℤ, pos, ◌+ℤ◌, drop-cons, add-one, suc, ◌⊎◌, inl, inr, unsigned_abs, ◌^◌}
-use Rattle.std.specs.List.{AllByRecursion, filter, enumerate_from}
+use Rattle.std.proofs.Common.{◌≡◌, ℕ, ◌+◌, ◌*◌, ◌<◌, ◌≤◌, Bool, true, false, cond, List, ◌∷◌, length, drop, get_or, arith, refl, ap, sym, ◌∙◌, ℤ, pos, ◌+ℤ◌, drop-cons, add-one, suc, ◌⊎◌, inl, inr, unsigned_abs, ◌^◌}
+use Rattle.std.specs.List.{filter, enumerate_from}
 use Rattle.std.proofs.lemmas.List.{at_drop_all}
 use Rattle.std.specs.Prelude.{FitsSigned}
 use Rattle.std.specs.Int.{w128}
@@ -21,7 +21,7 @@ use Rattle.gic_net.specs.Net.{element_of, no_element}
 use Rattle.gic_varied.proofs.Regrounded.{placed_with, filter-map, sum_of-map, standing_with}
 use Rattle.gic_varied.specs.Enclosure.{stray_at, stray_ends, varied_ends, product_ends}
 use Rattle.gic_varied.specs.Certified.{product_at}
-use Rattle.gic_varied.specs.Grounds.{is_ground, regrounded, with_grounds, grounds_among}
+use Rattle.gic_varied.specs.Grounds.{is_ground, regrounded, grounds_among}
 use Rattle.gic_varied.specs.Lifts.{with_least, with_most}
 use Rattle.gic_varied.specs.Ranges.{Range, Ranges}
 use Rattle.gic_grounds.specs.declared.varied.VariedEnds.{VariedEnds}

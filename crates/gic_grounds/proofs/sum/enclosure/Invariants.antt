@@ -1,4 +1,4 @@
-use Rattle.std.proofs.Common.{◌≡◌, ◌+◌, ◌*◌, ◌^◌, ℕ, ◌+ℤ◌}
+use Rattle.std.proofs.Common.{◌≡◌, ◌+◌, ◌*◌, ◌^◌, ◌+ℤ◌}
 use Rattle.gic_fixed.specs.Encloses.{IsWithin}
 use Rattle.gic_net.specs.Net.{stands}
 use Rattle.gic_grounds.specs.Varying.{stray_power_at}
