@@ -1,6 +1,6 @@
 -- The interval of a transformer's current holds that of every varied solution.
-use Rattle.std.proofs.Common.{◌≡◌, ℕ, ◌+◌, ◌*◌, ◌^◌, ◌/◌, ◌<◌, ◌≤◌, zero, suc, Bool, false, true, List, length, get_or, ℤ, pos, ◌*ℤ◌, unsigned_abs, arith, refl, ap, sym, subst, ◌∙◌, inl, inr}
-use Rattle.std.specs.List.{All, AllByRecursion, enumerate_from}
+use Rattle.std.proofs.Common.{◌≡◌, ℕ, ◌*◌, ◌^◌, ◌/◌, ◌<◌, ◌≤◌, zero, suc, false, List, length, get_or, ℤ, pos, ◌*ℤ◌, unsigned_abs, arith, ap, sym, subst, ◌∙◌, inl, inr}
+use Rattle.std.specs.List.{All, enumerate_from}
 use Rattle.std.proofs.lemmas.Bool.{cases_Bool}
 use Rattle.std.proofs.lemmas.Int.{ints}
 use Rattle.std.proofs.lemmas.List.{get_or_default}
@@ -16,12 +16,11 @@ use Rattle.gic_effective.specs.Weighted.{effective_numerator, effective_denomina
 use Rattle.gic_enclose.specs.Ends.{potential_ends}
 use Rattle.gic_fixed.specs.Encloses.{Encloses}
 use Rattle.gic_fixed.specs.Ends.{Ends, zero_ends}
-use Rattle.gic_model.specs.declared.parts.Item.{Item}
 use Rattle.gic_model.specs.Bound.{IsEarthedWithin}
 use Rattle.gic_model.specs.Earthing.{AreEarthed}
 use Rattle.gic_model.specs.Limits.{IsWithinLimits}
 use Rattle.gic_model.specs.Solution.{Solution}
-use Rattle.gic_model.specs.Standing.{standing_elements, stands_after, is_standing}
+use Rattle.gic_model.specs.Standing.{stands_after, is_standing}
 use Rattle.gic_model.specs.Sums.{Placed}
 use Rattle.gic_model.proofs.Members.{kept, both}
 use Rattle.gic_net.proofs.Kept.{IsIn, each_in}
@@ -45,7 +44,7 @@ use Rattle.gic_grounds.specs.declared.workspace.VariedWorkspace.{VariedWorkspace
 use Rattle.gic_grounds.specs.Varied.{IsReferredTo, AreAdjoined, AreReferred}
 use Rattle.gic_grounds.specs.VariedCurrent.{References, AreReferences, IsVariedCurrent, milli_cut}
 use Rattle.gic_grounds.specs.Varying.{intervals_of}
-use Rattle.gic_grounds.proofs.Certifying.{given, intervals, certified, of_reference, by_listed, scales}
+use Rattle.gic_grounds.proofs.Certifying.{given, certified, of_reference, by_listed, scales}
 use Rattle.gic_grounds.proofs.CutCurrents.{milli_cut_holds}
 use Rattle.gic_grounds.proofs.Earthings.{least_in_range, stands_with}
 use Rattle.gic_grounds.proofs.Extremes.{few_percent}

@@ -2,7 +2,6 @@ use Rattle.std.proofs.Common.{◌≡◌, ◌^◌, ◌<◌, ℕ, List, length, ge
 use Rattle.std.proofs.lemmas.List.{get_or_default}
 use Rattle.std.proofs.lemmas.List.Elements.{All-get_or}
 use Rattle.gic_base.specs.declared.limits.TheConstants.{MOST_WALK}
-use Rattle.gic_bound.specs.Entries.{IsBoundWithin}
 use Rattle.gic_case.specs.declared.item.Transformer.{Transformer}
 use Rattle.gic_case.specs.Lists.{Lists}
 use Rattle.gic_case.specs.Sound.{IsSound, IsSoundTransformer, IsRated}
@@ -20,7 +19,7 @@ use Rattle.gic_grounds.specs.Lifted.{CanSolve, HasAdjointSpace, HasReferenceSpac
 use Rattle.gic_grounds.specs.NodeEnds.{AreAllWithin}
 use Rattle.gic_grounds.specs.Varying.{AreVariedOf, AreVariedWithin}
 use Rattle.gic_grounds.specs.Scale.{stray_unit, units_of}
-use Rattle.gic_grounds.specs.Tolerated.{Tolerated, tolerated, least_in, AreNetsOf}
+use Rattle.gic_grounds.specs.Tolerated.{tolerated}
 use Rattle.gic_grounds.proofs.Earthings.{own_earthed}
 use Rattle.gic_grounds.proofs.Holding.{Laws, IsStudied, varied_current_is, references_in, references_of}
 use Rattle.gic_grounds.proofs.workspace.VariedWorkspace.enclose.Goals as goal
