@@ -1,47 +1,30 @@
 -- What solves left makes a certified enclosure of a transformer's current, and it holds that of every varied solution.
-use Rattle.std.proofs.Common.{◌≡◌, ℕ, ◌+◌, ◌*◌, ◌^◌, ◌<◌, ◌≤◌, Bool, false, true, List, [], ◌∷◌, length, get_or, map, ℤ, pos, neg_ℤ, ◌*ℤ◌, unsigned_abs, arith, refl, ap, sym, subst, ◌∙◌, inl, inr}
-use Rattle.std.specs.List.{All, AllByRecursion}
-use Rattle.std.proofs.Math.Nat.{mul-le-mul_left}
-use Rattle.std.proofs.lemmas.List.Elements.{All-from_recursion, recursion_from_All, All-get_or}
-use Rattle.gic_base.proofs.Each.{weaker}
-use Rattle.gic_case.specs.declared.item.Transformer.{Transformer}
+use Rattle.std.proofs.Common.{◌≡◌, ℕ, ◌*◌, ◌<◌, Bool, false, List, [], ◌∷◌, length, ℤ, pos, ◌*ℤ◌, arith, refl, ap, sym, subst, ◌∙◌}
+use Rattle.std.specs.List.{AllByRecursion}
 use Rattle.gic_case.specs.Lists.{Lists}
-use Rattle.gic_case.specs.Sound.{IsSound, IsSoundTransformer}
-use Rattle.gic_effective.specs.RightView.{HasNoEffect}
-use Rattle.gic_effective.specs.Weighted.{effective_numerator, effective_denominator}
-use Rattle.gic_enclose.specs.Certain.{AreCertain, AreTight}
+use Rattle.gic_effective.specs.Weighted.{effective_numerator}
+use Rattle.gic_enclose.specs.Certain.{AreCertain}
 use Rattle.gic_enclose.specs.Ends.{potential_ends}
 use Rattle.gic_fixed.specs.Encloses.{Encloses}
-use Rattle.gic_fixed.specs.Ends.{Ends, zero_ends, IsAtMostWide}
+use Rattle.gic_fixed.specs.Ends.{Ends}
 use Rattle.gic_fixed.proofs.Enclosures.{Encloses-common}
-use Rattle.gic_fixed.proofs.Divisions.{positive_product}
 use Rattle.gic_fixed.proofs.Sums.{sum_of-same}
 use Rattle.gic_model.specs.declared.parts.Item.{Item}
-use Rattle.gic_model.specs.Bound.{IsEarthedWithin}
-use Rattle.gic_model.specs.Earthing.{AreEarthed}
-use Rattle.gic_model.specs.Limits.{IsWithinLimits, AreVolts}
 use Rattle.gic_model.specs.Network.{Network}
 use Rattle.gic_model.specs.Solution.{Solution, IsSolution}
 use Rattle.gic_model.specs.Standing.{standing_elements, stands_after, is_standing}
-use Rattle.gic_model.specs.Sums.{Placed, sum_of}
-use Rattle.gic_net.specs.Net.{standing}
-use Rattle.gic_varied.specs.Certified.{Voltages, Units, Intervals, HoldPotentials, AreCertified, AreLiftVolts, GrainsHoldInUnits, CertifiedEnclosuresHold, in_units, certified_enclosure}
-use Rattle.gic_varied.specs.Grounds.{HaveNoGroundVolts}
-use Rattle.gic_varied.specs.Lifts.{with_least, with_most}
-use Rattle.gic_varied.specs.Ranges.{Ranges}
+use Rattle.gic_model.specs.Sums.{Placed}
+use Rattle.gic_varied.specs.Certified.{Voltages, Intervals, AreCertified, GrainsHoldInUnits, in_units, certified_enclosure}
 use Rattle.gic_varied.specs.Reciprocal.{current_by_weights, weights_from, ListedWeightsCount}
-use Rattle.gic_varied.specs.Varied.{IsVaried}
 use Rattle.gic_varied.proofs.Regrounded.{solves_with}
 use Rattle.gic_winding.specs.ElementList.{elements_of}
 use Rattle.gic_winding.specs.Weights.{transformer_at, weighted_windings}
-use Rattle.gic_grounds.specs.declared.side.Side.TheVariants.{Lowering, Raising}
 use Rattle.gic_grounds.specs.declared.nets.GroundNets.{GroundNets}
 use Rattle.gic_grounds.specs.declared.reference.Reference.{Reference}
-use Rattle.gic_grounds.specs.Lifted.{AreLifted}
 use Rattle.gic_grounds.specs.Scale.{multiple, weight_times, stray_unit, units_of}
 use Rattle.gic_grounds.specs.Tolerated.{Tolerated, AreNetsOf, ranges_in, own_in, least_in, most_in}
 use Rattle.gic_grounds.specs.Varied.{IsReferredTo, AreAdjoined}
-use Rattle.gic_grounds.specs.VariedCurrent.{AreMadeOfTight, IsOfReference, milli_cut}
+use Rattle.gic_grounds.specs.VariedCurrent.{IsOfReference, milli_cut}
 use Rattle.gic_grounds.specs.Varying.{intervals_of}
 use Rattle.gic_grounds.proofs.Rounded.{rounded_at, held_in_units}
 

@@ -1,5 +1,5 @@
 -- What stays of a workspace over a solve.
-use Rattle.std.proofs.Common.{◌≡◌, ℕ, List, slice_index, ap, sym, subst}
+use Rattle.std.proofs.Common.{◌≡◌, ℕ, List, slice_index, sym, subst}
 use Rattle.gic_base.specs.declared.limits.TheConstants.{MOST_WALK}
 use Rattle.gic_bound.specs.Entries.{IsBoundWithin}
 use Rattle.gic_net.specs.Net.{standing}

@@ -1,4 +1,4 @@
-use Rattle.std.proofs.Common.{◌≡◌, ◌^◌, ◌<◌, length, slice_index_or, slice_set, rules, arith, ap, sym, subst, ◌∙◌}
+use Rattle.std.proofs.Common.{◌^◌, ◌<◌, length, slice_index_or, rules, ap, sym, subst, ◌∙◌}
 use Rattle.std.proofs.lemmas.List.{length-set}
 use Rattle.gic_effective.proofs.Filled.{filled}
 use Rattle.gic_enclose.specs.Ends.{potential_ends}
@@ -7,7 +7,6 @@ use Rattle.gic_fixed.specs.Ends.{ends_of, zero_ends}
 use Rattle.gic_model.specs.Voltages.{number_at}
 use Rattle.gic_net.specs.Net.{standing}
 use Rattle.gic_grounds.specs.OwnCurrent.{IsOwnCurrent}
-use Rattle.gic_grounds.proofs.NodeLists.{all_within}
 use Rattle.gic_grounds.proofs.own.fill_own.Goals as goal
 
 pub loop-transformer-preserved : goal.loop-transformer-preserved

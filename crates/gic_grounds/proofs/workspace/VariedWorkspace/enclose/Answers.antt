@@ -1,8 +1,10 @@
 use Rattle.std.proofs.Common.{◌≡◌, ◌^◌, ◌<◌, ℕ, List, length, get_or, slice_index, ap, sym, subst, ◌∙◌}
 use Rattle.std.proofs.lemmas.List.{get_or_default}
+use Rattle.std.proofs.lemmas.List.Elements.{All-get_or}
 use Rattle.gic_base.specs.declared.limits.TheConstants.{MOST_WALK}
-use Rattle.gic_bound.specs.Entries.{IsBoundWithin}
 use Rattle.gic_case.specs.declared.item.Transformer.{Transformer}
+use Rattle.gic_case.specs.Lists.{Lists}
+use Rattle.gic_case.specs.Sound.{IsSound, IsSoundTransformer, IsRated}
 use Rattle.gic_fixed.specs.Ends.{Ends, ends_of}
 use Rattle.gic_model.specs.Bound.{IsEarthedWithin}
 use Rattle.gic_model.specs.Limits.{IsWithinLimits}
@@ -17,7 +19,7 @@ use Rattle.gic_grounds.specs.Lifted.{CanSolve, HasAdjointSpace, HasReferenceSpac
 use Rattle.gic_grounds.specs.NodeEnds.{AreAllWithin}
 use Rattle.gic_grounds.specs.Varying.{AreVariedOf, AreVariedWithin}
 use Rattle.gic_grounds.specs.Scale.{stray_unit, units_of}
-use Rattle.gic_grounds.specs.Tolerated.{Tolerated, tolerated, least_in, AreNetsOf}
+use Rattle.gic_grounds.specs.Tolerated.{tolerated}
 use Rattle.gic_grounds.proofs.Earthings.{own_earthed}
 use Rattle.gic_grounds.proofs.Holding.{Laws, IsStudied, varied_current_is, references_in, references_of}
 use Rattle.gic_grounds.proofs.workspace.VariedWorkspace.enclose.Goals as goal
@@ -32,11 +34,26 @@ laws_of c = record {
   limits = c.other_grounds_law.ensures.limits;
 }
 
+-- the row that is read is the transformer's
+row_read : (case : Lists) (t : ℕ) (rows : List Transformer) (row : Transformer) → t < length case.transformers → row ≡ get_or rows t row → rows ≡ case.transformers → transformer_at case t ≡ row
+row_read case t rows row inside at whole =
+    get_or_default case.transformers t no_transformer row inside ∙ sym (at ∙ ap (λ (ts : List Transformer). get_or ts t row) whole)
+
+-- and its high voltage is that of a sound one
+row_rated : (case : Lists) (t : ℕ) (row : Transformer) → t < length case.transformers → IsSound case → transformer_at case t ≡ row → IsRated row.high_volts
+row_rated case t row inside sound is =
+    subst (λ (r : Transformer). IsRated r.high_volts) is
+    (All-get_or (IsSoundTransformer case) case.transformers t no_transformer inside sound.transformers_sound).rated
+
+pub stray_unit-requires-clause-volts : goal.stray_unit-requires-clause-volts
+stray_unit-requires-clause-volts c =
+    let row = c.index-transformers-transformer.result in
+    row_rated c.args.case.now c.args.transformer row c.requires.place c.transformers.ensures.sound
+    (row_read c.args.case.now c.args.transformer c.transformers.result.now row c.requires.place c.index-transformers-transformer.is c.transformers.ensures.value)
+
 row_is : (c : goal.After-varied_current-east) → transformer_at c.args.case.now c.args.transformer ≡ c.index-transformers-transformer.result
 row_is c =
-    let row = c.index-transformers-transformer.result in
-    let at = c.index-transformers-transformer.is ∙ ap (λ ts. get_or ts c.args.transformer row) c.transformers.ensures.value in
-    get_or_default c.args.case.now.transformers c.args.transformer no_transformer row c.requires.place ∙ sym at
+    row_read c.args.case.now c.args.transformer c.transformers.result.now c.index-transformers-transformer.result c.requires.place c.index-transformers-transformer.is c.transformers.ensures.value
 
 unit_is : (c : goal.After-varied_current-east) → stray_unit (transformer_at c.args.case.now c.args.transformer).high_volts c.args.self.now.unit ≡ c.stray_unit-unit.result
 unit_is c = ap (λ (t : Transformer). stray_unit t.high_volts c.args.self.now.unit) (row_is c) ∙ sym c.stray_unit-unit.ensures.value

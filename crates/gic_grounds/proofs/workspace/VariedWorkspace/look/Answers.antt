@@ -1,4 +1,4 @@
-use Rattle.std.proofs.Common.{◌≡◌, ℕ, List, length, slice_index, ap, subst, ◌∙◌}
+use Rattle.std.proofs.Common.{List, length, slice_index, ap, subst, ◌∙◌}
 use Rattle.std.specs.Prelude.{IfErr}
 use Rattle.std.proofs.lemmas.List.{length-map}
 use Rattle.gic_base.specs.declared.limits.TheConstants.{MOST_WALK}
