@@ -1,5 +1,5 @@
 -- Fields induce no voltage at a ground.
-use Rattle.std.proofs.Common.{◌≡◌, ℕ, ◌<◌, Bool, true, false, Option, Some, None, List, [], ◌∷◌, length, map, get_or, flat_map, ℤ, pos, refl, ap, sym, ◌∙◌}
+use Rattle.std.proofs.Common.{◌≡◌, ℕ, ◌<◌, Bool, true, false, Option, Some, None, List, [], ◌∷◌, length, map, get_or, flat_map, ℤ, pos, refl, ap, sym, subst, ◌∙◌}
 use Rattle.std.specs.List.{AllByRecursion, enumerate_from}
 use Rattle.std.proofs.lemmas.List.{get_or-map}
 use Rattle.std.proofs.lemmas.List.Elements.{All-from_recursion}
@@ -21,6 +21,7 @@ use Rattle.gic_net.specs.Net.{no_element}
 use Rattle.gic_net.proofs.Kept.{IsIn, each_in}
 use Rattle.gic_varied.specs.Grounds.{is_ground, HaveNoGroundVolts}
 use Rattle.gic_winding.specs.ElementList.{earthing_of, line_of, winding_elements, resistor_of, elements_of}
+use Rattle.gic_grounds.specs.Varied.{HasNoGroundVolts}
 use Rattle.gic_winding.proofs.Within.{all_of_parts}
 
 no_way : false ≡ true → ⊥
@@ -72,3 +73,8 @@ module _ (case : Lists) (fields : List (ℤ × ℤ)) where
       get_or-map (λ (e : Element). volts_of_item case fields e.item) list p.0 no_element (pos 0) h.0.0 ∙
       ap (λ (e : Element). volts_of_item case fields e.item) (sym h.0.1) ∙ h.1 ground)
       (enumerate_from 0 list) (both (IsIn list) (λ p. IsQuiet p.1) (enumerate_from 0 list) (each_in list) (placed IsQuiet 0 list each_quiet)))
+
+-- the voltages of one field are 0 at each ground, whatever stands
+pub quiet_at_grounds : (case : Lists) (fields : List (ℤ × ℤ)) (volts : List ℤ) → volts ≡ volts_of case fields (elements_of case).list
+    → HasNoGroundVolts case (number_at volts)
+quiet_at_grounds case fields volts is = subst (λ (ns : List ℤ). HasNoGroundVolts case (number_at ns)) (sym is) (no_ground_volts case fields)
