@@ -9,8 +9,8 @@ use Rattle.gic_robust.specs.RightRobust.{IsRobustRow}
 use Rattle.gic_robust.proofs.Referred.{KeepsReferences, still_referred, still_references}
 use Rattle.gic_robust.proofs.rows.fill_rows.Goals as goal
 
-pub row-requires-clause-references : goal.row-requires-clause-references
-row-requires-clause-references c = still_references c.args.varied.now c.loop-transformer.varied c.loop-transformer.invariant.rest c.requires.references
+pub row-currents-requires-clause-references : goal.row-currents-requires-clause-references
+row-currents-requires-clause-references c = still_references c.args.varied.now c.loop-transformer.varied c.loop-transformer.invariant.rest c.requires.references
 
 pub loop-transformer-preserved : goal.loop-transformer-preserved
 loop-transformer-preserved c =
@@ -21,7 +21,7 @@ loop-transformer-preserved c =
     let varied = c.loop-transformer.varied in
     let now = c.row-currents.new.self in
     let row = screen_row_of c.robust_row.result in
-    let inside : at < length rows = omega (arith, c.loop-transformer-test.true, i.count) in
+    let inside : at < length rows = omega (arith, c.loop-transformer-test.true, i.count, ap length c.transformers.ensures.value) in
     let rest : KeepsReferences c.args.varied.now now =
     c.row-currents.ensures.rest ∙ ap (λ (w : VariedWorkspace). record w { solving = now.solving; volts = now.volts; adjoint = now.adjoint }) i.rest in
     record {
