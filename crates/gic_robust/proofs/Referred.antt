@@ -1,8 +1,12 @@
--- References that stay, while transformers are asked for.
-use Rattle.std.proofs.Common.{◌≡◌, ℕ, ℤ, sym, subst}
+-- What stays of a workspace: its nets, when the network is looked at, and its references, when transformers are asked for.
+use Rattle.std.proofs.Common.{◌≡◌, ℕ, ℤ, ap, sym, subst}
 use Rattle.gic_case.specs.Lists.{Lists}
 use Rattle.gic_grounds.specs.declared.workspace.VariedWorkspace.{VariedWorkspace}
 use Rattle.gic_grounds.specs.Varied.{AreReferred, HasReferences}
+
+-- a network that was looked at is the same
+pub same_nets : (before now : VariedWorkspace) → now ≡ record before { solving = now.solving } → now.nets ≡ before.nets
+same_nets before now rest = ap (λ (w : VariedWorkspace). w.nets) rest
 
 -- the workspace is as it was, but for what transformers are worked out in
 abbrev pub KeepsReferences : (before now : VariedWorkspace) → Type 0

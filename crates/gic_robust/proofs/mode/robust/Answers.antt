@@ -1,7 +1,6 @@
-use Rattle.std.proofs.Common.{◌≡◌, ℕ, ℤ, pos, refl, ap, sym, subst, ◌∙◌}
+use Rattle.std.proofs.Common.{◌≡◌, ℕ, ℤ, pos, refl, sym, subst, ◌∙◌}
 use Rattle.gic_criteria.specs.Event.{field_of}
 use Rattle.gic_grounds.specs.declared.nets.GroundNets.{GroundNets}
-use Rattle.gic_grounds.specs.declared.workspace.VariedWorkspace.{VariedWorkspace}
 use Rattle.gic_grounds.specs.Tolerated.{AreNetsOf, most_in}
 use Rattle.gic_inputs.specs.Inputs.{rows_in}
 use Rattle.gic_model.specs.Voltages.{number_at}
@@ -15,6 +14,7 @@ use Rattle.gic_uniform.proofs.InField.{in_volts}
 use Rattle.gic_robust.specs.RightRobust.{ShowsRobustRows, IsRightRobust}
 use Rattle.gic_robust.specs.Steps.{tolerated_of, most_steps}
 use Rattle.gic_robust.proofs.GroundVolts.{quiet_at_grounds}
+use Rattle.gic_robust.proofs.Referred.{same_nets}
 use Rattle.gic_robust.proofs.mode.robust.Goals as goal
 
 pub returns : goal.returns
@@ -29,7 +29,7 @@ returns g c =
     let east : ℕ → ℤ = number_at workspace.volts.east in
     let before = shown g.S.Sink.written g.S.Sink.faults c.args.out.now in
     let now = shown g.S.Sink.written g.S.Sink.faults c.write_rows-writing.new.out in
-    let looked : c.look.new.self.nets ≡ workspace.varied.nets = ap (λ (w : VariedWorkspace). w.nets) c.in_ok-look.ensures.rest in
+    let looked : c.look.new.self.nets ≡ workspace.varied.nets = same_nets workspace.varied c.look.new.self c.in_ok-look.ensures.rest in
     let solvable : IsSolvable (most_in v) =
     subst IsSolvable given.nets.extremes.most_standing (subst (λ (n : GroundNets). IsSolvable (standing n.most)) looked c.in_ok-look.ensures.ready.solvable) in
     let nets : AreNetsOf v c.refer.new.self.nets = subst (AreNetsOf v) (sym (c.refer.ensures.nets ∙ looked)) given.nets in
