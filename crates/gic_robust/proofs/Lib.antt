@@ -1,3 +1,4 @@
 pub mod GroundVolts
+pub mod Referred
 pub mod RobustDetermined
 pub mod TrueWhateverGrounds

@@ -1,5 +1,5 @@
 //! A row for each transformer.
-ghost use Rattle.std.specs.Prelude.{ℕ, ◌≡◌, ◌<◌, List, length, ℤ};
+ghost use Rattle.std.specs.Prelude.{ℕ, ◌≡◌, List, length, ℤ};
 ghost use Rattle.gic_model.specs.declared.parts.Switching.{Switching};
 ghost use Rattle.gic_grounds.specs.Tolerated.{Tolerated, tolerated, AreNetsOf};
 ghost use Rattle.gic_grounds.specs.Varied.{IsReadyToVary, AreReferred, HasReferences};

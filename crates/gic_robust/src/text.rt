@@ -1,5 +1,5 @@
 //! The report of the mode.
-ghost use Rattle.std.specs.Prelude.{◌≡◌, map};
+ghost use Rattle.std.specs.Prelude.{map};
 ghost use Rattle.gic_base.specs.Writes.{Writes};
 ghost use Rattle.gic_text.specs.Lines.{line_text, lines_text};
 ghost use Rattle.gic_worst.specs.Rows.{screen_row_of};
