@@ -1,5 +1,5 @@
 -- Intervals in grains, rounded outward to units.
-use Rattle.std.proofs.Common.{◌≡◌, ℕ, ◌^◌, ◌*◌, ◌<◌, List, [], ◌∷◌, zero, suc, map, ℤ, pos, slice_index_or, arith, refl, ap₂, sym, subst, ◌∙◌}
+use Rattle.std.proofs.Common.{◌≡◌, ℕ, ◌^◌, ◌*◌, ◌<◌, List, [], ◌∷◌, zero, suc, map, ℤ, pos, slice_index_or, arith, refl, ap₂, sym, subst}
 use Rattle.gic_effective.proofs.Weighings.{ends_by}
 use Rattle.gic_enclose.specs.Certain.{AreCertain}
 use Rattle.gic_enclose.specs.Ends.{potential_ends}

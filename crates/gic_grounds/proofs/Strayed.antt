@@ -1,6 +1,6 @@
 -- The stray powers of the standing grounds, added up place by place.
-use Rattle.std.proofs.Common.{◌≡◌, ℕ, ◌+◌, ◌*◌, ◌<◌, ◌≤◌, Bool, true, false, cond, List, [], ◌∷◌, length, drop, get_or, map, arith, refl, ap, sym, subst, ◌∙◌, ℤ, pos, ◌+ℤ◌, drop-cons, add-one, suc, ◌⊎◌, inl, inr, unsigned_abs, ◌^◌}
-use Rattle.std.specs.List.{AllByRecursion, filter, enumerate_from}
+use Rattle.std.proofs.Common.{◌≡◌, ℕ, ◌+◌, ◌*◌, ◌<◌, ◌≤◌, Bool, true, false, cond, List, ◌∷◌, length, drop, get_or, arith, refl, ap, ap₂, sym, ◌∙◌, ℤ, pos, ◌+ℤ◌, drop-cons, add-one, suc, ◌⊎◌, inl, inr, unsigned_abs, ◌^◌}
+use Rattle.std.specs.List.{filter, enumerate_from}
 use Rattle.std.proofs.lemmas.List.{at_drop_all}
 use Rattle.std.specs.Prelude.{FitsSigned}
 use Rattle.std.specs.Int.{w128}
@@ -21,7 +21,7 @@ use Rattle.gic_net.specs.Net.{element_of, no_element}
 use Rattle.gic_varied.proofs.Regrounded.{placed_with, filter-map, sum_of-map, standing_with}
 use Rattle.gic_varied.specs.Enclosure.{stray_at, stray_ends, varied_ends, product_ends}
 use Rattle.gic_varied.specs.Certified.{product_at}
-use Rattle.gic_varied.specs.Grounds.{is_ground, regrounded, with_grounds, grounds_among}
+use Rattle.gic_varied.specs.Grounds.{is_ground, regrounded, grounds_among}
 use Rattle.gic_varied.specs.Lifts.{with_least, with_most}
 use Rattle.gic_varied.specs.Ranges.{Range, Ranges}
 use Rattle.gic_grounds.specs.declared.varied.VariedEnds.{VariedEnds}
@@ -97,7 +97,12 @@ pub stray_is : (least most : Network) (unit : ℕ) (adjoint : List Ends) (varied
     ends_of s ≡ stray_power_at least most unit adjoint varied place
 stray_is least most unit adjoint varied place e m a r l h p s v is_e is_m is_a is_r is_l is_h is_v is_p is_s =
     let ends = intervals_of adjoint varied zero_ends in
-    let product : ends_of p ≡ product_at ends (place, e) = rw (is_p, is_v, is_a, is_r, is_l, is_h) in
+    let k = e.from.0 in
+    let moved : varied_ends (ends_of r) (ends_of l) (ends_of h) ≡ varied_ends (potential_ends varied.reference k) (potential_ends varied.lowering k) (potential_ends varied.raising k) =
+        ap (λ (x : Ends). varied_ends x (ends_of l) (ends_of h)) is_r
+        ∙ ap (λ (x : Ends). varied_ends (potential_ends varied.reference k) x (ends_of h)) is_l
+        ∙ ap (λ (x : Ends). varied_ends (potential_ends varied.reference k) (potential_ends varied.lowering k) x) is_h in
+    let product : ends_of p ≡ product_at ends (place, e) = is_p ∙ ap₂ (λ (x y : Ends). product_ends x y) is_a (is_v ∙ moved) in
     is_s
     ∙ ap (stray_ends (record { least = e.micro_ohm; most = m.micro_ohm }) e.times e.micro_ohm unit) product
     ∙ ap (λ (x : Element). stray_ends (record { least = e.micro_ohm; most = x.micro_ohm }) e.times e.micro_ohm unit (product_at ends (place, e))) is_m

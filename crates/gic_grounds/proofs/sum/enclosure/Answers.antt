@@ -9,6 +9,23 @@ use Rattle.gic_grounds.specs.Varying.{intervals_of, stray_power_at}
 use Rattle.gic_grounds.proofs.Strayed.{sum_from, next_stray, next_sum, next_small, sum_fits, chosen, end_is}
 use Rattle.gic_grounds.proofs.sum.enclosure.Goals as goal
 
+pub loop-place-init : goal.loop-place-init
+loop-place-init c = record {
+  low = refl;
+  high = refl;
+  small = record { low = omega (arith, c.requires.own.low); high = omega (arith, c.requires.own.high) };
+}
+
+pub add-total-requires-clause-low : goal.add-total-requires-clause-low
+add-total-requires-clause-low c =
+    sum_fits c.loop-place.total.lo c.standing_stray_at-stray.result.lo c.loop-place.place c.loop-place.invariant.small.low c.standing_stray_at-stray.ensures.small.low
+    (omega (arith, c.loop-place-test.true, c.count-place-end.ensures.value, c.count-place-end.ensures.limits.few_elements))
+
+pub add-total-requires-clause-high : goal.add-total-requires-clause-high
+add-total-requires-clause-high c =
+    sum_fits c.loop-place.total.hi c.standing_stray_at-stray.result.hi c.loop-place.place c.loop-place.invariant.small.high c.standing_stray_at-stray.ensures.small.high
+    (omega (arith, c.loop-place-test.true, c.count-place-end.ensures.value, c.count-place-end.ensures.limits.few_elements))
+
 pub loop-place-preserved : goal.loop-place-preserved
 loop-place-preserved c =
     let least = c.args.nets.now.least in
@@ -45,3 +62,8 @@ returns-clause-enclosure c = λ network stays ranges units are same.
     c.loop-place.total.hi c.args.own.hi c.loop-place.place past c.loop-place.invariant.high are.least_network are.most_network are.least_standing in
     subst (λ u. ends_of c.loop-place.total ≡ enclosure_of (standing_elements network stays) ranges (λ e. (ranges e).least) u (product_at ends) ends.own) (sym same)
     (λ i. record { low = low i; high = high i })
+
+pub returns-clause-small : goal.returns-clause-small
+returns-clause-small c =
+    let few : c.loop-place.place ≤ 61440 = omega (arith, c.loop-place.auto.place-end, c.count-place-end.ensures.value, c.count-place-end.ensures.limits.few_elements) in
+    record { low = omega (arith, c.loop-place.invariant.small.low, few); high = omega (arith, c.loop-place.invariant.small.high, few) }
