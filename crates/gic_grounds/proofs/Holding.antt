@@ -152,7 +152,7 @@ module _ (laws : Laws) (v : Tolerated) (studied : IsStudied v) (few : v.percent 
         let stands = stands_after v.rows in
         let both_limits = laws.limits network (tolerance_at v.case v.percent) studied.limits in
         let in_range = least_in_range network stands (tolerance_at v.case v.percent) studied.limits in
-        let modest = laws.modest network stands (tolerance_at v.case v.percent) studied.limits (few_percent v.case v.percent few) in
+        let modest = laws.modest network stands (tolerance_at v.case v.percent) studied.limits (few_percent v.case v.percent studied.sound few) in
         let bounded = laws.bounded network stands (ranges_in v) volts s studied.limits both_limits.0 studied.earthed studied.within in_range modest refers.limit (refers.no_ground stands) varies in
         let whole = laws.enclosures network stands (ranges_in v) (given laws.grains laws.listed v nets of_nets t unit adjoint reference volts grains some refers adjoins inside) (units_of high unit)
         (intervals_of adjoint reference.potentials (potential_ends reference.own t)) s

@@ -110,7 +110,7 @@ impl VariedWorkspace {
     {
         other_grounds_law();
         self.elements.within_limits();
-        self.solving.look(case, &self.nets.most, 1)
+        self.solving.look(case, self.nets.most(), 1)
     }
 
     /// Refers the network to these voltages of the field to the north and of that to the east. Takes no memory.
@@ -175,7 +175,7 @@ impl VariedWorkspace {
         ensures ready { IsReadyToVary case.now self.new }
         ensures rest { self.new ≡ record self.old { solving = self.new.solving; volts = self.new.volts; adjoint = self.new.adjoint } }
     {
-        if has_effect(case, self.elements.list(), &self.nets.least, transformer) {
+        if has_effect(case, self.elements.list(), &self.nets, transformer) {
             self.enclose(case, transformer)
         } else {
             let none = Interval::point(0);

@@ -1,12 +1,12 @@
 use Rattle.std.proofs.Common.{List, length, slice_index, ap, subst, ◌∙◌}
-use Rattle.std.specs.Prelude.{IfErr}
+use Rattle.std.specs.Prelude.{IfErr, OnOk}
 use Rattle.std.proofs.lemmas.List.{length-map}
 use Rattle.gic_base.specs.declared.limits.TheConstants.{MOST_WALK}
 use Rattle.gic_model.specs.Earthing.{AreEarthed}
 use Rattle.gic_model.specs.Limits.{IsWithinLimits}
 use Rattle.gic_model.specs.Network.{Network}
 use Rattle.gic_model.specs.Sums.{Placed}
-use Rattle.gic_net.specs.Net.{standing}
+use Rattle.gic_net.specs.Net.{NetView, standing}
 use Rattle.gic_stand.specs.Needs.{Solved, Fails}
 use Rattle.gic_uniform.specs.Ready.{IsReadyFor}
 use Rattle.gic_varied.specs.Grounds.{regrounded}
@@ -18,7 +18,12 @@ use Rattle.gic_grounds.proofs.Earthings.{least_bound, own_earthed}
 use Rattle.gic_grounds.proofs.workspace.VariedWorkspace.look.Goals as goal
 
 pub look-requires-clause-nodes : goal.look-requires-clause-nodes
-look-requires-clause-nodes c = ap (λ (n : Network). n.nodes) c.requires.space.nets.of_case.extremes.most_network
+look-requires-clause-nodes c =
+    ap (λ (n : NetView). n.network.nodes) c.most.ensures ∙ ap (λ (n : Network). n.nodes) c.requires.space.nets.of_case.extremes.most_network
+
+-- the look was at the net with the grounds at their greatest
+ready_of : (c : goal.After-look) → OnOk c.look.result (IsReadyFor c.args.case.now (standing c.args.self.now.nets.most) c.look.new.self)
+ready_of c = subst (λ (n : NetView). OnOk c.look.result (IsReadyFor c.args.case.now (standing n) c.look.new.self)) c.most.ensures c.look.ensures.ready
 
 pub returns-clause-ready : goal.returns-clause-ready
 returns-clause-ready c =
@@ -49,13 +54,13 @@ returns-clause-ready c =
         bound_least = least_bound v nets of_case c.other_grounds_law.ensures.bound limits MOST_WALK (slice_index c.look.new.self.vector) ready.bound;
         bound_most = ready.bound;
       };
-    }) c.look.ensures.ready
+    }) (ready_of c)
 
 pub returns-clause-earthed : goal.returns-clause-earthed
 returns-clause-earthed c v of_nets =
     on_ok (IsReadyFor c.args.case.now (standing c.args.self.now.nets.most) c.look.new.self) (AreEarthed (own_in v)) c.look.result
-    (λ ready. own_earthed v c.args.self.now.nets of_nets ready.solvable.earthed) c.look.ensures.ready
+    (λ ready. own_earthed v c.args.self.now.nets of_nets ready.solvable.earthed) (ready_of c)
 
 pub returns-clause-err : goal.returns-clause-err
 returns-clause-err c v of_nets =
-    subst (λ (ps : List Placed). IfErr c.look.result (Fails Solved c.args.case.now 1 ps)) of_nets.extremes.most_standing c.look.ensures.err
+    subst (λ (ps : List Placed). IfErr c.look.result (Fails Solved c.args.case.now 1 ps)) (ap (λ (n : NetView). standing n) c.most.ensures ∙ of_nets.extremes.most_standing) c.look.ensures.err
