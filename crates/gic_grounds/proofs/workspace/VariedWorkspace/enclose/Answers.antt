@@ -45,8 +45,8 @@ row_rated case t row inside sound is =
     subst (λ (r : Transformer). IsRated r.high_volts) is
     (All-get_or (IsSoundTransformer case) case.transformers t no_transformer inside sound.transformers_sound).rated
 
-pub stray_unit-requires-clause-volts : goal.stray_unit-requires-clause-volts
-stray_unit-requires-clause-volts c =
+pub stray_unit-unit-requires-clause-volts : goal.stray_unit-unit-requires-clause-volts
+stray_unit-unit-requires-clause-volts c =
     let row = c.index-transformers-transformer.result in
     row_rated c.args.case.now c.args.transformer row c.requires.place c.transformers.ensures.sound
     (row_read c.args.case.now c.args.transformer c.transformers.result.now row c.requires.place c.index-transformers-transformer.is c.transformers.ensures.value)
@@ -108,15 +108,15 @@ can_enclose nodes count transformers t nets solving adjoint reference can adjoin
   own_within = own;
 }
 
-pub varied_current-requires-clause-space : goal.varied_current-requires-clause-space
-varied_current-requires-clause-space c =
+pub varied_current-north-requires-clause-space : goal.varied_current-north-requires-clause-space
+varied_current-north-requires-clause-space c =
     let w = c.args.self.now in
     let space = c.requires.ready.has_space in
     can_enclose (elements_of c.args.case.now).nodes (length (elements_of c.args.case.now).list) (length c.args.case.now.transformers) c.args.transformer w.nets w.solving c.adjoin.new.out w.north
     c.requires.ready.can_solve (c.adjoin.ensures.space.adjoint_count ∙ ap (λ (n : Network). n.nodes) space.elements) c.adjoin.ensures.adjoined.within space.north_space c.requires.references.north_within c.requires.references.own_north c.requires.place
 
-pub varied_current-requires-2-clause-space : goal.varied_current-requires-2-clause-space
-varied_current-requires-2-clause-space c =
+pub varied_current-east-requires-clause-space : goal.varied_current-east-requires-clause-space
+varied_current-east-requires-clause-space c =
     let w = c.args.self.now in
     let space = c.requires.ready.has_space in
     can_enclose (elements_of c.args.case.now).nodes (length (elements_of c.args.case.now).list) (length c.args.case.now.transformers) c.args.transformer w.nets w.solving c.adjoin.new.out w.east
