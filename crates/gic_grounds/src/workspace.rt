@@ -28,7 +28,9 @@ use gic_model::{Elements, Volts};
 use gic_stand::NetworkRefusal;
 use gic_switch::Switchings;
 use gic_uniform::SolveWorkspace;
-use gic_varied::laws::{certified_enclosure_law, other_grounds_law, reciprocity_law, varied_bound_law};
+use gic_varied::laws::{
+    certified_enclosure_law, other_grounds_law, reciprocity_law, varied_bound_law,
+};
 use std::alloc::Global;
 
 /// The nets of a case with its grounds at both ends of their ranges, and all that its transformers' currents are worked
