@@ -24,6 +24,7 @@ use Rattle.gic_grounds.proofs.Earthings.{own_earthed}
 use Rattle.gic_grounds.proofs.Holding.{Laws, IsStudied, varied_current_is, references_in, references_of}
 use Rattle.gic_grounds.proofs.workspace.VariedWorkspace.enclose.Goals as goal
 
+-- the theorems that the calls bring
 laws_of : (c : goal.After-varied_current-east) → Laws
 laws_of c = record {
   enclosures = c.certified_enclosure_law.ensures.holds;

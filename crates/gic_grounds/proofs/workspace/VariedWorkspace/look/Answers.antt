@@ -23,7 +23,8 @@ look-requires-clause-nodes c =
 
 -- the look was at the net with the grounds at their greatest
 ready_of : (c : goal.After-look) → OnOk c.look.result (IsReadyFor c.args.case.now (standing c.args.self.now.nets.most) c.look.new.self)
-ready_of c = subst (λ (n : NetView). OnOk c.look.result (IsReadyFor c.args.case.now (standing n) c.look.new.self)) c.most.ensures c.look.ensures.ready
+ready_of c =
+    subst (λ (n : NetView). OnOk c.look.result (IsReadyFor c.args.case.now (standing n) c.look.new.self)) c.most.ensures c.look.ensures.ready
 
 pub returns-clause-ready : goal.returns-clause-ready
 returns-clause-ready c =
@@ -34,7 +35,8 @@ returns-clause-ready c =
     let v = tolerated case space.nets.rows space.nets.percent in
     let network = elements_of case in
     let limits = subst IsWithinLimits space.elements c.within_limits.ensures in
-    on_ok (IsReadyFor case (standing nets.most) c.look.new.self) (IsReadyToVary case (record c.args.self.now { solving = c.look.new.self })) c.look.result
+    let looked = record c.args.self.now { solving = c.look.new.self } in
+    on_ok (IsReadyFor case (standing nets.most) c.look.new.self) (IsReadyToVary case looked) c.look.result
     (λ ready. record {
       has_space = record {
         elements = space.elements;
@@ -48,10 +50,13 @@ returns-clause-ready c =
       can_solve = record {
         least_nodes = ap (λ (n : Network). n.nodes) of_case.extremes.least_network;
         most_nodes = ap (λ (n : Network). n.nodes) of_case.extremes.most_network;
-        least_count = ap (λ (n : Network). length n.list) of_case.extremes.least_network ∙ length-map network.list (regrounded (λ e. (ranges_in v e).least));
-        most_count = ap (λ (n : Network). length n.list) of_case.extremes.most_network ∙ length-map network.list (regrounded (λ e. (ranges_in v e).most));
+        least_count = ap (λ (n : Network). length n.list) of_case.extremes.least_network
+            ∙ length-map network.list (regrounded (λ e. (ranges_in v e).least));
+        most_count = ap (λ (n : Network). length n.list) of_case.extremes.most_network
+            ∙ length-map network.list (regrounded (λ e. (ranges_in v e).most));
         has_space = ready.has_workspace;
-        bound_least = least_bound v nets of_case c.other_grounds_law.ensures.bound limits MOST_WALK (slice_index c.look.new.self.vector) ready.bound;
+        bound_least = least_bound v nets of_case c.other_grounds_law.ensures.bound limits MOST_WALK (slice_index c.look.new.self.vector)
+            ready.bound;
         bound_most = ready.bound;
       };
     }) (ready_of c)
@@ -63,4 +68,5 @@ returns-clause-earthed c v of_nets =
 
 pub returns-clause-err : goal.returns-clause-err
 returns-clause-err c v of_nets =
-    subst (λ (ps : List Placed). IfErr c.look.result (Fails Solved c.args.case.now 1 ps)) (ap (λ (n : NetView). standing n) c.most.ensures ∙ of_nets.extremes.most_standing) c.look.ensures.err
+    subst (λ (ps : List Placed). IfErr c.look.result (Fails Solved c.args.case.now 1 ps))
+    (ap (λ (n : NetView). standing n) c.most.ensures ∙ of_nets.extremes.most_standing) c.look.ensures.err
