@@ -85,6 +85,7 @@ module _ (v : Tolerated) (nets : GroundNets) (of_nets : AreNetsOf v nets) where
   pub effect_of_own : (t : ℕ) → HasNoEffect v.case (standing nets.least) t → HasNoEffect v.case (own_in v) t
   effect_of_own t = effect_moved (standing nets.least) (own_in v) (weighted_windings v.case t) (λ place. sym (same_places place))
 
+  -- and the other way round
   pub effect_of_least : (t : ℕ) → HasNoEffect v.case (own_in v) t → HasNoEffect v.case (standing nets.least) t
   effect_of_least t = effect_moved (own_in v) (standing nets.least) (weighted_windings v.case t) same_places
 
@@ -94,7 +95,8 @@ pub without_effect : (v : Tolerated) (volts : ℕ → ℤ) (unit : ℕ) (referen
     IsVariedCurrent v volts unit reference t ends
 without_effect v volts unit reference t ends none is = record {
   holds = λ s varies.
-      let nothing = nothing_summed (own_in v) s varies.none_if_open (weighted_windings v.case t) (recursion_from_All (HasNoPart (own_in v)) (weighted_windings v.case t) none) in
+      let nothing = nothing_summed (own_in v) s varies.none_if_open (weighted_windings v.case t)
+      (recursion_from_All (HasNoPart (own_in v)) (weighted_windings v.case t) none) in
       subst (λ (e : Ends). Encloses e.low e.high (effective_numerator v.case s t) (effective_denominator v.case t s)) (sym is)
       (subst (λ (n : ℤ). Encloses (pos 0) (pos 0) n (effective_denominator v.case t s)) (sym nothing)
       (record { above_lo = omega (arith, ints); below_hi = omega (arith, ints) }));
@@ -107,9 +109,11 @@ module _ (laws : Laws) (v : Tolerated) (studied : IsStudied v) (few : v.percent 
   abbrev row : ℕ → Transformer
   row t = transformer_at v.case t
 
+  -- it is the one that the list has there
   row_at : (t : ℕ) → t < length v.case.transformers → row t ≡ get_or v.case.transformers t (row t)
   row_at t inside = get_or_default v.case.transformers t no_transformer (row t) inside
 
+  -- it is sound
   row_sound : (t : ℕ) → t < length v.case.transformers → IsSoundTransformer v.case (row t)
   row_sound t inside = All-get_or (IsSoundTransformer v.case) v.case.transformers t no_transformer inside studied.sound.transformers_sound
 
@@ -144,12 +148,16 @@ module _ (laws : Laws) (v : Tolerated) (studied : IsStudied v) (few : v.percent 
     abbrev high : ℕ
     high = (row t).high_volts
 
+    -- the enclosure that is made for it
     abbrev enclosure : Ends
-    enclosure = certified_enclosure (own_in v) (ranges_in v) (units_of high unit) (intervals_of adjoint reference.potentials (potential_ends reference.own t))
+    enclosure = certified_enclosure (own_in v) (ranges_in v) (units_of high unit)
+        (intervals_of adjoint reference.potentials (potential_ends reference.own t))
 
+    -- its stray unit isn't small
     enough : 2 ^ 22 ≤ stray_unit high unit
     enough = multiple_enough high unit (row_sound t place).rated some small
 
+    -- a volt of a weight isn't 0 nanovolts
     some_times : 0 < weight_times high unit
     some_times = positive (60000000000000 / (high * (32 * unit))) high unit some enough
       where
@@ -165,24 +173,33 @@ module _ (laws : Laws) (v : Tolerated) (studied : IsStudied v) (few : v.percent 
         let stands = stands_after v.rows in
         let both_limits = laws.limits network (tolerance_at v.case v.percent) studied.limits in
         let in_range = least_in_range network stands (tolerance_at v.case v.percent) studied.limits in
-        let modest = laws.modest network stands (tolerance_at v.case v.percent) studied.limits (few_percent v.case v.percent studied.sound few) in
-        let bounded = laws.bounded network stands (ranges_in v) volts s studied.limits both_limits.0 studied.earthed studied.within in_range modest refers.limit (refers.no_ground stands) varies in
-        let whole = laws.enclosures network stands (ranges_in v) (given laws.grains laws.listed v nets of_nets t unit adjoint reference volts grains some refers adjoins inside) (units_of high unit)
+        let modest = laws.modest network stands (tolerance_at v.case v.percent) studied.limits
+        (few_percent v.case v.percent studied.sound few) in
+        let bounded = laws.bounded network stands (ranges_in v) volts s studied.limits both_limits.0 studied.earthed studied.within in_range
+        modest refers.limit (refers.no_ground stands) varies in
+        let whole = laws.enclosures network stands (ranges_in v)
+        (given laws.grains laws.listed v nets of_nets t unit adjoint reference volts grains some refers adjoins inside)
+        (units_of high unit)
         (intervals_of adjoint reference.potentials (potential_ends reference.own t)) s
         studied.limits both_limits.0 both_limits.1 studied.earthed in_range (omega (arith, enough))
         (certified laws.grains laws.listed v nets of_nets t unit adjoint reference volts grains some refers adjoins inside) varies in
-        let number = by_listed laws.listed network stands (weight_times high unit) v.case t adjoins.weights s adjoins.by_weights varies.none_if_open in
-        let nano = subst (λ (n : ℤ). Encloses enclosure.low enclosure.high n (stray_unit high unit * (32 * unit) * s.denominator)) number whole in
-        milli_cut_holds enclosure (effective_numerator v.case s t) (weight_times high unit) high s.denominator some_times (current_bounded s varies bounded t place)
+        let number = by_listed laws.listed network stands (weight_times high unit) v.case t adjoins.weights s adjoins.by_weights
+        varies.none_if_open in
+        let nano = subst (λ (n : ℤ). Encloses enclosure.low enclosure.high n (stray_unit high unit * (32 * unit) * s.denominator)) number
+        whole in
+        milli_cut_holds enclosure (effective_numerator v.case s t) (weight_times high unit) high s.denominator some_times
+        (current_bounded s varies bounded t place)
         (subst (λ (n : ℕ). Encloses enclosure.low enclosure.high (pos (weight_times high unit) *ℤ effective_numerator v.case s t) n) (sym (scales high unit s.denominator)) nano)
 
     -- the interval that is made of it, where something has an effect
     pub varied_current_is : (ends : Ends) → (HasNoEffect v.case (own_in v) t → ⊥) → ends ≡ milli_cut enclosure →
         IsVariedCurrent v volts unit grains t ends
     varied_current_is ends effect is = record {
-      holds = λ s varies. subst (λ (e : Ends). Encloses e.low e.high (effective_numerator v.case s t) (effective_denominator v.case t s)) (sym is) (enclosed s varies);
+      holds = λ s varies. subst (λ (e : Ends). Encloses e.low e.high (effective_numerator v.case s t) (effective_denominator v.case t s))
+          (sym is) (enclosed s varies);
       zeroed = λ none. absurd (effect none);
-      pinned = inr (of_reference laws.grains laws.listed v nets of_nets t unit adjoint reference volts grains some refers adjoins inside ends is);
+      pinned = inr
+          (of_reference laws.grains laws.listed v nets of_nets t unit adjoint reference volts grains some refers adjoins inside ends is);
     }
 
 -- the references of a workspace
@@ -195,9 +212,11 @@ pub references_of : (v : Tolerated) (north east : ℕ → ℤ) (workspace : Vari
     (referred : AreReferred v.case north east workspace) →
     AreReferences v north east (references_in v.case north east workspace referred)
 references_of v north east workspace of_nets referred = record {
-  north_certain = subst (λ (ps : List Placed). AreCertain ps north referred.north_grains) of_nets.extremes.least_standing referred.in_north.certain;
+  north_certain = subst (λ (ps : List Placed). AreCertain ps north referred.north_grains) of_nets.extremes.least_standing
+      referred.in_north.certain;
   north_tight = referred.in_north.tight;
-  east_certain = subst (λ (ps : List Placed). AreCertain ps east referred.east_grains) of_nets.extremes.least_standing referred.in_east.certain;
+  east_certain = subst (λ (ps : List Placed). AreCertain ps east referred.east_grains) of_nets.extremes.least_standing
+      referred.in_east.certain;
   east_tight = referred.in_east.tight;
   least_unit = referred.least_unit;
 }
