@@ -4,8 +4,8 @@
     python3 generators/random_cases.py DIR [COUNT] [SEED] [NODES] [--mode=MODE] [--limits]
 
 Each folder of DIR has the case `p`, often a list of switchings `s`, and the file `words` with the words of one run of
-MODE (`field` where it is not given, or `screen`, or `outage`, or `review`, or `study` or `series` with a storm `t`
-besides), one word a line.
+MODE (`field` where it is not given, or `screen`, or `outage`, or `review`, or `robust`, or `study` or `series` with a storm
+`t` besides), one word a line.
 COUNT networks are written (100), the same ones for the same SEED (1), each of at most NODES nodes (200).
 Transformers are of all kinds, with and without neutral resistors and blocking devices; some lines are blocked, some
 substations have no ground, and some networks are not earthed, or not well enough to be solved: then the answer is a
@@ -27,11 +27,13 @@ import paths  # noqa: F401 - it finds the modules below
 
 from referee.case import OHM, PARTS
 from referee.storm import FIELD
+from referee.words import RANGES
 
 # The ends of the latitudes, in hundredths of a degree, at which the alpha of the table is below that of the formula.
 LOW_ALPHA_ENDS = (4960, 5000, 5563, 5600, 5697, 5700)
-MODES = ("field", "screen", "outage", "study", "series", "review")
+MODES = ("field", "screen", "outage", "study", "series", "review", "robust")
 OVER_STORMS = ("study", "series")
+TOLERANCE = RANGES["tolerance"]
 KINDS = ("delta-wye", "wye-wye", "auto", "delta-delta")
 THREE_SIDED = ("wye-wye-wye", "auto-wye")
 MOST_SPAN = 300000
@@ -256,6 +258,8 @@ def words_of(draw: Random, mode: str, steps: int, units: Sequence[str]) -> list[
         return words
     if mode == "field":
         words += [f"--north={draw.randint(*FIELD)}", f"--east={draw.randint(*FIELD)}"]
+    if mode == "robust":
+        words.append(f"--tolerance={draw.choice([*TOLERANCE, 20, 50, draw.randint(*TOLERANCE)])}")
     if mode in OVER_STORMS:
         words.append("--storm=t")
     if mode == "study" and draw.random() < 0.6:

@@ -5,7 +5,8 @@
         [--limit-steps N]
 
 The rows: the network at every limit (7680 nodes, 19968 elements, 256 zones) in every mode, with names as they come and
-of 32 bytes in every place (`outage` over a quarter of it, since it screens a network once for each of its items);
+of 32 bytes in every place (`outage` and `robust` over a quarter of it, since they solve a network once for each of its
+items or transformers);
 storms of 20000 steps and 4096 switchings with an epoch each, and over the network at every limit storms of as many
 steps as --limit-steps says (1000), and as many epochs that change nothing; there too a storm of 4096 steps with an epoch
 each, that change nothing or each an earthing, beside the same storm without switchings; networks just within 4096 and
@@ -41,6 +42,8 @@ from referee.storm import MOST_STORM_ROWS, MOST_SWITCHINGS
 from referee.words import MODES
 
 STATIONS = LIMITS["substation"]
+# The modes that solve the network once for each of its items, or of its transformers.
+BY_ITEM = ("outage", "robust")
 MADE_SITES = 1000
 # Over the network at every limit each step takes so long that all steps would take a quarter of an hour.
 SOME_STEPS = 1000
@@ -317,9 +320,9 @@ def rows(command: Sequence[str], limit_steps: int) -> Iterator[Row]:
         if mode == "make":
             words = shared.words_of(mode, size="{size}")
             yield Row("make, sites", words, lambda folder, size: None, 1000, 500)
-        elif mode == "outage":
-            # A screen for each item: four times the time at twice the size. At every limit bench/outage.sh runs it.
-            name = "outage, a quarter of the limit (its ratio is 4)"
+        elif mode in BY_ITEM:
+            # A solve for each item: four times the time at twice the size. At every limit bench/outage.sh runs `outage`.
+            name = f"{mode}, a quarter of the limit (its ratio is 4)"
             yield Row(name, shared.words_of(mode), fill_limit(command), STATIONS // 4, STATIONS // 8)
         else:
             sizes = STATIONS, STATIONS // 2
@@ -361,9 +364,9 @@ def rows_3(command: Sequence[str]) -> Iterator[Row]:
     """The rows of format 3."""
     for mode in MODES:
         words = shared.words_of(mode, transformer=UNIT_3)
-        if mode == "outage":
+        if mode in BY_ITEM:
             sizes = STATIONS_3 // 16, STATIONS_3 // 32
-            yield Row("outage, a 16th of the limit of format 3 (its ratio is 4)", words, fill_limit_3(command), *sizes)
+            yield Row(f"{mode}, a 16th of the limit of format 3 (its ratio is 4)", words, fill_limit_3(command), *sizes)
         elif mode != "make":
             yield Row(f"{mode}, limit of format 3", words, fill_limit_3(command), STATIONS_3, STATIONS_3 // 2)
     for what, most in EDGES.items():

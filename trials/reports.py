@@ -6,8 +6,9 @@
 N reports (2000) of random networks in every mode get one change each: a digit, a sign, a number one off, a line
 dropped, doubled or moved, a verdict or another word, a name, an order of names. The reports are of exact values, so
 their intervals are the narrowest. So a report with one change can still be right only where an interval got wider by
-it, and the step of a loss may be another one; of a certificate the independent checker (`independent/recheck.py`) says
-whether it still passes. A change that the referee lets through and that is none of these is a fault.
+it, and the step of a loss may be another one; of `robust` where an end of an interval moved, since no exact value fixes
+how wide it is; of a certificate the independent checker (`independent/recheck.py`) says whether it still passes. A
+change that the referee lets through and that is none of these is a fault.
 """
 
 from __future__ import annotations
@@ -36,11 +37,13 @@ MOST_RADIUS = 2**31
 REPORTS_A_NETWORK = 10
 
 
-def roles(words: Sequence[str]) -> list[Optional[int]]:
+def roles(words: Sequence[str], mode: str) -> list[Optional[int]]:
     """For each word of a line whether it may be lower (-1), higher (1), either (0), or is fixed (None)."""
     allowed: list[Optional[int]] = [None] * len(words)
     if words[0] not in WIDE:
         return allowed
+    if mode == "robust":
+        return [0 if place > 1 and NUMBER.match(word) else None for place, word in enumerate(words)]
     if words[0] == "step":
         return [None, None, None, None, -1, 1] if len(words) == 6 else allowed
     numbers = [place for place, word in enumerate(words) if place > 1 and NUMBER.match(word)]
@@ -52,15 +55,15 @@ def roles(words: Sequence[str]) -> list[Optional[int]]:
     return allowed
 
 
-def is_wider(before: Lines, after: Lines) -> bool:
-    """Whether the lines are the same but for intervals that got wider."""
+def is_wider(before: Lines, after: Lines, mode: str) -> bool:
+    """Whether the lines are the same but for intervals that got wider, or in `robust` have another end."""
     if len(before) != len(after):
         return False
     for line, other in zip(before, after):
         words, others = line.split(" "), other.split(" ")
         if len(words) != len(others):
             return False
-        for word, new, way in zip(words, others, roles(words)):
+        for word, new, way in zip(words, others, roles(words, mode)):
             if word != new and (way is None or not NUMBER.match(new) or (int(new) - int(word)) * way < 0):
                 return False
     return True
@@ -113,7 +116,7 @@ def mutate_reports(draw: random.Random, folder: str, mode: str, words: Sequence[
         if after == lines:
             continue
         is_caught = bool(report_faults(outcome, mutated.encode()))
-        may_pass = passes(folder, mutated, lines) if mode == "certify" else is_wider(lines, after)
+        may_pass = passes(folder, mutated, lines) if mode == "certify" else is_wider(lines, after, mode)
         name = change.__name__
         if is_caught:
             add("caught though wider" if may_pass and mode != "certify" else "caught", name)

@@ -39,6 +39,7 @@ VALUES: dict[str, Union[int, str]] = {
     "event": "benchmark",
     "cert": "c",
     "transformer": "T1",
+    "tolerance": "20",
 }
 Values = dict[str, Union[int, str]]
 Item = TypeVar("Item")
@@ -175,6 +176,7 @@ def random_values(draw: random.Random) -> Values:
         "seed": draw.randint(*RANGES["seed"]),
         "size": draw.randint(2, 20),
         "transformer": f"T{draw.randint(0, 3)}",
+        "tolerance": draw.choice([*RANGES["tolerance"], 20, 50, draw.randint(*RANGES["tolerance"])]),
     }
 
 

@@ -52,7 +52,10 @@ class Readme(DeskTest):
         furnish(self.folder, BUILT.resolve())
         blocks = BLOCKS.findall(README.read_text())
         shown = set(re.findall(r"desk/gicdesk ([\w-]+)", "".join(commands for commands, _ in blocks)))
-        shown_in_text = {"csv", "compare", "outages", "mitigate", "case", "psse", "study", "losses", "powermodels", "from-powermodels"}
+        shown_in_text = {
+            *("csv", "compare", "outages", "mitigate", "grounds", "case", "psse", "study", "losses"),
+            *("powermodels", "from-powermodels"),
+        }
         self.assertEqual(shown, shown_in_text)
         for commands, text in blocks:
             self.assertEqual(printed(commands, self.folder), text, commands)

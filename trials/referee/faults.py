@@ -8,10 +8,11 @@ from referee.checker import Checker
 from referee.outage_checker import OutageChecker
 from referee.outcome import Outcome
 from referee.report_text import ReportText
+from referee.robust_checker import RobustChecker
 from referee.study_checker import StudyChecker
 from referee.values import Tie
 
-CHECKERS: dict[str, type[Checker]] = {"study": StudyChecker, "outage": OutageChecker}
+CHECKERS: dict[str, type[Checker]] = {"study": StudyChecker, "outage": OutageChecker, "robust": RobustChecker}
 
 
 def report_faults(outcome: Outcome, output: bytes) -> list[str]:

@@ -10,7 +10,8 @@ from typing import NamedTuple, Optional, Union
 
 from referee.case import Case, Live, Stand, make_case, read_case
 from referee.certificate import Certificate, check_certificate, read_certificate
-from referee.earthing import least_capped, unearthed, unresolved
+from referee.earthing import CAP, least_capped, least_vector, unearthed, unresolved
+from referee.grounds import ground_ranges, with_grounds
 from referee.storm import Storm, Switching, read_storm, read_switchings, standing
 from referee.words import EARTHED, LIVE, MODES, SOLVED, Asked, Refusal, read_words
 
@@ -165,10 +166,18 @@ class Prediction:
         if node is not None and need >= EARTHED:
             raise Refusal(8, f"gicstudy: unearthed: step {step} node {case.nodes[node]}")
         if need == SOLVED:
-            node = unresolved(case, stand)
+            node = unresolved(case, stand) if self.outcome.asked.tolerance is None else self.unresolved_at_most(stand)
             if node is not None:
                 raise Refusal(9, f"gicstudy: unresolved: step {step} node {case.nodes[node]}")
         return live
+
+    def unresolved_at_most(self, stand: Stand) -> Optional[int]:
+        """The first node that isn't resolved with each ground at the greatest resistance of its range, or None."""
+        case, percent = self.outcome.case, self.outcome.asked.tolerance
+        assert percent is not None
+        most = {number: own.most for number, own in ground_ranges(case, percent).items()}
+        vector = least_vector(len(case.nodes), with_grounds(case, most), stand)
+        return vector.index(CAP) if CAP in vector else None
 
     def recheck(self, name: bytes) -> None:
         outcome = self.outcome

@@ -9,24 +9,20 @@ from __future__ import annotations
 import random
 from collections.abc import Callable, Iterable, Iterator, Sequence
 from fractions import Fraction
-from math import isqrt
+from math import ceil, floor, isqrt
 from typing import NamedTuple, Optional, Union
 
 from referee.case import Live, Stand
 from referee.certificate import GRAINS_PER_MILLIVOLT, Node, check_certificate
 from referee.checker import VERDICTS, interval_of, verdict_of
 from referee.earthing import least_capped
+from referee.grounds import Ends, Varied, root_up, worst_of
 from referee.items import Intervals, Key, effective_key, effective_lines, item_lines
 from referee.outages import Outage, outages
 from referee.outcome import Outcome
 from referee.plain_reports import PLAIN_REPORTS
 from referee.study import Study
 from referee.values import NOTHING, Interval, Value, magnitude, rounded_down, rounded_up, sum_of_squares
-
-
-def root_up(number: int) -> int:
-    root = isqrt(number)
-    return root if root * root == number else root + 1
 
 
 def peak(intervals: Iterable[Optional[Interval]]) -> Optional[Interval]:
@@ -63,6 +59,7 @@ class Report:
             "study": self.say_study,
             "series": self.say_series,
             "outage": self.say_outage,
+            "robust": self.say_robust,
         }
 
     def text(self) -> bytes:
@@ -166,9 +163,38 @@ class Report:
         self.say("width", self.width, "threshold", self.threshold, "field", self.asked.field)
         currents = self.worst_currents(self.outcome.stand, self.outcome.live)
         for place, (north, east, worst) in enumerate(currents):
-            name, verdict = self.case.transformers[place].name, self.verdict(place, worst)
-            self.say("transformer", name, "north", *north, "east", *east, "worst", *worst, verdict)
+            self.say_worst(place, Worst(north, east, worst))
         self.say("end")
+
+    def say_worst(self, place: int, currents: Worst) -> None:
+        name, verdict = self.case.transformers[place].name, self.verdict(place, currents.worst)
+        self.say(
+            *("transformer", name, "north", *currents.north, "east", *currents.east),
+            *("worst", *currents.worst, verdict),
+        )
+
+    def say_robust(self) -> None:
+        outcome, asked = self.outcome, self.asked
+        assert asked.tolerance is not None
+        varied = Varied(self.case, outcome.stand, outcome.live, asked.field, asked.tolerance)
+        self.say("robust")
+        self.say(
+            "width", self.width, "threshold", self.threshold, "field", asked.field, "tolerance", asked.tolerance
+        )
+        for place, enclosures in enumerate(varied.enclosures()):
+            if varied.has_effect(place):
+                north, east = (self.rounded_outward(enclosure) for enclosure in enclosures)
+            else:
+                north, east = NOTHING, NOTHING
+            self.say_worst(place, Worst(north, east, worst_of(north, east)))
+        self.say("end")
+
+    def rounded_outward(self, enclosure: Ends) -> Interval:
+        """The narrowest interval of an enclosure, or one that is up to the width longer at either end."""
+        low, high = floor(enclosure.low), ceil(enclosure.high)
+        if self.draw is None:
+            return Interval(low, high)
+        return Interval(low - self.draw.randrange(self.width), high + self.draw.randrange(self.width))
 
     def say_make(self) -> None:
         self.say("make")

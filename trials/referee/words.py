@@ -34,9 +34,11 @@ MODES = {
     "series": Mode(SOLVED, ["case", "storm", "transformer"], ["switch", "width"]),
     "outage": Mode(SOLVED, ["case"], ["switch", "width", "event"]),
     "review": Mode(NOTHING, ["case"], []),
+    "robust": Mode(SOLVED, ["case", "tolerance"], ["switch", "width", "event"]),
 }
 OPTIONS = [
     "case", "storm", "switch", "north", "east", "width", "detail", "seed", "size", "event", "cert", "transformer",
+    "tolerance",
 ]
 
 
@@ -64,6 +66,7 @@ RANGES = {
     "detail": Range(1, 20000),
     "seed": Range(0, 4294967295),
     "size": Range(2, 1000),
+    "tolerance": Range(1, 90),
 }
 DEFAULT_WIDTH, DEFAULT_EVENT = 100, "benchmark"
 DEFAULTS = {"north": 0, "east": 0, "width": DEFAULT_WIDTH, "event": DEFAULT_EVENT}
@@ -87,6 +90,7 @@ class Asked:
     event: str
     cert: Optional[bytes]
     transformer: Optional[bytes]
+    tolerance: Optional[int]
 
     @property
     def threshold(self) -> int:

@@ -1,5 +1,5 @@
 #!/usr/bin/env python3
-"""Tests that the referee reads format 3 of a case: the worked cases of that format, without a program.
+"""Tests of the referee without a program: the worked cases of format 3 and of `robust`, and reports that are wrong.
 
     python3 .ci/tests.py trials/tests/test_referee.py
 """
@@ -20,7 +20,8 @@ LARGE = "format_3_rows"
 
 
 def folders() -> list[Path]:
-    return [folder for folder in sorted(CASES.glob("format_3_*")) if not folder.name.startswith(LARGE)]
+    found = [*CASES.glob("format_3_*"), *CASES.glob("robust_*")]
+    return [folder for folder in sorted(found) if not folder.name.startswith(LARGE)]
 
 
 class WorkedCases(unittest.TestCase):
@@ -55,6 +56,38 @@ class WorkedCases(unittest.TestCase):
         self.assertIn(b"\ntransformer R 0 0 outside\n", report)
         wider = report.replace(b"effective R 0 0", b"effective R 0 1").replace(b"transformer R 0 0", b"transformer R 0 1")
         self.assertTrue(report_faults(outcome, wider))
+
+    def robust_faults(self, name: str, *changes: tuple[bytes, bytes]) -> list[str]:
+        """The faults of the exact report of a case of `robust` with these changes."""
+        outcome = self.outcome_of(CASES / name)
+        report = Report(outcome, False).text()
+        for before, after in changes:
+            self.assertIn(before, report)
+            report = report.replace(before, after)
+        return report_faults(outcome, report)
+
+    def test_currents_of_the_loop_whatever_its_grounds_are(self) -> None:
+        # By hand: 800 V over 3.6 and over 2.8 ohm drive 74074.07 and 95238.10 mA per phase; the enclosure begins at 71050.64.
+        name, north = "robust_sample", b"TB north 71050 95239"
+        self.assertEqual(self.robust_faults(name, (north, b"TB north 74074 95239")), [])
+        self.assertEqual(self.robust_faults(name, (north, b"TB north 70951 95338")), [])
+        for wrong in (b"74075 95239", b"71050 95238", b"70950 95239", b"71050 95339", b"95239 71050", b"-71050 95239"):
+            self.assertTrue(self.robust_faults(name, (north, b"TB north " + wrong)))
+        worst = b"east 0 0 worst 71050 95239 undecided"
+        for wrong in (b"0 0 worst 74075 95239", b"0 0 worst 71050 95238", b"0 0 worst 70949 95239", b"0 0 worst -1 95239"):
+            self.assertTrue(self.robust_faults(name, (worst, b"east " + wrong + b" undecided")))
+        self.assertTrue(self.robust_faults(name, (b"undecided", b"reaches")))
+        self.assertTrue(self.robust_faults(name, (b"tolerance 20", b"tolerance 21")))
+
+    def test_a_unit_that_no_current_goes_through_has_none(self) -> None:
+        wrong = (b"transformer R north 0 0", b"transformer R north 0 1")
+        self.assertTrue(self.robust_faults("format_3_robust_all_kinds", wrong))
+
+    def test_a_tolerance_of_its_own_goes_before_the_one_that_is_asked(self) -> None:
+        # By hand: A from 0.5 to 1.5 ohm and B from 0.9 to 1.1, so 800 V over 2.6 to 3.8 ohm: 70175.44 to 102564.10 mA.
+        report = Report(self.outcome_of(CASES / "format_3_robust_own_tolerance"), False).text()
+        self.assertIn(b" 102565 undecided\n", report)
+        self.assertTrue(self.robust_faults("format_3_robust_own_tolerance", (b" 102565 undecided", b" 102564 undecided")))
 
     def test_a_third_winding_that_is_left_out_is_found(self) -> None:
         outcome = self.outcome_of(CASES / "format_3_list")

@@ -1,5 +1,5 @@
 -- What intervals show where the potentials that they are made of hold every solution, and where these are sharp.
-use Rattle.std.specs.Prelude.{ℕ, ◌≡◌, ◌+◌, ◌^◌, Option, None, Some, List, IsFalse, ℤ, pos}
+use Rattle.std.specs.Prelude.{ℕ, ◌≡◌, ◌+◌, Option, None, Some, List, IsFalse, ℤ, pos}
 use Rattle.gic_base.specs.declared.id.ElementId.{ElementId}
 use Rattle.gic_case.specs.Lists.{Lists}
 use Rattle.gic_enclose.specs.Ends.{high_at, low_at}

@@ -1,52 +1,36 @@
 -- What solves left makes a certified enclosure of a transformer's current, and it holds that of every varied solution.
-use Rattle.std.proofs.Common.{◌≡◌, ℕ, ◌+◌, ◌*◌, ◌^◌, ◌<◌, ◌≤◌, Bool, false, true, List, [], ◌∷◌, length, get_or, map, ℤ, pos, neg_ℤ, ◌*ℤ◌, unsigned_abs, arith, refl, ap, sym, subst, ◌∙◌, inl, inr}
-use Rattle.std.specs.List.{All, AllByRecursion}
-use Rattle.std.proofs.Math.Nat.{mul-le-mul_left}
-use Rattle.std.proofs.lemmas.List.Elements.{All-from_recursion, recursion_from_All, All-get_or}
-use Rattle.gic_base.proofs.Each.{weaker}
-use Rattle.gic_case.specs.declared.item.Transformer.{Transformer}
+use Rattle.std.proofs.Common.{◌≡◌, ℕ, ◌*◌, ◌<◌, Bool, false, List, [], ◌∷◌, length, ℤ, pos, ◌*ℤ◌, arith, refl, ap, sym, subst, ◌∙◌}
+use Rattle.std.specs.List.{AllByRecursion}
 use Rattle.gic_case.specs.Lists.{Lists}
-use Rattle.gic_case.specs.Sound.{IsSound, IsSoundTransformer}
-use Rattle.gic_effective.specs.RightView.{HasNoEffect}
-use Rattle.gic_effective.specs.Weighted.{effective_numerator, effective_denominator}
-use Rattle.gic_enclose.specs.Certain.{AreCertain, AreTight}
+use Rattle.gic_effective.specs.Weighted.{effective_numerator}
+use Rattle.gic_enclose.specs.Certain.{AreCertain}
 use Rattle.gic_enclose.specs.Ends.{potential_ends}
 use Rattle.gic_fixed.specs.Encloses.{Encloses}
-use Rattle.gic_fixed.specs.Ends.{Ends, zero_ends, IsAtMostWide}
+use Rattle.gic_fixed.specs.Ends.{Ends}
 use Rattle.gic_fixed.proofs.Enclosures.{Encloses-common}
-use Rattle.gic_fixed.proofs.Divisions.{positive_product}
 use Rattle.gic_fixed.proofs.Sums.{sum_of-same}
 use Rattle.gic_model.specs.declared.parts.Item.{Item}
-use Rattle.gic_model.specs.Bound.{IsEarthedWithin}
-use Rattle.gic_model.specs.Earthing.{AreEarthed}
-use Rattle.gic_model.specs.Limits.{IsWithinLimits, AreVolts}
 use Rattle.gic_model.specs.Network.{Network}
 use Rattle.gic_model.specs.Solution.{Solution, IsSolution}
 use Rattle.gic_model.specs.Standing.{standing_elements, stands_after, is_standing}
-use Rattle.gic_model.specs.Sums.{Placed, sum_of}
-use Rattle.gic_net.specs.Net.{standing}
-use Rattle.gic_varied.specs.Certified.{Voltages, Units, Intervals, HoldPotentials, AreCertified, AreLiftVolts, GrainsHoldInUnits, CertifiedEnclosuresHold, in_units, certified_enclosure}
-use Rattle.gic_varied.specs.Grounds.{HaveNoGroundVolts}
-use Rattle.gic_varied.specs.Lifts.{with_least, with_most}
-use Rattle.gic_varied.specs.Ranges.{Ranges}
+use Rattle.gic_model.specs.Sums.{Placed}
+use Rattle.gic_varied.specs.Certified.{Voltages, Intervals, AreCertified, GrainsHoldInUnits, in_units, certified_enclosure}
 use Rattle.gic_varied.specs.Reciprocal.{current_by_weights, weights_from, ListedWeightsCount}
-use Rattle.gic_varied.specs.Varied.{IsVaried}
 use Rattle.gic_varied.proofs.Regrounded.{solves_with}
 use Rattle.gic_winding.specs.ElementList.{elements_of}
 use Rattle.gic_winding.specs.Weights.{transformer_at, weighted_windings}
-use Rattle.gic_grounds.specs.declared.side.Side.TheVariants.{Lowering, Raising}
 use Rattle.gic_grounds.specs.declared.nets.GroundNets.{GroundNets}
 use Rattle.gic_grounds.specs.declared.reference.Reference.{Reference}
-use Rattle.gic_grounds.specs.Lifted.{AreLifted}
 use Rattle.gic_grounds.specs.Scale.{multiple, weight_times, stray_unit, units_of}
 use Rattle.gic_grounds.specs.Tolerated.{Tolerated, AreNetsOf, ranges_in, own_in, least_in, most_in}
 use Rattle.gic_grounds.specs.Varied.{IsReferredTo, AreAdjoined}
-use Rattle.gic_grounds.specs.VariedCurrent.{AreMadeOfTight, IsOfReference, milli_cut}
+use Rattle.gic_grounds.specs.VariedCurrent.{IsOfReference, milli_cut}
 use Rattle.gic_grounds.specs.Varying.{intervals_of}
 use Rattle.gic_grounds.proofs.Rounded.{rounded_at, held_in_units}
 
 -- a weighted current by weights that are listed
-pub by_listed : ListedWeightsCount → (network : Network) (stands : Item → Bool) (times : ℕ) (case : Lists) (t : ℕ) (weights : ℕ → ℤ) (s : Solution) →
+pub by_listed : ListedWeightsCount → (network : Network) (stands : Item → Bool) (times : ℕ) (case : Lists) (t : ℕ)
+    (weights : ℕ → ℤ) (s : Solution) →
     ((place : ℕ) → weights place ≡ weights_from times (weighted_windings case t) place) →
     ((place : ℕ) → is_standing (standing_elements network stands) place ≡ false → s.current place ≡ pos 0) →
     current_by_weights (standing_elements network stands) weights s ≡ pos times *ℤ effective_numerator case s t
@@ -55,7 +39,8 @@ by_listed law network stands times case t weights s are none =
     (everywhere (standing_elements network stands)) ∙
     law network stands (weighted_windings case t) times s none
   where
-    everywhere : (ps : List Placed) → AllByRecursion (λ p. weights p.0 *ℤ s.current p.0 ≡ weights_from times (weighted_windings case t) p.0 *ℤ s.current p.0) ps
+    everywhere : (ps : List Placed) →
+        AllByRecursion (λ p. weights p.0 *ℤ s.current p.0 ≡ weights_from times (weighted_windings case t) p.0 *ℤ s.current p.0) ps
     everywhere [] = tt
     everywhere (p ∷ ps) = (ap (λ z. z *ℤ s.current p.0) (are p.0), everywhere ps)
 
@@ -69,6 +54,7 @@ scales high unit d = plain (multiple high unit) high unit d
 module _ (grains_law : GrainsHoldInUnits) (listed : ListedWeightsCount) (v : Tolerated) (nets : GroundNets) (of_nets : AreNetsOf v nets)
     (t unit : ℕ) (adjoint : List Ends) (reference : Reference) (volts : ℕ → ℤ) (grains : List Ends) (some : 0 < unit)
     (refers : IsReferredTo v.case nets volts unit grains reference) (adjoins : AreAdjoined v.case nets t unit adjoint) (inside : t < length reference.own) where
+  -- the case's network, what stands of it, and the transformer's high voltage
   abbrev network : Network
   network = elements_of v.case
 
@@ -78,12 +64,14 @@ module _ (grains_law : GrainsHoldInUnits) (listed : ListedWeightsCount) (v : Tol
   abbrev high : ℕ
   high = (transformer_at v.case t).high_volts
 
+  -- the voltages of the field, of the weights and of the lifts, and the intervals of their solutions
   abbrev pub given : Voltages
   given = record { field = volts; weights = adjoins.weights; lowering = refers.lifted.lowered.volts; raising = refers.lifted.raised.volts }
 
   abbrev pub intervals : Intervals
   intervals = intervals_of adjoint reference.potentials (potential_ends reference.own t)
 
+  -- what is certain in the nets is so in the case's networks
   in_least : AreCertain (least_in v) volts grains
   in_least = subst (λ (ps : List Placed). AreCertain ps volts grains) of_nets.extremes.least_standing refers.certain
 
@@ -96,6 +84,7 @@ module _ (grains_law : GrainsHoldInUnits) (listed : ListedWeightsCount) (v : Tol
   raised_certain : AreCertain (most_in v) refers.lifted.raised.volts refers.lifted.raised.grains
   raised_certain = subst (λ (ps : List Placed). AreCertain ps refers.lifted.raised.volts refers.lifted.raised.grains) of_nets.extremes.most_standing refers.lifted.raised.certain
 
+  -- each interval is that in grains, in its unit
   pub reference_rounded : (k : ℕ) → intervals.reference k ≡ in_units unit (potential_ends grains k)
   reference_rounded = rounded_at unit grains reference.potentials.reference some refers.rounded
 
@@ -109,9 +98,11 @@ module _ (grains_law : GrainsHoldInUnits) (listed : ListedWeightsCount) (v : Tol
   raising_rounded = rounded_at 1 refers.lifted.raised.grains reference.potentials.raising (omega arith) refers.lifted.raised.rounded
 
   -- a solution of the reference has no current where nothing stands
-  quiet_places : (s : Solution) → IsSolution (least_in v) volts s → (place : ℕ) → is_standing (own_in v) place ≡ false → s.current place ≡ pos 0
+  quiet_places : (s : Solution) → IsSolution (least_in v) volts s → (place : ℕ) → is_standing (own_in v) place ≡ false →
+      s.current place ≡ pos 0
   quiet_places s solves = (solves_with network stands (λ e. (ranges_in v e).least) volts s solves).none_if_open
 
+  -- the reference's own current, as a weighted current
   own_holds : (s : Solution) → IsSolution (least_in v) volts s →
       Encloses intervals.own.low intervals.own.high (current_by_weights (own_in v) adjoins.weights s) (stray_unit high unit * (32 * unit) * s.denominator)
   own_holds s solves =
@@ -122,6 +113,7 @@ module _ (grains_law : GrainsHoldInUnits) (listed : ListedWeightsCount) (v : Tol
       subst (λ (n : ℤ). Encloses intervals.own.low intervals.own.high n (stray_unit high unit * (32 * unit) * s.denominator)) (sym number)
       (subst (λ (n : ℕ). Encloses intervals.own.low intervals.own.high (pos (weight_times high unit) *ℤ effective_numerator v.case s t) n) (scales high unit s.denominator) times)
 
+  -- all of it is certified
   pub certified : AreCertified network stands (ranges_in v) given (units_of high unit) intervals
   certified = record {
     field = refers.no_ground stands;
@@ -136,7 +128,8 @@ module _ (grains_law : GrainsHoldInUnits) (listed : ListedWeightsCount) (v : Tol
   }
 
   -- so the ends that are made of them are of the reference
-  pub of_reference : (ends : Ends) → ends ≡ milli_cut (certified_enclosure (own_in v) (ranges_in v) (units_of high unit) intervals) → IsOfReference v volts unit grains t ends
+  pub of_reference : (ends : Ends) → ends ≡ milli_cut (certified_enclosure (own_in v) (ranges_in v) (units_of high unit) intervals) →
+      IsOfReference v volts unit grains t ends
   of_reference ends is = record {
     given = given;
     intervals = intervals;

@@ -9,14 +9,17 @@ use Rattle.gic_fixed.specs.Ends.{Ends}
 use Rattle.gic_fixed.specs.Rounding.{floor_div, ceil_div}
 use Rattle.gic_grounds.specs.VariedCurrent.{cut_current, milli_cut}
 
+-- a cut current is no greater, unless it is cut at the lower end
 cut_low : (a : ℤ) → (cut_current a ≤ℤ a) ⊎ (cut_current a ≤ℤ neg_ℤ (pos (2 ^ 61)))
 cut_low (pos n) = inl (omega (arith, ints, clamps))
 cut_low (negsuc n) = ⊎_elim (λ few. inl (omega (arith, ints, clamps, few))) (λ many. inr (omega (arith, ints, clamps, many))) (cases_lt n (2 ^ 61))
 
+-- and no less, unless it is cut at the upper end
 cut_high : (a : ℤ) → (a ≤ℤ cut_current a) ⊎ (pos (2 ^ 61) ≤ℤ cut_current a)
 cut_high (negsuc n) = inl (omega (arith, ints, clamps))
 cut_high (pos n) = ⊎_elim (λ few. inl (omega (arith, ints, clamps, few))) (λ many. inr (omega (arith, ints, clamps, many))) (cases_lt n (2 ^ 61))
 
+-- what is no greater than the greatest that is told lies between the ends at which it is cut
 limit_encloses : (z : ℤ) (d : ℕ) → unsigned_abs z ≤ 2 ^ 61 * d → Encloses (neg_ℤ (pos (2 ^ 61))) (pos (2 ^ 61)) z d
 limit_encloses z d h = record { above_lo = omega (arith, ints, h); below_hi = omega (arith, ints, h) }
 
@@ -32,12 +35,6 @@ cut_encloses lo hi z d small h = record {
       (λ a. let t = ≤ℤ-times (pos (2 ^ 61)) (cut_current hi) d a in let b = (limit_encloses z d small).below_hi in omega (arith, linear))
       (cut_high hi);
 }
-
-pub cut_small : (a z : ℤ) → z ≡ cut_current a → unsigned_abs z ≤ 2 ^ 61
-cut_small a z e = omega (arith, ints, clamps, e)
-
-pub cut_order : (a b : ℤ) → a ≤ℤ b → cut_current a ≤ℤ cut_current b
-cut_order a b h = omega (arith, ints, clamps)
 
 -- an enclosure in nanoamperes, times m, gives the interval in milliamperes
 pub milli_cut_holds : (nano : Ends) (z : ℤ) (m volts d : ℕ) → 0 < m → unsigned_abs z ≤ 2 ^ 61 * (3000000 * volts * d) →

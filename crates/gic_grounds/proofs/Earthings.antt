@@ -1,6 +1,5 @@
 -- A case and its networks with other grounds: what stands, what is earthed, and which ranges hold what.
 use Rattle.std.proofs.Common.{◌≡◌, ℕ, ◌≤◌, ◌<◌, ◌==◌, ◌&&◌, Bool, true, List, [], ◌∷◌, map, arith, sym, subst, ◌∙◌}
-use Rattle.std.specs.List.{AllByRecursion}
 use Rattle.std.proofs.lemmas.List.Elements.{All-from_recursion, recursion_from_All}
 use Rattle.gic_base.proofs.Each.{weaker}
 use Rattle.gic_bound.specs.Entries.{IsBoundWithin}
@@ -18,7 +17,7 @@ use Rattle.gic_net.specs.Net.{standing}
 use Rattle.gic_winding.specs.ElementList.{elements_of}
 use Rattle.gic_grounds.specs.declared.nets.GroundNets.{GroundNets}
 use Rattle.gic_grounds.specs.Tolerances.{tolerance_at}
-use Rattle.gic_grounds.specs.Tolerated.{Tolerated, AreNetsOf, ranges_in, own_in, least_in, most_in}
+use Rattle.gic_grounds.specs.Tolerated.{Tolerated, AreNetsOf, ranges_in, own_in}
 use Rattle.gic_varied.proofs.OwnRanges.{own_in_range, own_grounds}
 use Rattle.gic_varied.proofs.Regrounded.{placed_with, list_any-map, standing_with, live_with}
 

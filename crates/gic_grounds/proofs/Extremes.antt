@@ -1,11 +1,10 @@
 -- Networks with their grounds at the ends of their ranges.
-use Rattle.std.proofs.Common.{◌≡◌, ℕ, ◌+◌, ◌-◌, ◌*◌, ◌<◌, ◌≤◌, ◌++◌, Bool, true, false, List, [], map, get_or, length, Option, Some, None, IfSome, sym, subst, ap, arith, ⊎_elim}
-use Rattle.std.specs.Prelude.{if◌then◌else◌}
+use Rattle.std.proofs.Common.{◌≡◌, ℕ, ◌+◌, ◌-◌, ◌*◌, ◌<◌, ◌≤◌, ◌++◌, Bool, true, false, List, [], map, get_or, length, Option, Some, None, IfSome, sym, subst, arith, ⊎_elim}
 use Rattle.std.proofs.Math.Nat.{mul-le-mul_left}
 use Rattle.std.proofs.lemmas.Bool.{cases_lt}
 use Rattle.std.proofs.lemmas.List.{get_or_past, get_or-map, length-map}
 use Rattle.std.proofs.lemmas.List.Elements.{All-from_recursion, All-get_or}
-use Rattle.std.specs.Prelude.{All, unwrap_or}
+use Rattle.std.specs.Prelude.{All, unwrap_or, if◌then◌else◌}
 use Rattle.gic_case.specs.declared.item.Substation.{Substation}
 use Rattle.gic_case.specs.Lists.{Lists}
 use Rattle.gic_case.specs.Sound.{IsSound, IsSoundSubstation}
@@ -54,6 +53,7 @@ modest_range percent ohm few least most =
       twentyfold = omega (arith, low, high, least);
     }
 
+-- so with a choice of the one range or of the resistance itself
 modest_by : (ground : Bool) (percent ohm : ℕ) → percent ≤ 90 → 1000 ≤ ohm → ohm ≤ 1000000000 →
     IsModest (if ground then (ground_range percent ohm).least else ohm) (if ground then (ground_range percent ohm).most else ohm)
 modest_by true percent ohm few least most = modest_range percent ohm few least most
@@ -81,10 +81,11 @@ modest_with network percent within few place = ⊎_elim
     past_end : (ohm : Element → ℕ) → length network.list ≤ place → element_of (with_grounds ohm network) place ≡ no_element
     past_end ohm past = get_or_past (map (regrounded ohm) network.list) place no_element (omega (arith, past, length-map network.list (regrounded ohm)))
 
--- a tolerance of a case is at most 90 per cent
+-- a substation without a tolerance
 no_substation : Substation
 no_substation = record { name = []; ground = None; tolerance = None }
 
+-- a tolerance in a list of substations is at most 90 per cent
 pub own_few : (substations : List Substation) (percent place : ℕ) → All IsSoundSubstation substations → percent ≤ 90 → tolerance_in substations percent place ≤ 90
 own_few substations percent place sound few = ⊎_elim
     (λ inside.
@@ -99,12 +100,14 @@ own_few substations percent place sound few = ⊎_elim
     by None h = few
     by (Some p) h = h
 
+-- so is that of each item of a case
 pub few_percent : (case : Lists) (percent : ℕ) → IsSound case → percent ≤ 90 → (item : Item) → tolerance_at case percent item ≤ 90
 few_percent case percent sound few (item.Ground place) = own_few case.substations percent place sound.substations_sound few
 few_percent case percent sound few (item.Line place) = few
 few_percent case percent sound few (item.Transformer place) = few
 few_percent case percent sound few (item.Neutral place) = few
 
+-- and its networks with the grounds at the ends of their ranges are modest
 pub modest_extremes : (case : Lists) (percent : ℕ) (least most : Network) → IsSound case → IsWithinLimits (elements_of case) → percent ≤ 90 →
     least ≡ extreme_network Least case percent → most ≡ extreme_network Most case percent → AreModest least most
 modest_extremes case percent least most sound within few is_least is_most =

@@ -15,7 +15,8 @@ use Rattle.gic_varied.specs.Certified.{in_units}
 use Rattle.gic_grounds.specs.NodeEnds.{AreAllWithin}
 
 -- past the end all is 0
-pub all_within : (bound : ℕ) (list : List Ends) → ((k : ℕ) → k < length list → IsWithin bound (low_at list k) (high_at list k)) → AreAllWithin bound list
+pub all_within : (bound : ℕ) (list : List Ends) → ((k : ℕ) → k < length list → IsWithin bound (low_at list k) (high_at list k)) →
+    AreAllWithin bound list
 all_within bound list each k = ⊎_elim
     (λ inside. each k inside)
     (λ past. subst (λ (e : Ends). IsWithin bound e.low e.high) (sym (get_or_past list k zero_ends past)) (record { low = omega arith; high = omega arith }))
@@ -37,13 +38,16 @@ ceil_small z d b some small =
     omega (arith, ints, down)
 
 -- ends within so many units are within as many in units
-pub units_within : (unit bound : ℕ) (grains : Ends) → 0 < unit → IsWithin (2 ^ 36 * unit * bound) grains.low grains.high → IsWithin bound (in_units unit grains).low (in_units unit grains).high
+pub units_within : (unit bound : ℕ) (grains : Ends) → 0 < unit → IsWithin (2 ^ 36 * unit * bound) grains.low grains.high →
+    IsWithin bound (in_units unit grains).low (in_units unit grains).high
 units_within unit bound grains some small = record {
   low = floor_small grains.low (2 ^ 36 * unit) bound (omega arith) small.low;
   high = ceil_small grains.high (2 ^ 36 * unit) bound (omega arith) small.high;
 }
 
-pub all_units_within : (unit bound : ℕ) (grains : List Ends) → 0 < unit → AreAllWithin (2 ^ 36 * unit * bound) grains → AreAllWithin bound (map (in_units unit) grains)
+-- so are those of all nodes
+pub all_units_within : (unit bound : ℕ) (grains : List Ends) → 0 < unit → AreAllWithin (2 ^ 36 * unit * bound) grains →
+    AreAllWithin bound (map (in_units unit) grains)
 all_units_within unit bound grains some small = all_within bound (map (in_units unit) grains) (λ k inside.
     let there : k < length grains = omega (arith, inside, length-map grains (in_units unit)) in
     subst (λ (e : Ends). IsWithin bound e.low e.high) (sym (get_or-map (in_units unit) grains k zero_ends zero_ends there))
@@ -62,7 +66,8 @@ next_in_units unit i init items d new inside count rounded before =
     (sym (get_or-map ends_of items i d old (omega (arith, inside, count))))
 
 -- all are
-pub all_in_units : (unit i : ℕ) (init items : List Ends) → length init ≤ i → items ≡ map (in_units unit) (take i init) ++ drop i init → items ≡ map (in_units unit) init
+pub all_in_units : (unit i : ℕ) (init items : List Ends) → length init ≤ i → items ≡ map (in_units unit) (take i init) ++ drop i init →
+    items ≡ map (in_units unit) init
 all_in_units unit i init items past all =
     all
     ∙ ap (λ l. map (in_units unit) l ++ drop i init) (take_all i init past)
@@ -74,7 +79,8 @@ pub ends_same : (interval : Interval) (ends : Ends) → interval.lo ≡ ends.low
 ends_same interval ends low high i = record { low = low i; high = high i }
 
 -- one more node has its interval
-pub next_kept : (potentials : List Ends) (list : List Interval) (i : ℕ) (new : Interval) → i < length list → new.lo ≡ low_at potentials i → new.hi ≡ high_at potentials i
+pub next_kept : (potentials : List Ends) (list : List Interval) (i : ℕ) (new : Interval) → i < length list → new.lo ≡ low_at potentials i →
+    new.hi ≡ high_at potentials i
     → ((k : ℕ) → k < i → potential_ends (map ends_of list) k ≡ potential_ends potentials k)
     → (k : ℕ) → k < i + 1 → potential_ends (map ends_of (set list i new)) k ≡ potential_ends potentials k
 next_kept potentials list i new inside low high before k below = ⊎_elim
@@ -88,7 +94,8 @@ next_kept potentials list i new inside low high before k below = ⊎_elim
     read j = ap (λ l. potential_ends l j) (map-set ends_of list i new)
 
 -- one more node's interval is within a bound that is no less than that of those before
-pub next_within : (list : List Ends) (i least most : ℕ) (new : Interval) → least ≤ most → new.lo ≡ low_at list i → new.hi ≡ high_at list i → IsWithin most new.lo new.hi
+pub next_within : (list : List Ends) (i least most : ℕ) (new : Interval) → least ≤ most → new.lo ≡ low_at list i → new.hi ≡ high_at list i →
+    IsWithin most new.lo new.hi
     → ((k : ℕ) → k < i → IsWithin least (low_at list k) (high_at list k))
     → (k : ℕ) → k < i + 1 → IsWithin most (low_at list k) (high_at list k)
 next_within list i least most new order low high within before k below = ⊎_elim
@@ -99,5 +106,7 @@ next_within list i least most new order low high within before k below = ⊎_eli
     (cases_lt k i)
 
 -- the interval at a node is within a bound of all
-pub at_node_within : (bound : ℕ) (list : List Ends) (k : ℕ) (interval : Interval) → interval.lo ≡ low_at list k → interval.hi ≡ high_at list k → AreAllWithin bound list → IsWithin bound interval.lo interval.hi
-at_node_within bound list k interval low high small = record { low = omega (arith, ap unsigned_abs low, (small k).low); high = omega (arith, ap unsigned_abs high, (small k).high) }
+pub at_node_within : (bound : ℕ) (list : List Ends) (k : ℕ) (interval : Interval) → interval.lo ≡ low_at list k →
+    interval.hi ≡ high_at list k → AreAllWithin bound list → IsWithin bound interval.lo interval.hi
+at_node_within bound list k interval low high small = record
+    { low = omega (arith, ap unsigned_abs low, (small k).low); high = omega (arith, ap unsigned_abs high, (small k).high) }

@@ -1,5 +1,5 @@
 -- What stays of a workspace over a solve.
-use Rattle.std.proofs.Common.{◌≡◌, ℕ, List, slice_index, ap, sym, subst}
+use Rattle.std.proofs.Common.{◌≡◌, ℕ, List, slice_index, sym, subst}
 use Rattle.gic_base.specs.declared.limits.TheConstants.{MOST_WALK}
 use Rattle.gic_bound.specs.Entries.{IsBoundWithin}
 use Rattle.gic_net.specs.Net.{standing}
@@ -9,8 +9,8 @@ use Rattle.gic_grounds.specs.declared.nets.GroundNets.{GroundNets}
 use Rattle.gic_grounds.specs.Lifted.{CanSolve}
 
 -- where the bound vector stays, the same can be solved
-pub still_solves : (nodes count : ℕ) (nets : GroundNets) (before after : SolveWorkspace) → CanSolve nodes count nets before → IsSolveWorkspaceFor nodes after → after.vector ≡ before.vector →
-    CanSolve nodes count nets after
+pub still_solves : (nodes count : ℕ) (nets : GroundNets) (before after : SolveWorkspace) →
+    CanSolve nodes count nets before → IsSolveWorkspaceFor nodes after → after.vector ≡ before.vector → CanSolve nodes count nets after
 still_solves nodes count nets before after can space same = record {
   least_nodes = can.least_nodes;
   most_nodes = can.most_nodes;

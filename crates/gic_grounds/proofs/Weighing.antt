@@ -7,11 +7,10 @@ use Rattle.std.proofs.lemmas.List.{get_or_past, get_or_default, get_or-append_ri
 use Rattle.std.proofs.lemmas.List.Elements.{All-from_recursion, All-get_or}
 use Rattle.std.specs.List.{AllByRecursion, enumerate_from}
 use lib.IntN.{*ℤ-zero}
-use Rattle.gic_base.specs.declared.id.ElementId.{ElementId}
 use Rattle.gic_case.specs.declared.item.Transformer.{Transformer}
 use Rattle.gic_case.specs.declared.winding.Winding.{Winding}
 use Rattle.gic_case.specs.Lists.{Lists, neutrals_of}
-use Rattle.gic_case.specs.Sound.{IsRated, IsSound, IsSoundTransformer, IsSoundWinding}
+use Rattle.gic_case.specs.Sound.{IsRated, IsSound, IsSoundTransformer}
 use Rattle.gic_case.specs.Windings.{windings_of}
 use Rattle.gic_fixed.proofs.Integers.{linear}
 use Rattle.gic_model.specs.declared.parts.Element.{Element}
@@ -28,19 +27,19 @@ use Rattle.gic_varied.specs.Reciprocal.{weights_from}
 use Rattle.gic_effective.proofs.Weighings.{weights_at_most}
 use Rattle.gic_winding.specs.declared.weights.Weights.{Weights}
 use Rattle.gic_winding.specs.ElementList.{elements_of, winding_element, winding_elements}
-use Rattle.gic_winding.specs.Order.{weighted_from}
 use Rattle.gic_winding.specs.WeightParts.{weights_of}
 use Rattle.gic_winding.specs.Weights.{weight_of, transformer_at, no_transformer, weighted_windings}
 use Rattle.gic_winding.proofs.Around.{prefix_of, suffix_of, around}
 use Rattle.gic_winding.proofs.Parts.{winding_part}
 use Rattle.gic_winding.proofs.Neutrals.{transformer_of}
 use Rattle.gic_winding.proofs.Weighted.{weighed, weighted_there, windings_fit}
-use Rattle.gic_grounds.specs.Scale.{weight_times, windings_in, weight_at}
+use Rattle.gic_grounds.specs.Scale.{windings_in, weight_at}
 
--- how the greatest multiple lies to its limits
+-- the greatest multiple leaves each weight's voltage within its limit
 pub multiple_space : (high unit : ℕ) → most_volts / (high * (32 * unit)) * (32 * unit) * high ≤ most_volts
 multiple_space high unit = let below = mul-div-le most_volts (high * (32 * unit)) in omega (arith, below)
 
+-- and is great enough for stray powers
 pub multiple_enough : (high unit : ℕ) → IsRated high → 0 < unit → unit < 2 ^ 19 → 2 ^ 22 ≤ 3 * high * (most_volts / (high * (32 * unit)))
 multiple_enough high unit rated some small =
     let m = most_volts / (high * (32 * unit)) in
@@ -60,12 +59,14 @@ multiple_enough high unit rated some small =
     omega (arith, above, more, less))
     (cases_lt m 1)
 
+-- its divisor fits
 pub divisor_fits : (high unit : ℕ) → IsRated high → unit < 2 ^ 19 → high * (32 * unit) < 2 ^ 64
 divisor_fits high unit rated small =
     let few : 32 * unit ≤ 32 * 524288 = omega (arith, small) in
     let size : high * (32 * unit) ≤ 2000000 * (32 * 524288) = mul-le-mul rated.1 few in
     omega (arith, size)
 
+-- and is above 0
 pub divisor_above : (high unit : ℕ) → IsRated high → 0 < unit → 0 < high * (32 * unit)
 divisor_above high unit rated some =
     let one : 1 ≤ high = omega (arith, rated.0) in
@@ -73,17 +74,19 @@ divisor_above high unit rated some =
     let product : 1 * 1 ≤ high * (32 * unit) = mul-le-mul one other in
     omega (arith, product)
 
--- what is made of the multiple fits
+-- the unit of stray powers fits
 pub stray_fits : (high unit m : ℕ) → 0 < unit → m * (32 * unit) * high ≤ most_volts → 3 * high * m < 2 ^ 64
 stray_fits high unit m some space = let more : high * m * 1 ≤ high * m * unit = mul-le-mul_left (high * m) some in omega (arith, space, more)
 
+-- so does the number of nanovolts in a weight's volt
 pub times_fits : (high unit m : ℕ) → IsRated high → m * (32 * unit) * high ≤ most_volts → m * (32 * unit) < 2 ^ 64
 times_fits high unit m rated space = let more : m * (32 * unit) * 1 ≤ m * (32 * unit) * high = mul-le-mul_left (m * (32 * unit)) (omega (arith, rated.0)) in omega (arith, space, more)
 
+-- and a weight so many times stays within the limit
 pub scaled_fits : (times weight high : ℕ) (z : ℤ) → pos weight ≡ z → z ≤ℤ pos high → times * high ≤ most_volts → times * weight ≤ most_volts
 scaled_fits times weight high z is most space = let less : times * weight ≤ times * high = mul-le-mul_left times (omega (arith, ints, is, most)) in omega (arith, space, less)
 
--- of windings that stand one after another at most one is at a place
+-- windings that stand one after another have no weight before the first place
 none_before : (weight : Winding → ℕ) (n place : ℕ) (ws : List Winding) → place < n → weight_at (map (λ p. weighed weight p.0 p.1) (enumerate_from n ws)) place ≡ pos 0
 none_before weight n place [] less = refl
 none_before weight n place (w ∷ ws) less =
@@ -91,6 +94,7 @@ none_before weight n place (w ∷ ws) less =
     let other : (n == place) ≡ false = ne_eqb n place (λ same. absurd (omega (arith, less, same))) in
     ap (λ b. cond b (pos (weight w)) (pos 0) +ℤ weight_at (map (λ p. weighed weight p.0 p.1) (enumerate_from (n + 1) ws)) place) other ∙ omega (arith, linear, rest)
 
+-- nor behind the last
 none_after : (weight : Winding → ℕ) (n place : ℕ) (ws : List Winding) → n + length ws ≤ place → weight_at (map (λ p. weighed weight p.0 p.1) (enumerate_from n ws)) place ≡ pos 0
 none_after weight n place [] past = refl
 none_after weight n place (w ∷ ws) past =
@@ -98,6 +102,7 @@ none_after weight n place (w ∷ ws) past =
     let other : (n == place) ≡ false = ne_eqb n place (λ same. absurd (omega (arith, past, same))) in
     ap (λ b. cond b (pos (weight w)) (pos 0) +ℤ weight_at (map (λ p. weighed weight p.0 p.1) (enumerate_from (n + 1) ws)) place) other ∙ omega (arith, linear, rest)
 
+-- and no more than the greatest at any place, since at most one is there
 one_most : (weight : Winding → ℕ) (n place most : ℕ) (ws : List Winding) → AllByRecursion (λ w. weight w ≤ most) ws →
     weight_at (map (λ p. weighed weight p.0 p.1) (enumerate_from n ws)) place ≤ℤ pos most
 one_most weight n place most [] h = omega (arith, ints)
@@ -119,6 +124,7 @@ winding_is_none place first_bus neutral [] i d inside = absurd (omega (arith, in
 winding_is_none place first_bus neutral (w ∷ ws) zero d inside = refl
 winding_is_none place first_bus neutral (w ∷ ws) (suc i) d inside = winding_is_none place first_bus neutral ws i d (omega (arith, inside))
 
+-- two values of a test that differ
 no_way : false ≡ true → ⊥
 no_way e = cc
 
@@ -132,11 +138,13 @@ module _ (c : Lists) (t : ℕ) (row : Transformer) (inside : t < length c.transf
   outside place (inl before) = ap (λ l. weight_at l place) (weighted_there c t row inside at) ∙ none_before (weight_of row) first place (windings_of row) before
   outside place (inr behind) = ap (λ l. weight_at l place) (weighted_there c t row inside at) ∙ none_after (weight_of row) first place (windings_of row) behind
 
+  -- no place has more weight than the high voltage
   pub weight_most : (place : ℕ) → IsSoundTransformer c row → weight_at (weighted_windings c t) place ≤ℤ pos row.high_volts
   weight_most place sound =
       subst (λ l. weight_at l place ≤ℤ pos row.high_volts) (sym (weighted_there c t row inside at))
       (one_most (weight_of row) first place row.high_volts (windings_of row) (weights_at_most c row sound))
 
+  -- past all elements there is none
   pub past_all : (place : ℕ) → length (elements_of c).list ≤ place → weight_at (weighted_windings c t) place ≡ pos 0
   past_all place past = outside place (inr (omega (arith, past, windings_fit c t row inside at)))
 
@@ -156,6 +164,7 @@ module _ (c : Lists) (t : ℕ) (row : Transformer) (inside : t < length c.transf
       ∙ ap is_ground (get_or_append_left its (suffix_of c t) no_element (place - first) (omega (arith, from, below, count)))
       ∙ winding_is_none t (length c.substations) neutral (windings_of (get_or (neutrals_of c) t d).1) (place - first) no_element many
 
+  -- so no ground has a weight
   pub no_ground_weight : (place : ℕ) → is_ground (get_or (elements_of c).list place no_element) ≡ true → weight_at (weighted_windings c t) place ≡ pos 0
   no_ground_weight place ground = ⊎_elim
       (λ before. outside place (inl before))

@@ -1,7 +1,6 @@
 -- The network of a case with its grounds at the ends of their ranges.
 use Rattle.std.specs.Prelude.{ℕ, List}
 use Rattle.gic_case.specs.Lists.{Lists}
-use Rattle.gic_model.specs.declared.parts.Element.{Element}
 use Rattle.gic_model.specs.declared.parts.Switching.{Switching}
 use Rattle.gic_model.specs.Network.{Network}
 use Rattle.gic_model.specs.Standing.{standing_elements, stands_after}

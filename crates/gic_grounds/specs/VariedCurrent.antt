@@ -11,7 +11,7 @@ use Rattle.gic_fixed.specs.Rounding.{floor_div, ceil_div}
 use Rattle.gic_model.specs.Solution.{Solution}
 use Rattle.gic_model.specs.Standing.{stands_after}
 use Rattle.gic_model.specs.Sums.{Placed}
-use Rattle.gic_varied.specs.Certified.{Voltages, Units, Intervals, AreCertified, in_units, certified_enclosure}
+use Rattle.gic_varied.specs.Certified.{Voltages, Intervals, AreCertified, in_units, certified_enclosure}
 use Rattle.gic_varied.specs.Reciprocal.{weights_from}
 use Rattle.gic_varied.specs.Varied.{IsVaried}
 use Rattle.gic_winding.specs.ElementList.{elements_of}

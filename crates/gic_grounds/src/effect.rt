@@ -5,6 +5,7 @@ ghost use Rattle.gic_net.specs.Net.{standing};
 ghost use Rattle.gic_winding.specs.ElementList.{elements_of};
 ghost use Rattle.gic_grounds.specs.Effect.{HasNoPart};
 
+use crate::nets::GroundNets;
 use gic_base::ElementId;
 use gic_case::Case;
 use gic_model::Element;
@@ -23,17 +24,22 @@ fn has_part(net: &Net, winding: Option<(ElementId, u32)>) -> bool
     }
 }
 
-/// Whether a winding of a transformer stands that has a weight. The elements are those of the case; the net has as many.
-pub(crate) fn has_effect(case: &Case, elements: &[Element], net: &Net, transformer: u16) -> bool
+/// Whether a winding of a transformer stands that has a weight. The elements are those of the case; the nets have as many.
+pub(crate) fn has_effect(
+    case: &Case,
+    elements: &[Element],
+    nets: &GroundNets,
+    transformer: u16,
+) -> bool
     requires elements { elements.now ≡ (elements_of case.now).list }
-    requires count { length net.now.network.list ≡ length elements.now }
+    requires count { length nets.now.least.network.list ≡ length elements.now }
     requires place { transformer < length case.now.transformers }
-    ensures none { IsFalse result → HasNoEffect case.now (standing net.now) transformer }
-    ensures some { IsTrue result → HasNoEffect case.now (standing net.now) transformer → ⊥ }
+    ensures none { IsFalse result → HasNoEffect case.now (standing nets.now.least) transformer }
+    ensures some { IsTrue result → HasNoEffect case.now (standing nets.now.least) transformer → ⊥ }
 {
     let weights = effective_weights(case, elements, transformer);
-    let first = has_part(net, weights.first);
-    let second = has_part(net, weights.second);
-    let third = has_part(net, weights.third);
+    let first = has_part(&nets.least, weights.first);
+    let second = has_part(&nets.least, weights.second);
+    let third = has_part(&nets.least, weights.third);
     first || second || third
 }

@@ -37,7 +37,6 @@ fn height_at(reference: &NodeIntervals, node: NodeId, side: Side) -> i128
 }
 
 /// The voltage of a lift at a ground of these resistances.
-#[tactic(auto, using(crate::proofs::Raised::rise_fits, crate::proofs::Raised::lift_within))]
 fn lift_volt(least: u32, most: u32, height: i128) -> i64
     requires above_0 { 0 < least }
     requires modest { IsModest least most }

@@ -19,3 +19,14 @@ impl Drop for GroundNets {
         } = self;
     }
 }
+
+impl GroundNets {
+    ghost use Rattle.std.specs.Prelude.{◌≡◌};
+
+    /// The net with the grounds at their greatest.
+    pub(crate) fn most(&self) -> &Net
+        ensures { result.now ≡ self.now.most }
+    {
+        &self.most
+    }
+}

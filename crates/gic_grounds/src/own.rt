@@ -90,8 +90,7 @@ pub(crate) fn fill_own(
 {
     let count = case.transformers().len() as u16;
     for transformer in 0..count {
-        let interval =
-            effective_na_interval(case, elements, net, volts, potentials, transformer);
+        let interval = effective_na_interval(case, elements, net, volts, potentials, transformer);
         out.set(transformer, interval);
     }
 }

@@ -43,7 +43,7 @@ pub(crate) fn product(one: &Interval, other: &VariedEnds) -> Interval
 }
 
 /// `number` times `factor` over `divisor` times `unit`, rounded down. The factor is at most 3000 times the divisor.
-#[tactic(auto, using(crate::proofs::Quotients::fits_whole, crate::proofs::Quotients::fits_rest, crate::proofs::Quotients::fits_sum))]
+#[tactic(auto, using(crate::proofs::Quotients::fits_whole, crate::proofs::Quotients::fits_rest))]
 fn quotient(factor: u64, number: i128, divisor: u64, unit: u64) -> i128
     requires divisor { 0 < divisor }
     requires least_divisor { divisor ≤ 10 ^ 18 }

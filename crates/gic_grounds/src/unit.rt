@@ -1,5 +1,5 @@
 //! The units of potentials.
-ghost use Rattle.std.specs.Prelude.{ℕ, ◌≡◌, ◌<◌, ◌≤◌, ◌^◌};
+ghost use Rattle.std.specs.Prelude.{ℕ, ◌<◌, ◌≤◌, ◌^◌};
 ghost use Rattle.gic_fixed.specs.Encloses.{IsWithin};
 ghost use Rattle.gic_model.specs.Guess.{most_guess};
 ghost use Rattle.gic_grounds.specs.NodeEnds.{AreAllWithin};

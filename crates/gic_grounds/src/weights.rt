@@ -1,5 +1,5 @@
 //! The weights of a transformer's windings as voltages of an adjoint solution.
-ghost use Rattle.std.specs.Prelude.{◌≡◌, ◌<◌, ◌≤◌, ◌*◌, ◌^◌, length, ℕ, Bool, pos, ◌*ℤ◌, ◌≤ℤ◌, unsigned_abs};
+ghost use Rattle.std.specs.Prelude.{◌≡◌, ◌<◌, ◌≤◌, ◌*◌, ◌^◌, length, ℕ, Bool, pos, ◌≤ℤ◌, unsigned_abs};
 ghost use Rattle.std.specs.Option.{option_to_list};
 ghost use Rattle.gic_case.specs.Sound.{IsRated};
 ghost use Rattle.gic_model.specs.declared.parts.Item.{Item};

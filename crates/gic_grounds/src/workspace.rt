@@ -28,7 +28,9 @@ use gic_model::{Elements, Volts};
 use gic_stand::NetworkRefusal;
 use gic_switch::Switchings;
 use gic_uniform::SolveWorkspace;
-use gic_varied::laws::{certified_enclosure_law, other_grounds_law, reciprocity_law, varied_bound_law};
+use gic_varied::laws::{
+    certified_enclosure_law, other_grounds_law, reciprocity_law, varied_bound_law,
+};
 use std::alloc::Global;
 
 /// The nets of a case with its grounds at both ends of their ranges, and all that its transformers' currents are worked
@@ -110,7 +112,7 @@ impl VariedWorkspace {
     {
         other_grounds_law();
         self.elements.within_limits();
-        self.solving.look(case, &self.nets.most, 1)
+        self.solving.look(case, self.nets.most(), 1)
     }
 
     /// Refers the network to these voltages of the field to the north and of that to the east. Takes no memory.
@@ -175,7 +177,7 @@ impl VariedWorkspace {
         ensures ready { IsReadyToVary case.now self.new }
         ensures rest { self.new ≡ record self.old { solving = self.new.solving; volts = self.new.volts; adjoint = self.new.adjoint } }
     {
-        if has_effect(case, self.elements.list(), &self.nets.least, transformer) {
+        if has_effect(case, self.elements.list(), &self.nets, transformer) {
             self.enclose(case, transformer)
         } else {
             let none = Interval::point(0);

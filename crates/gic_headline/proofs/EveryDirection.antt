@@ -1,5 +1,5 @@
 -- Where a transformer's worst current is under a threshold, its current is in every direction.
-use Rattle.std.proofs.Common.{ℕ, ◌+◌, ◌*◌, ◌<◌, ◌≤◌, ◌⊎◌, inl, inr, List, length, ℤ, pos, ◌*ℤ◌, unsigned_abs, arith}
+use Rattle.std.proofs.Common.{ℕ, ◌+◌, ◌*◌, ◌<◌, ◌≤◌, ◌⊎◌, inl, inr, Bool, List, length, ℤ, pos, ◌*ℤ◌, unsigned_abs, arith}
 use Rattle.std.proofs.lemmas.Bool.{cases_lt}
 use Rattle.std.proofs.Math.Nat.{mul-le-mul_right}
 use Rattle.gic_fixed.proofs.Divisions.{positive_product}

@@ -11,7 +11,7 @@ use Rattle.gic_ask.specs.declared.fault.File.TheVariants as file
 use Rattle.gic_ask.specs.declared.fault.InputRefusal.TheVariants as refusals
 use Rattle.gic_inputs.specs.declared.inputs.Inputs.{Inputs}
 use Rattle.gic_ask.specs.declared.request.Asked.{Asked}
-use Rattle.gic_ask.specs.declared.request.Asked.TheVariants.{Volts, List as ListAsked, Check, Field, Screen, Certify, Outage, Study, Make, Recheck, Series, Review, Robust}
+use Rattle.gic_ask.specs.declared.request.Asked.TheVariants.{Volts, List as ListAsked, Check, Field, Screen, Certify, Outage, Make, Review, Robust}
 use Rattle.gic_study.specs.Answers.{Call, AsksFor}
 use Rattle.gic_study.proofs.Accepting.{Holds, Any, then_holds, anyway, reading_holds, made_holds}
 

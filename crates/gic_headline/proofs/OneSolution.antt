@@ -1,5 +1,5 @@
 -- The network of a sound case has one solution where its live nodes are earthed.
-use Rattle.std.proofs.Common.{ℕ, ℤ, List}
+use Rattle.std.proofs.Common.{ℕ, ℤ, Bool, List}
 use Rattle.gic_case.specs.Lists.{Lists}
 use Rattle.gic_case.specs.Sound.{IsSound}
 use Rattle.gic_model.specs.declared.parts.Item.{Item}

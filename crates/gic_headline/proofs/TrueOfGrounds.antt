@@ -1,5 +1,5 @@
 -- What is true of the report of `robust`, whatever resistances of their ranges the grounds have.
-use Rattle.std.proofs.Common.{ℕ, ◌<◌, Bool, List, length, ℤ, pos, arith}
+use Rattle.std.proofs.Common.{ℕ, Bool, List, ℤ, pos, arith}
 use Rattle.gic_case.specs.Sound.{IsSound}
 use Rattle.gic_exists.specs.Exists.{EarthedNetworksAreSolved, SolutionsAgree}
 use Rattle.gic_model.specs.declared.parts.Element.{Element}

@@ -41,9 +41,9 @@ pub fn losses_of_studies_law()
 }
 
 /// In a network within the limits whose live nodes are earthed, let a and b be a transformer's signed effective currents
-/// in a uniform field of one strength to the north and to the east. No uniform field of at most that strength gives a current whose
-/// square is above a² + b², and one of just that strength that goes as a and b do gives as much. The two parts of these
-/// fields are any rational numbers of mV/km.
+/// in a uniform field of one strength to the north and to the east. No uniform field of at most that strength gives a
+/// current whose square is above a² + b², and one of just that strength that goes as a and b do gives as much. The two
+/// parts of these fields are any rational numbers of mV/km.
 pub fn worst_orientation_law()
     ensures most { NoFieldGivesMore }
     ensures reached { AlignedFieldGivesAsMuch }

@@ -12,7 +12,7 @@ use Rattle.gic_words.specs.Requests.{request_of}
 use Rattle.gic_words.specs.declared.request.Request.{Request}
 use Rattle.gic_words.specs.declared.request.Request.TheVariants as request
 use Rattle.gic_ask.specs.Contents.{Contents}
-use Rattle.gic_ask.specs.Outcome.{Outcome, Accepts, ◌>>=◌, reading, handing, reading_case, reading_storm, reading_switchings, reading_certificate, reading_inputs, reading_network, reading_after_storm, reading_over, transformer_asked, asking, asking_study, asking_recheck, asking_series, outcome, recheck_given, series_given, study_given}
+use Rattle.gic_ask.specs.Outcome.{Accepts, ◌>>=◌, reading, handing, reading_case, reading_storm, reading_switchings, reading_certificate, reading_inputs, reading_network, reading_after_storm, reading_over, transformer_asked, asking, asking_study, asking_recheck, asking_series, outcome, recheck_given, series_given, study_given}
 use Rattle.gic_ask.specs.declared.fault.File.TheVariants as file
 use Rattle.gic_ask.specs.declared.fault.InputRefusal.TheVariants as refusals
 use Rattle.gic_inputs.specs.declared.inputs.Inputs.{Inputs}

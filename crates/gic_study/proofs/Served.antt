@@ -1,5 +1,5 @@
 -- What is asked for was served, by the call of its mode.
-use Rattle.std.proofs.Common.{◌≡◌, ℕ, ◌<◌, List, length, Option, Result, Ok, Err, sym, subst}
+use Rattle.std.proofs.Common.{◌≡◌, ℕ, ◌<◌, List, length, Result, Ok, Err, sym, subst}
 use Rattle.std.specs.Prelude.{IfOk, IsErrAnd}
 use Rattle.gic_base.proofs.Parts.{keeps-refl}
 use Rattle.gic_stand.specs.Serves.{Shown}

@@ -1,4 +1,4 @@
-use Rattle.std.proofs.Common.{◌≡◌, ◌*◌, ◌≤◌, ◌<◌, ℕ, ℤ, pos, ◌*ℤ◌, arith, ap, sym, subst₂, ◌∙◌}
+use Rattle.std.proofs.Common.{◌≡◌, ◌*◌, ◌≤◌, ℕ, ℤ, pos, ◌*ℤ◌, arith, ap, sym, subst₂, ◌∙◌}
 use Rattle.std.proofs.lemmas.List.Elements.{All-get_or}
 use Rattle.gic_case.specs.Sound.{IsSoundTransformer}
 use Rattle.gic_fixed.specs.Encloses.{Encloses}
@@ -55,7 +55,9 @@ returns-clause-holds c s solves holds =
     subst₂ (λ (n : ℤ) (v : ℕ). Encloses result.lo result.hi n (3 * v * s.denominator)) (sum_is c s) (volts_are c) exact
 
 pub returns-clause-small : goal.returns-clause-small
-returns-clause-small c = c.effective_na.ensures.small (most c)
+returns-clause-small c =
+    let within = c.effective_na.ensures.small (most c) in
+    record { low = omega (arith, within.low); high = omega (arith, within.high) }
 
 pub returns-clause-tight : goal.returns-clause-tight
 returns-clause-tight c tight =

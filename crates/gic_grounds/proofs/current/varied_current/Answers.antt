@@ -1,8 +1,7 @@
-use Rattle.std.proofs.Common.{◌≡◌, ◌∙◌, ℤ, pos, ap, ap₂}
+use Rattle.std.proofs.Common.{◌≡◌, ◌∙◌, ap, ap₂}
 use Rattle.gic_effective.proofs.Weighings.{ends_by}
 use Rattle.gic_enclose.specs.Ends.{potential_ends}
 use Rattle.gic_fixed.specs.Ends.{Ends, ends_of}
-use Rattle.gic_fixed.specs.Rounding.{floor_div, ceil_div}
 use Rattle.gic_varied.specs.Certified.{certified_enclosure}
 use Rattle.gic_model.specs.Standing.{stands_after}
 use Rattle.gic_winding.specs.ElementList.{elements_of}

@@ -1,10 +1,11 @@
-use Rattle.std.proofs.Common.{◌<◌, ◌≤◌, length, arith, ap}
-use Rattle.std.proofs.lemmas.List.{length-map}
+use Rattle.std.proofs.Common.{◌≡◌, ◌<◌, ◌≤◌, ◌∙◌, List, length, set, arith, ap, ℤ, to_z, of_z, w64}
+use Rattle.std.proofs.lemmas.Int.{to_z-of_z, fits_signed_from_abs}
+use Rattle.std.proofs.lemmas.List.{length-map, length-set}
 use Rattle.gic_model.specs.Network.{Network}
 use Rattle.gic_model.specs.Voltages.{number_at}
 use Rattle.gic_varied.specs.Grounds.{regrounded}
-use Rattle.gic_grounds.specs.Lifting.{height_at}
-use Rattle.gic_grounds.proofs.Raised.{lifts_stand}
+use Rattle.gic_grounds.specs.Lifting.{height_at, lift_at}
+use Rattle.gic_grounds.proofs.Raised.{lifts_stand, next_lift}
 use Rattle.gic_grounds.proofs.lift.fill_lifts.Goals as goal
 
 pub returns-clause-lifts : goal.returns-clause-lifts
@@ -12,5 +13,22 @@ returns-clause-lifts c = λ network stands ranges are.
     let all : length c.args.nets.now.least.network.list ≤ c.loop-place.place = omega arith in
     let same = ap (λ (n : Network). length n.list) are.least_network in
     let count = length-map network.list (regrounded (λ e. (ranges e).least)) in
-    lifts_stand network ranges (height_at c.args.side c.args.reference.now) stands c.args.nets.now.least.network c.args.nets.now.most.network (number_at c.loop-place.out)
+    lifts_stand network ranges (height_at c.args.side c.args.reference.now) stands c.args.nets.now.least.network
+    c.args.nets.now.most.network (number_at c.loop-place.out)
     are.least_network are.most_network (λ place inside. c.loop-place.invariant.filled place (omega (arith, inside, all, same, count)))
+
+pub loop-place-preserved : goal.loop-place-preserved
+loop-place-preserved c =
+    let place = c.loop-place.place in
+    let volt = c.lift_at-nanovolts.result in
+    let same : to_z w64 (of_z w64 volt) ≡ volt = to_z-of_z w64 volt
+    (fits_signed_from_abs w64 volt (omega (arith, c.lift_at-nanovolts.ensures.limit))) in
+    let is : c.set.new.self ≡ set c.loop-place.out place volt = c.set.ensures ∙ ap (λ (z : ℤ). set c.loop-place.out place z) same in
+    let inside : place < length c.loop-place.out = omega
+    (arith, c.loop-place-test.true, c.count-place-end.ensures.value, c.loop-place.invariant.count) in
+    record {
+      count = ap (λ (l : List ℤ). length l) is ∙ length-set c.loop-place.out place volt ∙ c.loop-place.invariant.count;
+      filled = next_lift (lift_at c.args.nets.now.least.network c.args.nets.now.most.network (height_at c.args.side c.args.reference.now))
+          c.loop-place.out c.set.new.self place volt inside is
+          c.lift_at-nanovolts.ensures.value c.loop-place.invariant.filled;
+    }

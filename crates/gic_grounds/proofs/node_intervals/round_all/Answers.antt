@@ -1,4 +1,4 @@
-use Rattle.std.proofs.Common.{map, length, arith}
+use Rattle.std.proofs.Common.{map, arith}
 use Rattle.std.proofs.lemmas.List.{length-map}
 use Rattle.gic_fixed.specs.Ends.{ends_of}
 use Rattle.gic_grounds.proofs.NodeLists.{next_in_units, all_in_units}

@@ -22,4 +22,5 @@ returns-clause-within c = c.in_units.ensures.within (2 ^ 60) c.keep.ensures.smal
 pub returns-clause-ready : goal.returns-clause-ready
 returns-clause-ready c =
     still_solves _ _ c.args.nets.now c.args.solving.now c.solve.new.self c.requires.ready
-    (subst (λ n. IsSolveWorkspaceFor n c.solve.new.self) c.requires.ready.most_nodes c.solve.ensures.space) (ap (λ (w : SolveWorkspace). w.vector) c.solve.ensures.rest)
+    (subst (λ n. IsSolveWorkspaceFor n c.solve.new.self) c.requires.ready.most_nodes c.solve.ensures.space)
+    (ap (λ (w : SolveWorkspace). w.vector) c.solve.ensures.rest)

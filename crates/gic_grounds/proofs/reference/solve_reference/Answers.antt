@@ -1,4 +1,4 @@
-use Rattle.std.proofs.Common.{ℕ, List, ap, sym, subst}
+use Rattle.std.proofs.Common.{List, ap, sym, subst}
 use Rattle.gic_enclose.specs.Certain.{AreCertain, AreTight}
 use Rattle.gic_enclose.specs.Ends.{potential_ends}
 use Rattle.gic_fixed.specs.Ends.{Ends}
@@ -19,11 +19,13 @@ returns-clause-solved c =
       certain = subst (λ (xs : List Ends). AreCertain stand volts xs) same c.solve.ensures.solved.certain;
       tight = subst (λ (xs : List Ends). AreTight xs) same c.solve.ensures.tight;
       within = c.keep.ensures.small;
-      own = λ t inside. subst (λ (xs : List Ends). IsOwnCurrent c.args.case.now stand volts xs t (potential_ends c.fill_own.new.out t)) same (c.fill_own.ensures.each t inside);
+      own = λ t inside. subst (λ (xs : List Ends). IsOwnCurrent c.args.case.now stand volts xs t (potential_ends c.fill_own.new.out t)) same
+          (c.fill_own.ensures.each t inside);
       own_within = c.fill_own.ensures.within;
     }
 
 pub returns-clause-ready : goal.returns-clause-ready
 returns-clause-ready c =
     still_solves _ _ c.args.nets.now c.args.solving.now c.solve.new.self c.requires.ready
-    (subst (λ n. IsSolveWorkspaceFor n c.solve.new.self) c.requires.ready.least_nodes c.solve.ensures.space) (ap (λ (w : SolveWorkspace). w.vector) c.solve.ensures.rest)
+    (subst (λ n. IsSolveWorkspaceFor n c.solve.new.self) c.requires.ready.least_nodes c.solve.ensures.space)
+    (ap (λ (w : SolveWorkspace). w.vector) c.solve.ensures.rest)

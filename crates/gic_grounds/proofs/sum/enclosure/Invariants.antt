@@ -1,4 +1,4 @@
-use Rattle.std.proofs.Common.{◌≡◌, ◌+◌, ◌*◌, ◌^◌, ℕ, ◌+ℤ◌}
+use Rattle.std.proofs.Common.{◌≡◌, ◌+◌, ◌*◌, ◌^◌, ◌+ℤ◌}
 use Rattle.gic_fixed.specs.Encloses.{IsWithin}
 use Rattle.gic_net.specs.Net.{stands}
 use Rattle.gic_grounds.specs.Varying.{stray_power_at}
@@ -11,7 +11,9 @@ invariant-loop-place l =
     let least = l.nets.least.network in
     let strays = stray_power_at least l.nets.most.network l.unit l.adjoint l.potentials in
     record {
-      low : l.total.lo +ℤ sum_from (λ k. (strays k).low) (stands l.nets.least) least.list l.place ≡ l.own.lo +ℤ sum_from (λ k. (strays k).low) (stands l.nets.least) least.list 0;
-      high : l.total.hi +ℤ sum_from (λ k. (strays k).high) (stands l.nets.least) least.list l.place ≡ l.own.hi +ℤ sum_from (λ k. (strays k).high) (stands l.nets.least) least.list 0;
+      low : l.total.lo +ℤ sum_from (λ k. (strays k).low) (stands l.nets.least) least.list l.place ≡ l.fn.own.lo +ℤ sum_from
+          (λ k. (strays k).low) (stands l.nets.least) least.list 0;
+      high : l.total.hi +ℤ sum_from (λ k. (strays k).high) (stands l.nets.least) least.list l.place ≡ l.fn.own.hi +ℤ sum_from
+          (λ k. (strays k).high) (stands l.nets.least) least.list 0;
       small : IsWithin (2 ^ 100 + l.place * 2 ^ 105) l.total.lo l.total.hi;
     }

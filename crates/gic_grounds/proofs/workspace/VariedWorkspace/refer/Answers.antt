@@ -1,4 +1,4 @@
-use Rattle.std.proofs.Common.{◌≡◌, ℕ, ◌*◌, ◌^◌, List, length, refl, ap, sym, subst, ◌∙◌}
+use Rattle.std.proofs.Common.{◌≡◌, ℕ, List, length, refl, ap, sym, subst, ◌∙◌}
 use Rattle.gic_fixed.specs.Ends.{Ends}
 use Rattle.gic_model.specs.Network.{Network}
 use Rattle.gic_uniform.specs.declared.solve_workspace.SolveWorkspace.{SolveWorkspace}
@@ -11,7 +11,8 @@ use Rattle.gic_grounds.specs.Varying.{AreVariedOf}
 use Rattle.gic_grounds.proofs.workspace.VariedWorkspace.refer.Goals as goal
 
 -- what can be solved of so many nodes and elements, of as many that are counted otherwise
-recounted : (nodes count n m : ℕ) (nets : GroundNets) (solving : SolveWorkspace) → n ≡ nodes → m ≡ count → CanSolve nodes count nets solving → CanSolve n m nets solving
+recounted : (nodes count n m : ℕ) (nets : GroundNets) (solving : SolveWorkspace) → n ≡ nodes → m ≡ count →
+    CanSolve nodes count nets solving → CanSolve n m nets solving
 recounted nodes count n m nets solving e f h =
     subst (λ (k : ℕ). CanSolve k m nets solving) (sym e) (subst (λ (k : ℕ). CanSolve nodes k nets solving) (sym f) h)
 
@@ -26,15 +27,18 @@ in_units_space nodes varied reference h same = record {
 
 pub solve_reference-requires-clause-ready : goal.solve_reference-requires-clause-ready
 solve_reference-requires-clause-ready c =
-    subst (λ (n : Network). CanSolve n.nodes (length n.list) c.args.self.now.nets c.args.self.now.solving) (sym c.requires.ready.has_space.elements) c.requires.ready.can_solve
+    subst (λ (n : Network). CanSolve n.nodes (length n.list) c.args.self.now.nets c.args.self.now.solving)
+    (sym c.requires.ready.has_space.elements) c.requires.ready.can_solve
 
 pub solve_reference-requires-clause-space : goal.solve_reference-requires-clause-space
 solve_reference-requires-clause-space c =
-    subst (λ (n : Network). HasReferenceSpace n.nodes (length c.args.case.now.transformers) c.args.self.now.north) (sym c.requires.ready.has_space.elements) c.requires.ready.has_space.north_space
+    subst (λ (n : Network). HasReferenceSpace n.nodes (length c.args.case.now.transformers) c.args.self.now.north)
+    (sym c.requires.ready.has_space.elements) c.requires.ready.has_space.north_space
 
 pub solve_reference-requires-2-clause-space : goal.solve_reference-requires-2-clause-space
 solve_reference-requires-2-clause-space c =
-    subst (λ (n : Network). HasReferenceSpace n.nodes (length c.args.case.now.transformers) c.args.self.now.east) (sym c.requires.ready.has_space.elements) c.requires.ready.has_space.east_space
+    subst (λ (n : Network). HasReferenceSpace n.nodes (length c.args.case.now.transformers) c.args.self.now.east)
+    (sym c.requires.ready.has_space.elements) c.requires.ready.has_space.east_space
 
 pub returns-clause-referred : goal.returns-clause-referred
 returns-clause-referred c quiet_north quiet_east = record {
@@ -81,19 +85,22 @@ pub lift_both-requires-clause-ready : goal.lift_both-requires-clause-ready
 lift_both-requires-clause-ready c =
     recounted c.args.self.now.elements.nodes (length c.args.self.now.elements.list) _ _ c.args.self.now.nets c.solve_reference-2.new.solving
     (c.in_units.ensures.count ∙ c.solve_reference.ensures.space.varied_count.reference_count)
-    (c.requires.ready.has_space.adjoint_space.volt_count ∙ sym (ap (λ (n : Network). length n.list) c.requires.ready.has_space.elements)) c.solve_reference-2.ensures.ready
+    (c.requires.ready.has_space.adjoint_space.volt_count ∙ sym (ap (λ (n : Network). length n.list) c.requires.ready.has_space.elements))
+    c.solve_reference-2.ensures.ready
 
 pub lift_both-requires-clause-units : goal.lift_both-requires-clause-units
 lift_both-requires-clause-units c = c.in_units.ensures.within MOST_UNITS c.potential_unit-unit.ensures.least.in_north
 
 pub lift_both-requires-clause-space : goal.lift_both-requires-clause-space
 lift_both-requires-clause-space c =
-    in_units_space c.args.self.now.elements.nodes c.solve_reference.new.out.potentials c.in_units.new.self c.solve_reference.ensures.space.varied_count c.in_units.ensures.count
+    in_units_space c.args.self.now.elements.nodes c.solve_reference.new.out.potentials c.in_units.new.self
+    c.solve_reference.ensures.space.varied_count c.in_units.ensures.count
 
 pub lift_both-requires-2-clause-ready : goal.lift_both-requires-2-clause-ready
 lift_both-requires-2-clause-ready c =
     recounted _ _ _ _ c.args.self.now.nets c.lift_both.new.solving
-    (c.in_units-2.ensures.count ∙ c.solve_reference-2.ensures.space.varied_count.reference_count ∙ sym (c.in_units.ensures.count ∙ c.solve_reference.ensures.space.varied_count.reference_count))
+    (c.in_units-2.ensures.count ∙ c.solve_reference-2.ensures.space.varied_count.reference_count
+    ∙ sym (c.in_units.ensures.count ∙ c.solve_reference.ensures.space.varied_count.reference_count))
     c.lift_both.ensures.volts c.lift_both.ensures.ready
 
 pub lift_both-requires-2-clause-units : goal.lift_both-requires-2-clause-units
@@ -101,22 +108,30 @@ lift_both-requires-2-clause-units c = c.in_units-2.ensures.within MOST_UNITS c.p
 
 pub lift_both-requires-2-clause-space : goal.lift_both-requires-2-clause-space
 lift_both-requires-2-clause-space c =
-    in_units_space c.args.self.now.elements.nodes c.solve_reference-2.new.out.potentials c.in_units-2.new.self c.solve_reference-2.ensures.space.varied_count c.in_units-2.ensures.count
+    in_units_space c.args.self.now.elements.nodes c.solve_reference-2.new.out.potentials c.in_units-2.new.self
+    c.solve_reference-2.ensures.space.varied_count c.in_units-2.ensures.count
 
 pub returns-clause-ready : goal.returns-clause-ready
 returns-clause-ready c =
     let space = c.requires.ready.has_space in
     let north_nodes = c.in_units.ensures.count ∙ c.solve_reference.ensures.space.varied_count.reference_count ∙ nodes_are c in
     let east_nodes = c.in_units-2.ensures.count ∙ c.solve_reference-2.ensures.space.varied_count.reference_count ∙ nodes_are c in
-    let can = recounted _ _ _ _ c.args.self.now.nets c.lift_both-2.new.solving (sym east_nodes) (sym (c.lift_both.ensures.volts ∙ space.adjoint_space.volt_count)) c.lift_both-2.ensures.ready in
+    let volts = c.lift_both.ensures.volts ∙ space.adjoint_space.volt_count in
+    let can = recounted _ _ _ _ c.args.self.now.nets c.lift_both-2.new.solving (sym east_nodes) (sym volts) c.lift_both-2.ensures.ready in
     record {
       has_space = record {
         elements = space.elements;
         nets = space.nets;
         solving = can.has_space;
-        adjoint_space = record { volt_count = c.lift_both-2.ensures.volts ∙ c.lift_both.ensures.volts ∙ space.adjoint_space.volt_count; adjoint_count = space.adjoint_space.adjoint_count };
-        north_space = record { own_count = c.solve_reference.ensures.space.own_count; varied_count = subst (λ n. AreVariedOf n c.lift_both.new.out) north_nodes c.lift_both.ensures.space };
-        east_space = record { own_count = c.solve_reference-2.ensures.space.own_count; varied_count = subst (λ n. AreVariedOf n c.lift_both-2.new.out) east_nodes c.lift_both-2.ensures.space };
+        adjoint_space = record { volt_count = c.lift_both-2.ensures.volts ∙ volts; adjoint_count = space.adjoint_space.adjoint_count };
+        north_space = record {
+          own_count = c.solve_reference.ensures.space.own_count;
+          varied_count = subst (λ n. AreVariedOf n c.lift_both.new.out) north_nodes c.lift_both.ensures.space;
+        };
+        east_space = record {
+          own_count = c.solve_reference-2.ensures.space.own_count;
+          varied_count = subst (λ n. AreVariedOf n c.lift_both-2.new.out) east_nodes c.lift_both-2.ensures.space;
+        };
       };
       solvable = c.requires.ready.solvable;
       can_solve = can;
