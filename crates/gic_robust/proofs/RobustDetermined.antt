@@ -64,13 +64,13 @@ report_determined case named one other p q e =
     let words = lines_injective (report_of case one) (report_of case other) (report_is_lines case named one p) (report_is_lines case named other q) e in
     let setting : setting_of one ≡ setting_of other = ap (λ ls. first_of_lines ls) (ap (drop 1) words) in
     let later : screened_transformer_lines one.threshold case.transformers one.rows ++ word_line (codes "end") ∷ []
-        ≡ screened_transformer_lines other.threshold case.transformers other.rows ++ word_line (codes "end") ∷ [] = ap (drop 2) words in
+    ≡ screened_transformer_lines other.threshold case.transformers other.rows ++ word_line (codes "end") ∷ [] = ap (drop 2) words in
     let width = same_natural one.width other.width p.width_fits q.width_fits (ap (λ ws. word_at ws 1) setting) in
     let threshold = same_natural one.threshold other.threshold p.threshold_fits q.threshold_fits (ap (λ ws. word_at ws 3) setting) in
     let field = same_32 one.field other.field p.field_fits q.field_fits (ap (λ ws. word_at ws 5) setting) in
     let tolerance = same_natural one.tolerance other.tolerance p.tolerance_fits q.tolerance_fits (ap (λ ws. word_at ws 7) setting) in
     let rows = same_lines one.threshold other.threshold case.transformers one.rows other.rows p.count q.count
-        (recursion_from_All IsRowInRange one.rows p.rows_fit) (recursion_from_All IsRowInRange other.rows q.rows_fit) later in
+    (recursion_from_All IsRowInRange one.rows p.rows_fit) (recursion_from_All IsRowInRange other.rows q.rows_fit) later in
     ap (λ w. shown_with w one.threshold one.field one.tolerance one.rows) width ∙
     ap (λ t. shown_with other.width t one.field one.tolerance one.rows) threshold ∙
     ap (λ f. shown_with other.width other.threshold f one.tolerance one.rows) field ∙

@@ -47,13 +47,7 @@ pub fn make_workspace(
     let elements = elements(alloc, case)?;
     let volts = field_volts(alloc, case, &elements, asked.criteria.event)?;
     let rows = ScreenRows::new(alloc, case.transformers().len())?;
-    let varied = make_varied_workspace(
-        alloc,
-        case,
-        elements,
-        &inputs.switchings,
-        asked.tolerance,
-    )?;
+    let varied = make_varied_workspace(alloc, case, elements, &inputs.switchings, asked.tolerance)?;
     Ok(Workspace {
         line,
         volts,

@@ -35,8 +35,8 @@ returns g c =
     (subst (λ (n : GroundNets). IsSolvable (standing n.most)) looked c.in_ok-look.ensures.ready.solvable) in
     let nets : AreNetsOf v c.refer.new.self.nets = subst (AreNetsOf v) (sym (c.refer.ensures.nets ∙ looked)) given.nets in
     let referred = c.refer.ensures.referred
-        (quiet_at_grounds case (uniform_field case field (pos 0)) workspace.volts.north given.volts.in_north)
-        (quiet_at_grounds case (uniform_field case (pos 0) field) workspace.volts.east given.volts.in_east) in
+    (quiet_at_grounds case (uniform_field case field (pos 0)) workspace.volts.north given.volts.in_north)
+    (quiet_at_grounds case (uniform_field case (pos 0) field) workspace.volts.east given.volts.in_east) in
     let to_east : ℕ → ℤ = uniform_volts case (pos 0) field in
     in_volts case field (pos 0) workspace.volts.north
     (λ (volts : ℕ → ℤ). Serves Solved case (most_steps inputs) (ShowsRobustRows v volts to_east inputs.question) before now c.ended.result)

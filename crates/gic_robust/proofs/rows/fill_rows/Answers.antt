@@ -30,7 +30,7 @@ loop-transformer-preserved c =
           let v = tolerated case switched percent in
           let kept : AreNetsOf v varied.nets = subst (λ (w : VariedWorkspace). AreNetsOf v w.nets) (sym i.rest) nets in
           let here = c.robust_row.ensures v north east at (c.row-currents.ensures.right switched percent north east kept
-              (still_referred case north east c.args.varied.now varied i.rest referred)) in
+          (still_referred case north east c.args.varied.now varied i.rest referred)) in
           subst (λ (rs : List ScreenRowView). IsRobustRow v north east t (slice_index_or rs t no_screen_row)) (sym c.set.ensures)
           (filled (λ k r. IsRobustRow v north east k r) rows no_screen_row row at inside
           (i.right switched percent north east nets referred) here t below);
