@@ -33,7 +33,7 @@ IsResistance ohm = (1000 ≤ ohm) × (ohm ≤ 1000000000)
 abbrev pub IsRated : ℕ → Type 0
 IsRated volts = (1000 ≤ volts) × (volts ≤ 2000000)
 
--- what every substation keeps: an earthing within the range, if any, and a tolerance in per cent of its own at most where it has an earthing
+-- what every substation keeps: an earthing within the range, if any, and a tolerance of its own of at most 90 per cent, only where it has an earthing
 pub record IsSoundSubstation (s : Substation) : Type 0 where
   pub ohm : IfSome s.ground IsResistance
   pub tolerance_most : IfSome s.tolerance (λ percent. percent ≤ 90)

@@ -43,10 +43,10 @@ pub struct Question {
     pub criteria: Criteria,
 }
 
-/// What a report on all networks goes by whose grounds lie within a tolerance.
+/// What a report goes by that holds of all networks whose grounds lie within a tolerance.
 #[derive(Clone, Copy, Debug)]
 pub struct RobustCriteria {
     pub criteria: Criteria,
-    /// How far each ground may lie from that of the case, in per cent: from 1 to 90.
+    /// How far each ground may lie from that of the case, in per cent, from 1 to 90, but where it has a tolerance of its own.
     pub tolerance: u8,
 }

@@ -36,7 +36,7 @@ least_in v = least_standing v.case v.percent v.rows
 abbrev pub most_in : Tolerated → List Placed
 most_in v = most_standing v.case v.percent v.rows
 
--- the nets are those of the case with its grounds at the ends of their ranges; no tolerance is above 90 per cent
+-- the nets are those of the case with its grounds at the ends of their ranges; the tolerance that is asked for is at most 90 per cent
 pub record AreNetsOf (v : Tolerated) (nets : GroundNets) : Type 0 where
   pub extremes : AreExtremesOf (elements_of v.case) (stands_after v.rows) (ranges_in v) nets
   pub most_percent : v.percent ≤ 90

@@ -69,7 +69,7 @@ pub record IsOfReference (v : Tolerated) (volts : ℕ → ℤ) (unit : ℕ) (ref
   pub tight_own : IsAtMostWide 401 intervals.own.low intervals.own.high
   pub is : ends ≡ milli_cut (certified_enclosure (own_in v) (ranges_in v) (units_of (transformer_at v.case t).high_volts unit) intervals)
 
--- the interval holds the transformer's signed effective current of every varied solution for these voltages, and is 0 alone where no winding that stands has a weight; else it is that of the reference, and so no wider
+-- the interval holds the transformer's signed effective current of every varied solution for these voltages, and is 0 alone where no winding that stands has a weight; else it is the certified enclosure that is made of the reference and of tight intervals
 pub record IsVariedCurrent (v : Tolerated) (volts : ℕ → ℤ) (unit : ℕ) (reference : List Ends) (t : ℕ) (ends : Ends) : Type 0 where
   pub holds : (s : Solution) → IsVaried (own_in v) (ranges_in v) volts s →
       Encloses ends.low ends.high (effective_numerator v.case s t) (effective_denominator v.case t s)

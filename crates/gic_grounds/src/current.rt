@@ -48,7 +48,7 @@ pub(crate) fn varied_current(
     requires unit { 2 ^ 22 ≤ unit }
     ensures enclosure { (v : Tolerated) (units : Units) → AreNetsOf v nets.now → units.stray ≡ unit →
         ends_of result ≡ milli_cut (certified_enclosure (own_in v) (ranges_in v) units
-            (intervals_of adjoint.now reference.now.potentials (potential_ends reference.now.own transformer))) }
+        (intervals_of adjoint.now reference.now.potentials (potential_ends reference.now.own transformer))) }
     ensures small { IsWithin most_current result.lo result.hi }
 {
     let own = reference.own.get(transformer);

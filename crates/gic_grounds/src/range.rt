@@ -8,7 +8,7 @@ const LEAST_MICRO_OHM: u32 = 1_000;
 /// The greatest.
 const MOST_MICRO_OHM: u32 = 1_000_000_000;
 
-/// The least resistance within a tolerance in per cent, rounded down, in micro-ohm.
+/// The least resistance within a tolerance in per cent, rounded down, in micro-ohm, and never below 1000.
 pub fn least_of(percent: u8, micro_ohm: u32) -> u32
     requires percent { percent ≤ 90 }
     ensures { result ≡ (ground_range percent micro_ohm).least }
@@ -17,7 +17,7 @@ pub fn least_of(percent: u8, micro_ohm: u32) -> u32
     LEAST_MICRO_OHM.max(least as u32)
 }
 
-/// The greatest resistance within a tolerance in per cent, rounded up, in micro-ohm.
+/// The greatest resistance within a tolerance in per cent, rounded up, in micro-ohm, and never above 10^9.
 pub fn most_of(percent: u8, micro_ohm: u32) -> u32
     requires percent { percent ≤ 90 }
     ensures { result ≡ (ground_range percent micro_ohm).most }

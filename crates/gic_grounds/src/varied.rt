@@ -21,7 +21,7 @@ impl Drop for VariedPotentials {
 }
 
 /// The ends of the potentials that a node may have in varied solutions. Which of the two is the greater isn't known where
-/// none has one.
+/// the network has no varied solution.
 #[derive(Clone, Copy, Debug)]
 pub(crate) struct VariedEnds {
     pub low: i128,

@@ -126,7 +126,7 @@ pub fn fill_weights(case: &Case, elements: &[Element], transformer: u16, unit: u
     ensures no_ground { (stands : Item → Bool) → HaveNoGroundVolts (standing_elements (elements_of case.now) stands) (number_at out.new) }
     ensures same_count { length out.new ≡ length out.old }
 {
-    // Bring that the transformer's row is sound, and that elements are few.
+    // Brings that the transformer's row is sound, and that elements are few.
     let _row = &case.transformers()[transformer as usize];
     limits_law();
     let weights = effective_weights(case, elements, transformer);

@@ -1,4 +1,4 @@
--- Zones at whose latitude L, in degrees, the alpha of the table is below 0.001 e^(0.115 L): a verdict `below` may be too good there.
+-- Zones at whose latitude L, in degrees, the alpha of the table is below the lesser of 1 and 0.001 e^(0.115 L): a verdict `below` may be too good there.
 use Rattle.std.specs.Prelude.{ℕ, Bool, ◌||◌, List, [], ◌∷◌, if◌then◌else◌}
 use Rattle.std.specs.Int.{is_in_range}
 use Rattle.gic_case.specs.declared.scaling.Scaling.{Scaling}

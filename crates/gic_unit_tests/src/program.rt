@@ -33,7 +33,11 @@ fn tells_refusals_on_the_error_stream(rt: HostRuntime) -> Result<(), Fail> {
     let table = [
         ("list", 2, "gicstudy: usage: missing --case\n"),
         ("list --case=q", 3, "gicstudy: cannot read case\n"),
-        ("robust --case=p", 2, "gicstudy: usage: missing --tolerance\n"),
+        (
+            "robust --case=p",
+            2,
+            "gicstudy: usage: missing --tolerance\n",
+        ),
     ];
     for (line, status, told) in table {
         let ended = run_in_memory(alloc, words_of(alloc, line)?, files(alloc)?);

@@ -73,9 +73,9 @@ found i [] = tt
 found i (e ∷ es) = (
   record { from = omega arith; is = ap (λ b. cond b (is_ground e) (ground_at (i + 1) es i)) (eq-eqb i i refl) },
   weaker (IsFound (i + 1) es) (IsFound i (e ∷ es))
-  (λ p h. let from = h.from in
-  record { from = omega arith; is = ap (λ b. cond b (is_ground e) (ground_at (i + 1) es p.0)) (ne_eqb i p.0 (λ same. omega arith)) ∙ h.is })
-  (enumerate_from (i + 1) es) (found (i + 1) es),
+      (λ p h. let from = h.from in
+      record { from = omega arith; is = ap (λ b. cond b (is_ground e) (ground_at (i + 1) es p.0)) (ne_eqb i p.0 (λ same. omega arith)) ∙ h.is })
+      (enumerate_from (i + 1) es) (found (i + 1) es),
 )
 
 -- one voltage at all grounds of a network

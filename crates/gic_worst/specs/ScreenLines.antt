@@ -1,4 +1,4 @@
--- The lines of transformers in reports on the worst orientation of an event's field, and when they determine what they show.
+-- The lines of transformers in reports on the worst orientation of an event's field, and the rows that they can show.
 use Rattle.std.specs.Prelude.{ℕ, List, [], ◌∷◌, codes}
 use Rattle.std.specs.Fmt.{signed_decimal}
 use Rattle.gic_case.specs.declared.item.Transformer.{Transformer}

@@ -6,7 +6,8 @@ use crate::findings::finding::Finding;
 use gic_base::OutOfMemory;
 use gic_case::{Scaling, Zone};
 
-/// Whether the alpha of the table is below 0.001 e^(0.115 L) at this latitude, in hundredths of a degree, with L in degrees.
+/// Whether the alpha of the table is below the lesser of 1 and 0.001 e^(0.115 L) at this latitude, in hundredths of a
+/// degree, with L in degrees.
 fn has_low_alpha(latitude: u16) -> bool
     ensures { result ≡ has_low_alpha latitude }
 {
