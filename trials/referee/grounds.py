@@ -9,7 +9,7 @@ from fractions import Fraction
 from math import isqrt
 from typing import NamedTuple
 
-from referee.case import MICRO_OHMS, OHM, Case, Element, Live, Stand
+from referee.case import MICRO_OHMS, OHM, Case, Element, Stand
 from referee.graph import split_into_parts
 from referee.linear import Conductance, solve_by_fractions, solve_by_lifting
 from referee.solution import SMALL_PART, Solution
@@ -131,8 +131,8 @@ class Grounded:
 class Varied:
     """The networks of a case in an event's field, of which each ground lies within its range."""
 
-    def __init__(self, case: Case, stand: Stand, live: Live, strength: int, percent: int) -> None:
-        self.case, self.stand, self.live = case, stand, live
+    def __init__(self, case: Case, stand: Stand, strength: int, percent: int) -> None:
+        self.case, self.stand = case, stand
         self.ranges = ground_ranges(case, percent)
         self.earthings = [number for number in self.ranges if stand[number]]
         self.volts = [case.element_volts(None, strength, 0), case.element_volts(None, 0, strength)]

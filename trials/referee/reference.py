@@ -176,7 +176,7 @@ class Report:
     def say_robust(self) -> None:
         outcome, asked = self.outcome, self.asked
         assert asked.tolerance is not None
-        varied = Varied(self.case, outcome.stand, outcome.live, asked.field, asked.tolerance)
+        varied = Varied(self.case, outcome.stand, asked.field, asked.tolerance)
         self.say("robust")
         self.say(
             "width", self.width, "threshold", self.threshold, "field", asked.field, "tolerance", asked.tolerance

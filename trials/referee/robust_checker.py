@@ -20,7 +20,7 @@ class RobustChecker(Checker):
     def check(self) -> None:
         outcome, asked = self.outcome, self.asked
         assert asked.tolerance is not None
-        self.varied = Varied(self.case, outcome.stand, outcome.live, asked.field, asked.tolerance)
+        self.varied = Varied(self.case, outcome.stand, asked.field, asked.tolerance)
         self.text.line("robust")
         self.text.line(
             "width", self.width, "threshold", self.threshold, "field", asked.field, "tolerance", asked.tolerance

@@ -68,7 +68,7 @@ def question_text(question: Question) -> str:
         case "alpha" if question.number is not None:
             return (
                 f"zone {question.name}: at {quantity('latitude', question.number)} alpha of the table is below that of the "
-                "formula, and `below` may be too good: is its beta meant for this alpha?"
+                "formula, and `below` may be too good: is that of the table meant? `scale` takes the formula's."
             )
         case "volts" if question.number is not None and question.other is not None:
             number, other = (quantity(question.field, volts) for volts in (question.number, question.other))
