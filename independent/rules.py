@@ -87,7 +87,7 @@ FIELDS: dict[str, Fields] = KINDS | {
 # The order in which the program looks at the fields of a transformer.
 ORDER = ("kind", "name", "high_volts", "high", "low", "low_volts", "high_resistance", "low_resistance",
          "series_resistance", "common_resistance", "third", "third_volts", "third_resistance", "neutral")
-# What a row has of the fields in these groups is one of them.
+# The fields of these groups that a row has are those of one group.
 CHOICES: dict[str, list[set[str]]] = {
     "zone": [{"latitude", "beta"}, {"scale"}],
     "substation": [set(), {"ground"}, {"ground", "tolerance"}],
@@ -122,7 +122,7 @@ def fields_of(of: str, version: int) -> Fields:
 
 
 def has_one_choice(of: str, row: Row) -> bool:
-    """Whether a row has just one group of fields, of all in these groups."""
+    """Whether the fields of these groups that a row has are those of one group."""
     choices = CHOICES.get(of, [set()])
     return row.keys() & set().union(*choices) in choices
 

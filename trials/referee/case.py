@@ -67,7 +67,7 @@ FIELDS_3 = FIELDS | {
     + [Key("part", "parts", False)],
     "substation": FIELDS["substation"] + [Key("tolerance", Range(0, 90), False)],
 }
-# In format 3 what a row has of all these keys is one of these groups.
+# In format 3 the keys of these groups that a row has are those of one group.
 Choices = tuple[set[bytes], ...]
 CHOICES: dict[str, Choices] = {
     "zone": ({b"latitude", b"beta"}, {b"scale"}),
@@ -433,7 +433,7 @@ def transformer_fields(row: TomlTable, rules: Format, where: str) -> list[Key]:
 
 
 def has_one_choice(row: TomlTable, choices: Choices) -> bool:
-    """Whether the row has just one of the groups, of all their keys."""
+    """Whether the keys of these groups that the row has are those of one group."""
     return row.keys() & set().union(*choices) in choices
 
 
