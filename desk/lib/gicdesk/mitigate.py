@@ -198,8 +198,8 @@ def make_mitigation(asked: Asked, device: Device, paired: int) -> Mitigation:
         pairs = ranked(trier.measures(tried, progress.next))
     asked.program.look_for_change()
     whole, first = Measure((), whole_network, whole_network.screen), min((*single, *pairs), key=lambda measure: measure.rank)
-    best = first if first.is_better(whole) else whole
-    return Mitigation(device, whole, single, pairs, best, trier.text(best.units))
+    chosen = first if first.is_better(whole) else whole
+    return Mitigation(device, whole, single, pairs, chosen, trier.text(chosen.units))
 
 
 def names_text(names: Sequence[str]) -> str:
