@@ -13,9 +13,10 @@ from shared import BUILT, EXAMPLES, DeskTest
 from test_case import POLYGONS, CaseTest
 from test_psse import GIC, RAW
 
-from gicdesk.alpha import by_formula, by_table, scale_for
+from gicdesk.alpha import TABLE, by_formula, by_table, scale_for, unasked
 
 PART = 1e-4  # alpha times beta is met to this part, and so are the currents
+ASKED = (*range(4960, 5001), *range(5563, 5601), *range(5697, 5701))  # latitudes at which `review` asks about alpha
 
 
 def formula(latitude: float) -> float:
@@ -38,6 +39,12 @@ class Scales(unittest.TestCase):
         for latitude in ("0", "40", "40.1", "49.8", "57.3", "60.06", "60.07", "90"):
             self.assertAlmostEqual(float(by_formula(decimal.Decimal(latitude))), formula(float(latitude)), 14)
 
+    def test_latitudes_at_which_review_does_not_ask_about_alpha(self) -> None:
+        for latitude in range(9001):
+            near = next(one for one in range(latitude, -1, -1) if one not in ASKED)
+            self.assertEqual((unasked(latitude), by_table(unasked(latitude))), (near, by_table(latitude)))
+        self.assertEqual([unasked(most) for most, _ in TABLE], [4000, 4500, 4959, 5400, 5562, 5696, 5800, 5900, 9000])
+
     def test_every_product_is_met(self) -> None:
         """Alpha times beta of the case times the factor of the spans is what is meant, and the factor is near 1."""
         for latitude in range(0, 9001, 75):
@@ -46,6 +53,7 @@ class Scales(unittest.TestCase):
                 scale = scale_for(latitude, product)
                 self.assertEqual(by_table(scale.latitude) * Fraction(scale.beta, 100) * scale.factor, product)
                 self.assertTrue(1 <= scale.beta <= 150)
+                self.assertTrue(scale.latitude not in ASKED or scale.latitude == latitude, scale)
                 if product >= Fraction(1, 20):
                     self.assertLessEqual(abs(scale.factor - 1), Fraction(1, 100))
 
@@ -72,6 +80,14 @@ class Written(CaseTest):
         self.change("zones", "57.30,0.85", "49.8123,0.80733")
         product = self.product("upland", "N-S", "--alpha=formula", "--accept=latitude")
         self.assertAlmostEqual(product / (formula(49.8123) * 0.80733), 1, delta=PART)
+
+    def test_review_does_not_ask_about_an_alpha_that_is_met(self) -> None:
+        """At 49.80 degrees the formula has 0.3070, and the table 0.3."""
+        self.change("zones", "57.30,0.85", "49.80,0.85")
+        for alpha, latitude, told in (("formula", 4959, True), ("0.3071", 4959, True), ("0.3069", 4980, False)):
+            made = self.made(f"--alpha={alpha}", "--accept=latitude")["zone"]["upland"]
+            self.assertEqual(made["latitude"], latitude, alpha)
+            self.assertEqual("in place of 49.80 degrees" in self.out.read_text(), told, alpha)
 
     def test_a_number_for_all_zones_and_one_of_a_zone(self) -> None:
         self.assertAlmostEqual(self.product("upland", "N-S", "--alpha=1") / 0.85, 1, delta=PART)

@@ -180,7 +180,7 @@ class GroundsTest(DeskTest):
         self.assertEqual(line, f"{self.case}: with its grounds at their greatest it is unresolved at B; take a smaller tolerance")
 
     def test_tolerances_that_are_none(self) -> None:
-        for text in ("0", "91", "0.5", "50%", ""):
+        for text in ("0", "91", "100", "0.5", "50%", ""):
             (line,) = self.refused(*self.words(f"--tolerance={text}"))
             self.assertEqual(line, f"--tolerance={text}: it is no whole number of 1 to 90; write the tolerance in per cent")
 
@@ -224,8 +224,9 @@ class Column(DeskTest):
 
     def test_what_is_none(self) -> None:
         for cell, words in (
-            ("0.2,0.5", "it is 0.5, and a case has whole per cent; round it up"),
-            ("0.2,95", "it is 95, and not 0 to 90 per cent; is it a part of 1?"),
+            ("0.2,0.5", "it is 0.5, and a case has whole per cent; is it a part of 1?"),
+            ("0.2,12.5", "it is 12.5, and a case has whole per cent; round it up"),
+            ("0.2,100", "it is 100, and not 0 to 90 per cent; is it a part of 1?"),
             ("0.2,half", '"half" is no number; write one with a decimal point'),
         ):
             lines = self.refused(*self.tables("0.2,", f"{cell},"))

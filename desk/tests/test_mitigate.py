@@ -47,11 +47,11 @@ class MitigateTest(DeskTest):
         with open(self.folder / "out" / name, newline="") as file:
             return list(csv.DictReader(file))
 
-    def both(self, first: str, second: str) -> tuple[object, ...]:
+    def both(self, first: str, second: str, pair: str = screen(BELOW, BELOW)) -> tuple[object, ...]:
         """With reports for a device in the neutral of TA, of TB and of both."""
         self.prints("screen~TA", first)
         self.prints("screen~TB", second)
-        self.prints("screen~TA~TB", screen(BELOW, BELOW))
+        self.prints("screen~TA~TB", pair)
         return self.words("--pairs=2", f"--out={self.folder / 'out'}")
 
     def test_fewer_units_come_first_and_then_the_smaller_current(self) -> None:
@@ -87,10 +87,38 @@ class MitigateTest(DeskTest):
         self.assertEqual([(row["neutrals"], row["undecided"]) for row in ranking[1:3]], [("TB", "1"), ("TA", "0")])
 
     def test_a_network_that_cannot_be_solved_comes_last(self) -> None:
-        shown = self.done(*self.both("gicstudy: unearthed: step 1 node a\n", screen(BELOW, REACHES)))
+        shown = self.done(*self.both("gicstudy: unearthed: step 1 node a\n", screen(BELOW, BELOW)))
         self.assertNotIn("two", shown)
         self.assertTrue(shown.endswith("TA            unearthed a\n"), shown)
         self.assertEqual([(row["neutrals"], row["outcome"], row["node"]) for row in self.rows("ranking.csv")][2], ("TA", "unearthed", "a"))
+
+    def left_as_it_is(self, first: str, second: str, words: str) -> None:
+        """With these reports for a device at TA and at TB that is told, and the best case is the given one."""
+        shown = self.done(*self.both(first, second, screen(MORE, BELOW)), "--force")
+        line = f"no device is better than none: {words}; so best.toml of --out is the case as it is"
+        self.assertEqual(shown.splitlines()[-2:], ["", line])
+        best = (self.folder / "out" / "best.toml").read_text()
+        self.assertEqual(tomllib.loads(best), tomllib.loads(CASE) | {"format": 2})
+        self.assertIn("the case as it is, since no network that was tried with a blocking device is better.", best)
+
+    def test_a_network_that_no_device_leaves_solved_is_left_as_it_is(self) -> None:
+        unearthed, unresolved = "gicstudy: unearthed: step 1 node a\n", "gicstudy: unresolved: step 1 node B\n"
+        self.left_as_it_is(unearthed, unresolved, "with each of these the network can't be solved")
+        self.assertEqual([row["outcome"] for row in self.rows("ranking.csv")], ["solved", "unearthed", "unresolved"])
+
+    def test_a_network_that_no_device_makes_better_is_left_as_it_is(self) -> None:
+        words = "none of these leaves fewer units at the threshold, or as many and a smaller greatest current"
+        for first, second in (
+            (screen(REACHES, REACHES), screen(MORE, BELOW)),  # more units, or as many and a greater current
+            (screen(BELOW, REACHES), screen(BELOW, "98764 98765 reaches")),  # a current that may be as great
+            ("gicstudy: unearthed: step 1 node a\n", screen(MORE, BELOW)),
+        ):
+            self.left_as_it_is(first, second, words)
+        # One that is smaller for certain is better.
+        words_of_better = self.both(screen(BELOW, REACHES), screen(BELOW, "98763 98764 reaches"), screen(MORE, BELOW))
+        self.assertNotIn("no device", self.done(*words_of_better, "--force"))
+        best = tomllib.loads((self.folder / "out" / "best.toml").read_text())
+        self.assertEqual([unit.get("neutral") for unit in best["transformer"]], [None, "blocked", None])
 
     def test_a_resistor_in_place_of_a_device(self) -> None:
         self.case.write_text(WITH["TA"])
@@ -155,7 +183,7 @@ class OverTheProgram(DeskTest):
 
     def test_the_best_case_runs_and_is_what_its_row_says(self) -> None:
         for name, words in (("third.toml", ()), ("valley.toml", ("--pairs=3", "--event=supplemental"))):
-            rows = self.rows(EXAMPLES / name, *words)[1:]
+            rows = self.rows(EXAMPLES / name, *words)  # (of those that are alike the first, so the network as it is)
             best = min(rows, key=lambda row: (int(row["at_threshold"]), float(row["greatest_high_A_per_phase"])))
             asked = [word for word in words if word.startswith("--event")]
             run = [str(BUILT), "screen", f"--case={self.folder / 'out' / 'best.toml'}", *asked]

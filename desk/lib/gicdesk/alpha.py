@@ -25,6 +25,14 @@ def by_formula(latitude: decimal.Decimal) -> Fraction:
     return Fraction(min(max(alpha, decimal.Decimal("0.1")), decimal.Decimal(1)))
 
 
+def unasked(latitude: int) -> int:
+    """The greatest latitude, in hundredths of a degree, up to this one, of the same alpha in the table, at which that isn't below the
+    formula's: `review` asks about no alpha there."""
+    while by_table(latitude) < by_formula(decimal.Decimal(latitude) / 100):
+        latitude -= 1
+    return latitude
+
+
 @dataclasses.dataclass(frozen=True)
 class Scale:
     """What a case has for alpha times beta of a zone: a latitude and a beta in hundredths, and the factor of spans."""
@@ -43,11 +51,11 @@ def nearest_scale(latitude: int, product: Fraction) -> Scale:
 
 def scale_for(latitude: int, product: Fraction) -> Scale:
     """A scale for this product of alpha and beta: with the zone's own latitude where the factor is near to 1, so that
-    spans stay lengths, and else with the latitude of another row of the table."""
+    spans stay lengths, and else with the latitude of another row of the table, at which `review` asks about no alpha."""
 
     def off(scale: Scale) -> Fraction:
         return abs(scale.factor - 1)
 
     own = nearest_scale(latitude, product)
-    others = [nearest_scale(min(most, 6000), product) for most, _ in TABLE]
+    others = [nearest_scale(unasked(min(most, 6000)), product) for most, _ in TABLE]
     return own if off(own) <= NEAR else min([own, *others], key=off)

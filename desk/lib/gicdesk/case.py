@@ -137,7 +137,8 @@ class Making:
         if not at.text("ground_ohm"):
             at.wrong("tolerance", f"it is {bare(at.text('tolerance'))}, and there is no ground; leave one of the two out")
         elif percent is not None and percent % 1:
-            at.wrong("tolerance", f"it is {bare(at.text('tolerance'))}, and a case has whole per cent; round it up")
+            ways = TOLERANCE.guess if percent < 1 else "round it up"
+            at.wrong("tolerance", f"it is {bare(at.text('tolerance'))}, and a case has whole per cent; {ways}")
         return [] if percent is None else [Field("tolerance", int(percent), "per cent that the ground may be off")]
 
     def bus(self, at: Record) -> None:

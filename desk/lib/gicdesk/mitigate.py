@@ -116,15 +116,25 @@ class Measure:
         greatest = self.greatest
         return self.result.screen is None, len(self.at_threshold), 0 if greatest is None else greatest.worst.high
 
+    def is_better(self, whole: "Measure") -> bool:
+        """Whether it leaves fewer units at the threshold than the network as it is, or as many and for certain a smaller greatest
+        current."""
+        if self.result.screen is None or len(self.at_threshold) != len(whole.at_threshold):
+            return self.result.screen is not None and len(self.at_threshold) < len(whole.at_threshold)
+        here, there = self.greatest, whole.greatest
+        return here is not None and there is not None and here.worst.high < there.worst.low
+
 
 @dataclasses.dataclass(frozen=True)
 class Mitigation:
-    """What comes of each measure: those of one device, and those of two, each with the best first."""
+    """What comes of each measure: those of one device, and those of two, each with the best first; and the best of all, which is
+    the network as it is where none is better."""
 
     device: Device
     whole: Measure
     single: list[Measure]
     pairs: list[Measure]
+    best: Measure
     best_case: str
 
     @property
@@ -142,7 +152,9 @@ class Trier:
     before: Screen
 
     def text(self, units: Sequence[str]) -> str:
-        what = f"Made by gicdesk mitigate, with {self.device} in the neutral of {AND.join(units) or 'none'}."
+        what = f"Made by gicdesk mitigate, with {self.device} in the neutral of {AND.join(units)}."
+        if not units:
+            what = f"Made by gicdesk mitigate: the case as it is, since no network that was tried with {self.device} is better."
         return text_of(changed(self.case, "transformer", dict.fromkeys(units, self.device.field)), self.asked.case, what)
 
     def run(self, units: Sequence[str]) -> Run:
@@ -185,8 +197,9 @@ def make_mitigation(asked: Asked, device: Device, paired: int) -> Mitigation:
         progress.total += len(tried)
         pairs = ranked(trier.measures(tried, progress.next))
     asked.program.look_for_change()
-    first = min((*single, *pairs), key=lambda measure: measure.rank)
-    return Mitigation(device, Measure((), whole_network, whole_network.screen), single, pairs, trier.text(first.units))
+    whole, first = Measure((), whole_network, whole_network.screen), min((*single, *pairs), key=lambda measure: measure.rank)
+    chosen = first if first.is_better(whole) else whole
+    return Mitigation(device, whole, single, pairs, chosen, trier.text(chosen.units))
 
 
 def names_text(names: Sequence[str]) -> str:
@@ -211,8 +224,16 @@ def measures_text(measures: Sequence[Measure]) -> str:
     return text + (f"and {plural(more, 'row')} more, which --out writes\n" if more > 0 else "")
 
 
+def none_text(found: Mitigation) -> str:
+    """What is said where the network is best left as it is."""
+    words = "none of these leaves fewer units at the threshold, or as many and a smaller greatest current"
+    if all(measure.result.screen is None for measure in found.single):
+        words = "with each of these the network can't be solved"
+    return f"\nno device is better than none: {words}; so {BEST} of --out is the case as it is\n"
+
+
 def report_text(asked: Asked, found: Mitigation) -> str:
-    """What is shown: the network as it is, and then the measures, the best first."""
+    """What is shown: the network as it is, and then the measures, the best first; and where none is better than none, that."""
     screen, greatest = found.whole.before, found.whole.greatest
     text = f"case {visible(asked.case)}"
     if asked.switch is not None:
@@ -225,7 +246,7 @@ def report_text(asked: Asked, found: Mitigation) -> str:
     text += measures_text(found.single)
     if found.pairs:
         text += f"\nwith one in each of two, {plural(len(found.pairs), 'pair')} of the best:\n" + measures_text(found.pairs)
-    return text
+    return text if found.best.units else text + none_text(found)
 
 
 def ranking_table(found: Mitigation) -> Table:

@@ -9,7 +9,7 @@ from collections.abc import Mapping
 from fractions import Fraction
 from typing import Protocol
 
-from .alpha import Scale, by_formula, by_table, scale_for
+from .alpha import Scale, by_formula, by_table, scale_for, unasked
 from .cases import Field, Row
 from .earths import beta_words
 from .findings import Finding, Refused
@@ -69,9 +69,10 @@ def zone_of_row(at: Record, alpha: str, ask: Ask, models: Mapping[str, Number]) 
 
 
 def zone_by(at: Record, latitude: Number, alpha: Fraction, origin: str, beta: Number) -> Zone:
-    """A zone with an alpha that isn't the program's own."""
+    """A zone with an alpha that isn't the program's own. Where it is at least the formula's, `review` has nothing to ask about it."""
     hundredths = whole(latitude, GEOMAGNETIC)
-    scale = scale_for(hundredths, alpha * Fraction(beta))
+    own = unasked(hundredths) if alpha >= by_formula(latitude) else hundredths
+    scale = scale_for(own, alpha * Fraction(beta))
     where = "hundredths of a degree, geomagnetic"
     if scale.latitude != hundredths:
         where += f", in place of {latitude:f} degrees"
