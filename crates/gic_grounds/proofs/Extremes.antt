@@ -22,7 +22,7 @@ use Rattle.gic_varied.specs.Ranges.{ground_range, ranges_of}
 use Rattle.gic_winding.specs.ElementList.{elements_of}
 use Rattle.gic_grounds.specs.declared.extreme.Extreme.{Extreme}
 use Rattle.gic_grounds.specs.declared.extreme.Extreme.TheVariants.{Least, Most}
-use Rattle.gic_grounds.specs.Modest.{IsModest, AreModest}
+use Rattle.gic_grounds.specs.Modest.{IsModest, AreModestNetworks}
 use Rattle.gic_grounds.specs.Tolerances.{tolerance_in, tolerance_at, case_ranges}
 use Rattle.gic_grounds.specs.Grounded.{extreme_of, extreme_network}
 
@@ -65,7 +65,7 @@ element_with ohm network place inside = get_or-map (regrounded ohm) network.list
 
 -- so are the networks with their grounds at the ends of such ranges
 pub modest_with : (network : Network) (percent : Item → ℕ) → IsWithinLimits network → ((item : Item) → percent item ≤ 90) →
-    AreModest (with_least (ranges_of percent) network) (with_most (ranges_of percent) network)
+    AreModestNetworks (with_least (ranges_of percent) network) (with_most (ranges_of percent) network)
 modest_with network percent within few place = ⊎_elim
     (λ inside.
     let e = element_of network place in
@@ -109,8 +109,8 @@ few_percent case percent sound few (item.Neutral place) = few
 
 -- and its networks with the grounds at the ends of their ranges are modest
 pub modest_extremes : (case : Lists) (percent : ℕ) (least most : Network) → IsSound case → IsWithinLimits (elements_of case) → percent ≤ 90 →
-    least ≡ extreme_network Least case percent → most ≡ extreme_network Most case percent → AreModest least most
+    least ≡ extreme_network Least case percent → most ≡ extreme_network Most case percent → AreModestNetworks least most
 modest_extremes case percent least most sound within few is_least is_most =
-    subst (λ n. AreModest n most) (sym is_least)
-    (subst (λ n. AreModest (extreme_network Least case percent) n) (sym is_most)
+    subst (λ n. AreModestNetworks n most) (sym is_least)
+    (subst (λ n. AreModestNetworks (extreme_network Least case percent) n) (sym is_most)
     (modest_with (elements_of case) (tolerance_at case percent) within (few_percent case percent sound few)))

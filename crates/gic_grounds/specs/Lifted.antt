@@ -76,12 +76,16 @@ pub record IsSmallUnit (unit : ℕ) : Type 0 where
   pub some : 0 < unit
   pub small : unit < 2 ^ 19
 
--- there is all that the interval of a transformer is made of
-pub record CanEnclose (nets : GroundNets) (adjoint : List Ends) (reference : Reference) (transformer : ℕ) : Type 0 where
+-- there is all that the stray powers of the grounds are made of
+pub record HasStrayParts (nets : GroundNets) (adjoint : List Ends) (potentials : VariedPotentials) : Type 0 where
   pub same_count : length nets.most.network.list ≡ length nets.least.network.list
   pub adjoint_count : length adjoint ≡ nets.least.network.nodes
   pub adjoint_within : AreAllWithin (2 ^ 55) adjoint
-  pub varied_count : AreVariedOf nets.least.network.nodes reference.potentials
-  pub varied_within : AreVariedWithin reference.potentials
+  pub varied_count : AreVariedOf nets.least.network.nodes potentials
+  pub varied_within : AreVariedWithin potentials
+
+-- and all that the interval of a transformer is made of
+pub record CanEnclose (nets : GroundNets) (adjoint : List Ends) (reference : Reference) (transformer : ℕ) : Type 0 where
+  pub strays : HasStrayParts nets adjoint reference.potentials
   pub has_own : transformer < length reference.own
   pub own_within : AreAllWithin (2 ^ 80) reference.own

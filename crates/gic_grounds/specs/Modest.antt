@@ -9,5 +9,5 @@ pub record IsModest (least most : ℕ) : Type 0 where
   pub twentyfold : most ≤ 20 * least
 
 -- so are the resistances of each element in two networks
-abbrev pub AreModest : (least most : Network) → Type 0
-AreModest least most = (place : ℕ) → IsModest (element_of least place).micro_ohm (element_of most place).micro_ohm
+abbrev pub AreModestNetworks : (least most : Network) → Type 0
+AreModestNetworks least most = (place : ℕ) → IsModest (element_of least place).micro_ohm (element_of most place).micro_ohm

@@ -44,12 +44,12 @@ pub record AreReferences (v : Tolerated) (north east : ℕ → ℤ) (references 
   pub least_unit : IsLeastUnit references.north references.east references.unit
 
 -- the greatest current that is told, in milliamperes per phase, either way; no varied solution has a greater one
-abbrev pub most_current : ℕ
-most_current = 2 ^ 61
+abbrev pub most_told : ℕ
+most_told = 2 ^ 61
 
 -- a current cut to this
 abbrev pub cut_current : ℤ → ℤ
-cut_current z = int_max (neg_ℤ (pos most_current)) (int_min z (pos most_current))
+cut_current z = int_max (neg_ℤ (pos most_told)) (int_min z (pos most_told))
 
 -- an interval in nanoamperes in milliamperes, rounded outward and cut
 abbrev pub milli_cut : Ends → Ends
@@ -85,5 +85,5 @@ pub record AreVariedCurrents (v : Tolerated) (north east : ℕ → ℤ) (t : ℕ
 
 -- no end is beyond the greatest current that is told
 pub record AreCutCurrents (currents : VariedCurrents) : Type 0 where
-  pub north_within : IsWithin most_current currents.north.lo currents.north.hi
-  pub east_within : IsWithin most_current currents.east.lo currents.east.hi
+  pub north_within : IsWithin most_told currents.north.lo currents.north.hi
+  pub east_within : IsWithin most_told currents.east.lo currents.east.hi

@@ -6,7 +6,7 @@ ghost use Rattle.gic_fixed.specs.Ends.{ends_of};
 ghost use Rattle.gic_varied.specs.Certified.{Units, certified_enclosure};
 ghost use Rattle.gic_grounds.specs.Lifted.{CanEnclose};
 ghost use Rattle.gic_grounds.specs.Tolerated.{Tolerated, AreNetsOf, own_in, ranges_in};
-ghost use Rattle.gic_grounds.specs.VariedCurrent.{most_current, cut_current, milli_cut};
+ghost use Rattle.gic_grounds.specs.VariedCurrent.{most_told, cut_current, milli_cut};
 ghost use Rattle.gic_grounds.specs.Varying.{intervals_of};
 
 use crate::nets::GroundNets;
@@ -17,20 +17,20 @@ use gic_effective::milli;
 use gic_fixed::Interval;
 
 /// The greatest current that is told, in milliamperes per phase, either way.
-const MOST_CURRENT: i128 = 1 << 61;
+const MOST_TOLD: i128 = 1 << 61;
 
 /// A current, cut to the greatest that is told.
 fn cut(current: i128) -> i128
     ensures { result ≡ cut_current current }
 {
-    current.min(MOST_CURRENT).max(-MOST_CURRENT)
+    current.min(MOST_TOLD).max(-MOST_TOLD)
 }
 
 /// An interval with both ends cut.
 fn cut_both(interval: Interval) -> Interval
     ensures low { result.lo ≡ cut_current interval.lo }
     ensures high { result.hi ≡ cut_current interval.hi }
-    ensures small { IsWithin most_current result.lo result.hi }
+    ensures small { IsWithin most_told result.lo result.hi }
 {
     Interval::new(cut(interval.lo), cut(interval.hi))
 }
@@ -49,7 +49,7 @@ pub(crate) fn varied_current(
     ensures enclosure { (v : Tolerated) (units : Units) → AreNetsOf v nets.now → units.stray ≡ unit →
         ends_of result ≡ milli_cut (certified_enclosure (own_in v) (ranges_in v) units
         (intervals_of adjoint.now reference.now.potentials (potential_ends reference.now.own transformer))) }
-    ensures small { IsWithin most_current result.lo result.hi }
+    ensures small { IsWithin most_told result.lo result.hi }
 {
     let own = reference.own.get(transformer);
     let nano = enclosure(nets, unit, adjoint, &reference.potentials, own);

@@ -1,5 +1,5 @@
 //! Two nets of one network.
-ghost use Rattle.gic_grounds.specs.Modest.{AreModest};
+ghost use Rattle.gic_grounds.specs.Modest.{AreModestNetworks};
 
 use gic_net::Net;
 
@@ -7,7 +7,7 @@ use gic_net::Net;
 pub struct GroundNets {
     pub least: Net,
     pub most: Net,
-    pub ghost modest: { AreModest least.network most.network },
+    pub ghost modest: { AreModestNetworks least.network most.network },
 }
 
 impl Drop for GroundNets {

@@ -7,9 +7,9 @@ ghost use Rattle.gic_model.specs.Network.{Network};
 ghost use Rattle.gic_model.specs.Standing.{standing_elements};
 ghost use Rattle.gic_varied.specs.Certified.{Units, certified_enclosure};
 ghost use Rattle.gic_varied.specs.Ranges.{Ranges};
-ghost use Rattle.gic_grounds.specs.NodeEnds.{AreAllWithin};
+ghost use Rattle.gic_grounds.specs.Lifted.{HasStrayParts};
 ghost use Rattle.gic_grounds.specs.Nets.{AreExtremesOf};
-ghost use Rattle.gic_grounds.specs.Varying.{intervals_of, stray_power_at, standing_stray_at, AreVariedOf, AreVariedWithin};
+ghost use Rattle.gic_grounds.specs.Varying.{intervals_of, stray_power_at, standing_stray_at};
 
 use crate::nets::GroundNets;
 use crate::node_intervals::NodeIntervals;
@@ -28,12 +28,8 @@ fn stray_at(
     place: ElementId,
 ) -> Interval
     requires place { place.0 < length nets.now.least.network.list }
-    requires count { length nets.now.most.network.list ≡ length nets.now.least.network.list }
+    requires space { HasStrayParts nets.now adjoint.now potentials.now }
     requires unit { 2 ^ 22 ≤ unit }
-    requires adjoint_count { length adjoint.now ≡ nets.now.least.network.nodes }
-    requires adjoint { AreAllWithin (2 ^ 55) adjoint.now }
-    requires varied_count { AreVariedOf nets.now.least.network.nodes potentials.now }
-    requires varied { AreVariedWithin potentials.now }
     ensures value { ends_of result ≡ stray_power_at nets.now.least.network nets.now.most.network unit adjoint.now potentials.now place.0 }
     ensures small { IsWithin (2 ^ 105) result.lo result.hi }
 {
@@ -58,12 +54,8 @@ fn standing_stray_at(
     place: ElementId,
 ) -> Interval
     requires place { place.0 < length nets.now.least.network.list }
-    requires count { length nets.now.most.network.list ≡ length nets.now.least.network.list }
+    requires space { HasStrayParts nets.now adjoint.now potentials.now }
     requires unit { 2 ^ 22 ≤ unit }
-    requires adjoint_count { length adjoint.now ≡ nets.now.least.network.nodes }
-    requires adjoint { AreAllWithin (2 ^ 55) adjoint.now }
-    requires varied_count { AreVariedOf nets.now.least.network.nodes potentials.now }
-    requires varied { AreVariedWithin potentials.now }
     ensures value { ends_of result ≡ standing_stray_at nets.now.least nets.now.most.network unit adjoint.now potentials.now place.0 }
     ensures small { IsWithin (2 ^ 105) result.lo result.hi }
 {
@@ -85,12 +77,8 @@ pub fn enclosure(
     potentials: &VariedPotentials,
     own: Interval,
 ) -> Interval
-    requires count { length nets.now.most.network.list ≡ length nets.now.least.network.list }
+    requires space { HasStrayParts nets.now adjoint.now potentials.now }
     requires unit { 2 ^ 22 ≤ unit }
-    requires adjoint_count { length adjoint.now ≡ nets.now.least.network.nodes }
-    requires adjoint { AreAllWithin (2 ^ 55) adjoint.now }
-    requires varied_count { AreVariedOf nets.now.least.network.nodes potentials.now }
-    requires varied { AreVariedWithin potentials.now }
     requires own { IsWithin (2 ^ 100) own.lo own.hi }
     ensures enclosure { (network : Network) (stands : Item → Bool) (ranges : Ranges) (units : Units) →
         AreExtremesOf network stands ranges nets.now → units.stray ≡ unit →

@@ -35,7 +35,7 @@ use Rattle.gic_varied.proofs.Regrounded.{solves_with, standing_with, live_with}
 use Rattle.gic_varied.proofs.Scaled.{scaled, solves_scaled, lift_scaled}
 
 -- a live node of the network is one of the network with other grounds
-live_in : (network : Network) (stands : Item → Bool) (ohm : Element → ℕ) (k : ℕ) → IsLive (standing_elements network stands) k → IsLive (standing_elements (with_grounds ohm network) stands) k
+pub live_in : (network : Network) (stands : Item → Bool) (ohm : Element → ℕ) (k : ℕ) → IsLive (standing_elements network stands) k → IsLive (standing_elements (with_grounds ohm network) stands) k
 live_in network stands ohm k live = ap (λ ps. is_live ps k) (standing_with network stands ohm) ∙ live_with ohm (standing_elements network stands) k ∙ live
 
 -- the voltages of a lift, in units of c nanovolts, lift over potentials that the intervals bound

@@ -20,3 +20,8 @@ pub mod Scaled
 pub mod Certain
 pub mod ListedWeights
 pub mod ExactEnclosure
+pub mod GroundSums
+pub mod LiftsCompared
+pub mod NearProducts
+pub mod NearParts
+pub mod NearEnclosure

@@ -25,7 +25,7 @@ use Rattle.gic_varied.proofs.GroundCurrents.{ground_below, lift_below}
 use Rattle.gic_varied.proofs.Lowest.{IsLowest, IsDownTo, conductor_down, ground_down, ground_lowest, not_below}
 
 -- Ohm's law at a ground with a voltage
-ground_with_volt : (ohm : Element → ℕ) (volts : ℕ → ℤ) (s : Solution) (p : Placed) → is_ground p.1 ≡ true → IsOhm volts s (placed_with ohm p) →
+pub ground_with_volt : (ohm : Element → ℕ) (volts : ℕ → ℤ) (s : Solution) (p : Placed) → is_ground p.1 ≡ true → IsOhm volts s (placed_with ohm p) →
     pos (ohm p.1) *ℤ s.current p.0 ≡ pos (p.1.times * 1000000) *ℤ (s.potential p.1.from.0 +ℤ pos s.denominator *ℤ volts p.0)
 ground_with_volt ohm volts s p ground h =
     let resistance : cond (is_ground p.1) (ohm p.1) p.1.micro_ohm ≡ ohm p.1 = ap (λ b. cond b (ohm p.1) p.1.micro_ohm) ground in
@@ -34,7 +34,7 @@ ground_with_volt ohm volts s p ground h =
     sym (ap (λ (r : ℕ). pos r *ℤ s.current p.0) resistance) ∙ h ∙ ap (λ z. pos (p.1.times * 1000000) *ℤ z) inner
 
 -- without a voltage
-no_volt : (w f t d u : ℤ) (r c : ℤ) → u ≡ pos 0 → r *ℤ c ≡ w *ℤ (f -ℤ t +ℤ d *ℤ u) → r *ℤ c ≡ w *ℤ (f -ℤ t)
+pub no_volt : (w f t d u : ℤ) (r c : ℤ) → u ≡ pos 0 → r *ℤ c ≡ w *ℤ (f -ℤ t +ℤ d *ℤ u) → r *ℤ c ≡ w *ℤ (f -ℤ t)
 no_volt w f t d u r c none ohm =
     let nothing = ap (λ z. d *ℤ z) none ∙ *ℤ-zero d in
     let inner : f -ℤ t +ℤ d *ℤ u ≡ f -ℤ t = omega (arith, linear) in

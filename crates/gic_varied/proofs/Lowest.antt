@@ -56,14 +56,14 @@ pub record IsLowest (standing : List Placed) (z : ℕ → ℤ) (k : ℕ) : Type 
   pub least : (m : ℕ) → IsLive standing m → z k ≤ℤ z m
 
 -- over plain numbers: a current by Ohm's law over a fall that is not above 0, and one over a fall of 0
-falls : (r w : ℕ) (c a : ℤ) → 0 < r → pos r *ℤ c ≡ pos w *ℤ a → a ≤ℤ pos 0 → c ≤ℤ pos 0
+pub falls : (r w : ℕ) (c a : ℤ) → 0 < r → pos r *ℤ c ≡ pos w *ℤ a → a ≤ℤ pos 0 → c ≤ℤ pos 0
 falls r w c a some ohm h =
     let times = *ℤ-≤ℤ w a (pos 0) h in
     let none = *ℤ-zero (pos w) in
     let nothing = *ℤ-zero (pos r) in
     ≤ℤ-from_*ℤ r c (pos 0) some (omega (arith, linear))
 
-rises : (r w : ℕ) (c a : ℤ) → 0 < r → pos r *ℤ c ≡ pos w *ℤ a → pos 0 ≤ℤ a → pos 0 ≤ℤ c
+pub rises : (r w : ℕ) (c a : ℤ) → 0 < r → pos r *ℤ c ≡ pos w *ℤ a → pos 0 ≤ℤ a → pos 0 ≤ℤ c
 rises r w c a some ohm h =
     let times = *ℤ-≤ℤ w (pos 0) a h in
     let none = *ℤ-zero (pos w) in

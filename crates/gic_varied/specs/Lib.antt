@@ -11,4 +11,5 @@ pub mod GroundLaws
 pub mod EachGround
 pub mod Certified
 pub mod Bounds
+pub mod Near
 pub mod WorkedGrounds

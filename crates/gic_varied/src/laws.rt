@@ -5,6 +5,7 @@ ghost use Rattle.gic_varied.specs.VariedLaws.{RangesHoldTolerances, OwnGroundsAr
 ghost use Rattle.gic_varied.specs.Certified.{CertifiedEnclosuresHold, GrainsHoldInUnits};
 ghost use Rattle.gic_varied.specs.Bounds.{TolerancesAreModest, VariedCurrentsAreBounded};
 ghost use Rattle.gic_varied.specs.Enclosure.{EnclosuresHold, ProductsHold, VariedPotentialsHold, LiftVoltsLift};
+ghost use Rattle.gic_varied.specs.Near.{CertifiedEnclosuresAreNear};
 ghost use Rattle.gic_varied.specs.Exact.{VariedCurrentsAreInReferenceEnclosure};
 ghost use Rattle.gic_varied.specs.GroundLaws.{OtherGroundsEarthToo, BoundVectorsServeLesserGrounds, LesserGroundsEarthWithin};
 ghost use Rattle.gic_varied.specs.GroundLaws.{RangesStayWithinLimits};
@@ -95,4 +96,11 @@ pub fn certified_enclosure_law()
 pub fn varied_bound_law()
     ensures modest { TolerancesAreModest }
     ensures bounded { VariedCurrentsAreBounded }
+{}
+
+/// Where each interval of a potential that it is made of ends within two units of that potential, and the one of the
+/// reference's own current is at most 401 wide, the certified enclosure ends within the slack of the reference enclosure in
+/// exact numbers: within a few units times what the field and the weights drive.
+pub fn near_enclosure_law()
+    ensures near { CertifiedEnclosuresAreNear }
 {}

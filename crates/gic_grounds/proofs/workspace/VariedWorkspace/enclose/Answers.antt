@@ -112,11 +112,13 @@ can_enclose : (nodes count transformers t : ℕ) (nets : GroundNets) (solving : 
     HasReferenceSpace nodes transformers reference → AreVariedWithin reference.potentials → AreAllWithin (2 ^ 80) reference.own →
     t < transformers → CanEnclose nets adjoint reference t
 can_enclose nodes count transformers t nets solving adjoint reference can adjoined small space varied own inside = record {
-  same_count = can.most_count ∙ sym can.least_count;
-  adjoint_count = adjoined ∙ sym can.least_nodes;
-  adjoint_within = small;
-  varied_count = subst (λ n. AreVariedOf n reference.potentials) (sym can.least_nodes) space.varied_count;
-  varied_within = varied;
+  strays = record {
+    same_count = can.most_count ∙ sym can.least_count;
+    adjoint_count = adjoined ∙ sym can.least_nodes;
+    adjoint_within = small;
+    varied_count = subst (λ n. AreVariedOf n reference.potentials) (sym can.least_nodes) space.varied_count;
+    varied_within = varied;
+  };
   has_own = subst (λ n. t < n) (sym space.own_count) inside;
   own_within = own;
 }

@@ -1,0 +1,83 @@
+-- How near the first two intervals of a transformer in a right report come to the reference enclosure in exact numbers: within 10 mA, the least width that can be asked for, but at the edges of what a case may say.
+use Rattle.std.specs.Prelude.{ℕ, ◌*◌, ◌≤◌, ◌<◌, length, ℤ, pos, ◌+ℤ◌, ◌-ℤ◌, ◌*ℤ◌, ◌≤ℤ◌}
+use Rattle.gic_base.specs.declared.limits.TheConstants.{MOST_WALK}
+use Rattle.gic_case.specs.Sound.{IsSound}
+use Rattle.gic_effective.specs.RightView.{HasNoEffect}
+use Rattle.gic_fixed.specs.Ends.{Ends}
+use Rattle.gic_model.specs.Bound.{IsEarthedWithin}
+use Rattle.gic_model.specs.Earthing.{AreEarthed}
+use Rattle.gic_model.specs.Limits.{IsWithinLimits, AreVolts}
+use Rattle.gic_model.specs.Standing.{stands_after}
+use Rattle.gic_model.specs.Sums.{Placed}
+use Rattle.gic_varied.specs.Certified.{Units}
+use Rattle.gic_varied.specs.Near.{ExactSolutions, AreExact, AreExactParts, exact_enclosure, Sizes, AreSizes, current_unit, slack}
+use Rattle.gic_varied.specs.Reciprocal.{weights_from}
+use Rattle.gic_winding.specs.ElementList.{elements_of}
+use Rattle.gic_winding.specs.Weights.{transformer_at, weighted_windings}
+use Rattle.gic_worst.specs.Rows.{ScreenRowView}
+use Rattle.gic_grounds.specs.Scale.{weight_times, units_of}
+use Rattle.gic_grounds.specs.Tolerated.{Tolerated, ranges_in, own_in, least_in}
+use Rattle.gic_robust.specs.RightRobust.{IsRobustRow}
+
+-- the slack moves no end by more than nine milliamperes
+abbrev pub HasSmallSlack : Units → Sizes → Type 0
+HasSmallSlack units sizes = slack units sizes ≤ 9000000 * current_unit units
+
+-- sizes of networks that aren't at the edges: the voltages of the field drive at most 10^8 amperes together, each over its own element's resistance, in all its phases. The rest bounds what a case can have: windings conduct at most 9000 siemens, each times its weight over the high voltage, a ground 1000, and there are at most 4096 grounds
+pub record IsOrdinary (high_volts unit : ℕ) (sizes : Sizes) : Type 0 where
+  pub field : sizes.field ≤ 100000000000000000
+  pub weights : sizes.weights ≤ 10000 * (weight_times high_volts unit * high_volts)
+  pub conductance : sizes.conductance ≤ 1000000
+  pub grounds : sizes.grounds ≤ 65536
+
+-- with these the slack is small where a unit of potentials is at most 16 nanovolts: where no interval of a potential with all grounds at their least reaches beyond 48000 volts, in either field
+abbrev pub OrdinarySizesHaveSmallSlack : Type 0
+OrdinarySizesHaveSmallSlack = (high_volts unit : ℕ) (sizes : Sizes) → 0 < high_volts → high_volts ≤ 10000000 → 0 < unit → unit ≤ 16 →
+    IsOrdinary high_volts unit sizes → HasSmallSlack (units_of high_volts unit) sizes
+
+-- the voltages of a transformer's weights, each volt of which is so many nanovolts
+abbrev pub weights_in : Tolerated → (unit t : ℕ) → ℕ → ℤ
+weights_in v unit t = weights_from (weight_times (transformer_at v.case t).high_volts unit) (weighted_windings v.case t)
+
+-- the units in which a transformer's row is made
+abbrev pub units_in : Tolerated → (unit t : ℕ) → Units
+units_in v unit t = units_of (transformer_at v.case t).high_volts unit
+
+-- a sound case that can be solved with its grounds at their least, and voltages within their limit
+pub record IsStudiedIn (v : Tolerated) (volts : ℕ → ℤ) : Type 0 where
+  pub sound : IsSound v.case
+  pub limits : IsWithinLimits (elements_of v.case)
+  pub earthed : AreEarthed (own_in v)
+  pub within : IsEarthedWithin (least_in v) MOST_WALK
+  pub percent : v.percent ≤ 90
+  pub volts_limit : AreVolts volts
+
+-- exact numbers of a transformer's current for these voltages, and sizes with a small slack
+pub record AreExactOf (v : Tolerated) (volts : ℕ → ℤ) (unit t : ℕ) (exact : ExactSolutions) (parts : Placed → Ends) (sizes : Sizes) : Type 0 where
+  pub solve : AreExact (elements_of v.case) (stands_after v.rows) (ranges_in v) volts (weights_in v unit t) exact
+  pub parts_are : AreExactParts (own_in v) (ranges_in v) exact parts
+  pub sized : AreSizes (own_in v) (ranges_in v) volts (weights_in v unit t) sizes
+  pub small : HasSmallSlack (units_in v unit t) sizes
+
+-- an interval in milliamperes ends at most ten beyond the exact one, of which `one` is a nanoampere
+pub record IsWithinTen (one : ℕ) (exact ends : Ends) : Type 0 where
+  pub low : exact.low ≤ℤ ((ends.low +ℤ pos 10) *ℤ pos (1000000 * one))
+  pub high : ((ends.high -ℤ pos 10) *ℤ pos (1000000 * one)) ≤ℤ exact.high
+
+-- a transformer's interval for these voltages, with all exact numbers over which the parts are whole
+abbrev pub IsNearReference : Tolerated → (volts : ℕ → ℤ) → (unit t : ℕ) → (ends : Ends) → Type 0
+IsNearReference v volts unit t ends = (exact : ExactSolutions) (parts : Placed → Ends) (sizes : Sizes) →
+    AreExactOf v volts unit t exact parts sizes →
+    IsWithinTen (current_unit (units_in v unit t) * (exact.reference.denominator * exact.reference.denominator))
+    (exact_enclosure (own_in v) (weights_in v unit t) exact parts) ends
+
+-- the first two intervals of a row that is made of references in this unit
+pub record IsNearRow (v : Tolerated) (north east : ℕ → ℤ) (unit t : ℕ) (row : ScreenRowView) : Type 0 where
+  pub to_north : IsNearReference v north unit t row.north
+  pub to_east : IsNearReference v east unit t row.east
+
+-- so is each row of a right report, where a winding that stands has a weight
+abbrev pub RowsAreNearReference : Type 0
+RowsAreNearReference = (v : Tolerated) (north east : ℕ → ℤ) (t : ℕ) (row : ScreenRowView) → t < length v.case.transformers →
+    IsStudiedIn v north → IsStudiedIn v east →
+    (right : IsRobustRow v north east t row) → (HasNoEffect v.case (own_in v) t → ⊥) → IsNearRow v north east right.references.unit t row
