@@ -6,7 +6,7 @@
 
 SHARE is a number above 0 and up to 1, as 1 or 1/4; it is 1 where it is not given, and SEED is 7. At a share of 1 there
 are 4096 substations, 12288 buses, 24576 lines and 8192 transformers, and at another one as many in proportion, at least
-8 substations. Substations lie on a plane that gets smaller with the share, so that those next to one another are as far
+3 substations. Substations lie on a plane that gets smaller with the share, so that those next to one another are as far
 apart at each share; 208 zones lie on it as a grid. Substations have buses of up to four voltages, and lines lead to near
 ones of the same voltage, in a part for each zone that they cross. Transformers are of all seven kinds, some over neutral
 devices. Each node is well earthed. The numbers belong to no real network; the same text comes of the same words.
@@ -32,7 +32,7 @@ from referee.storm import MOST_STORM_ROWS
 
 STATIONS = LIMITS_3["substation"]
 BUSES_EACH, LINES_EACH, UNITS_EACH = (LIMITS_3[name] // STATIONS for name in ("bus", "line", "transformer"))
-LEAST_STATIONS, MOST_PARTS = 8, PARTS.most
+LEAST_STATIONS, MOST_PARTS = 3, PARTS.most
 WIDTH, HEIGHT = 1600000, 1300000  # of the plane at a share of 1, in metres
 COLUMNS, ROWS = 16, 13  # of the grid of zones
 MOST_STEPS, MOST_FIELD = MOST_STORM_ROWS, 3000  # each step has a row; mV/km
@@ -155,7 +155,7 @@ class Network:
         for _, level, start, end in others[: max(0, most - len(self.lists["line"]))]:
             self.add_line(level, start, end, self.draw.random() < 0.03)
         singles = list(self.lists["line"])
-        while len(self.lists["line"]) < most:
+        while singles and len(self.lists["line"]) < most:
             self.lists["line"].append(self.draw.choice(singles) | {"name": f"line-{len(self.lists['line'])}"})
 
     def add_tree(self, level: int, here: list[Place]) -> list[tuple[float, int, Place, Place]]:

@@ -6,9 +6,10 @@
 N reports (2000) of random networks in every mode get one change each: a digit, a sign, a number one off, a line
 dropped, doubled or moved, a verdict or another word, a name, an order of names. The reports are of exact values, so
 their intervals are the narrowest. So a report with one change can still be right only where an interval got wider by
-it, and the step of a loss may be another one; of `robust` where an end of an interval moved, since no exact value fixes
-how wide it is; of a certificate the independent checker (`independent/recheck.py`) says whether it still passes. A
-change that the referee lets through and that is none of these is a fault.
+it, and the step of a loss may be another one; of `robust` where an end of an interval to the north or to the east moved,
+since no exact value fixes how wide it is, and the worst one is still that of the two; of a certificate the independent
+checker (`independent/recheck.py`) says whether it still passes. A change that the referee lets through and that is none
+of these is a fault.
 """
 
 from __future__ import annotations
@@ -33,6 +34,8 @@ from referee.words import MODES
 
 # Lines whose numbers are intervals or counts that may be wider.
 WIDE = {"node", "ground", "line", "winding", "neutral", "effective", "transformer", "dwell", "earth", "loss", "step"}
+# The places of the words in a line of `robust` that are ends of its first two intervals.
+MOVING = (3, 4, 6, 7)
 MOST_RADIUS = 2**31
 REPORTS_A_NETWORK = 10
 
@@ -43,7 +46,7 @@ def roles(words: Sequence[str], mode: str) -> list[Optional[int]]:
     if words[0] not in WIDE:
         return allowed
     if mode == "robust":
-        return [0 if place > 1 and NUMBER.match(word) else None for place, word in enumerate(words)]
+        return [0 if place in MOVING else None for place in range(len(words))]
     if words[0] == "step":
         return [None, None, None, None, -1, 1] if len(words) == 6 else allowed
     numbers = [place for place, word in enumerate(words) if place > 1 and NUMBER.match(word)]
@@ -56,7 +59,7 @@ def roles(words: Sequence[str], mode: str) -> list[Optional[int]]:
 
 
 def is_wider(before: Lines, after: Lines, mode: str) -> bool:
-    """Whether the lines are the same but for intervals that got wider, or in `robust` have another end."""
+    """Whether the lines are the same but for intervals that got wider, or in `robust` have another end to the north or east."""
     if len(before) != len(after):
         return False
     for line, other in zip(before, after):

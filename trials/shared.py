@@ -81,9 +81,14 @@ class Faults:
 
 
 def arguments(
-    description: Optional[str], minutes: float, extra: Iterable[tuple[str, Union[int, str]]] = (), has_program: bool = True
+    description: Optional[str],
+    minutes: float,
+    extra: Iterable[tuple[str, Union[int, str]]] = (),
+    has_program: bool = True,
+    files: Optional[str] = None,
 ) -> argparse.Namespace:
-    """The words of a trial: PROGRAM, --minutes, --seed, --jobs, and `extra` options with their defaults."""
+    """The words of a trial: PROGRAM, --minutes, --seed, --jobs, `extra` options with their defaults, and any number of files,
+    where these have a name."""
     parser = argparse.ArgumentParser(
         description=description, formatter_class=argparse.RawDescriptionHelpFormatter, allow_abbrev=False
     )
@@ -94,7 +99,9 @@ def arguments(
     parser.add_argument("--jobs", type=int, default=os.cpu_count())
     for name, default in extra:
         parser.add_argument("--" + name, type=type(default), default=default)
-    given = parser.parse_args()
+    if files is not None:
+        parser.add_argument("files", metavar=files, nargs="*")
+    given = parser.parse_intermixed_args()
     signal.signal(signal.SIGTERM, lambda *_: sys.exit("ended by a signal"))
     print(f"seed {given.seed}, {given.minutes:g} minutes at most, {given.jobs} side by side", flush=True)
     return given

@@ -75,6 +75,9 @@ class Interconnection(unittest.TestCase):
         self.assertEqual(sum(part["north"] for part in parts), end.north - start.north)
         self.assertEqual(sum(part["east"] for part in parts), end.east - start.east)
 
+    def test_the_smallest_has_three_substations(self) -> None:
+        self.assertEqual(len(interconnection.network(Fraction(1, 4096), 7)["substation"]), 3)
+
     def test_all_kinds_are_there(self) -> None:
         kinds = {unit["kind"] for unit in interconnection.network(Fraction(1, 16), 7)["transformer"]}
         self.assertEqual(kinds, set(ROLES))

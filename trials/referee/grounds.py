@@ -45,20 +45,20 @@ def root_up(number: int) -> int:
     return root if root * root == number else root + 1
 
 
-def nearest(ends: Ends | Interval) -> Fraction | int:
+def nearest(ends: Interval) -> int:
     """The least absolute value between the ends."""
     return max(ends.low, -ends.high, 0)
 
 
-def farthest(ends: Ends | Interval) -> Fraction | int:
+def farthest(ends: Interval) -> int:
     """The greatest absolute value between the ends."""
     return max(-ends.low, ends.high)
 
 
 def worst_of(north: Interval, east: Interval) -> Interval:
     """The interval of the worst current of two with whole ends."""
-    low = isqrt(int(nearest(north) ** 2 + nearest(east) ** 2))
-    return Interval(low, root_up(int(farthest(north) ** 2 + farthest(east) ** 2)))
+    low = isqrt(nearest(north) ** 2 + nearest(east) ** 2)
+    return Interval(low, root_up(farthest(north) ** 2 + farthest(east) ** 2))
 
 
 def ground_range(ohms: int, percent: int) -> Range:

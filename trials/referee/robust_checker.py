@@ -3,10 +3,8 @@
 
 from __future__ import annotations
 
-from math import ceil, floor
-
 from referee.checker import VERDICTS, Checker, verdict_of
-from referee.grounds import Ends, Varied, farthest, nearest, worst_of
+from referee.grounds import Ends, Varied, worst_of
 from referee.report_text import Want
 from referee.values import Interval
 
@@ -14,8 +12,8 @@ INTERVALS: tuple[Want, ...] = ("north", None, None, "east", None, None, "worst",
 
 
 class RobustChecker(Checker):
-    """Each interval has to hold the currents of all networks within the tolerance that are tried, and may begin and end no
-    more than the width beyond the reference enclosure."""
+    """The intervals to the north and to the east have to hold the currents of all networks within the tolerance that are
+    tried, and may begin and end no more than the width beyond the reference enclosure; the third is made of these two."""
 
     def check(self) -> None:
         outcome, asked = self.outcome, self.asked
@@ -37,7 +35,8 @@ class RobustChecker(Checker):
         label = "transformer " + name
         for told, shown, enclosure, hull in zip(("north", "east"), (north, east), enclosures, hulls):
             self.check_current(shown, enclosure, hull, f"{label} {told}")
-        self.check_worst(worst, enclosures, hulls, label + " worst")
+        if worst != worst_of(north, east):
+            self.text.fault_here(f"{label} worst: {worst.low} {worst.high} is not that of its other two")
         if not self.varied.has_effect(place) and any(ends):
             self.text.fault_here(f"{label}: no standing winding has a weight, so each interval is 0 0")
         wanted = verdict_of(self.case.transformers[place], worst, self.threshold)
@@ -51,14 +50,3 @@ class RobustChecker(Checker):
         if low < enclosure.low - self.width or high > enclosure.high + self.width:
             told = f"{float(enclosure.low)} {float(enclosure.high)}"
             self.text.fault_here(f"{label}: {low} {high} is more than {self.width} beyond {told}")
-
-    def check_worst(self, shown: Interval, enclosures: list[Ends], hulls: list[Ends], label: str) -> None:
-        low, high = shown
-        if low < 0 or low**2 > sum(nearest(hull) ** 2 for hull in hulls):
-            self.text.fault_here(f"{label}: begins at {low}, below 0 or above the least that is found")
-        if high < 0 or high**2 < sum(farthest(hull) ** 2 for hull in hulls):
-            self.text.fault_here(f"{label}: ends at {high}, below the greatest that is found")
-        widest = (Interval(ceil(own.low - self.width), floor(own.high + self.width)) for own in enclosures)
-        least, greatest = worst_of(*widest)
-        if low < least or high > greatest:
-            self.text.fault_here(f"{label}: {low} {high} is wider than {least} {greatest}, the widest there can be")

@@ -68,14 +68,21 @@ class WorkedCases(unittest.TestCase):
 
     def test_currents_of_the_loop_whatever_its_grounds_are(self) -> None:
         # By hand: 800 V over 3.6 and over 2.8 ohm drive 74074.07 and 95238.10 mA per phase; the enclosure begins at 71050.64.
-        name, north = "robust_sample", b"TB north 71050 95239"
-        self.assertEqual(self.robust_faults(name, (north, b"TB north 74074 95239")), [])
-        self.assertEqual(self.robust_faults(name, (north, b"TB north 70951 95338")), [])
-        for wrong in (b"74075 95239", b"71050 95238", b"70950 95239", b"71050 95339", b"95239 71050", b"-71050 95239"):
-            self.assertTrue(self.robust_faults(name, (north, b"TB north " + wrong)))
-        worst = b"east 0 0 worst 71050 95239 undecided"
-        for wrong in (b"0 0 worst 74075 95239", b"0 0 worst 71050 95238", b"0 0 worst 70949 95239", b"0 0 worst -1 95239"):
-            self.assertTrue(self.robust_faults(name, (worst, b"east " + wrong + b" undecided")))
+        name, before = "robust_sample", b"TB north 71050 95239 east 0 0 worst 71050 95239 undecided"
+
+        def faults(to_north: str, worst: str) -> list[str]:
+            after = f"TB north {to_north} east 0 0 worst {worst} undecided"
+            return self.robust_faults(name, (before, after.encode()))
+
+        for right in ("74074 95239", "70951 95338"):
+            self.assertEqual(faults(right, right), [])
+        for wrong in ("74075 95239", "71050 95238", "70950 95239", "71050 95339"):
+            self.assertTrue(faults(wrong, wrong))
+        for wrong in ("95239 71050", "-71050 95239"):
+            self.assertTrue(faults(wrong, "71050 95239"))
+        for wrong in ("71049 95239", "71051 95239", "71050 95238", "71050 95240", "-1 95239"):
+            self.assertTrue(faults("71050 95239", wrong))
+            self.assertTrue(faults(wrong, "71050 95239"))
         self.assertTrue(self.robust_faults(name, (b"undecided", b"reaches")))
         self.assertTrue(self.robust_faults(name, (b"tolerance 20", b"tolerance 21")))
 
