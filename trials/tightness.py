@@ -13,7 +13,7 @@ that vary in one part of the network are a fault; so is a current at a corner th
 A row of the table is of the assessed transformers of all random networks or of a case, at one tolerance. It tells how many
 they are; how many intervals to the north and to the east are compared, those where corners are 1 A apart at least, beside
 which rounding to mA doesn't count; how many times as wide as what corners have these are, in the mean and at most; how many
-transformers are `undecided`; and for how many of these corners give one and the same other verdict: that of the interval
+transformers are `undecided`, and the same of their intervals alone; and for how many of these corners give one and the same other verdict: that of the interval
 which `robust` makes of the two currents, where each lies between its own corners, and that of the worst currents where both
 are those of one corner.
 """
@@ -26,7 +26,7 @@ import math
 import random
 import sys
 from collections import defaultdict
-from collections.abc import Iterator, Sequence
+from collections.abc import Iterable, Iterator, Sequence
 from fractions import Fraction
 from typing import NamedTuple, Optional
 
@@ -52,7 +52,7 @@ SLACK = 0.001
 UNDECIDED = "undecided"
 RANDOM = "random networks"
 HEADS = (
-    *("over", "per cent", "units", "compared", "times as wide, in the mean", "at most", UNDECIDED),
+    *("over", "per cent", "units", "compared", "times as wide, in the mean", "at most", UNDECIDED, "these in the mean", "at most"),
     *("of these one verdict at corners, each current by itself", "both of one corner"),
 )
 Numbers = list[float]
@@ -307,14 +307,20 @@ def work(command: Sequence[str], item: Item) -> list[Measured]:
     return [one._replace(faults=[f"seed {item.seed}: {fault}" for fault in one.faults]) for one in found]
 
 
+def times(ratios: Iterable[float]) -> list[str]:
+    """Their mean, and the greatest."""
+    every = list(ratios)
+    return [f"{sum(every) / len(every):.2f}", f"{max(every):.2f}"] if every else ["-", "-"]
+
+
 def cells(units: Sequence[Compared]) -> list[str]:
     """The numbers of a row of the table."""
-    every = list(itertools.chain.from_iterable(unit.ratios for unit in units))
-    times = [f"{sum(every) / len(every):.2f}", f"{max(every):.2f}"] if every else ["-", "-"]
     undecided = [unit for unit in units if unit.told == UNDECIDED]
+    every = [ratio for unit in units for ratio in unit.ratios]
     by_current = sum(unit.by_current != UNDECIDED for unit in undecided)
     by_corner = sum(unit.by_corner != UNDECIDED for unit in undecided)
-    return [str(cell) for cell in (len(units), len(every), *times, len(undecided), by_current, by_corner)]
+    open_ones = times(ratio for unit in undecided for ratio in unit.ratios)
+    return [str(cell) for cell in (len(units), len(every), *times(every), len(undecided), *open_ones, by_current, by_corner)]
 
 
 def items_of(files: Sequence[str], seed: int, networks: int) -> list[Item]:

@@ -101,8 +101,8 @@ class Tables(unittest.TestCase):
             Compared([], "undecided", "undecided", "undecided"),
             Compared([], "below", "below", "below"),
         ]
-        self.assertEqual(tightness.cells(units), ["4", "3", "1.20", "1.50", "3", "1", "2"])
-        self.assertEqual(tightness.cells(units[3:]), ["1", "0", "-", "-", "0", "0", "0"])
+        self.assertEqual(tightness.cells(units), ["4", "3", "1.20", "1.50", "3", "1.20", "1.50", "1", "2"])
+        self.assertEqual(tightness.cells(units[3:]), ["1", "0", "-", "-", "0", "-", "-", "0", "0"])
 
 
 if __name__ == "__main__":

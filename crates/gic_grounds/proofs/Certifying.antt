@@ -1,6 +1,7 @@
 -- What solves left makes a certified enclosure of a transformer's current, and it holds that of every varied solution.
 use Rattle.std.proofs.Common.{◌≡◌, ℕ, ◌*◌, ◌<◌, Bool, false, List, [], ◌∷◌, length, ℤ, pos, ◌*ℤ◌, arith, refl, ap, sym, subst, ◌∙◌}
 use Rattle.std.specs.List.{AllByRecursion}
+use Rattle.std.proofs.lemmas.Int.{ints}
 use Rattle.gic_case.specs.Lists.{Lists}
 use Rattle.gic_effective.specs.Weighted.{effective_numerator}
 use Rattle.gic_enclose.specs.Certain.{AreCertain}
@@ -14,7 +15,9 @@ use Rattle.gic_model.specs.Network.{Network}
 use Rattle.gic_model.specs.Solution.{Solution, IsSolution}
 use Rattle.gic_model.specs.Standing.{standing_elements, stands_after, is_standing}
 use Rattle.gic_model.specs.Sums.{Placed}
+use Rattle.gic_net.specs.Net.{NetView, standing}
 use Rattle.gic_varied.specs.Certified.{Voltages, Intervals, AreCertified, GrainsHoldInUnits, in_units, certified_enclosure}
+use Rattle.gic_varied.specs.Corners.{Corner, corner_ohm}
 use Rattle.gic_varied.specs.Reciprocal.{current_by_weights, weights_from, ListedWeightsCount}
 use Rattle.gic_varied.proofs.Regrounded.{solves_with}
 use Rattle.gic_winding.specs.ElementList.{elements_of}
@@ -22,9 +25,9 @@ use Rattle.gic_winding.specs.Weights.{transformer_at, weighted_windings}
 use Rattle.gic_grounds.specs.declared.nets.GroundNets.{GroundNets}
 use Rattle.gic_grounds.specs.declared.reference.Reference.{Reference}
 use Rattle.gic_grounds.specs.Scale.{multiple, weight_times, stray_unit, units_of}
-use Rattle.gic_grounds.specs.Tolerated.{Tolerated, AreNetsOf, ranges_in, own_in, least_in, most_in}
+use Rattle.gic_grounds.specs.Tolerated.{Tolerated, AreNetsOf, ranges_in, own_in, most_in, corner_in}
 use Rattle.gic_grounds.specs.Varied.{IsReferredTo, AreAdjoined}
-use Rattle.gic_grounds.specs.VariedCurrent.{IsOfReference, milli_cut}
+use Rattle.gic_grounds.specs.VariedCurrent.{IsOfReference, IsInside, milli_cut}
 use Rattle.gic_grounds.specs.Varying.{intervals_of}
 use Rattle.gic_grounds.proofs.Rounded.{rounded_at, held_in_units}
 
@@ -44,6 +47,10 @@ by_listed law network stands times case t weights s are none =
     everywhere [] = tt
     everywhere (p ∷ ps) = (ap (λ z. z *ℤ s.current p.0) (are p.0), everywhere ps)
 
+-- an interval ends nowhere beyond itself
+pub same_inside : (all ends : Ends) → ends ≡ all → IsInside all ends
+same_inside all ends is = subst (λ (e : Ends). IsInside all e) (sym is) (record { from = omega (arith, ints); to = omega (arith, ints) })
+
 -- the scales fit: so many products of both units make 3 V nanoamperes of the weights' multiple
 pub scales : (high unit d : ℕ) → weight_times high unit * (3 * high * d) ≡ stray_unit high unit * (32 * unit) * d
 scales high unit d = plain (multiple high unit) high unit d
@@ -52,8 +59,9 @@ scales high unit d = plain (multiple high unit) high unit d
     plain m h u n = omega arith
 
 module _ (grains_law : GrainsHoldInUnits) (listed : ListedWeightsCount) (v : Tolerated) (nets : GroundNets) (of_nets : AreNetsOf v nets)
+    (corner : Corner) (net : NetView) (there : standing net ≡ corner_in v corner)
     (t unit : ℕ) (adjoint : List Ends) (reference : Reference) (volts : ℕ → ℤ) (grains : List Ends) (some : 0 < unit)
-    (refers : IsReferredTo v.case nets volts unit grains reference) (adjoins : AreAdjoined v.case nets t unit adjoint) (inside : t < length reference.own) where
+    (refers : IsReferredTo v.case nets corner net volts unit grains reference) (adjoins : AreAdjoined v.case net t unit adjoint) (inside : t < length reference.own) where
   -- the case's network, what stands of it, and the transformer's high voltage
   abbrev network : Network
   network = elements_of v.case
@@ -72,11 +80,11 @@ module _ (grains_law : GrainsHoldInUnits) (listed : ListedWeightsCount) (v : Tol
   intervals = intervals_of adjoint reference.potentials (potential_ends reference.own t)
 
   -- what is certain in the nets is so in the case's networks
-  in_least : AreCertain (least_in v) volts grains
-  in_least = subst (λ (ps : List Placed). AreCertain ps volts grains) of_nets.extremes.least_standing refers.certain
+  reference_certain : AreCertain (corner_in v corner) volts grains
+  reference_certain = subst (λ (ps : List Placed). AreCertain ps volts grains) there refers.certain
 
-  adjoint_certain : AreCertain (least_in v) adjoins.weights adjoins.grains
-  adjoint_certain = subst (λ (ps : List Placed). AreCertain ps adjoins.weights adjoins.grains) of_nets.extremes.least_standing adjoins.certain
+  adjoint_certain : AreCertain (corner_in v corner) adjoins.weights adjoins.grains
+  adjoint_certain = subst (λ (ps : List Placed). AreCertain ps adjoins.weights adjoins.grains) there adjoins.certain
 
   lowered_certain : AreCertain (most_in v) refers.lifted.lowered.volts refers.lifted.lowered.grains
   lowered_certain = subst (λ (ps : List Placed). AreCertain ps refers.lifted.lowered.volts refers.lifted.lowered.grains) of_nets.extremes.most_standing refers.lifted.lowered.certain
@@ -98,15 +106,15 @@ module _ (grains_law : GrainsHoldInUnits) (listed : ListedWeightsCount) (v : Tol
   raising_rounded = rounded_at 1 refers.lifted.raised.grains reference.potentials.raising (omega arith) refers.lifted.raised.rounded
 
   -- a solution of the reference has no current where nothing stands
-  quiet_places : (s : Solution) → IsSolution (least_in v) volts s → (place : ℕ) → is_standing (own_in v) place ≡ false →
+  quiet_places : (s : Solution) → IsSolution (corner_in v corner) volts s → (place : ℕ) → is_standing (own_in v) place ≡ false →
       s.current place ≡ pos 0
-  quiet_places s solves = (solves_with network stands (λ e. (ranges_in v e).least) volts s solves).none_if_open
+  quiet_places s solves = (solves_with network stands (corner_ohm (ranges_in v) corner) volts s solves).none_if_open
 
   -- the reference's own current, as a weighted current
-  own_holds : (s : Solution) → IsSolution (least_in v) volts s →
+  own_holds : (s : Solution) → IsSolution (corner_in v corner) volts s →
       Encloses intervals.own.low intervals.own.high (current_by_weights (own_in v) adjoins.weights s) (stray_unit high unit * (32 * unit) * s.denominator)
   own_holds s solves =
-      let in_net = subst (λ (ps : List Placed). IsSolution ps volts s) (sym of_nets.extremes.least_standing) solves in
+      let in_net = subst (λ (ps : List Placed). IsSolution ps volts s) (sym there) solves in
       let own = (refers.own t inside).holds s in_net (λ k live. (refers.certain k).live live s in_net) in
       let times = Encloses-common intervals.own.low intervals.own.high (effective_numerator v.case s t) (3 * high * s.denominator) (weight_times high unit) own in
       let number = by_listed listed network stands (weight_times high unit) v.case t adjoins.weights s adjoins.by_weights (quiet_places s solves) in
@@ -114,22 +122,22 @@ module _ (grains_law : GrainsHoldInUnits) (listed : ListedWeightsCount) (v : Tol
       (subst (λ (n : ℕ). Encloses intervals.own.low intervals.own.high (pos (weight_times high unit) *ℤ effective_numerator v.case s t) n) (scales high unit s.denominator) times)
 
   -- all of it is certified
-  pub certified : AreCertified network stands (ranges_in v) given (units_of high unit) intervals
+  pub certified : AreCertified network stands (ranges_in v) corner given (units_of high unit) intervals
   certified = record {
     field = refers.no_ground stands;
     weights = adjoins.no_ground stands;
     lowering_volts = refers.lifted.lowered.lifts network stands (ranges_in v) of_nets.extremes;
     raising_volts = refers.lifted.raised.lifts network stands (ranges_in v) of_nets.extremes;
-    reference = held_in_units grains_law (least_in v) volts unit grains intervals.reference some in_least reference_rounded;
-    adjoint = held_in_units grains_law (least_in v) adjoins.weights 32 adjoins.grains intervals.adjoint (omega arith) adjoint_certain adjoint_rounded;
+    reference = held_in_units grains_law (corner_in v corner) volts unit grains intervals.reference some reference_certain reference_rounded;
+    adjoint = held_in_units grains_law (corner_in v corner) adjoins.weights 32 adjoins.grains intervals.adjoint (omega arith) adjoint_certain adjoint_rounded;
     lowering = held_in_units grains_law (most_in v) refers.lifted.lowered.volts 1 refers.lifted.lowered.grains intervals.lowering (omega arith) lowered_certain lowering_rounded;
     raising = held_in_units grains_law (most_in v) refers.lifted.raised.volts 1 refers.lifted.raised.grains intervals.raising (omega arith) raised_certain raising_rounded;
     own = own_holds;
   }
 
   -- so the ends that are made of them are of the reference
-  pub of_reference : (ends : Ends) → ends ≡ milli_cut (certified_enclosure (own_in v) (ranges_in v) (units_of high unit) intervals) →
-      IsOfReference v volts unit grains t ends
+  pub of_reference : (ends : Ends) → ends ≡ milli_cut (certified_enclosure (own_in v) (ranges_in v) corner (units_of high unit) intervals) →
+      IsOfReference v corner volts unit grains t ends
   of_reference ends is = record {
     given = given;
     intervals = intervals;
@@ -141,5 +149,5 @@ module _ (grains_law : GrainsHoldInUnits) (listed : ListedWeightsCount) (v : Tol
     tight_lowering = record { grains = refers.lifted.lowered.grains; certain = lowered_certain; tight = refers.lifted.lowered.tight; rounded = lowering_rounded };
     tight_raising = record { grains = refers.lifted.raised.grains; certain = raised_certain; tight = refers.lifted.raised.tight; rounded = raising_rounded };
     tight_own = (refers.own t inside).tight refers.tight;
-    is = is;
+    inside = same_inside (milli_cut (certified_enclosure (own_in v) (ranges_in v) corner (units_of high unit) intervals)) ends is;
   }

@@ -24,9 +24,10 @@ use Rattle.gic_model.specs.Standing.{stands_after, is_standing}
 use Rattle.gic_model.specs.Sums.{Placed}
 use Rattle.gic_model.proofs.Members.{kept, both}
 use Rattle.gic_net.proofs.Kept.{IsIn, each_in}
-use Rattle.gic_net.specs.Net.{standing, no_element}
+use Rattle.gic_net.specs.Net.{NetView, standing, no_element}
 use Rattle.gic_varied.specs.Bounds.{TolerancesAreModest, VariedCurrentsAreBounded}
 use Rattle.gic_varied.specs.Certified.{CertifiedEnclosuresHold, GrainsHoldInUnits, certified_enclosure}
+use Rattle.gic_varied.specs.Corners.{Corner, all_least, IsCornerOfRanges}
 use Rattle.gic_varied.specs.Grounds.{is_ground}
 use Rattle.gic_varied.specs.GroundLaws.{RangesStayWithinLimits}
 use Rattle.gic_varied.specs.Reciprocal.{ListedWeightsCount}
@@ -38,15 +39,15 @@ use Rattle.gic_grounds.specs.declared.reference.Reference.{Reference}
 use Rattle.gic_grounds.specs.Effect.{HasNoPart}
 use Rattle.gic_grounds.specs.Scale.{weight_times, stray_unit, units_of}
 use Rattle.gic_grounds.specs.Tolerances.{tolerance_at}
-use Rattle.gic_grounds.specs.Tolerated.{Tolerated, AreNetsOf, ranges_in, own_in, least_in}
+use Rattle.gic_grounds.specs.Tolerated.{Tolerated, AreNetsOf, ranges_in, own_in, least_in, corner_in}
 use Rattle.gic_enclose.specs.Certain.{AreCertain}
 use Rattle.gic_grounds.specs.declared.workspace.VariedWorkspace.{VariedWorkspace}
 use Rattle.gic_grounds.specs.Varied.{IsReferredTo, AreAdjoined, AreReferred}
-use Rattle.gic_grounds.specs.VariedCurrent.{References, AreReferences, IsVariedCurrent, milli_cut}
+use Rattle.gic_grounds.specs.VariedCurrent.{References, AreReferences, HoldsVaried, IsVariedCurrent, milli_cut}
 use Rattle.gic_grounds.specs.Varying.{intervals_of}
 use Rattle.gic_grounds.proofs.Certifying.{given, certified, of_reference, by_listed, scales}
 use Rattle.gic_grounds.proofs.CutCurrents.{milli_cut_holds}
-use Rattle.gic_grounds.proofs.Earthings.{least_in_range, stands_with}
+use Rattle.gic_grounds.proofs.Earthings.{lesser, least_in_range, stands_with}
 use Rattle.gic_grounds.proofs.Extremes.{few_percent}
 use Rattle.gic_grounds.proofs.Weighing.{multiple_enough}
 use Rattle.gic_grounds.proofs.WindingBounds.{bounded_at, numerator_bounded, nothing_summed}
@@ -141,16 +142,25 @@ module _ (laws : Laws) (v : Tolerated) (studied : IsStudied v) (few : v.percent 
         plain : (n high d : ℕ) → n ≤ 3 * (high * (2 ^ 80 * d)) → n ≤ 2 ^ 61 * (3000000 * high * d)
         plain n high d h = omega (arith, h)
 
-  module _ (nets : GroundNets) (of_nets : AreNetsOf v nets) (t unit : ℕ) (adjoint : List Ends) (reference : Reference)
+  -- what is known of the corner with all grounds at their least
+  least_of_ranges : IsCornerOfRanges (elements_of v.case) (stands_after v.rows) (ranges_in v) all_least
+  least_of_ranges = record {
+    within = (laws.limits (elements_of v.case) (tolerance_at v.case v.percent) studied.limits).0;
+    in_ranges = least_in_range (elements_of v.case) (stands_after v.rows) (tolerance_at v.case v.percent) studied.limits;
+    lesser = lesser (elements_of v.case) (tolerance_at v.case v.percent) studied.limits;
+  }
+
+  module _ (nets : GroundNets) (of_nets : AreNetsOf v nets) (corner : Corner) (net : NetView) (there : standing net ≡ corner_in v corner)
+      (of_ranges : IsCornerOfRanges (elements_of v.case) (stands_after v.rows) (ranges_in v) corner) (t unit : ℕ) (adjoint : List Ends) (reference : Reference)
       (grains : List Ends) (some : 0 < unit) (small : unit < 2 ^ 19)
-      (refers : IsReferredTo v.case nets volts unit grains reference) (adjoins : AreAdjoined v.case nets t unit adjoint) (inside : t < length reference.own) (place : t < length v.case.transformers) where
+      (refers : IsReferredTo v.case nets corner net volts unit grains reference) (adjoins : AreAdjoined v.case net t unit adjoint) (inside : t < length reference.own) (place : t < length v.case.transformers) where
     -- the transformer's high voltage and its enclosure, in units of which enough make a nanoampere
     abbrev high : ℕ
     high = (row t).high_volts
 
     -- the enclosure that is made for it
     abbrev enclosure : Ends
-    enclosure = certified_enclosure (own_in v) (ranges_in v) (units_of high unit)
+    enclosure = certified_enclosure (own_in v) (ranges_in v) corner (units_of high unit)
         (intervals_of adjoint reference.potentials (potential_ends reference.own t))
 
     -- its stray unit isn't small
@@ -177,12 +187,12 @@ module _ (laws : Laws) (v : Tolerated) (studied : IsStudied v) (few : v.percent 
         (few_percent v.case v.percent studied.sound few) in
         let bounded = laws.bounded network stands (ranges_in v) volts s studied.limits both_limits.0 studied.earthed studied.within in_range
         modest refers.limit (refers.no_ground stands) varies in
-        let whole = laws.enclosures network stands (ranges_in v)
-        (given laws.grains laws.listed v nets of_nets t unit adjoint reference volts grains some refers adjoins inside)
+        let whole = laws.enclosures network stands (ranges_in v) corner
+        (given laws.grains laws.listed v nets of_nets corner net there t unit adjoint reference volts grains some refers adjoins inside)
         (units_of high unit)
         (intervals_of adjoint reference.potentials (potential_ends reference.own t)) s
-        studied.limits both_limits.0 both_limits.1 studied.earthed in_range (omega (arith, enough))
-        (certified laws.grains laws.listed v nets of_nets t unit adjoint reference volts grains some refers adjoins inside) varies in
+        studied.limits of_ranges.within both_limits.1 studied.earthed of_ranges.in_ranges (omega (arith, enough))
+        (certified laws.grains laws.listed v nets of_nets corner net there t unit adjoint reference volts grains some refers adjoins inside) varies in
         let number = by_listed laws.listed network stands (weight_times high unit) v.case t adjoins.weights s adjoins.by_weights
         varies.none_if_open in
         let nano = subst (λ (n : ℤ). Encloses enclosure.low enclosure.high n (stray_unit high unit * (32 * unit) * s.denominator)) number
@@ -191,15 +201,27 @@ module _ (laws : Laws) (v : Tolerated) (studied : IsStudied v) (few : v.percent 
         (current_bounded s varies bounded t place)
         (subst (λ (n : ℕ). Encloses enclosure.low enclosure.high (pos (weight_times high unit) *ℤ effective_numerator v.case s t) n) (sym (scales high unit s.denominator)) nano)
 
-    -- the interval that is made of it, where something has an effect
-    pub varied_current_is : (ends : Ends) → (HasNoEffect v.case (own_in v) t → ⊥) → ends ≡ milli_cut enclosure →
+    -- so does the interval that is made of it
+    pub held_at_corner : (ends : Ends) → ends ≡ milli_cut enclosure → HoldsVaried v volts t ends
+    held_at_corner ends is s varies =
+        subst (λ (e : Ends). Encloses e.low e.high (effective_numerator v.case s t) (effective_denominator v.case t s)) (sym is)
+        (enclosed s varies)
+
+  module _ (nets : GroundNets) (of_nets : AreNetsOf v nets) (t unit : ℕ) (adjoint : List Ends) (reference : Reference)
+      (grains : List Ends) (some : 0 < unit) (small : unit < 2 ^ 19)
+      (refers : IsReferredTo v.case nets all_least nets.least volts unit grains reference) (adjoins : AreAdjoined v.case nets.least t unit adjoint) (inside : t < length reference.own) (place : t < length v.case.transformers) where
+    -- the interval that is made with all grounds at their least, where something has an effect
+    pub varied_current_is : (ends : Ends) → (HasNoEffect v.case (own_in v) t → ⊥) →
+        ends ≡ milli_cut (certified_enclosure (own_in v) (ranges_in v) all_least (units_of (row t).high_volts unit)
+        (intervals_of adjoint reference.potentials (potential_ends reference.own t))) →
         IsVariedCurrent v volts unit grains t ends
     varied_current_is ends effect is = record {
-      holds = λ s varies. subst (λ (e : Ends). Encloses e.low e.high (effective_numerator v.case s t) (effective_denominator v.case t s))
-          (sym is) (enclosed s varies);
+      holds = held_at_corner nets of_nets all_least nets.least of_nets.extremes.least_standing least_of_ranges t unit adjoint reference
+          grains some small refers adjoins inside place ends is;
       zeroed = λ none. absurd (effect none);
       pinned = inr
-          (of_reference laws.grains laws.listed v nets of_nets t unit adjoint reference volts grains some refers adjoins inside ends is);
+          (of_reference laws.grains laws.listed v nets of_nets all_least nets.least of_nets.extremes.least_standing t unit adjoint reference
+          volts grains some refers adjoins inside ends is);
     }
 
 -- the references of a workspace

@@ -7,8 +7,13 @@ pub mod Weighing
 pub mod Earthings
 pub mod Rounded
 pub mod Solving
+pub mod BothNets
+pub mod CornerNets
 pub mod CutCurrents
+pub mod CutAtCorners
 pub mod WindingBounds
 pub mod Certifying
 pub mod Holding
 pub mod Answered
+pub mod AtCorners
+pub mod RowParts

@@ -365,11 +365,41 @@ zero_over d some = floor_is (pos 0) d (pos 0) some (omega (arith, linear)) (omeg
 zero_times : (z : ℤ) → pos 0 *ℤ z ≡ pos 0
 zero_times z = omega (arith, ints, unsigned_abs-mul (pos 0) z)
 
--- the factor of a resistance less itself is nothing
-no_factor : (paths least : ℕ) → paths * 1000000 * (least - least) ≡ 0
-no_factor paths least =
-    let same : least - least ≡ 0 = omega arith in
-    ap (λ (n : ℕ). paths * 1000000 * n) same ∙ omega arith
+-- where a ground has an end of its range, the part of that end is nothing
+module _ (paths ohm unit : ℕ) (some : 0 < ohm) (large : 2 ^ 22 ≤ unit) (z : ℤ) where
+  -- the factor of a resistance less itself is nothing
+  no_factor : paths * 1000000 * (ohm - ohm) ≡ 0
+  no_factor =
+      let same : ohm - ohm ≡ 0 = omega arith in
+      ap (λ (n : ℕ). paths * 1000000 * n) same ∙ omega arith
+
+  -- so is its product
+  no_product : pos (paths * 1000000 * (ohm - ohm)) *ℤ z ≡ pos 0
+  no_product = ap (λ (n : ℕ). pos n *ℤ z) no_factor ∙ zero_times z
+
+  -- the divisor isn't 0
+  over : 0 < ohm * ohm * unit
+  over = positive_product (ohm * ohm) unit (positive_product ohm ohm some some) (omega (arith, large))
+
+  -- the quotient is nothing
+  nothing_down : floor_div (pos (paths * 1000000 * (ohm - ohm)) *ℤ z) (pos (ohm * ohm * unit)) ≡ pos 0
+  nothing_down = ap (λ (x : ℤ). floor_div x (pos (ohm * ohm * unit))) no_product ∙ zero_over (ohm * ohm * unit) over
+
+  -- rounded up too
+  nothing_up : ceil_div (pos (paths * 1000000 * (ohm - ohm)) *ℤ z) (pos (ohm * ohm * unit)) ≡ pos 0
+  nothing_up =
+      ap (λ (x : ℤ). ceil_div x (pos (ohm * ohm * unit))) no_product
+      ∙ ap (λ (x : ℤ). neg_ℤ x) (zero_over (ohm * ohm * unit) over)
+
+  -- and with its sign turned
+  turned_down : floor_div (neg_ℤ (pos (paths * 1000000 * (ohm - ohm)) *ℤ z)) (pos (ohm * ohm * unit)) ≡ pos 0
+  turned_down = ap (λ (x : ℤ). floor_div (neg_ℤ x) (pos (ohm * ohm * unit))) no_product ∙ zero_over (ohm * ohm * unit) over
+
+  -- rounded up too
+  turned_up : ceil_div (neg_ℤ (pos (paths * 1000000 * (ohm - ohm)) *ℤ z)) (pos (ohm * ohm * unit)) ≡ pos 0
+  turned_up =
+      ap (λ (x : ℤ). ceil_div (neg_ℤ x) (pos (ohm * ohm * unit))) no_product
+      ∙ ap (λ (x : ℤ). neg_ℤ x) (zero_over (ohm * ohm * unit) over)
 
 -- the low end that the code chooses, at most 0
 pub low_end : (low end : ℤ) → unsigned_abs low ≤ 2 ^ 105 → end ≡ int_min (held low) (pos 0) → held end ≡ int_min low (pos 0)
@@ -409,41 +439,24 @@ module _ (paths least most unit : ℕ) (product : Ends) (paths_seen reach most_s
   divisor_seen : most_seen * least_seen * unit ≡ most * least * unit
   divisor_seen = ap₂ (λ (x y : ℕ). x * y * unit) is_most is_least
 
-  -- the divisor of the part that is nothing isn't 0
-  over : 0 < least * least * unit
-  over = positive_product (least * least) unit (positive_product least least some some) (omega (arith, large))
-
-  -- no conductance is beyond that of the least resistance
-  nothing_down : (z : ℤ) → floor_div (pos (paths * 1000000 * (least - least)) *ℤ z) (pos (least * least * unit)) ≡ pos 0
-  nothing_down z =
-      ap (λ (n : ℕ). floor_div (pos n *ℤ z) (pos (least * least * unit))) (no_factor paths least)
-      ∙ ap (λ (x : ℤ). floor_div x (pos (least * least * unit))) (zero_times z) ∙ zero_over (least * least * unit) over
-
-  -- rounded up either
-  nothing_up : (z : ℤ) → ceil_div (pos (paths * 1000000 * (least - least)) *ℤ z) (pos (least * least * unit)) ≡ pos 0
-  nothing_up z =
-      ap (λ (n : ℕ). ceil_div (pos n *ℤ z) (pos (least * least * unit))) (no_factor paths least)
-      ∙ ap (λ (x : ℤ). ceil_div x (pos (least * least * unit))) (zero_times z)
-      ∙ ap (λ (x : ℤ). neg_ℤ x) (zero_over (least * least * unit) over)
-
   -- so the low end is that of the definition
-  pub stray_low : (low end : ℤ) → unsigned_abs low ≤ 2 ^ 105 →
+  pub stray_low_at_least : (low end : ℤ) → unsigned_abs low ≤ 2 ^ 105 →
       low ≡ floor_div (pos (paths_seen * 1000000 * reach) *ℤ held (pos 0 -ℤ held product.high)) (pos (most_seen * least_seen * unit)) →
       end ≡ int_min (held low) (pos 0) → held end ≡ (stray_ends (record { least = least; most = most }) paths least unit product).low
-  stray_low low end within is is_end =
+  stray_low_at_least low end within is is_end =
       let same : low ≡ floor_div (neg_ℤ (pos (paths * 1000000 * (most - least)) *ℤ product.high)) (pos (most * least * unit)) =
       is
       ∙ ap (λ (z : ℤ). floor_div (pos (paths_seen * 1000000 * reach) *ℤ z) (pos (most_seen * least_seen * unit)))
       (turned_is product.high (omega (arith, small.high)))
       ∙ ap (λ (z : ℤ). floor_div z (pos (most_seen * least_seen * unit))) (*ℤ-neg_ℤ (pos (paths_seen * 1000000 * reach)) product.high)
       ∙ ap₂ (λ (m n : ℕ). floor_div (neg_ℤ (pos m *ℤ product.high)) (pos n)) factor_seen divisor_seen in
-      low_end low end within is_end ∙ ap₂ (λ (x y : ℤ). int_min x y) same (sym (nothing_down product.low))
+      low_end low end within is_end ∙ ap₂ (λ (x y : ℤ). int_min x y) same (sym (nothing_down paths least unit some large product.low))
 
   -- and the high end
-  pub stray_high : (high end : ℤ) → unsigned_abs high ≤ 2 ^ 105 →
+  pub stray_high_at_least : (high end : ℤ) → unsigned_abs high ≤ 2 ^ 105 →
       high ≡ floor_div (pos (paths_seen * 1000000 * reach) *ℤ held product.low) (pos (most_seen * least_seen * unit)) →
       end ≡ int_max (held (pos 0 -ℤ held high)) (pos 0) → held end ≡ (stray_ends (record { least = least; most = most }) paths least unit product).high
-  stray_high high end within is is_end =
+  stray_high_at_least high end within is is_end =
       let same : high ≡ floor_div (pos (paths * 1000000 * (most - least)) *ℤ product.low) (pos (most * least * unit)) =
       is
       ∙ ap (λ (z : ℤ). floor_div (pos (paths_seen * 1000000 * reach) *ℤ z) (pos (most_seen * least_seen * unit)))
@@ -452,4 +465,53 @@ module _ (paths least most unit : ℕ) (product : Ends) (paths_seen reach most_s
       let turned : neg_ℤ high ≡ ceil_div (neg_ℤ (pos (paths * 1000000 * (most - least)) *ℤ product.low)) (pos (most * least * unit)) =
       ap (λ (z : ℤ). neg_ℤ z)
       (same ∙ ap (λ (z : ℤ). floor_div z (pos (most * least * unit))) (sym (neg-neg (pos (paths * 1000000 * (most - least)) *ℤ product.low)))) in
-      high_end high end within is_end ∙ ap₂ (λ (x y : ℤ). int_max x y) turned (sym (nothing_up product.high))
+      high_end high end within is_end ∙ ap₂ (λ (x y : ℤ). int_max x y) turned (sym (nothing_up paths least unit some large product.high))
+
+-- which of two numbers comes first doesn't matter to the lesser of them
+min_either : (a b : ℤ) → int_min a b ≡ int_min b a
+min_either a b = omega (arith, ints, clamps)
+
+-- nor to the greater
+max_either : (a b : ℤ) → int_max a b ≡ int_max b a
+max_either a b = omega (arith, ints, clamps)
+
+-- the stray power of a ground with its greatest resistance
+module _ (paths least most unit : ℕ) (product : Ends) (paths_seen reach least_seen most_seen : ℕ) (some : 0 < most) (large : 2 ^ 22 ≤ unit)
+    (small : IsWithin (5 * 2 ^ 113) product.low product.high)
+    (is_paths : paths_seen ≡ paths) (is_reach : reach ≡ most - least) (is_least : least_seen ≡ least) (is_most : most_seen ≡ most) where
+  -- the factor, as the code computes it
+  factor_at_most : paths_seen * 1000000 * reach ≡ paths * 1000000 * (most - least)
+  factor_at_most = ap₂ (λ (x y : ℕ). x * 1000000 * y) is_paths is_reach
+
+  -- the divisor times the unit
+  divisor_at_most : least_seen * most_seen * unit ≡ least * most * unit
+  divisor_at_most = ap₂ (λ (x y : ℕ). x * y * unit) is_least is_most
+
+  -- the low end is that of the definition
+  pub stray_low_at_most : (low end : ℤ) → unsigned_abs low ≤ 2 ^ 105 →
+      low ≡ floor_div (pos (paths_seen * 1000000 * reach) *ℤ held product.low) (pos (least_seen * most_seen * unit)) →
+      end ≡ int_min (held low) (pos 0) → held end ≡ (stray_ends (record { least = least; most = most }) paths most unit product).low
+  stray_low_at_most low end within is is_end =
+      let same : low ≡ floor_div (pos (paths * 1000000 * (most - least)) *ℤ product.low) (pos (least * most * unit)) =
+      is
+      ∙ ap (λ (z : ℤ). floor_div (pos (paths_seen * 1000000 * reach) *ℤ z) (pos (least_seen * most_seen * unit)))
+      (held_is product.low (omega (arith, small.low)))
+      ∙ ap₂ (λ (m n : ℕ). floor_div (pos m *ℤ product.low) (pos n)) factor_at_most divisor_at_most in
+      low_end low end within is_end ∙ min_either low (pos 0)
+      ∙ ap₂ (λ (x y : ℤ). int_min x y) (sym (turned_down paths most unit some large product.high)) same
+
+  -- and the high end
+  pub stray_high_at_most : (high end : ℤ) → unsigned_abs high ≤ 2 ^ 105 →
+      high ≡ floor_div (pos (paths_seen * 1000000 * reach) *ℤ held (pos 0 -ℤ held product.high)) (pos (least_seen * most_seen * unit)) →
+      end ≡ int_max (held (pos 0 -ℤ held high)) (pos 0) → held end ≡ (stray_ends (record { least = least; most = most }) paths most unit product).high
+  stray_high_at_most high end within is is_end =
+      let same : high ≡ floor_div (neg_ℤ (pos (paths * 1000000 * (most - least)) *ℤ product.high)) (pos (least * most * unit)) =
+      is
+      ∙ ap (λ (z : ℤ). floor_div (pos (paths_seen * 1000000 * reach) *ℤ z) (pos (least_seen * most_seen * unit)))
+      (turned_is product.high (omega (arith, small.high)))
+      ∙ ap (λ (z : ℤ). floor_div z (pos (least_seen * most_seen * unit))) (*ℤ-neg_ℤ (pos (paths_seen * 1000000 * reach)) product.high)
+      ∙ ap₂ (λ (m n : ℕ). floor_div (neg_ℤ (pos m *ℤ product.high)) (pos n)) factor_at_most divisor_at_most in
+      let turned : neg_ℤ high ≡ ceil_div (pos (paths * 1000000 * (most - least)) *ℤ product.high) (pos (least * most * unit)) =
+      ap (λ (z : ℤ). neg_ℤ z) same in
+      high_end high end within is_end ∙ max_either (neg_ℤ high) (pos 0)
+      ∙ ap₂ (λ (x y : ℤ). int_max x y) (sym (turned_up paths most unit some large product.low)) turned

@@ -21,6 +21,7 @@ use Rattle.gic_net.specs.Net.{element_of, no_element}
 use Rattle.gic_varied.proofs.Regrounded.{placed_with, filter-map, sum_of-map, standing_with}
 use Rattle.gic_varied.specs.Enclosure.{stray_at, stray_ends, varied_ends, product_ends}
 use Rattle.gic_varied.specs.Certified.{product_at}
+use Rattle.gic_varied.specs.Corners.{Corner, corner_ohm}
 use Rattle.gic_varied.specs.Grounds.{is_ground, regrounded, grounds_among}
 use Rattle.gic_varied.specs.Lifts.{with_least, with_most}
 use Rattle.gic_varied.specs.Ranges.{Range, Ranges}
@@ -63,13 +64,13 @@ pub no_stray_left : (f : ℕ → ℤ) (stands : Item → Bool) (list : List Elem
 no_stray_left f stands list place past = at_drop_all
     (λ l. sum_of (λ p. f p.0) (grounds_among (filter (λ p. stands p.1.item) (enumerate_from place l)))) list place past
 
--- a ground with its resistances in the two networks has its range there
-ranged : (end : Ends → ℤ) (unit : ℕ) (products : Placed → Ends) (ground : Bool) → ground ≡ true →
+-- a ground with its resistances in the two networks has its range there, and of that the end at which it is
+ranged : (end : Ends → ℤ) (unit : ℕ) (products : Placed → Ends) (ground marked : Bool) → ground ≡ true →
     (range : Range) (place ohm : ℕ) (e : Element) →
-    end (stray_ends (record { least = cond ground range.least ohm; most = cond ground range.most ohm }) e.times (cond ground range.least ohm) unit (products (place, e)))
-    ≡ end (stray_ends range e.times range.least unit (products (place, e)))
-ranged end unit products true is range place ohm e = refl
-ranged end unit products false is range place ohm e = absurd (no_way is)
+    end (stray_ends (record { least = cond ground range.least ohm; most = cond ground range.most ohm }) e.times (cond marked (cond ground range.most ohm) (cond ground range.least ohm)) unit (products (place, e)))
+    ≡ end (stray_ends range e.times (cond marked range.most range.least) unit (products (place, e)))
+ranged end unit products true marked is range place ohm e = refl
+ranged end unit products false marked is range place ohm e = absurd (no_way is)
   where
     no_way : false ≡ true → ⊥
     no_way q = cc
@@ -101,15 +102,15 @@ chosen true false ends end none = none
 chosen false stand ends end none = none
 
 -- the interval that is made at a place, from those at its node
-pub stray_is : (least most : Network) (unit : ℕ) (adjoint : List Ends) (varied : VariedPotentials) (place : ℕ) (e m : Element)
-    (a r l h p s : Interval) (v : VariedEnds) →
-    e ≡ element_of least place → m ≡ element_of most place →
+pub stray_is : (least most : Network) (corner : Corner) (unit : ℕ) (adjoint : List Ends) (varied : VariedPotentials) (place : ℕ)
+    (e m : Element) (marked : Bool) (a r l h p s : Interval) (v : VariedEnds) →
+    e ≡ element_of least place → m ≡ element_of most place → marked ≡ corner e.from.0 →
     ends_of a ≡ potential_ends adjoint e.from.0 → ends_of r ≡ potential_ends varied.reference e.from.0 →
     ends_of l ≡ potential_ends varied.lowering e.from.0 → ends_of h ≡ potential_ends varied.raising e.from.0 →
     ends_seen v ≡ varied_ends (ends_of r) (ends_of l) (ends_of h) → ends_of p ≡ product_ends (ends_of a) (ends_seen v) →
-    ends_of s ≡ stray_ends (record { least = e.micro_ohm; most = m.micro_ohm }) e.times e.micro_ohm unit (ends_of p) →
-    ends_of s ≡ stray_power_at least most unit adjoint varied place
-stray_is least most unit adjoint varied place e m a r l h p s v is_e is_m is_a is_r is_l is_h is_v is_p is_s =
+    ends_of s ≡ stray_ends (record { least = e.micro_ohm; most = m.micro_ohm }) e.times (cond marked m.micro_ohm e.micro_ohm) unit (ends_of p) →
+    ends_of s ≡ stray_power_at least most corner unit adjoint varied place
+stray_is least most corner unit adjoint varied place e m marked a r l h p s v is_e is_m is_marked is_a is_r is_l is_h is_v is_p is_s =
     let ends = intervals_of adjoint varied zero_ends in
     let k = e.from.0 in
     let moved : varied_ends (ends_of r) (ends_of l) (ends_of h) ≡ varied_ends (potential_ends varied.reference k)
@@ -119,19 +120,19 @@ stray_is least most unit adjoint varied place e m a r l h p s v is_e is_m is_a i
     ∙ ap (λ (x : Ends). varied_ends (potential_ends varied.reference k) (potential_ends varied.lowering k) x) is_h in
     let product : ends_of p ≡ product_at ends (place, e) = is_p ∙ ap₂ (λ (x y : Ends). product_ends x y) is_a (is_v ∙ moved) in
     is_s
-    ∙ ap (stray_ends (record { least = e.micro_ohm; most = m.micro_ohm }) e.times e.micro_ohm unit) product
-    ∙ ap (λ (x : Element). stray_ends (record { least = e.micro_ohm; most = x.micro_ohm }) e.times e.micro_ohm unit (product_at ends (place, e))) is_m
-    ∙ ap (λ (x : Element). stray_ends (record { least = x.micro_ohm; most = (element_of most place).micro_ohm }) x.times x.micro_ohm unit (product_at ends (place, x))) is_e
+    ∙ ap₂ (λ (b : Bool) (x : Ends). stray_ends (record { least = e.micro_ohm; most = m.micro_ohm }) e.times (cond b m.micro_ohm e.micro_ohm) unit x) is_marked product
+    ∙ ap (λ (x : Element). stray_ends (record { least = e.micro_ohm; most = x.micro_ohm }) e.times (cond (corner k) x.micro_ohm e.micro_ohm) unit (product_at ends (place, e))) is_m
+    ∙ ap (λ (x : Element). stray_ends (record { least = x.micro_ohm; most = (element_of most place).micro_ohm }) x.times (cond (corner x.from.0) (element_of most place).micro_ohm x.micro_ohm) unit (product_at ends (place, x))) is_e
 
-module _ (network : Network) (stands : Item → Bool) (ranges : Ranges) (unit : ℕ) (adjoint : List Ends) (varied : VariedPotentials)
-    (own : Ends) (end : Ends → ℤ) where
+module _ (network : Network) (stands : Item → Bool) (ranges : Ranges) (corner : Corner) (unit : ℕ) (adjoint : List Ends)
+    (varied : VariedPotentials) (own : Ends) (end : Ends → ℤ) where
   -- the stray power of a ground of the network
   abbrev of_ground : Placed → ℤ
-  of_ground p = end (stray_at ranges (λ e. (ranges e).least) unit (product_at (intervals_of adjoint varied own)) p)
+  of_ground p = end (stray_at ranges (corner_ohm ranges corner) unit (product_at (intervals_of adjoint varied own)) p)
 
   -- that at a place of the two networks
   abbrev at_place : (least most : Network) → ℕ → ℤ
-  at_place least most place = end (stray_power_at least most unit adjoint varied place)
+  at_place least most place = end (stray_power_at least most corner unit adjoint varied place)
 
   -- both are the same for each ground of the network
   same_at : (p : Placed) → is_ground p.1 ≡ true → IsIn network.list p →
@@ -140,9 +141,9 @@ module _ (network : Network) (stands : Item → Bool) (ranges : Ranges) (unit : 
       let least = element_with (λ x. (ranges x).least) network p.0 in_list.0 ∙ ap (regrounded (λ x. (ranges x).least)) (sym in_list.1) in
       let most = element_with (λ x. (ranges x).most) network p.0 in_list.0 ∙ ap (regrounded (λ x. (ranges x).most)) (sym in_list.1) in
       let products = product_at (intervals_of adjoint varied own) in
-      ap (λ (x : Element). end (stray_ends (record { least = x.micro_ohm; most = (element_of (with_most ranges network) p.0).micro_ohm }) x.times x.micro_ohm unit (products (p.0, x)))) least
-      ∙ ap (λ (x : Element). end (stray_ends (record { least = (regrounded (λ y. (ranges y).least) p.1).micro_ohm; most = x.micro_ohm }) p.1.times (regrounded (λ y. (ranges y).least) p.1).micro_ohm unit (products p))) most
-      ∙ ranged end unit products (is_ground p.1) ground (ranges p.1) p.0 p.1.micro_ohm p.1
+      ap (λ (x : Element). end (stray_ends (record { least = x.micro_ohm; most = (element_of (with_most ranges network) p.0).micro_ohm }) x.times (cond (corner x.from.0) (element_of (with_most ranges network) p.0).micro_ohm x.micro_ohm) unit (products (p.0, x)))) least
+      ∙ ap (λ (x : Element). end (stray_ends (record { least = (regrounded (λ y. (ranges y).least) p.1).micro_ohm; most = x.micro_ohm }) p.1.times (cond (corner p.1.from.0) x.micro_ohm (regrounded (λ y. (ranges y).least) p.1).micro_ohm) unit (products p))) most
+      ∙ ranged end unit products (is_ground p.1) (corner p.1.from.0) ground (ranges p.1) p.0 p.1.micro_ohm p.1
 
   -- the sum over the standing grounds of the one network is that of the definition
   pub strays_are : (least most : Network) (standing : List Placed) → least ≡ with_least ranges network → most ≡ with_most ranges network →

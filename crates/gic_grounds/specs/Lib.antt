@@ -4,6 +4,7 @@ pub mod NodeEnds
 pub mod Unit
 pub mod Modest
 pub mod Nets
+pub mod Corner
 pub mod Lifting
 pub mod VariedEnds
 pub mod Varying

@@ -10,10 +10,11 @@ use Rattle.gic_model.specs.declared.parts.Item.{Item}
 use Rattle.gic_model.specs.Guess.{most_guess}
 use Rattle.gic_model.specs.Network.{Network}
 use Rattle.gic_model.specs.Standing.{standing_elements}
-use Rattle.gic_net.specs.Net.{standing}
+use Rattle.gic_net.specs.Net.{NetView, standing}
 use Rattle.gic_uniform.specs.declared.solve_workspace.SolveWorkspace.{SolveWorkspace}
 use Rattle.gic_uniform.specs.Ready.{IsSolveWorkspaceFor}
 use Rattle.gic_varied.specs.Certified.{AreLiftVolts, in_units}
+use Rattle.gic_varied.specs.Corners.{Corner}
 use Rattle.gic_varied.specs.Ranges.{Ranges}
 use Rattle.gic_grounds.specs.declared.side.Side.{Side}
 use Rattle.gic_grounds.specs.declared.side.Side.TheVariants.{Lowering, Raising}
@@ -26,44 +27,50 @@ use Rattle.gic_grounds.specs.NodeEnds.{AreAllWithin}
 use Rattle.gic_grounds.specs.OwnCurrent.{IsOwnCurrent}
 use Rattle.gic_grounds.specs.Varying.{AreVariedOf, AreVariedWithin}
 
--- both nets have these many nodes and elements, there is space to solve them, and the workspace has a bound vector of both
-pub record CanSolve (nodes count : ℕ) (nets : GroundNets) (solving : SolveWorkspace) : Type 0 where
-  pub least_nodes : nets.least.network.nodes ≡ nodes
-  pub most_nodes : nets.most.network.nodes ≡ nodes
-  pub least_count : length nets.least.network.list ≡ count
-  pub most_count : length nets.most.network.list ≡ count
+-- the net has these many nodes and elements, there is space to solve it, and the workspace has a bound vector of it
+pub record CanSolve (nodes count : ℕ) (net : NetView) (solving : SolveWorkspace) : Type 0 where
+  pub node_count : net.network.nodes ≡ nodes
+  pub element_count : length net.network.list ≡ count
   pub has_space : IsSolveWorkspaceFor nodes solving
-  pub bound_least : IsBoundWithin (standing nets.least) MOST_WALK (slice_index solving.vector)
-  pub bound_most : IsBoundWithin (standing nets.most) MOST_WALK (slice_index solving.vector)
+  pub bound : IsBoundWithin (standing net) MOST_WALK (slice_index solving.vector)
+
+-- so it is of the nets with the least and with the greatest grounds
+pub record CanSolveBoth (nodes count : ℕ) (nets : GroundNets) (solving : SolveWorkspace) : Type 0 where
+  pub least : CanSolve nodes count nets.least solving
+  pub most : CanSolve nodes count nets.most solving
+
+-- a net that could be solved still can
+abbrev pub StillSolves : (nodes count : ℕ) → (before after : SolveWorkspace) → Type 0
+StillSolves nodes count before after = (net : NetView) → CanSolve nodes count net before → CanSolve nodes count net after
 
 -- there is space for so many nodes and transformers
 pub record HasReferenceSpace (nodes transformers : ℕ) (reference : Reference) : Type 0 where
   pub own_count : length reference.own ≡ transformers
   pub varied_count : AreVariedOf nodes reference.potentials
 
--- the reference's potentials, in grains, are tight and hold those of every solution for these voltages, and so do the transformers' currents
-pub record IsSolvedReference (case : Lists) (nets : GroundNets) (volts : ℕ → ℤ) (reference : Reference) : Type 0 where
-  pub certain : AreCertain (standing nets.least) volts reference.potentials.reference
+-- the potentials of a reference that is solved in this net, in grains, are tight and hold those of every solution for these voltages, and so do the transformers' currents
+pub record IsSolvedReference (case : Lists) (net : NetView) (volts : ℕ → ℤ) (reference : Reference) : Type 0 where
+  pub certain : AreCertain (standing net) volts reference.potentials.reference
   pub tight : AreTight reference.potentials.reference
   pub within : AreAllWithin most_guess reference.potentials.reference
   pub own : (t : ℕ) → t < length reference.own →
-      IsOwnCurrent case (standing nets.least) volts reference.potentials.reference t (potential_ends reference.own t)
+      IsOwnCurrent case (standing net) volts reference.potentials.reference t (potential_ends reference.own t)
   pub own_within : AreAllWithin (2 ^ 80) reference.own
 
--- the intervals are those of a lift over the potentials of a reference: its voltages are those at the grounds, in the net with the grounds at their greatest
-pub record AreLifted (nets : GroundNets) (side : Side) (reference lift : List Ends) : Type 0 where
+-- the intervals are those of a lift over the potentials of a reference at this corner: its voltages are those at the grounds, in the net with the grounds at their greatest
+pub record AreLifted (nets : GroundNets) (corner : Corner) (side : Side) (reference lift : List Ends) : Type 0 where
   pub volts : ℕ → ℤ
   pub grains : List Ends
   pub lifts : (network : Network) (stands : Item → Bool) (ranges : Ranges) → AreExtremesOf network stands ranges nets →
-      AreLiftVolts (standing_elements network stands) ranges (height_at side reference) volts
+      AreLiftVolts (standing_elements network stands) ranges (height_at corner side reference) volts
   pub certain : AreCertain (standing nets.most) volts grains
   pub tight : AreTight grains
   pub rounded : lift ≡ map (in_units 1) grains
 
 -- so are both
-pub record AreBothLifted (nets : GroundNets) (potentials : VariedPotentials) : Type 0 where
-  pub lowered : AreLifted nets Lowering potentials.reference potentials.lowering
-  pub raised : AreLifted nets Raising potentials.reference potentials.raising
+pub record AreBothLifted (nets : GroundNets) (corner : Corner) (potentials : VariedPotentials) : Type 0 where
+  pub lowered : AreLifted nets corner Lowering potentials.reference potentials.lowering
+  pub raised : AreLifted nets corner Raising potentials.reference potentials.raising
   pub within : AreVariedWithin potentials
 
 -- there is space for the voltages and the adjoint potentials of a network of so many nodes and elements

@@ -1,19 +1,20 @@
 -- The voltages of lifts.
-use Rattle.std.specs.Prelude.{ℕ, List, ℤ, pos, neg_ℤ, if◌then◌else◌}
-use Rattle.gic_enclose.specs.Ends.{low_at, high_at}
+use Rattle.std.specs.Prelude.{ℕ, List, ℤ, pos, if◌then◌else◌}
+use Rattle.gic_enclose.specs.Ends.{potential_ends}
 use Rattle.gic_fixed.specs.Ends.{Ends}
 use Rattle.gic_model.specs.Network.{Network}
 use Rattle.gic_net.specs.Net.{element_of}
+use Rattle.gic_varied.specs.Corners.{Corner, raising_height, lowering_height}
 use Rattle.gic_varied.specs.Enclosure.{lift_volt}
 use Rattle.gic_varied.specs.Grounds.{is_ground}
 use Rattle.gic_varied.specs.Ranges.{Range}
 use Rattle.gic_grounds.specs.declared.side.Side.{Side}
 use Rattle.gic_grounds.specs.declared.side.Side.TheVariants.{Lowering, Raising}
 
--- how far above 0 the potential of a node may be, or below 0, where its lift lowers
-abbrev pub height_at : Side → List Ends → ℕ → ℤ
-height_at Lowering reference k = neg_ℤ (low_at reference k)
-height_at Raising reference k = high_at reference k
+-- over which height a lift is made at the grounds of a node, where the reference's are at this corner
+abbrev pub height_at : Corner → Side → List Ends → ℕ → ℤ
+height_at corner Lowering reference k = lowering_height corner (potential_ends reference) k
+height_at corner Raising reference k = raising_height corner (potential_ends reference) k
 
 -- the resistances of an element in two networks
 abbrev pub range_at : (least most : Network) → (place : ℕ) → Range

@@ -2,8 +2,9 @@
 use Rattle.std.specs.Prelude.{ℕ, ◌≤◌, List}
 use Rattle.gic_case.specs.Lists.{Lists}
 use Rattle.gic_model.specs.declared.parts.Switching.{Switching}
-use Rattle.gic_model.specs.Standing.{stands_after}
+use Rattle.gic_model.specs.Standing.{standing_elements, stands_after}
 use Rattle.gic_model.specs.Sums.{Placed}
+use Rattle.gic_varied.specs.Corners.{Corner, with_corner}
 use Rattle.gic_varied.specs.Ranges.{Ranges}
 use Rattle.gic_winding.specs.ElementList.{elements_of}
 use Rattle.gic_winding.specs.InForce.{standing_in}
@@ -35,6 +36,10 @@ least_in v = least_standing v.case v.percent v.rows
 
 abbrev pub most_in : Tolerated → List Placed
 most_in v = most_standing v.case v.percent v.rows
+
+-- and at a corner of its ranges
+abbrev pub corner_in : Tolerated → Corner → List Placed
+corner_in v corner = standing_elements (with_corner (ranges_in v) corner (elements_of v.case)) (stands_after v.rows)
 
 -- the nets are those of the case with its grounds at the ends of their ranges; the tolerance that is asked for is at most 90 per cent
 pub record AreNetsOf (v : Tolerated) (nets : GroundNets) : Type 0 where

@@ -5,6 +5,7 @@ use Rattle.gic_fixed.specs.Ends.{Ends, zero_ends}
 use Rattle.gic_model.specs.Network.{Network}
 use Rattle.gic_net.specs.Net.{NetView, element_of, stands}
 use Rattle.gic_varied.specs.Certified.{Intervals, product_at}
+use Rattle.gic_varied.specs.Corners.{Corner}
 use Rattle.gic_varied.specs.Enclosure.{stray_ends}
 use Rattle.gic_varied.specs.Grounds.{is_ground}
 use Rattle.gic_grounds.specs.declared.varied.VariedPotentials.{VariedPotentials}
@@ -34,15 +35,15 @@ pub record AreVariedWithin (varied : VariedPotentials) : Type 0 where
   pub lowering_within : AreAllWithin (2 ^ 60) varied.lowering
   pub raising_within : AreAllWithin (2 ^ 60) varied.raising
 
--- the stray power of the element at a place in units, with its resistances in two networks
-abbrev pub stray_power_at : (least most : Network) → (unit : ℕ) → (adjoint : List Ends) → VariedPotentials → (place : ℕ) → Ends
-stray_power_at least most unit adjoint varied place =
+-- the stray power of the element at a place in units, with its resistances in two networks, one of which it has in the reference by its corner
+abbrev pub stray_power_at : (least most : Network) → Corner → (unit : ℕ) → (adjoint : List Ends) → VariedPotentials → (place : ℕ) → Ends
+stray_power_at least most corner unit adjoint varied place =
     let e = element_of least place in
     let range = range_at least most place in
-    stray_ends range e.times range.least unit (product_at (intervals_of adjoint varied zero_ends) (place, e))
+    stray_ends range e.times (if corner e.from.0 then range.most else range.least) unit (product_at (intervals_of adjoint varied zero_ends) (place, e))
 
 -- that of a ground that stands, and 0 of every other element
-abbrev pub standing_stray_at : (least : NetView) → (most : Network) → (unit : ℕ) → (adjoint : List Ends) → VariedPotentials → (place : ℕ) → Ends
-standing_stray_at least most unit adjoint varied place =
+abbrev pub standing_stray_at : (least : NetView) → (most : Network) → Corner → (unit : ℕ) → (adjoint : List Ends) → VariedPotentials → (place : ℕ) → Ends
+standing_stray_at least most corner unit adjoint varied place =
     let e = element_of least.network place in
-    if is_ground e then (if stands least e.item then stray_power_at least.network most unit adjoint varied place else zero_ends) else zero_ends
+    if is_ground e then (if stands least e.item then stray_power_at least.network most corner unit adjoint varied place else zero_ends) else zero_ends

@@ -4,11 +4,13 @@ ghost use Rattle.gic_enclose.specs.Ends.{potential_ends};
 ghost use Rattle.gic_fixed.specs.Encloses.{IsWithin};
 ghost use Rattle.gic_fixed.specs.Ends.{ends_of};
 ghost use Rattle.gic_varied.specs.Certified.{Units, certified_enclosure};
+ghost use Rattle.gic_grounds.specs.Corner.{is_most_at};
 ghost use Rattle.gic_grounds.specs.Lifted.{CanEnclose};
 ghost use Rattle.gic_grounds.specs.Tolerated.{Tolerated, AreNetsOf, own_in, ranges_in};
 ghost use Rattle.gic_grounds.specs.VariedCurrent.{most_told, cut_current, milli_cut};
 ghost use Rattle.gic_grounds.specs.Varying.{intervals_of};
 
+use crate::corner::Corner;
 use crate::nets::GroundNets;
 use crate::node_intervals::NodeIntervals;
 use crate::reference::Reference;
@@ -35,10 +37,11 @@ fn cut_both(interval: Interval) -> Interval
     Interval::new(cut(interval.lo), cut(interval.hi))
 }
 
-/// The current of a transformer in milliamperes per phase, from its own in a reference and the stray powers of all grounds,
-/// so many of which make a nanoampere.
+/// The current of a transformer in milliamperes per phase, from its own in a reference at a corner and the stray powers of all
+/// grounds, so many of which make a nanoampere.
 pub(crate) fn varied_current(
     nets: &GroundNets,
+    corner: &Corner,
     unit: u64,
     adjoint: &NodeIntervals,
     reference: &Reference,
@@ -47,11 +50,11 @@ pub(crate) fn varied_current(
     requires space { CanEnclose nets.now adjoint.now reference.now transformer }
     requires unit { 2 ^ 22 ≤ unit }
     ensures enclosure { (v : Tolerated) (units : Units) → AreNetsOf v nets.now → units.stray ≡ unit →
-        ends_of result ≡ milli_cut (certified_enclosure (own_in v) (ranges_in v) units
+        ends_of result ≡ milli_cut (certified_enclosure (own_in v) (ranges_in v) (is_most_at corner.now) units
         (intervals_of adjoint.now reference.now.potentials (potential_ends reference.now.own transformer))) }
     ensures small { IsWithin most_told result.lo result.hi }
 {
     let own = reference.own.get(transformer);
-    let nano = enclosure(nets, unit, adjoint, &reference.potentials, own);
+    let nano = enclosure(nets, corner, unit, adjoint, &reference.potentials, own);
     cut_both(milli(nano))
 }

@@ -3,12 +3,12 @@ ghost use Rattle.std.specs.Prelude.{◌≡◌, ◌≤◌, ◌++◌, map, unwrap_
 ghost use Rattle.gic_case.specs.Sound.{IsSoundSubstation};
 ghost use Rattle.gic_inputs.specs.Inputs.{rows_in};
 ghost use Rattle.gic_model.specs.Standing.{standing_elements, stands_after};
-ghost use Rattle.gic_net.specs.Net.{standing};
+ghost use Rattle.gic_net.specs.Net.{standing, closed_net, net_after};
 ghost use Rattle.gic_varied.specs.Grounds.{regrounded};
 ghost use Rattle.gic_varied.specs.Ranges.{ground_range};
 ghost use Rattle.gic_winding.specs.ElementList.{elements_of};
 ghost use Rattle.gic_grounds.specs.Tolerances.{tolerance_in, tolerance_at, case_ranges};
-ghost use Rattle.gic_grounds.specs.Grounded.{extreme_of, extreme_network};
+ghost use Rattle.gic_grounds.specs.Grounded.{extreme_of, extreme_network, least_network};
 ghost use Rattle.gic_grounds.specs.Nets.{AreExtremesOf};
 
 use crate::extreme::Extreme;
@@ -138,7 +138,8 @@ pub fn ground_nets(
 ) -> Result<GroundNets, OutOfMemory>
     requires elements { elements.now ≡ elements_of case.now }
     requires percent { percent ≤ 90 }
-    ensures { IfOk result (AreExtremesOf (elements_of case.now) (stands_after (rows_in switchings.now)) (case_ranges case.now percent)) }
+    ensures extremes { IfOk result (AreExtremesOf (elements_of case.now) (stands_after (rows_in switchings.now)) (case_ranges case.now percent)) }
+    ensures least { IfOk result (λ nets. nets.least ≡ net_after (closed_net (least_network case.now percent)) (rows_in switchings.now)) }
 {
     elements.within_limits();
     case.keeps_rules();
@@ -148,7 +149,7 @@ pub fn ground_nets(
 }
 
 /// One of these nets.
-fn extreme_net(
+pub(crate) fn extreme_net(
     alloc: Global,
     case: &Case,
     percent: u8,
@@ -158,6 +159,7 @@ fn extreme_net(
 ) -> Result<Net, OutOfMemory>
     requires elements { elements.now ≡ elements_of case.now }
     requires percent { percent ≤ 90 }
+    ensures net { IfOk result (λ net. net ≡ net_after (closed_net (extreme_network extreme case.now percent)) (rows_in switchings.now)) }
     ensures network { IfOk result (λ net. net.network ≡ extreme_network extreme case.now percent) }
     ensures standing { IfOk result (λ net.
         standing net ≡ standing_elements (extreme_network extreme case.now percent) (stands_after (rows_in switchings.now))) }

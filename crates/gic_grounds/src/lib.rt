@@ -1,9 +1,13 @@
-//! A network twice, with its grounds at the least and at the greatest resistances of their ranges, and the interval that
-//! holds a weighted current whatever resistances of their ranges the grounds have.
+//! A network with its grounds at the least and at the greatest resistances of their ranges and at corners of these, and the
+//! interval that holds a weighted current whatever resistances of their ranges the grounds have.
 #![tactic(auto)]
 
 mod adjoint;
+mod at_corner;
+mod corner;
+mod corner_net;
 mod current;
+mod direction;
 mod effect;
 mod extreme;
 mod grounding;
@@ -22,6 +26,9 @@ mod varied_currents;
 mod weights;
 mod workspace;
 
+pub use at_corner::CornerWorkspace;
+pub use corner::Corner;
+pub use direction::Direction;
 pub use extreme::Extreme;
 pub use grounding::{ground_nets, grounds_at};
 pub use lift::fill_lifts;

@@ -1,12 +1,14 @@
-//! The reference in a field: the network with its grounds at their least resistances, and how far others move it.
+//! The reference in a field: the network with its grounds at a corner of their ranges, and how far others move it.
 ghost use Rattle.std.specs.Prelude.{ℕ, ◌≡◌, ◌^◌, length, IfOk};
 ghost use Rattle.gic_model.specs.Voltages.{number_at};
 ghost use Rattle.gic_winding.specs.ElementList.{elements_of};
 ghost use Rattle.gic_grounds.specs.declared.unit.TheConstants.{MOST_UNITS};
-ghost use Rattle.gic_grounds.specs.Lifted.{CanSolve, HasReferenceSpace, IsSolvedReference, AreLifted, AreBothLifted};
+ghost use Rattle.gic_grounds.specs.Corner.{is_most_at};
+ghost use Rattle.gic_grounds.specs.Lifted.{CanSolve, CanSolveBoth, StillSolves, HasReferenceSpace, IsSolvedReference, AreLifted, AreBothLifted};
 ghost use Rattle.gic_grounds.specs.NodeEnds.{AreAllWithin};
 ghost use Rattle.gic_grounds.specs.Varying.{AreVariedOf};
 
+use crate::corner::Corner;
 use crate::lift::fill_lifts;
 use crate::nets::GroundNets;
 use crate::node_intervals::NodeIntervals;
@@ -16,6 +18,7 @@ use crate::varied::VariedPotentials;
 use gic_base::OutOfMemory;
 use gic_case::Case;
 use gic_model::{Elements, Volts};
+use gic_net::Net;
 use gic_uniform::SolveWorkspace;
 use std::alloc::Global;
 
@@ -66,74 +69,77 @@ pub(crate) fn new_reference(
 pub(crate) fn solve_reference(
     case: &Case,
     elements: &Elements,
-    nets: &GroundNets,
+    net: &Net,
     volts: &Volts,
     solving: &mut SolveWorkspace,
     out: &mut Reference,
 )
     requires elements { elements.now ≡ elements_of case.now }
-    requires ready { CanSolve elements.now.nodes (length elements.now.list) nets.now solving.old }
+    requires ready { CanSolve elements.now.nodes (length elements.now.list) net.now solving.old }
     requires volts { length volts.now ≡ length elements.now.list }
     requires space { HasReferenceSpace elements.now.nodes (length case.now.transformers) out.old }
-    ensures solved { IsSolvedReference case.now nets.now (number_at volts.now) out.new }
+    ensures solved { IsSolvedReference case.now net.now (number_at volts.now) out.new }
     ensures space { HasReferenceSpace elements.now.nodes (length case.now.transformers) out.new }
-    ensures ready { CanSolve elements.now.nodes (length elements.now.list) nets.now solving.new }
+    ensures still { StillSolves elements.now.nodes (length elements.now.list) solving.old solving.new }
 {
-    solving.solve(&nets.least, volts, WIDTH);
+    solving.solve(net, volts, WIDTH);
     out.potentials.reference.keep(&solving.potentials);
     fill_own(
         case,
         elements.list(),
-        &nets.least,
+        net,
         volts,
         &solving.potentials,
         &mut out.own,
     );
 }
 
-/// Solves the lift to one side, over the potentials of a reference in units. Takes no memory.
+/// Solves the lift to one side, over the potentials of a reference at a corner, in units. Takes no memory.
 fn lift(
     nets: &GroundNets,
+    corner: &Corner,
     reference: &NodeIntervals,
     side: Side,
     volts: &mut Volts,
     solving: &mut SolveWorkspace,
     out: &mut NodeIntervals,
 )
-    requires ready { CanSolve (length reference.now) (length volts.old) nets.now solving.old }
+    requires ready { CanSolveBoth (length reference.now) (length volts.old) nets.now solving.old }
     requires units { AreAllWithin MOST_UNITS reference.now }
     requires space { length out.old ≡ length reference.now }
-    ensures lifted { AreLifted nets.now side reference.now out.new }
+    ensures lifted { AreLifted nets.now (is_most_at corner.now) side reference.now out.new }
     ensures within { AreAllWithin (2 ^ 60) out.new }
     ensures space { length out.new ≡ length reference.now }
     ensures volts { length volts.new ≡ length volts.old }
-    ensures ready { CanSolve (length reference.now) (length volts.old) nets.now solving.new }
+    ensures still { StillSolves (length reference.now) (length volts.old) solving.old solving.new }
 {
-    fill_lifts(nets, reference, side, volts);
+    fill_lifts(nets, corner, reference, side, volts);
     solving.solve(&nets.most, volts, WIDTH);
     out.keep(&solving.potentials);
     // A nanovolt of a lift stands for a unit of potentials.
     out.in_units(1);
 }
 
-/// Solves both lifts over the potentials of a reference in units. Takes no memory.
+/// Solves both lifts over the potentials of a reference at a corner, in units. Takes no memory.
 pub(crate) fn lift_both(
     nets: &GroundNets,
+    corner: &Corner,
     volts: &mut Volts,
     solving: &mut SolveWorkspace,
     out: &mut VariedPotentials,
 )
-    requires ready { CanSolve (length out.old.reference) (length volts.old) nets.now solving.old }
+    requires ready { CanSolveBoth (length out.old.reference) (length volts.old) nets.now solving.old }
     requires units { AreAllWithin MOST_UNITS out.old.reference }
     requires space { AreVariedOf (length out.old.reference) out.old }
-    ensures lifted { AreBothLifted nets.now out.new }
+    ensures lifted { AreBothLifted nets.now (is_most_at corner.now) out.new }
     ensures reference { out.new.reference ≡ out.old.reference }
     ensures space { AreVariedOf (length out.old.reference) out.new }
     ensures volts { length volts.new ≡ length volts.old }
-    ensures ready { CanSolve (length out.old.reference) (length volts.old) nets.now solving.new }
+    ensures still { StillSolves (length out.old.reference) (length volts.old) solving.old solving.new }
 {
     lift(
         nets,
+        corner,
         &out.reference,
         Side::Lowering,
         volts,
@@ -142,6 +148,7 @@ pub(crate) fn lift_both(
     );
     lift(
         nets,
+        corner,
         &out.reference,
         Side::Raising,
         volts,

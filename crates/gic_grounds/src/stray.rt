@@ -1,5 +1,5 @@
 //! The interval of the stray power at a ground.
-ghost use Rattle.std.specs.Prelude.{◌≡◌, ◌<◌, ◌≤◌, ◌*◌, ◌^◌, pos, ◌-ℤ◌, ◌+ℤ◌, ◌*ℤ◌, unsigned_abs};
+ghost use Rattle.std.specs.Prelude.{◌≡◌, ◌<◌, ◌≤◌, ◌*◌, ◌^◌, pos, ◌-ℤ◌, ◌+ℤ◌, ◌*ℤ◌, unsigned_abs, if◌then◌else◌};
 ghost use Rattle.gic_fixed.specs.Encloses.{IsWithin};
 ghost use Rattle.gic_fixed.specs.Ends.{ends_of};
 ghost use Rattle.gic_fixed.specs.Rounding.{floor_div};
@@ -63,7 +63,7 @@ fn quotient(factor: u64, number: i128, divisor: u64, unit: u64) -> i128
 
 /// The stray power of a ground of these resistances, which has the least of them in the reference, in units: of `d` times
 /// the product for each conductance `d` from that of the greatest resistance less that of the least, up to 0.
-pub(crate) fn stray(paths: u8, least: u32, most: u32, unit: u64, product: &Interval) -> Interval
+fn stray_at_least(paths: u8, least: u32, most: u32, unit: u64, product: &Interval) -> Interval
     requires paths { paths ≤ 3 }
     requires least_ohm { 1000 ≤ least }
     requires ordered { least ≤ most }
@@ -80,5 +80,52 @@ pub(crate) fn stray(paths: u8, least: u32, most: u32, unit: u64, product: &Inter
     Interval {
         lo: low.min(0),
         hi: high.max(0),
+    }
+}
+
+/// The same of a ground that has the greatest of them in the reference: of `d` times the product for each conductance `d` from
+/// 0 up to that of the least resistance less that of the greatest.
+fn stray_at_most(paths: u8, least: u32, most: u32, unit: u64, product: &Interval) -> Interval
+    requires paths { paths ≤ 3 }
+    requires least_ohm { 1000 ≤ least }
+    requires ordered { least ≤ most }
+    requires most_ohm { most ≤ 1000000000 }
+    requires unit { 2 ^ 22 ≤ unit }
+    requires product { IsWithin (5 * 2 ^ 113) product.now.lo product.now.hi }
+    ensures value { ends_of result ≡ stray_ends (record { least = least; most = most }) paths most unit (ends_of product.now) }
+    ensures small { IsWithin (2 ^ 105) result.lo result.hi }
+{
+    let factor = u64::from(paths) * 1_000_000 * u64::from(most - least);
+    let divisor = u64::from(least) * u64::from(most);
+    let low = quotient(factor, product.lo, divisor, unit);
+    let high = -quotient(factor, -product.hi, divisor, unit);
+    Interval {
+        lo: low.min(0),
+        hi: high.max(0),
+    }
+}
+
+/// The stray power of a ground of these resistances, which has the greatest of them in the reference or the least.
+pub(crate) fn stray(
+    paths: u8,
+    least: u32,
+    most: u32,
+    is_most: bool,
+    unit: u64,
+    product: &Interval,
+) -> Interval
+    requires paths { paths ≤ 3 }
+    requires least_ohm { 1000 ≤ least }
+    requires ordered { least ≤ most }
+    requires most_ohm { most ≤ 1000000000 }
+    requires unit { 2 ^ 22 ≤ unit }
+    requires product { IsWithin (5 * 2 ^ 113) product.now.lo product.now.hi }
+    ensures value { ends_of result ≡ stray_ends (record { least = least; most = most }) paths (if is_most then most else least) unit (ends_of product.now) }
+    ensures small { IsWithin (2 ^ 105) result.lo result.hi }
+{
+    if is_most {
+        stray_at_most(paths, least, most, unit, product)
+    } else {
+        stray_at_least(paths, least, most, unit, product)
     }
 }

@@ -8,13 +8,21 @@ ghost use Rattle.gic_model.specs.Voltages.{number_at};
 ghost use Rattle.gic_stand.specs.Needs.{Solved, Fails};
 ghost use Rattle.gic_winding.specs.ElementList.{elements_of};
 ghost use Rattle.gic_grounds.specs.Tolerated.{Tolerated, tolerated, AreNetsOf, own_in, most_in};
-ghost use Rattle.gic_grounds.specs.Varied.{IsVariedWorkspaceFor, IsReadyToVary, HasNoGroundVolts, AreReferred, HasReferences};
-ghost use Rattle.gic_grounds.specs.VariedCurrent.{AreVariedCurrents, AreCutCurrents};
+ghost use Rattle.gic_grounds.specs.Varied.{IsVariedWorkspaceFor, IsReadyToVary, HasNoGroundVolts, AreReferred, HasReferences, AreFieldVolts, AreOfOneCount, reference_to, IsReferredAtCorner, HasReferenceAtCorner};
+ghost use Rattle.gic_grounds.specs.VariedCurrent.{IsVariedCurrent, AreVariedCurrents, AreCutCurrents, IsAtCorner, IsCutAtCorner, IsInside, AreInside};
+ghost use Rattle.gic_grounds.specs.Corner.{is_most_at, is_most_for};
+ghost use Rattle.gic_enclose.specs.Ends.{potential_ends};
+ghost use Rattle.gic_fixed.specs.Ends.{Ends, ends_of};
 
 use crate::adjoint::adjoin;
+use crate::at_corner::{CornerWorkspace, common, make_corner_workspace};
+use crate::corner::{Corner, choose_corner};
+use crate::corner_net::go_to_corner;
 use crate::current::varied_current;
+use crate::direction::Direction;
 use crate::effect::has_effect;
-use crate::grounding::ground_nets;
+use crate::extreme::Extreme;
+use crate::grounding::{extreme_net, ground_nets};
 use crate::nets::GroundNets;
 use crate::node_intervals::NodeIntervals;
 use crate::reference::{Reference, lift_both, new_reference, solve_reference};
@@ -29,13 +37,14 @@ use gic_stand::NetworkRefusal;
 use gic_switch::Switchings;
 use gic_uniform::SolveWorkspace;
 use gic_varied::laws::{
-    certified_enclosure_law, other_grounds_law, reciprocity_law, varied_bound_law,
+    certified_enclosure_law, corner_law, other_grounds_law, reciprocity_law, varied_bound_law,
 };
 use std::alloc::Global;
 
 /// The nets of a case with its grounds at both ends of their ranges, and all that its transformers' currents are worked
 /// out in. First the network is looked at, then it is referred to the voltages of two fields, and then transformers are
-/// asked for, as often as is wanted. All memory is taken when it is made.
+/// asked for, as often as is wanted, and their intervals sharpened by references at corners of the ranges. All memory is taken
+/// when it is made.
 pub struct VariedWorkspace {
     pub(crate) elements: Elements,
     pub nets: GroundNets,
@@ -48,6 +57,10 @@ pub struct VariedWorkspace {
     pub(crate) unit: u32,
     pub(crate) north: Reference,
     pub(crate) east: Reference,
+    /// The corner of both: all grounds are at their least.
+    pub(crate) all_least: Corner,
+    /// For references at other corners.
+    pub(crate) at_corner: CornerWorkspace,
 }
 
 impl Drop for VariedWorkspace {
@@ -62,6 +75,8 @@ impl Drop for VariedWorkspace {
             unit: _unit,
             north: _north,
             east: _east,
+            all_least: _all_least,
+            at_corner: _at_corner,
         } = self;
     }
 }
@@ -87,6 +102,8 @@ pub fn make_varied_workspace(
     let north = new_reference(alloc, nodes, transformers)?;
     let east = new_reference(alloc, nodes, transformers)?;
     let solving = SolveWorkspace::new(alloc, nodes, nets.least.count())?;
+    let net = extreme_net(alloc, case, percent, &elements, switchings, Extreme::Least)?;
+    let at_corner = make_corner_workspace(alloc, net, nodes, transformers)?;
     Ok(VariedWorkspace {
         elements,
         nets,
@@ -96,6 +113,8 @@ pub fn make_varied_workspace(
         unit: 1,
         north,
         east,
+        all_least: Corner::all_least(alloc),
+        at_corner,
     })
 }
 
@@ -131,7 +150,7 @@ impl VariedWorkspace {
         solve_reference(
             case,
             &self.elements,
-            &self.nets,
+            &self.nets.least,
             north,
             &mut self.solving,
             &mut self.north,
@@ -139,7 +158,7 @@ impl VariedWorkspace {
         solve_reference(
             case,
             &self.elements,
-            &self.nets,
+            &self.nets.least,
             east,
             &mut self.solving,
             &mut self.east,
@@ -153,12 +172,14 @@ impl VariedWorkspace {
         self.east.potentials.reference.in_units(unit);
         lift_both(
             &self.nets,
+            &self.all_least,
             &mut self.volts,
             &mut self.solving,
             &mut self.north.potentials,
         );
         lift_both(
             &self.nets,
+            &self.all_least,
             &mut self.volts,
             &mut self.solving,
             &mut self.east.potentials,
@@ -209,7 +230,7 @@ impl VariedWorkspace {
         adjoin(
             case,
             &self.elements,
-            &self.nets,
+            &self.nets.least,
             transformer,
             self.unit,
             &mut self.volts,
@@ -218,8 +239,210 @@ impl VariedWorkspace {
         );
         let row = &case.transformers()[transformer as usize];
         let unit = stray_unit(row.high_volts, self.unit);
-        let north = varied_current(&self.nets, unit, &self.adjoint, &self.north, transformer);
-        let east = varied_current(&self.nets, unit, &self.adjoint, &self.east, transformer);
+        let north = varied_current(
+            &self.nets,
+            &self.all_least,
+            unit,
+            &self.adjoint,
+            &self.north,
+            transformer,
+        );
+        let east = varied_current(
+            &self.nets,
+            &self.all_least,
+            unit,
+            &self.adjoint,
+            &self.east,
+            transformer,
+        );
         VariedCurrents { north, east }
+    }
+    /// Leaves the corner where a transformer's current in the field of this direction is the least, or the greatest, as far as
+    /// the signs of the adjoint potentials of the last transformer tell.
+    fn choose(&mut self, direction: Direction, extreme: Extreme)
+        requires counts { AreOfOneCount self.old }
+        ensures each { (k : ℕ) → k < length self.old.adjoint → is_most_at self.new.at_corner.corner k ≡
+            is_most_for extreme (potential_ends self.old.adjoint k) (potential_ends (reference_to direction self.old) k) }
+        ensures count { length self.new.at_corner.corner ≡ length self.old.at_corner.corner }
+        ensures rest { self.new ≡ record self.old { at_corner = record self.old.at_corner { corner = self.new.at_corner.corner } } }
+    {
+        match direction {
+            Direction::North => choose_corner(
+                &self.adjoint,
+                &self.north.potentials.reference,
+                extreme,
+                &mut self.at_corner.corner,
+            ),
+            Direction::East => choose_corner(
+                &self.adjoint,
+                &self.east.potentials.reference,
+                extreme,
+                &mut self.at_corner.corner,
+            ),
+        }
+    }
+
+    /// Refers the network at the corner to the voltages of a field; the unit of the reference's potentials is answered, in
+    /// nanovolts. Takes no memory.
+    fn refer_at_corner(&mut self, case: &Case, field: &Volts) -> u32
+        requires ready { IsReadyToVary case.now self.old }
+        requires field { length field.now ≡ length (elements_of case.now).list }
+        ensures referred { HasNoGroundVolts case.now (number_at field.now) →
+            IsReferredAtCorner case.now self.old.nets (is_most_at self.old.at_corner.corner) (number_at field.now) result self.new.at_corner }
+        ensures reference { HasReferenceAtCorner result self.new.at_corner }
+        ensures same_corner { self.new.at_corner.corner ≡ self.old.at_corner.corner }
+        ensures ready { IsReadyToVary case.now self.new }
+        ensures rest { self.new ≡ record self.old { solving = self.new.solving; volts = self.new.volts; at_corner = self.new.at_corner } }
+    {
+        other_grounds_law();
+        corner_law();
+        self.elements.within_limits();
+        field.within_limit();
+        go_to_corner(&self.nets, &self.at_corner.corner, &mut self.at_corner.net);
+        solve_reference(
+            case,
+            &self.elements,
+            &self.at_corner.net,
+            field,
+            &mut self.solving,
+            &mut self.at_corner.reference,
+        );
+        let unit = potential_unit(
+            &self.at_corner.reference.potentials.reference,
+            &self.at_corner.reference.potentials.reference,
+        );
+        self.at_corner.reference.potentials.reference.in_units(unit);
+        lift_both(
+            &self.nets,
+            &self.at_corner.corner,
+            &mut self.volts,
+            &mut self.solving,
+            &mut self.at_corner.reference.potentials,
+        );
+        unit
+    }
+
+    /// The current of a transformer that has an effect, by a reference at the corner, in these voltages of a field. Takes no
+    /// memory.
+    fn enclose_at_corner(&mut self, case: &Case, field: &Volts, transformer: u16) -> Interval
+        requires ready { IsReadyToVary case.now self.old }
+        requires field { length field.now ≡ length (elements_of case.now).list }
+        requires place { transformer < length case.now.transformers }
+        ensures right { (rows : List Switching) (percent : ℕ) →
+            AreNetsOf (tolerated case.now rows percent) self.old.nets → HasNoGroundVolts case.now (number_at field.now) →
+            (HasNoEffect case.now (own_in (tolerated case.now rows percent)) transformer → ⊥) →
+            IsAtCorner (tolerated case.now rows percent) (is_most_at self.old.at_corner.corner) (number_at field.now) transformer (ends_of result) }
+        ensures ready { IsReadyToVary case.now self.new }
+        ensures rest { self.new ≡ record self.old { solving = self.new.solving; volts = self.new.volts; at_corner = self.new.at_corner } }
+    {
+        certified_enclosure_law();
+        reciprocity_law();
+        varied_bound_law();
+        other_grounds_law();
+        corner_law();
+        self.elements.within_limits();
+        let unit = self.refer_at_corner(case, field);
+        adjoin(
+            case,
+            &self.elements,
+            &self.at_corner.net,
+            transformer,
+            unit,
+            &mut self.volts,
+            &mut self.solving,
+            &mut self.at_corner.adjoint,
+        );
+        let row = &case.transformers()[transformer as usize];
+        let stray_unit = stray_unit(row.high_volts, unit);
+        varied_current(
+            &self.nets,
+            &self.at_corner.corner,
+            stray_unit,
+            &self.at_corner.adjoint,
+            &self.at_corner.reference,
+            transformer,
+        )
+    }
+
+    /// Cuts the interval of a transformer's current in the field of this direction to what it shares with that by a reference
+    /// at the corner where the current is the least, or the greatest, as far as can be told. Takes no memory.
+    fn cut_at_corner(
+        &mut self,
+        case: &Case,
+        field: &Volts,
+        direction: Direction,
+        extreme: Extreme,
+        transformer: u16,
+        before: Interval,
+    ) -> Interval
+        requires ready { IsReadyToVary case.now self.old }
+        requires field { length field.now ≡ length (elements_of case.now).list }
+        requires place { transformer < length case.now.transformers }
+        ensures right { (rows : List Switching) (percent : ℕ) →
+            AreNetsOf (tolerated case.now rows percent) self.old.nets → HasNoGroundVolts case.now (number_at field.now) →
+            (HasNoEffect case.now (own_in (tolerated case.now rows percent)) transformer → ⊥) →
+            IsCutAtCorner (tolerated case.now rows percent) (number_at field.now) transformer (ends_of before) (ends_of result) }
+        ensures inside { IsInside (ends_of before) (ends_of result) }
+        ensures ready { IsReadyToVary case.now self.new }
+        ensures rest { self.new ≡ record self.old { solving = self.new.solving; volts = self.new.volts; at_corner = self.new.at_corner } }
+    {
+        self.choose(direction, extreme);
+        let other = self.enclose_at_corner(case, field, transformer);
+        common(before, other)
+    }
+
+    /// The same at both corners, one behind the other.
+    fn cut_at_corners(
+        &mut self,
+        case: &Case,
+        field: &Volts,
+        direction: Direction,
+        transformer: u16,
+        before: Interval,
+    ) -> Interval
+        requires ready { IsReadyToVary case.now self.old }
+        requires field { length field.now ≡ length (elements_of case.now).list }
+        requires place { transformer < length case.now.transformers }
+        ensures right { (rows : List Switching) (percent unit : ℕ) (reference : List Ends) →
+            AreNetsOf (tolerated case.now rows percent) self.old.nets → HasNoGroundVolts case.now (number_at field.now) →
+            (HasNoEffect case.now (own_in (tolerated case.now rows percent)) transformer → ⊥) →
+            IsVariedCurrent (tolerated case.now rows percent) (number_at field.now) unit reference transformer (ends_of before) →
+            IsVariedCurrent (tolerated case.now rows percent) (number_at field.now) unit reference transformer (ends_of result) }
+        ensures inside { IsInside (ends_of before) (ends_of result) }
+        ensures ready { IsReadyToVary case.now self.new }
+        ensures rest { self.new ≡ record self.old { solving = self.new.solving; volts = self.new.volts; at_corner = self.new.at_corner } }
+    {
+        let once = self.cut_at_corner(case, field, direction, Extreme::Most, transformer, before);
+        self.cut_at_corner(case, field, direction, Extreme::Least, transformer, once)
+    }
+
+    /// Narrows the currents of a transformer, of which a row was made last, to what they share with those by references at
+    /// four corners: where each of the two is the least and where it is the greatest, as far as can be told. Takes no memory.
+    pub fn sharpen(
+        &mut self,
+        case: &Case,
+        north: &Volts,
+        east: &Volts,
+        transformer: u16,
+        currents: VariedCurrents,
+    ) -> VariedCurrents
+        requires ready { IsReadyToVary case.now self.old }
+        requires fields { AreFieldVolts case.now north.now east.now }
+        requires place { transformer < length case.now.transformers }
+        ensures right { (rows : List Switching) (percent : ℕ) → AreNetsOf (tolerated case.now rows percent) self.old.nets →
+            HasNoGroundVolts case.now (number_at north.now) → HasNoGroundVolts case.now (number_at east.now) →
+            AreVariedCurrents (tolerated case.now rows percent) (number_at north.now) (number_at east.now) transformer currents →
+            AreVariedCurrents (tolerated case.now rows percent) (number_at north.now) (number_at east.now) transformer result }
+        ensures inside { AreInside currents result }
+        ensures ready { IsReadyToVary case.now self.new }
+        ensures rest { self.new ≡ record self.old { solving = self.new.solving; volts = self.new.volts; at_corner = self.new.at_corner } }
+    {
+        if !has_effect(case, self.elements.list(), &self.nets, transformer) {
+            return currents;
+        }
+        VariedCurrents {
+            north: self.cut_at_corners(case, north, Direction::North, transformer, currents.north),
+            east: self.cut_at_corners(case, east, Direction::East, transformer, currents.east),
+        }
     }
 }

@@ -13,3 +13,4 @@ pub mod Members
 pub mod Joined
 pub mod SpreadLemmas
 pub mod Steps
+pub mod Resisted

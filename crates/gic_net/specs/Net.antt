@@ -1,5 +1,5 @@
 -- What a net is seen as: its elements, and the set of its items that are open.
-use Rattle.std.specs.Prelude.{ℕ, Bool, not, ◌||◌, List, slice_index_or, if◌then◌else◌}
+use Rattle.std.specs.Prelude.{ℕ, Bool, not, ◌||◌, List, slice_index_or, slice_set, if◌then◌else◌}
 use Rattle.std.specs.List.{fold}
 use Rattle.std.specs.FinSet as set
 use Rattle.gic_model.specs.declared.parts.End.TheVariants.{Earth}
@@ -33,6 +33,10 @@ no_element = record { from = record { 0 = 0 }; to = Earth; times = 1; micro_ohm 
 -- the element at a place
 abbrev pub element_of : Network → ℕ → Element
 element_of network place = slice_index_or network.list place no_element
+
+-- the network with another resistance of the element at a place, in micro-ohm
+abbrev pub with_resistance : Network → (place micro_ohm : ℕ) → Network
+with_resistance network place micro_ohm = record network { list = slice_set network.list place (record (element_of network place) { micro_ohm = micro_ohm }) }
 
 -- the standing elements at the node k, in their order
 abbrev pub row_at : NetView → ℕ → List Placed

@@ -16,7 +16,7 @@ pub struct Conductor {
 }
 
 /// The conductor of an element.
-fn worked_out(element: Element) -> Conductor
+pub fn worked_out(element: Element) -> Conductor
     requires { 0 < element.micro_ohm }
     ensures { result ≡ conductor_of element }
 {

@@ -1,7 +1,7 @@
 //! The standing network.
 ghost use Rattle.std.specs.Prelude.{◌≡◌, replicate, false, IfOk};
 
-use crate::conductor::{Conductor, conductors};
+use crate::conductor::{Conductor, conductors, worked_out};
 use crate::item_index::{ItemIndex, has_element, index_items};
 use crate::row::{Row, number_of};
 use crate::rows::{full_rows, gather_item};
@@ -70,7 +70,7 @@ impl Net {
     ghost use Rattle.gic_model.specs.Standing.{is_live, is_standing};
     ghost use Rattle.gic_model.specs.Conductance.{conductance_down, conductance_up};
     ghost use Rattle.gic_net.specs.Conductor.{conductor_of};
-    ghost use Rattle.gic_net.specs.Net.{NetView, stands, standing, element_of, row_at, placed_at, closed_net, switched_net, is_switched};
+    ghost use Rattle.gic_net.specs.Net.{NetView, stands, standing, element_of, row_at, placed_at, closed_net, switched_net, is_switched, with_resistance};
 
     /// All elements stand.
     pub fn build(alloc: Global, elements: &Elements) -> Result<Net, OutOfMemory>
@@ -107,6 +107,22 @@ impl Net {
                 number,
             );
         }
+    }
+
+    /// Gives the element at a place another resistance, in micro-ohm. What stands stays as it is.
+    pub fn set_resistance(&mut self, element: ElementId, micro_ohm: u32)
+        requires place { element.0 < length self.old.network.list }
+        requires least { 1000 ≤ micro_ohm }
+        requires most { micro_ohm ≤ 1000000000 }
+        ensures { self.new ≡ record self.old { network = with_resistance self.old.network element.0 micro_ohm } }
+    {
+        let place = element.0 as usize;
+        let changed = Element {
+            micro_ohm,
+            ..self.list[place]
+        };
+        self.conductors[place] = worked_out(changed);
+        self.list[place] = changed;
     }
 
     /// Whether an item is open, or closed, already. One that has no element is both.

@@ -1,16 +1,12 @@
 -- What stays of a workspace: its nets, when the network is looked at, and its references, when transformers are asked for.
-use Rattle.std.proofs.Common.{◌≡◌, ℕ, ℤ, ap, sym, subst}
+use Rattle.std.proofs.Common.{◌≡◌, ℕ, ℤ, ap, sym, subst, ◌∙◌}
 use Rattle.gic_case.specs.Lists.{Lists}
 use Rattle.gic_grounds.specs.declared.workspace.VariedWorkspace.{VariedWorkspace}
-use Rattle.gic_grounds.specs.Varied.{AreReferred, HasReferences}
+use Rattle.gic_grounds.specs.Varied.{AreReferred, HasReferences, KeepsReferences}
 
 -- a network that was looked at is the same
 pub same_nets : (before now : VariedWorkspace) → now ≡ record before { solving = now.solving } → now.nets ≡ before.nets
 same_nets before now rest = ap (λ (w : VariedWorkspace). w.nets) rest
-
--- the workspace is as it was, but for what transformers are worked out in
-abbrev pub KeepsReferences : (before now : VariedWorkspace) → Type 0
-KeepsReferences before now = now ≡ record before { solving = now.solving; volts = now.volts; adjoint = now.adjoint }
 
 -- the references for these voltages are still there
 pub still_referred : (case : Lists) (north east : ℕ → ℤ) (before now : VariedWorkspace) → KeepsReferences before now
@@ -34,3 +30,8 @@ still_references before now rest has =
       own_north = has.own_north;
       own_east = has.own_east;
     })
+
+-- what is kept twice is kept
+pub keeps_on : (before now after : VariedWorkspace) → KeepsReferences before now → KeepsReferences now after → KeepsReferences before after
+keeps_on before now after first second =
+    second ∙ ap (λ (w : VariedWorkspace). record w { solving = after.solving; volts = after.volts; adjoint = after.adjoint; at_corner = after.at_corner }) first

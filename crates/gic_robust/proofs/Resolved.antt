@@ -10,6 +10,7 @@ use Rattle.gic_effective.specs.Weighted.{effective_numerator}
 use Rattle.gic_enclose.specs.Certain.{AreCertain, AreTight}
 use Rattle.gic_fixed.specs.Ends.{Ends}
 use Rattle.gic_fixed.proofs.Divisions.{positive_product}
+use Rattle.gic_fixed.proofs.Enclosures.{≤ℤ-times}
 use Rattle.gic_fixed.proofs.Integers.{linear}
 use Rattle.gic_model.specs.declared.parts.Item.{Item}
 use Rattle.gic_model.specs.Limits.{IsWithinLimits}
@@ -20,6 +21,7 @@ use Rattle.gic_model.specs.Sums.{Placed, sum_of}
 use Rattle.gic_model.proofs.Members.{kept, both}
 use Rattle.gic_varied.specs.Bounds.{AreModest}
 use Rattle.gic_varied.specs.Certified.{Units, certified_enclosure}
+use Rattle.gic_varied.specs.Corners.{all_least}
 use Rattle.gic_varied.specs.Grounds.{is_ground, grounds_among, HaveNoGroundVolts}
 use Rattle.gic_varied.specs.Lifts.{with_least, with_most}
 use Rattle.gic_varied.specs.Near.{ExactSolutions, AreExact, IsExactPart, exact_enclosure, exact_product, Sizes, AreSizes, AreDrivenAtMost, AreAllNear, current_unit, slack, micro_paths, CertifiedEnclosuresAreNear}
@@ -32,7 +34,7 @@ use Rattle.gic_winding.specs.Weights.{transformer_at, weighted_windings}
 use Rattle.gic_grounds.specs.Scale.{weight_times}
 use Rattle.gic_grounds.specs.Tolerances.{tolerance_at}
 use Rattle.gic_grounds.specs.Tolerated.{Tolerated, ranges_in, own_in, least_in}
-use Rattle.gic_grounds.specs.VariedCurrent.{IsOfReference, IsVariedCurrent}
+use Rattle.gic_grounds.specs.VariedCurrent.{IsOfReference, IsVariedCurrent, milli_cut}
 use Rattle.gic_grounds.proofs.Certifying.{scales}
 use Rattle.gic_grounds.proofs.Earthings.{least_in_range}
 use Rattle.gic_grounds.proofs.Extremes.{few_percent}
@@ -94,8 +96,19 @@ none_made stray adjoint potential n none =
 low_slack : (all z : ℤ) (slacked most : ℕ) → slacked ≤ most → all ≤ℤ (z +ℤ pos slacked) → all ≤ℤ (z +ℤ pos most)
 low_slack all z slacked most few h = omega (arith, linear)
 
+-- what is near an end is near one further inside
+further_up : (all low other : ℤ) (one : ℕ) → low ≤ℤ other → all ≤ℤ ((low +ℤ pos 10) *ℤ pos one) → all ≤ℤ ((other +ℤ pos 10) *ℤ pos one)
+further_up all low other one inside h =
+    let times = ≤ℤ-times (low +ℤ pos 10) (other +ℤ pos 10) one (omega (arith, linear)) in
+    omega (arith, linear)
+
+further_down : (all high other : ℤ) (one : ℕ) → other ≤ℤ high → ((high -ℤ pos 10) *ℤ pos one) ≤ℤ all → ((other -ℤ pos 10) *ℤ pos one) ≤ℤ all
+further_down all high other one inside h =
+    let times = ≤ℤ-times (other -ℤ pos 10) (high -ℤ pos 10) one (omega (arith, linear)) in
+    omega (arith, linear)
+
 module _ (near : CertifiedEnclosuresAreNear) (others : SolutionsAreVaried) (laws : Laws) (v : Tolerated) (volts : ℕ → ℤ) (unit t : ℕ) (grains : List Ends) (ends : Ends)
-    (inside : t < length v.case.transformers) (some : 0 < unit) (certain : AreCertain (least_in v) volts grains) (tight : AreTight grains) (of : IsOfReference v volts unit grains t ends)
+    (inside : t < length v.case.transformers) (some : 0 < unit) (certain : AreCertain (least_in v) volts grains) (tight : AreTight grains) (of : IsOfReference v all_least volts unit grains t ends)
     (studied : IsStudiedIn v volts) (exact : ExactSolutions) (parts : Placed → Ends) (sizes : Sizes) (is : AreExactOf v volts unit t exact parts sizes) where
   -- the case's network, what stands of it, the transformer's high voltage and its units
   abbrev network : Network
@@ -119,7 +132,7 @@ module _ (near : CertifiedEnclosuresAreNear) (others : SolutionsAreVaried) (laws
 
   -- both enclosures
   abbrev certified : Ends
-  certified = certified_enclosure (own_in v) (ranges_in v) units of.intervals
+  certified = certified_enclosure (own_in v) (ranges_in v) all_least units of.intervals
 
   abbrev all : Ends
   all = exact_enclosure (own_in v) (weights_in v unit t) exact parts
@@ -240,14 +253,14 @@ module _ (near : CertifiedEnclosuresAreNear) (others : SolutionsAreVaried) (laws
   -- so both ends are within ten milliamperes
   low_ten : all.low ≤ℤ ((ends.low +ℤ pos 10) *ℤ pos (1000000 * one))
   low_ten = ⊎_elim
-      (λ enough. subst (λ (e : Ends). all.low ≤ℤ ((e.low +ℤ pos 10) *ℤ pos (1000000 * one))) (sym of.is)
+      (λ enough. further_up all.low (milli_cut certified).low ends.low (1000000 * one) of.inside.from
       (low_within_ten all.low certified.low one all_low_most (low_slack all.low (certified.low *ℤ pos one) (slack units sizes * (d * d)) (9 * (1000000 * one)) few (both_near enough).0)))
       (λ none. low_of_nothing all.low (ends.low +ℤ pos 10) (2 ^ 61) (1000000 * one) (none_made units.stray units.adjoint units.potential (d * d) none) all_low_most)
       (cases_lt 0 units.stray)
 
   high_ten : ((ends.high -ℤ pos 10) *ℤ pos (1000000 * one)) ≤ℤ all.high
   high_ten = ⊎_elim
-      (λ enough. subst (λ (e : Ends). ((e.high -ℤ pos 10) *ℤ pos (1000000 * one)) ≤ℤ all.high) (sym of.is)
+      (λ enough. further_down all.high (milli_cut certified).high ends.high (1000000 * one) of.inside.to
       (high_within_ten all.high certified.high one all_high_least (low_slack (certified.high *ℤ pos one) all.high (slack units sizes * (d * d)) (9 * (1000000 * one)) few (both_near enough).1)))
       (λ none. high_of_nothing all.high (ends.high -ℤ pos 10) (2 ^ 61) (1000000 * one) (none_made units.stray units.adjoint units.potential (d * d) none) all_high_least)
       (cases_lt 0 units.stray)
@@ -261,7 +274,7 @@ pub near_reference : CertifiedEnclosuresAreNear → SolutionsAreVaried → Laws 
     IsVariedCurrent v volts unit grains t ends → IsNearReference v volts unit t ends
 near_reference near others laws v volts unit t grains ends inside some certain tight studied effect varied = by varied.pinned
   where
-    by : HasNoEffect v.case (own_in v) t ⊎ IsOfReference v volts unit grains t ends → IsNearReference v volts unit t ends
+    by : HasNoEffect v.case (own_in v) t ⊎ IsOfReference v all_least volts unit grains t ends → IsNearReference v volts unit t ends
     by (inl none) = absurd (effect none)
     by (inr of) = within_ten near others laws v volts unit t grains ends inside some certain tight of studied
 

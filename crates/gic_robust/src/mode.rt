@@ -57,7 +57,14 @@ pub fn robust<S: Sink>(
     workspace
         .varied
         .refer(case, &workspace.volts.north, &workspace.volts.east);
-    fill_rows(case, &mut workspace.varied, &mut workspace.rows);
+    let setting = setting_of(&inputs.question.criteria);
+    fill_rows(
+        case,
+        &workspace.volts,
+        setting.threshold,
+        &mut workspace.varied,
+        &mut workspace.rows,
+    );
     let writing = write_rows(
         case,
         &inputs.question,

@@ -4,7 +4,7 @@ ghost use Rattle.gic_base.specs.declared.limits.TheConstants.{MOST_WALK};
 ghost use Rattle.gic_model.specs.Bound.{IsEarthedWithin};
 ghost use Rattle.gic_model.specs.Earthing.{AreEarthed};
 ghost use Rattle.gic_model.specs.Standing.{standing_elements, stands_after};
-ghost use Rattle.gic_net.specs.Net.{standing, net_after};
+ghost use Rattle.gic_net.specs.Net.{standing, closed_net, net_after};
 ghost use Rattle.gic_bound.specs.Entries.{IsBoundWithin};
 ghost use Rattle.gic_winding.specs.ElementList.{elements_of};
 ghost use Rattle.gic_inputs.specs.Inputs.{rows_in};
@@ -48,6 +48,7 @@ pub fn standing_net(
     elements: &Elements,
     switchings: &Option<Switchings>,
 ) -> Result<Net, OutOfMemory>
+    ensures net { IfOk result (λ net. net ≡ net_after (closed_net elements.now) (rows_in switchings.now)) }
     ensures network { IfOk result (λ net. net.network ≡ elements.now) }
     ensures standing { IfOk result (λ net. standing net ≡ standing_elements elements.now (stands_after (rows_in switchings.now))) }
 {

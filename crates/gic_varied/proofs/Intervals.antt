@@ -148,3 +148,42 @@ lift_lifts range high potential denominator inside bound =
       to_least = subst (λ (z : ℤ). (pos range.most *ℤ ((pos range.least -ℤ pos range.least) *ℤ potential)) ≤ℤ (pos (denominator * range.least * range.least) *ℤ z)) turned
           (nothing_least range.least range.most denominator potential q made.0);
     }
+
+-- the differences of two numbers, each way, times a number with its sign turned
+turned_in : (l m : ℕ) (p : ℤ) → (pos l -ℤ pos m) *ℤ p ≡ (pos m -ℤ pos l) *ℤ neg_ℤ p
+turned_in l m p =
+    let z = pos m -ℤ pos l in
+    let minus : pos l -ℤ pos m ≡ neg_ℤ z = omega (arith, linear) in
+    ap (λ y. y *ℤ p) minus ∙ *ℤ_comm (neg_ℤ z) p ∙ *ℤ-neg_ℤ p z ∙ ap neg_ℤ (*ℤ_comm p z) ∙ sym (*ℤ-neg_ℤ z p)
+
+-- over plain numbers: what makes up towards the least resistance, times the greatest
+makes_up_most : (l m d : ℕ) (p q : ℤ) → ((pos m -ℤ pos l) *ℤ neg_ℤ p) ≤ℤ (pos (d * l) *ℤ q) → (pos m *ℤ ((pos l -ℤ pos m) *ℤ p)) ≤ℤ (pos (d * m * l) *ℤ q)
+makes_up_most l m d p q above =
+    let turned = ap (λ z. pos m *ℤ z) (turned_in l m p) in
+    let times = *ℤ-≤ℤ m ((pos m -ℤ pos l) *ℤ neg_ℤ p) (pos (d * l) *ℤ q) above in
+    let regroup : pos m *ℤ (pos (d * l) *ℤ q) ≡ pos (d * m * l) *ℤ q = same_in _ _ (simp (up-*ℤ, down-*ℤ) (omega arith)) in
+    omega (arith, linear)
+
+nothing_most : (m d : ℕ) (p q : ℤ) → pos 0 ≤ℤ q → ((pos m -ℤ pos m) *ℤ p) ≤ℤ (pos (d * m) *ℤ q)
+nothing_most m d p q h =
+    let none : pos m -ℤ pos m ≡ pos 0 = omega (arith, linear) in
+    let left : (pos m -ℤ pos m) *ℤ p ≡ pos 0 = ap (λ z. z *ℤ p) none ∙ *ℤ_comm (pos 0) p ∙ *ℤ-zero p in
+    let above = *ℤ-≤ℤ (d * m) (pos 0) q h in
+    let nothing = *ℤ-zero (pos (d * m)) in
+    omega (arith, linear)
+
+-- it lifts over a ground at its greatest resistance too, by how far the potential may be below 0
+pub lift_lifts_at_most : (range : Range) (high potential : ℤ) (denominator : ℕ) → IsInRange range range.most → neg_ℤ potential ≤ℤ (high *ℤ pos denominator) →
+    IsLift range range.most potential denominator (lift_volt range high)
+lift_lifts_at_most range high potential denominator inside bound =
+    let q = ceil_div (pos (range.most - range.least) *ℤ int_max high (pos 0)) (pos range.least) in
+    let above = ceil_above (pos (range.most - range.least) *ℤ int_max high (pos 0)) range.least inside.above_0 in
+    let made = makes_up range.least range.most denominator high (neg_ℤ potential) q inside.above_0 inside.at_least above bound in
+    let turned = sym (minus_minus q) in
+    record {
+      not_above_0 = minus_not_above q made.0;
+      to_most = subst (λ (z : ℤ). ((pos range.most -ℤ pos range.most) *ℤ potential) ≤ℤ (pos (denominator * range.most) *ℤ z)) turned
+          (nothing_most range.most denominator potential q made.0);
+      to_least = subst (λ (z : ℤ). (pos range.most *ℤ ((pos range.least -ℤ pos range.most) *ℤ potential)) ≤ℤ (pos (denominator * range.most * range.least) *ℤ z)) turned
+          (makes_up_most range.least range.most denominator potential q made.1);
+    }

@@ -15,6 +15,7 @@ pub mod Intervals
 pub mod Enclosed
 pub mod OtherGrounds
 pub mod AnyGrounds
+pub mod AtCorners
 pub mod Resistances
 pub mod Scaled
 pub mod Certain

@@ -28,6 +28,7 @@ use Rattle.gic_model.specs.Sums.{Placed, sum_of}
 use Rattle.gic_model.proofs.Ends.{standing_within, ends_live, from_own, some_times}
 use Rattle.gic_model.proofs.Members.{both, kept}
 use Rattle.gic_varied.specs.Bounds.{AreModest}
+use Rattle.gic_varied.specs.Corners.{all_least}
 use Rattle.gic_varied.specs.Certified.{Voltages, Units, Intervals, AreLiftVolts, HoldPotentials, AreCertified}
 use Rattle.gic_varied.specs.Enclosure.{lift_volt, varied_ends}
 use Rattle.gic_varied.specs.Grounds.{is_ground}
@@ -475,7 +476,7 @@ pub record IsNearVaried (unit d : ℕ) (exact varied : Ends) : Type 0 where
 pub varied_near : (network : Network) (stands : Item → Bool) (ranges : Ranges) (given : Voltages) (units : Units) (ends : Intervals) (exact : ExactSolutions) →
     IsWithinLimits network → IsWithinLimits (with_most ranges network) → AreEarthed (standing_elements network stands) →
     AreInRanges ranges (λ e. (ranges e).least) (standing_elements network stands) → AreModest ranges (standing_elements network stands) → 0 < units.potential →
-    AreCertified network stands ranges given units ends → AreAllNear network stands ranges given units ends → AreExact network stands ranges given.field given.weights exact →
+    AreCertified network stands ranges all_least given units ends → AreAllNear network stands ranges given units ends → AreExact network stands ranges given.field given.weights exact →
     (k : ℕ) → IsLive (standing_elements network stands) k →
     IsNearVaried units.potential exact.reference.denominator (exact_ends exact k) (varied_ends (ends.reference k) (ends.lowering k) (ends.raising k))
 varied_near network stands ranges given units ends exact limits most_limits earthed inside modest some certified near are k live =

@@ -20,6 +20,7 @@ use Rattle.gic_model.specs.Sums.{Placed, sum_of}
 use Rattle.gic_model.proofs.Ends.{standing_within, ends_live, from_own}
 use Rattle.gic_model.proofs.Members.{kept}
 use Rattle.gic_varied.specs.Bounds.{AreModest}
+use Rattle.gic_varied.specs.Corners.{all_least}
 use Rattle.gic_varied.specs.Certified.{Voltages, Units, Intervals, AreCertified, product_at, certified_enclosure}
 use Rattle.gic_varied.specs.Enclosure.{stray_at, varied_ends}
 use Rattle.gic_varied.specs.Grounds.{is_ground, grounds_among}
@@ -158,7 +159,7 @@ module _ (network : Network) (stands : Item → Bool) (ranges : Ranges) (given :
     (limits : IsWithinLimits network) (most_limits : IsWithinLimits (with_most ranges network)) (earthed : AreEarthed (standing_elements network stands))
     (inside : AreInRanges ranges (λ e. (ranges e).least) (standing_elements network stands)) (modest : AreModest ranges (standing_elements network stands))
     (some_stray : 0 < units.stray) (some_adjoint : 0 < units.adjoint) (some_potential : 0 < units.potential)
-    (certified : AreCertified network stands ranges given units ends) (near : AreAllNear network stands ranges given units ends)
+    (certified : AreCertified network stands ranges all_least given units ends) (near : AreAllNear network stands ranges given units ends)
     (are : AreExact network stands ranges given.field given.weights exact) (are_parts : AreExactParts (standing_elements network stands) ranges exact parts)
     (are_sizes : AreSizes (standing_elements network stands) ranges given.field given.weights sizes) where
   abbrev standing : List Placed
@@ -300,7 +301,7 @@ module _ (network : Network) (stands : Item → Bool) (ranges : Ranges) (given :
       then_below x y z h k = omega (arith, linear)
 
   abbrev certain_ends : Ends
-  certain_ends = certified_enclosure standing ranges units ends
+  certain_ends = certified_enclosure standing ranges all_least units ends
 
   abbrev exact_all : Ends
   exact_all = exact_enclosure standing given.weights exact parts

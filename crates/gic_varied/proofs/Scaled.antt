@@ -61,24 +61,24 @@ solves_scaled standing ohm c volts s h = record {
 volt_in : (c d l : ℕ) (u : ℤ) → pos (c * d * l) *ℤ u ≡ pos (d * l) *ℤ (pos c *ℤ u)
 volt_in c d l u = same_in _ _ (simp (up-*ℤ, down-*ℤ) (omega arith))
 
-volt_in_twice : (c d l : ℕ) (u : ℤ) → pos (c * d * l * l) *ℤ u ≡ pos (d * l * l) *ℤ (pos c *ℤ u)
-volt_in_twice c d l u = same_in _ _ (simp (up-*ℤ, down-*ℤ) (omega arith))
+volt_in_twice : (c d r l : ℕ) (u : ℤ) → pos (c * d * r * l) *ℤ u ≡ pos (d * r * l) *ℤ (pos c *ℤ u)
+volt_in_twice c d r l u = same_in _ _ (simp (up-*ℤ, down-*ℤ) (omega arith))
 
 -- a lift over a greater denominator is a greater lift
-pub lift_scaled : (range : Range) (p : ℤ) (c d : ℕ) (u : ℤ) → IsLift range range.least p (c * d) u → IsLift range range.least p d (pos c *ℤ u)
-lift_scaled range p c d u h = record {
+pub lift_scaled : (range : Range) (ohm : ℕ) (p : ℤ) (c d : ℕ) (u : ℤ) → IsLift range ohm p (c * d) u → IsLift range ohm p d (pos c *ℤ u)
+lift_scaled range ohm p c d u h = record {
   not_above_0 = not_above;
   to_most =
       let made = h.to_most in
-      let left = *ℤ-neg_ℤ (pos (c * d * range.least)) u in
-      let inside = volt_in c d range.least u in
-      let right = *ℤ-neg_ℤ (pos (d * range.least)) (pos c *ℤ u) in
+      let left = *ℤ-neg_ℤ (pos (c * d * ohm)) u in
+      let inside = volt_in c d ohm u in
+      let right = *ℤ-neg_ℤ (pos (d * ohm)) (pos c *ℤ u) in
       omega (arith, linear);
   to_least =
       let made = h.to_least in
-      let left = *ℤ-neg_ℤ (pos (c * d * range.least * range.least)) u in
-      let inside = volt_in_twice c d range.least u in
-      let right = *ℤ-neg_ℤ (pos (d * range.least * range.least)) (pos c *ℤ u) in
+      let left = *ℤ-neg_ℤ (pos (c * d * ohm * range.least)) u in
+      let inside = volt_in_twice c d ohm range.least u in
+      let right = *ℤ-neg_ℤ (pos (d * ohm * range.least)) (pos c *ℤ u) in
       omega (arith, linear);
 }
   where

@@ -1,5 +1,5 @@
--- What follows of certain intervals: those of a reference and of an adjoint solution in the network with its grounds at their least resistances, and of two lifts in that with its grounds at their greatest.
-use Rattle.std.specs.Prelude.{ℕ, ◌≡◌, ◌*◌, ◌^◌, ◌<◌, Bool, List, ℤ, pos, neg_ℤ, ◌*ℤ◌, if◌then◌else◌}
+-- What follows of certain intervals: those of a reference and of an adjoint solution in the network at a corner of the ranges of its grounds, and of two lifts in that with its grounds at their greatest.
+use Rattle.std.specs.Prelude.{ℕ, ◌≡◌, ◌*◌, ◌^◌, ◌<◌, Bool, List, ℤ, pos, ◌*ℤ◌, if◌then◌else◌}
 use Rattle.std.specs.List.{All}
 use Rattle.gic_fixed.specs.Encloses.{Encloses}
 use Rattle.gic_fixed.specs.Ends.{Ends}
@@ -11,9 +11,10 @@ use Rattle.gic_model.specs.Network.{Network}
 use Rattle.gic_model.specs.Solution.{Solution, IsSolution}
 use Rattle.gic_model.specs.Standing.{IsLive, standing_elements}
 use Rattle.gic_model.specs.Sums.{Placed}
+use Rattle.gic_varied.specs.Corners.{Corner, corner_ohm, with_corner, raising_height, lowering_height}
 use Rattle.gic_varied.specs.Enclosure.{lift_volt, varied_ends, product_ends, enclosure_of}
 use Rattle.gic_varied.specs.Grounds.{is_ground, HaveNoGroundVolts}
-use Rattle.gic_varied.specs.Lifts.{with_least, with_most}
+use Rattle.gic_varied.specs.Lifts.{with_most}
 use Rattle.gic_varied.specs.Ranges.{Ranges, AreInRanges}
 use Rattle.gic_varied.specs.Reciprocal.{current_by_weights}
 use Rattle.gic_varied.specs.Varied.{IsVaried}
@@ -58,16 +59,16 @@ abbrev pub AreLiftVolts : List Placed → Ranges → (high : ℕ → ℤ) → (v
 AreLiftVolts standing ranges high volts = All (λ p. volts p.0 ≡ (if is_ground p.1 then lift_volt (ranges p.1) (high p.1.from.0) else pos 0)) standing
 
 -- the intervals hold every solution for these voltages; a lift's nanovolt stands for a unit of potentials
-pub record AreCertified (network : Network) (stands : Item → Bool) (ranges : Ranges) (given : Voltages) (units : Units) (ends : Intervals) : Type 0 where
+pub record AreCertified (network : Network) (stands : Item → Bool) (ranges : Ranges) (corner : Corner) (given : Voltages) (units : Units) (ends : Intervals) : Type 0 where
   pub field : HaveNoGroundVolts (standing_elements network stands) given.field
   pub weights : HaveNoGroundVolts (standing_elements network stands) given.weights
-  pub lowering_volts : AreLiftVolts (standing_elements network stands) ranges (λ k. neg_ℤ (ends.reference k).low) given.lowering
-  pub raising_volts : AreLiftVolts (standing_elements network stands) ranges (λ k. (ends.reference k).high) given.raising
-  pub reference : HoldPotentials (standing_elements (with_least ranges network) stands) given.field units.potential ends.reference
-  pub adjoint : HoldPotentials (standing_elements (with_least ranges network) stands) given.weights units.adjoint ends.adjoint
+  pub lowering_volts : AreLiftVolts (standing_elements network stands) ranges (lowering_height corner ends.reference) given.lowering
+  pub raising_volts : AreLiftVolts (standing_elements network stands) ranges (raising_height corner ends.reference) given.raising
+  pub reference : HoldPotentials (standing_elements (with_corner ranges corner network) stands) given.field units.potential ends.reference
+  pub adjoint : HoldPotentials (standing_elements (with_corner ranges corner network) stands) given.weights units.adjoint ends.adjoint
   pub lowering : HoldPotentials (standing_elements (with_most ranges network) stands) given.lowering 1 ends.lowering
   pub raising : HoldPotentials (standing_elements (with_most ranges network) stands) given.raising 1 ends.raising
-  pub own : (s : Solution) → IsSolution (standing_elements (with_least ranges network) stands) given.field s →
+  pub own : (s : Solution) → IsSolution (standing_elements (with_corner ranges corner network) stands) given.field s →
       Encloses ends.own.low ends.own.high (current_by_weights (standing_elements network stands) given.weights s) (units.stray * (units.adjoint * units.potential) * s.denominator)
 
 -- the interval of Y P' at a ground
@@ -76,16 +77,16 @@ product_at ends p =
     let k = p.1.from.0 in
     product_ends (ends.adjoint k) (varied_ends (ends.reference k) (ends.lowering k) (ends.raising k))
 
--- that of a weighted current, with the grounds of the reference at their least
-abbrev pub certified_enclosure : List Placed → Ranges → Units → Intervals → Ends
-certified_enclosure standing ranges units ends = enclosure_of standing ranges (λ e. (ranges e).least) units.stray (product_at ends) ends.own
+-- that of a weighted current, with the grounds of the reference at this corner
+abbrev pub certified_enclosure : List Placed → Ranges → Corner → Units → Intervals → Ends
+certified_enclosure standing ranges corner units ends = enclosure_of standing ranges (corner_ohm ranges corner) units.stray (product_at ends) ends.own
 
 -- where each live node is earthed it holds the weighted current of every varied solution
 abbrev pub CertifiedEnclosuresHold : Type 0
-CertifiedEnclosuresHold = (network : Network) (stands : Item → Bool) (ranges : Ranges) (given : Voltages) (units : Units) (ends : Intervals) (varied : Solution) →
+CertifiedEnclosuresHold = (network : Network) (stands : Item → Bool) (ranges : Ranges) (corner : Corner) (given : Voltages) (units : Units) (ends : Intervals) (varied : Solution) →
     let standing = standing_elements network stands in
-    IsWithinLimits network → IsWithinLimits (with_least ranges network) → IsWithinLimits (with_most ranges network) → AreEarthed standing →
-    AreInRanges ranges (λ e. (ranges e).least) standing → 0 < units.stray →
-    AreCertified network stands ranges given units ends → IsVaried standing ranges given.field varied →
-    let enclosure = certified_enclosure standing ranges units ends in
+    IsWithinLimits network → IsWithinLimits (with_corner ranges corner network) → IsWithinLimits (with_most ranges network) → AreEarthed standing →
+    AreInRanges ranges (corner_ohm ranges corner) standing → 0 < units.stray →
+    AreCertified network stands ranges corner given units ends → IsVaried standing ranges given.field varied →
+    let enclosure = certified_enclosure standing ranges corner units ends in
     Encloses enclosure.low enclosure.high (current_by_weights standing given.weights varied) (units.stray * (units.adjoint * units.potential) * varied.denominator)

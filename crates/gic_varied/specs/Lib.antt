@@ -9,6 +9,7 @@ pub mod Exact
 pub mod Enclosure
 pub mod GroundLaws
 pub mod EachGround
+pub mod Corners
 pub mod Certified
 pub mod Bounds
 pub mod Near

@@ -11,6 +11,7 @@ use Rattle.gic_model.specs.Solution.{Solution, IsSolution, IsOhm, IsKirchhoff}
 use Rattle.gic_model.specs.Standing.{IsLive, standing_elements}
 use Rattle.gic_model.specs.Sums.{Placed, sum_of}
 use Rattle.gic_varied.specs.Bounds.{AreModest}
+use Rattle.gic_varied.specs.Corners.{all_least}
 use Rattle.gic_varied.specs.Certified.{Voltages, Units, Intervals, AreCertified, certified_enclosure}
 use Rattle.gic_varied.specs.Grounds.{is_ground, grounds_among}
 use Rattle.gic_varied.specs.Lifts.{with_least, with_most}
@@ -155,9 +156,9 @@ CertifiedEnclosuresAreNear = (network : Network) (stands : Item → Bool) (range
     let d = exact.reference.denominator in
     IsWithinLimits network → IsWithinLimits (with_least ranges network) → IsWithinLimits (with_most ranges network) → AreEarthed standing →
     AreInRanges ranges (λ e. (ranges e).least) standing → AreModest ranges standing → 0 < units.stray → 0 < units.adjoint → 0 < units.potential →
-    AreCertified network stands ranges given units ends → AreAllNear network stands ranges given units ends →
+    AreCertified network stands ranges all_least given units ends → AreAllNear network stands ranges given units ends →
     AreExact network stands ranges given.field given.weights exact → AreExactParts standing ranges exact parts → AreSizes standing ranges given.field given.weights sizes →
-    let certified = certified_enclosure standing ranges units ends in
+    let certified = certified_enclosure standing ranges all_least units ends in
     let all = exact_enclosure standing given.weights exact parts in
     let one = units.stray * (units.adjoint * units.potential) * (d * d) in
     (all.low ≤ℤ (certified.low *ℤ pos one +ℤ pos (slack units sizes * (d * d)))) ×

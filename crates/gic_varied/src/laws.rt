@@ -9,6 +9,7 @@ ghost use Rattle.gic_varied.specs.Near.{CertifiedEnclosuresAreNear};
 ghost use Rattle.gic_varied.specs.Exact.{VariedCurrentsAreInReferenceEnclosure};
 ghost use Rattle.gic_varied.specs.GroundLaws.{OtherGroundsEarthToo, BoundVectorsServeLesserGrounds, LesserGroundsEarthWithin};
 ghost use Rattle.gic_varied.specs.GroundLaws.{RangesStayWithinLimits};
+ghost use Rattle.gic_varied.specs.Corners.{CornersAreOfRanges};
 ghost use Rattle.gic_varied.specs.EachGround.{StandingGroundsAreInRanges, AnyGroundsStayWithinLimits, NetworksAreEarthedAlike};
 ghost use Rattle.gic_varied.specs.Lifts.{PotentialsAreRaisedAtMost, PotentialsAreLoweredAtMost};
 ghost use Rattle.gic_varied.specs.Strays.{StrayPowersAreBounded};
@@ -84,9 +85,15 @@ pub fn any_grounds_law()
     ensures earthed { NetworksAreEarthedAlike }
 {}
 
-/// The enclosure that is made of certain intervals of a reference, an adjoint solution and two lifts, as the solver
-/// certifies them, and of an interval of the reference's weighted current, holds the weighted current of every varied
-/// solution.
+/// At each corner of the ranges that tolerances give, the network is within the limits, its grounds are resistances of their
+/// ranges, and none is above the greatest.
+pub fn corner_law()
+    ensures { CornersAreOfRanges }
+{}
+
+/// The enclosure that is made of certain intervals of a reference and an adjoint solution at a corner of the ranges and of two
+/// lifts, as the solver certifies them, and of an interval of the reference's weighted current, holds the weighted current of
+/// every varied solution.
 pub fn certified_enclosure_law()
     ensures holds { CertifiedEnclosuresHold }
     ensures grains { GrainsHoldInUnits }

@@ -4,6 +4,7 @@ use Rattle.std.proofs.lemmas.List.{length-map, length-set}
 use Rattle.gic_model.specs.Network.{Network}
 use Rattle.gic_model.specs.Voltages.{number_at}
 use Rattle.gic_varied.specs.Grounds.{regrounded}
+use Rattle.gic_grounds.specs.Corner.{is_most_at}
 use Rattle.gic_grounds.specs.Lifting.{height_at, lift_at}
 use Rattle.gic_grounds.proofs.Raised.{lifts_stand, next_lift}
 use Rattle.gic_grounds.proofs.lift.fill_lifts.Goals as goal
@@ -13,7 +14,7 @@ returns-clause-lifts c = λ network stands ranges are.
     let all : length c.args.nets.now.least.network.list ≤ c.loop-place.place = omega arith in
     let same = ap (λ (n : Network). length n.list) are.least_network in
     let count = length-map network.list (regrounded (λ e. (ranges e).least)) in
-    lifts_stand network ranges (height_at c.args.side c.args.reference.now) stands c.args.nets.now.least.network
+    lifts_stand network ranges (height_at (is_most_at c.args.corner.now) c.args.side c.args.reference.now) stands c.args.nets.now.least.network
     c.args.nets.now.most.network (number_at c.loop-place.out)
     are.least_network are.most_network (λ place inside. c.loop-place.invariant.filled place (omega (arith, inside, all, same, count)))
 
@@ -28,7 +29,7 @@ loop-place-preserved c =
     (arith, c.loop-place-test.true, c.count-place-end.ensures.value, c.loop-place.invariant.count) in
     record {
       count = ap (λ (l : List ℤ). length l) is ∙ length-set c.loop-place.out place volt ∙ c.loop-place.invariant.count;
-      filled = next_lift (lift_at c.args.nets.now.least.network c.args.nets.now.most.network (height_at c.args.side c.args.reference.now))
+      filled = next_lift (lift_at c.args.nets.now.least.network c.args.nets.now.most.network (height_at (is_most_at c.args.corner.now) c.args.side c.args.reference.now))
           c.loop-place.out c.set.new.self place volt inside is
           c.lift_at-nanovolts.ensures.value c.loop-place.invariant.filled;
     }

@@ -1,5 +1,6 @@
 use Rattle.std.proofs.Common.{◌≡◌, ◌<◌, ℕ, length}
 use Rattle.gic_model.specs.Voltages.{number_at}
+use Rattle.gic_grounds.specs.Corner.{is_most_at}
 use Rattle.gic_grounds.specs.Lifting.{height_at, lift_at}
 use Rattle.gic_grounds.proofs.lift.fill_lifts.Given as goal
 
@@ -7,5 +8,5 @@ use Rattle.gic_grounds.proofs.lift.fill_lifts.Given as goal
 abbrev pub invariant-loop-place : goal.invariant-loop-place
 invariant-loop-place l = record {
   count : length l.out ≡ length l.nets.least.network.list;
-  filled : (k : ℕ) → k < l.place → number_at l.out k ≡ lift_at l.nets.least.network l.nets.most.network (height_at l.side l.reference) k;
+  filled : (k : ℕ) → k < l.place → number_at l.out k ≡ lift_at l.nets.least.network l.nets.most.network (height_at (is_most_at l.corner) l.side l.reference) k;
 }

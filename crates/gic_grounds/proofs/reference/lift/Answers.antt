@@ -19,8 +19,8 @@ returns-clause-lifted c = record {
 pub returns-clause-within : goal.returns-clause-within
 returns-clause-within c = c.in_units.ensures.within (2 ^ 60) c.keep.ensures.small
 
-pub returns-clause-ready : goal.returns-clause-ready
-returns-clause-ready c =
-    still_solves _ _ c.args.nets.now c.args.solving.now c.solve.new.self c.requires.ready
-    (subst (λ n. IsSolveWorkspaceFor n c.solve.new.self) c.requires.ready.most_nodes c.solve.ensures.space)
+pub returns-clause-still : goal.returns-clause-still
+returns-clause-still c =
+    still_solves _ _ c.args.solving.now c.solve.new.self
+    (subst (λ n. IsSolveWorkspaceFor n c.solve.new.self) c.requires.ready.most.node_count c.solve.ensures.space)
     (ap (λ (w : SolveWorkspace). w.vector) c.solve.ensures.rest)

@@ -12,7 +12,7 @@ use Rattle.gic_grounds.proofs.reference.solve_reference.Goals as goal
 
 pub returns-clause-solved : goal.returns-clause-solved
 returns-clause-solved c =
-    let stand = standing c.args.nets.now.least in
+    let stand = standing c.args.net.now in
     let volts = number_at c.args.volts.now in
     let same = sym c.keep.ensures.same in
     record {
@@ -24,8 +24,8 @@ returns-clause-solved c =
       own_within = c.fill_own.ensures.within;
     }
 
-pub returns-clause-ready : goal.returns-clause-ready
-returns-clause-ready c =
-    still_solves _ _ c.args.nets.now c.args.solving.now c.solve.new.self c.requires.ready
-    (subst (λ n. IsSolveWorkspaceFor n c.solve.new.self) c.requires.ready.least_nodes c.solve.ensures.space)
+pub returns-clause-still : goal.returns-clause-still
+returns-clause-still c =
+    still_solves _ _ c.args.solving.now c.solve.new.self
+    (subst (λ n. IsSolveWorkspaceFor n c.solve.new.self) c.requires.ready.node_count c.solve.ensures.space)
     (ap (λ (w : SolveWorkspace). w.vector) c.solve.ensures.rest)

@@ -3,8 +3,10 @@ use Rattle.gic_fixed.specs.Ends.{Ends, ends_of}
 use Rattle.gic_model.specs.Standing.{standing_elements}
 use Rattle.gic_net.specs.Net.{element_of, stands}
 use Rattle.gic_varied.specs.Certified.{product_at}
+use Rattle.gic_varied.specs.Corners.{corner_ohm}
 use Rattle.gic_varied.specs.Enclosure.{enclosure_of}
 use Rattle.gic_varied.specs.Grounds.{is_ground}
+use Rattle.gic_grounds.specs.Corner.{is_most_at}
 use Rattle.gic_grounds.specs.Varying.{intervals_of, stray_power_at}
 use Rattle.gic_grounds.proofs.Strayed.{sum_from, next_stray, next_sum, next_small, sum_fits, chosen, end_is}
 use Rattle.gic_grounds.proofs.sum.enclosure.Goals as goal
@@ -34,7 +36,8 @@ loop-place-preserved c =
     let list = least.network.list in
     let place = c.loop-place.place in
     let e = element_of least.network place in
-    let strays = stray_power_at least.network c.args.nets.now.most.network c.args.unit c.args.adjoint.now c.args.potentials.now in
+    let strays = stray_power_at least.network c.args.nets.now.most.network (is_most_at c.args.corner.now) c.args.unit c.args.adjoint.now
+    c.args.potentials.now in
     let inside : place < length list = omega (arith, c.loop-place-test.true, c.count-place-end.ensures.value) in
     let low = ap (λ (x : Ends). x.low) c.standing_stray_at-stray.ensures.value
     ∙ chosen (is_ground e) (stands least e.item) (strays place) (λ x. x.low) refl in
@@ -64,18 +67,19 @@ loop-place-preserved c =
 pub returns-clause-enclosure : goal.returns-clause-enclosure
 returns-clause-enclosure c = λ network stays ranges units are same.
     let least = c.args.nets.now.least in
+    let corner = is_most_at c.args.corner.now in
     let ends = intervals_of c.args.adjoint.now c.args.potentials.now (ends_of c.args.own) in
     let past : length least.network.list ≤ c.loop-place.place = omega (arith, c.loop-place-test.false, c.count-place-end.ensures.value) in
-    let low = end_is network stays ranges c.args.unit c.args.adjoint.now c.args.potentials.now (ends_of c.args.own) (λ x. x.low)
+    let low = end_is network stays ranges corner c.args.unit c.args.adjoint.now c.args.potentials.now (ends_of c.args.own) (λ x. x.low)
     (stands least) least.network c.args.nets.now.most.network
     c.loop-place.total.lo c.args.own.lo c.loop-place.place past c.loop-place.invariant.low are.least_network are.most_network
     are.least_standing in
-    let high = end_is network stays ranges c.args.unit c.args.adjoint.now c.args.potentials.now (ends_of c.args.own) (λ x. x.high)
+    let high = end_is network stays ranges corner c.args.unit c.args.adjoint.now c.args.potentials.now (ends_of c.args.own) (λ x. x.high)
     (stands least) least.network c.args.nets.now.most.network
     c.loop-place.total.hi c.args.own.hi c.loop-place.place past c.loop-place.invariant.high are.least_network are.most_network
     are.least_standing in
     subst
-    (λ u. ends_of c.loop-place.total ≡ enclosure_of (standing_elements network stays) ranges (λ e. (ranges e).least) u (product_at ends) ends.own) (sym same)
+    (λ u. ends_of c.loop-place.total ≡ enclosure_of (standing_elements network stays) ranges (corner_ohm ranges corner) u (product_at ends) ends.own) (sym same)
     (λ i. record { low = low i; high = high i })
 
 pub returns-clause-small : goal.returns-clause-small

@@ -1,6 +1,7 @@
 use Rattle.std.proofs.Common.{◌≡◌, ◌+◌, ◌*◌, ◌^◌, ◌+ℤ◌}
 use Rattle.gic_fixed.specs.Encloses.{IsWithin}
 use Rattle.gic_net.specs.Net.{stands}
+use Rattle.gic_grounds.specs.Corner.{is_most_at}
 use Rattle.gic_grounds.specs.Varying.{stray_power_at}
 use Rattle.gic_grounds.proofs.Strayed.{sum_from}
 use Rattle.gic_grounds.proofs.sum.enclosure.Given as goal
@@ -9,7 +10,7 @@ use Rattle.gic_grounds.proofs.sum.enclosure.Given as goal
 abbrev pub invariant-loop-place : goal.invariant-loop-place
 invariant-loop-place l =
     let least = l.nets.least.network in
-    let strays = stray_power_at least l.nets.most.network l.unit l.adjoint l.potentials in
+    let strays = stray_power_at least l.nets.most.network (is_most_at l.corner) l.unit l.adjoint l.potentials in
     record {
       low : l.total.lo +ℤ sum_from (λ k. (strays k).low) (stands l.nets.least) least.list l.place ≡ l.fn.own.lo +ℤ sum_from
           (λ k. (strays k).low) (stands l.nets.least) least.list 0;

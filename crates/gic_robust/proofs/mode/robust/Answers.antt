@@ -48,7 +48,7 @@ returns g c =
     (met_once Solved (most_in v) solvable)
     (record {
       rows = c.fill_rows.new.rows;
-      right = c.fill_rows.ensures.right (rows_in inputs.switchings) inputs.question.tolerance north east nets referred;
+      right = c.fill_rows.ensures.right (rows_in inputs.switchings) inputs.question.tolerance nets referred;
       text_is = refl;
     })
     c.write_rows-writing.ensures.all c.write_rows-writing.ensures.part c.write_rows-writing.ensures.cause c.ended.ensures))

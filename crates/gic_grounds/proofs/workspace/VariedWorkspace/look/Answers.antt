@@ -45,19 +45,26 @@ returns-clause-ready c =
         adjoint_space = space.adjoint_space;
         north_space = space.north_space;
         east_space = space.east_space;
+        least_corner = space.least_corner;
+        corner_space = space.corner_space;
       };
       solvable = ready.solvable;
       can_solve = record {
-        least_nodes = ap (λ (n : Network). n.nodes) of_case.extremes.least_network;
-        most_nodes = ap (λ (n : Network). n.nodes) of_case.extremes.most_network;
-        least_count = ap (λ (n : Network). length n.list) of_case.extremes.least_network
-            ∙ length-map network.list (regrounded (λ e. (ranges_in v e).least));
-        most_count = ap (λ (n : Network). length n.list) of_case.extremes.most_network
-            ∙ length-map network.list (regrounded (λ e. (ranges_in v e).most));
-        has_space = ready.has_workspace;
-        bound_least = least_bound v nets of_case c.other_grounds_law.ensures.bound limits MOST_WALK (slice_index c.look.new.self.vector)
-            ready.bound;
-        bound_most = ready.bound;
+        least = record {
+          node_count = ap (λ (n : Network). n.nodes) of_case.extremes.least_network;
+          element_count = ap (λ (n : Network). length n.list) of_case.extremes.least_network
+              ∙ length-map network.list (regrounded (λ e. (ranges_in v e).least));
+          has_space = ready.has_workspace;
+          bound = least_bound v nets of_case c.other_grounds_law.ensures.bound limits MOST_WALK (slice_index c.look.new.self.vector)
+              ready.bound;
+        };
+        most = record {
+          node_count = ap (λ (n : Network). n.nodes) of_case.extremes.most_network;
+          element_count = ap (λ (n : Network). length n.list) of_case.extremes.most_network
+              ∙ length-map network.list (regrounded (λ e. (ranges_in v e).most));
+          has_space = ready.has_workspace;
+          bound = ready.bound;
+        };
       };
     }) (ready_of c)
 

@@ -1,20 +1,44 @@
-use Rattle.std.proofs.Common.{◌≡◌, ℕ, List, length, refl, ap, sym, subst, ◌∙◌}
+use Rattle.std.proofs.Common.{◌≡◌, ℕ, Bool, List, length, refl, ap, sym, subst, ◌∙◌}
+use Rattle.gic_case.specs.Lists.{Lists}
 use Rattle.gic_fixed.specs.Ends.{Ends}
 use Rattle.gic_model.specs.Network.{Network}
 use Rattle.gic_uniform.specs.declared.solve_workspace.SolveWorkspace.{SolveWorkspace}
+use Rattle.gic_varied.specs.Corners.{all_least}
 use Rattle.gic_winding.specs.ElementList.{elements_of}
 use Rattle.gic_grounds.specs.declared.nets.GroundNets.{GroundNets}
 use Rattle.gic_grounds.specs.declared.unit.TheConstants.{MOST_UNITS}
 use Rattle.gic_grounds.specs.declared.varied.VariedPotentials.{VariedPotentials}
-use Rattle.gic_grounds.specs.Lifted.{CanSolve, HasReferenceSpace}
+use Rattle.gic_grounds.specs.declared.workspace.VariedWorkspace.{VariedWorkspace}
+use Rattle.gic_grounds.specs.Corner.{is_most_at}
+use Rattle.gic_grounds.specs.Lifted.{CanSolve, CanSolveBoth, StillSolves, HasReferenceSpace, AreBothLifted}
+use Rattle.gic_grounds.specs.Modest.{AreModestNetworks}
+use Rattle.gic_grounds.specs.Tolerated.{AreNetsFor}
+use Rattle.gic_grounds.specs.Varied.{IsReadyToVary, HasCornerSpace}
 use Rattle.gic_grounds.specs.Varying.{AreVariedOf}
+use Rattle.gic_grounds.proofs.BothNets.{recounted_both, both_still, the_nets, together_again}
 use Rattle.gic_grounds.proofs.workspace.VariedWorkspace.refer.Goals as goal
 
--- what can be solved of so many nodes and elements, of as many that are counted otherwise
-recounted : (nodes count n m : ℕ) (nets : GroundNets) (solving : SolveWorkspace) → n ≡ nodes → m ≡ count →
-    CanSolve nodes count nets solving → CanSolve n m nets solving
-recounted nodes count n m nets solving e f h =
-    subst (λ (k : ℕ). CanSolve k m nets solving) (sym e) (subst (λ (k : ℕ). CanSolve nodes k nets solving) (sym f) h)
+-- both nets can be solved after both references were
+after_references : (case : Lists) (w : VariedWorkspace) (one two : SolveWorkspace) → IsReadyToVary case w →
+    StillSolves w.elements.nodes (length w.elements.list) w.solving one → StillSolves w.elements.nodes (length w.elements.list) one two →
+    CanSolveBoth (elements_of case).nodes (length (elements_of case).list) w.nets two
+after_references case w one two ready first second =
+    let network = elements_of case in
+    let nodes = ap (λ (n : Network). n.nodes) ready.has_space.elements in
+    let count = ap (λ (n : Network). length n.list) ready.has_space.elements in
+    both_still network.nodes (length network.list) w.elements.nodes (length w.elements.list) w.nets one two nodes count second
+    (both_still network.nodes (length network.list) w.elements.nodes (length w.elements.list) w.nets w.solving one nodes count first
+    ready.can_solve)
+
+-- the workspace's own corner is the one with all grounds at their least
+at_least : (case : Lists) (w : VariedWorkspace) (nets : GroundNets) (varied : VariedPotentials) → IsReadyToVary case w →
+    AreBothLifted nets (is_most_at w.all_least) varied → AreBothLifted nets all_least varied
+at_least case w nets varied ready = subst (λ (marks : List Bool). AreBothLifted nets (is_most_at marks) varied) ready.has_space.least_corner
+
+-- and of nets that are put together again of both
+moved : (nodes count : ℕ) (nets : GroundNets) (modest : AreModestNetworks nets.least.network nets.most.network) (solving : SolveWorkspace) →
+    CanSolveBoth nodes count nets solving → CanSolveBoth nodes count (the_nets nets.least nets.most modest) solving
+moved nodes count nets modest solving can = record { least = can.least; most = can.most }
 
 -- in units there are as many intervals
 in_units_space : (nodes : ℕ) (varied : VariedPotentials) (reference : List Ends) → AreVariedOf nodes varied → length reference ≡ length varied.reference →
@@ -27,8 +51,14 @@ in_units_space nodes varied reference h same = record {
 
 pub solve_reference-requires-clause-ready : goal.solve_reference-requires-clause-ready
 solve_reference-requires-clause-ready c =
-    subst (λ (n : Network). CanSolve n.nodes (length n.list) c.args.self.now.nets c.args.self.now.solving)
-    (sym c.requires.ready.has_space.elements) c.requires.ready.can_solve
+    subst (λ (n : Network). CanSolve n.nodes (length n.list) c.args.self.now.nets.least c.args.self.now.solving)
+    (sym c.requires.ready.has_space.elements) c.requires.ready.can_solve.least
+
+pub solve_reference-requires-2-clause-ready : goal.solve_reference-requires-2-clause-ready
+solve_reference-requires-2-clause-ready c =
+    c.solve_reference.ensures.still c.args.self.now.nets.least
+    (subst (λ (n : Network). CanSolve n.nodes (length n.list) c.args.self.now.nets.least c.args.self.now.solving)
+    (sym c.requires.ready.has_space.elements) c.requires.ready.can_solve.least)
 
 pub solve_reference-requires-clause-space : goal.solve_reference-requires-clause-space
 solve_reference-requires-clause-space c =
@@ -51,7 +81,7 @@ returns-clause-referred c quiet_north quiet_east = record {
     tight = c.solve_reference.ensures.solved.tight;
     rounded = c.lift_both.ensures.reference ∙ c.in_units.ensures.rounded;
     own = c.solve_reference.ensures.solved.own;
-    lifted = c.lift_both.ensures.lifted;
+    lifted = at_least c.args.case.now c.args.self.now _ c.lift_both.new.out c.requires.ready c.lift_both.ensures.lifted;
   };
   in_east = record {
     limit = c.within_limit-2.ensures;
@@ -60,7 +90,7 @@ returns-clause-referred c quiet_north quiet_east = record {
     tight = c.solve_reference-2.ensures.solved.tight;
     rounded = c.lift_both-2.ensures.reference ∙ c.in_units-2.ensures.rounded;
     own = c.solve_reference-2.ensures.solved.own;
-    lifted = c.lift_both-2.ensures.lifted;
+    lifted = at_least c.args.case.now c.args.self.now _ c.lift_both-2.new.out c.requires.ready c.lift_both-2.ensures.lifted;
   };
   least_unit = c.potential_unit-unit.ensures.least;
 }
@@ -74,19 +104,16 @@ returns-clause-references c = record {
   own_east = c.solve_reference-2.ensures.solved.own_within;
 }
 
--- how many nodes and elements there are
-nodes_are : (c : goal.After-lift_both-2) → c.args.self.now.elements.nodes ≡ (elements_of c.args.case.now).nodes
-nodes_are c = ap (λ (n : Network). n.nodes) c.requires.ready.has_space.elements
-
-count_is : (c : goal.After-lift_both-2) → length c.args.self.now.elements.list ≡ length (elements_of c.args.case.now).list
-count_is c = ap (λ (n : Network). length n.list) c.requires.ready.has_space.elements
-
 pub lift_both-requires-clause-ready : goal.lift_both-requires-clause-ready
 lift_both-requires-clause-ready c =
-    recounted c.args.self.now.elements.nodes (length c.args.self.now.elements.list) _ _ c.args.self.now.nets c.solve_reference-2.new.solving
-    (c.in_units.ensures.count ∙ c.solve_reference.ensures.space.varied_count.reference_count)
-    (c.requires.ready.has_space.adjoint_space.volt_count ∙ sym (ap (λ (n : Network). length n.list) c.requires.ready.has_space.elements))
-    c.solve_reference-2.ensures.ready
+    let w = c.args.self.now in
+    let space = c.requires.ready.has_space in
+    let nodes = ap (λ (n : Network). n.nodes) space.elements in
+    recounted_both (elements_of c.args.case.now).nodes (length (elements_of c.args.case.now).list) _ _ _ c.solve_reference-2.new.solving
+    (c.in_units.ensures.count ∙ c.solve_reference.ensures.space.varied_count.reference_count ∙ nodes) space.adjoint_space.volt_count
+    (moved _ _ w.nets _ c.solve_reference-2.new.solving
+    (after_references c.args.case.now w c.solve_reference.new.solving c.solve_reference-2.new.solving c.requires.ready
+    c.solve_reference.ensures.still c.solve_reference-2.ensures.still))
 
 pub lift_both-requires-clause-units : goal.lift_both-requires-clause-units
 lift_both-requires-clause-units c = c.in_units.ensures.within MOST_UNITS c.potential_unit-unit.ensures.least.in_north
@@ -98,10 +125,18 @@ lift_both-requires-clause-space c =
 
 pub lift_both-requires-2-clause-ready : goal.lift_both-requires-2-clause-ready
 lift_both-requires-2-clause-ready c =
-    recounted _ _ _ _ c.args.self.now.nets c.lift_both.new.solving
-    (c.in_units-2.ensures.count ∙ c.solve_reference-2.ensures.space.varied_count.reference_count
-    ∙ sym (c.in_units.ensures.count ∙ c.solve_reference.ensures.space.varied_count.reference_count))
-    c.lift_both.ensures.volts c.lift_both.ensures.ready
+    let w = c.args.self.now in
+    let space = c.requires.ready.has_space in
+    let nodes = ap (λ (n : Network). n.nodes) space.elements in
+    recounted_both (elements_of c.args.case.now).nodes (length (elements_of c.args.case.now).list) _ _ _ c.lift_both.new.solving
+    (c.in_units-2.ensures.count ∙ c.solve_reference-2.ensures.space.varied_count.reference_count ∙ nodes)
+    (c.lift_both.ensures.volts ∙ space.adjoint_space.volt_count)
+    (moved _ _ w.nets _ c.lift_both.new.solving
+    (both_still _ _ _ _ w.nets c.solve_reference-2.new.solving c.lift_both.new.solving
+    (c.in_units.ensures.count ∙ c.solve_reference.ensures.space.varied_count.reference_count ∙ nodes) space.adjoint_space.volt_count
+    c.lift_both.ensures.still
+    (after_references c.args.case.now w c.solve_reference.new.solving c.solve_reference-2.new.solving c.requires.ready
+    c.solve_reference.ensures.still c.solve_reference-2.ensures.still)))
 
 pub lift_both-requires-2-clause-units : goal.lift_both-requires-2-clause-units
 lift_both-requires-2-clause-units c = c.in_units-2.ensures.within MOST_UNITS c.potential_unit-unit.ensures.least.in_east
@@ -113,16 +148,22 @@ lift_both-requires-2-clause-space c =
 
 pub returns-clause-ready : goal.returns-clause-ready
 returns-clause-ready c =
+    let w = c.args.self.now in
     let space = c.requires.ready.has_space in
-    let north_nodes = c.in_units.ensures.count ∙ c.solve_reference.ensures.space.varied_count.reference_count ∙ nodes_are c in
-    let east_nodes = c.in_units-2.ensures.count ∙ c.solve_reference-2.ensures.space.varied_count.reference_count ∙ nodes_are c in
+    let nodes = ap (λ (n : Network). n.nodes) space.elements in
+    let north_nodes = c.in_units.ensures.count ∙ c.solve_reference.ensures.space.varied_count.reference_count ∙ nodes in
+    let east_nodes = c.in_units-2.ensures.count ∙ c.solve_reference-2.ensures.space.varied_count.reference_count ∙ nodes in
     let volts = c.lift_both.ensures.volts ∙ space.adjoint_space.volt_count in
-    let can = recounted _ _ _ _ c.args.self.now.nets c.lift_both-2.new.solving (sym east_nodes) (sym volts) c.lift_both-2.ensures.ready in
+    let referred = after_references c.args.case.now w c.solve_reference.new.solving c.solve_reference-2.new.solving c.requires.ready
+    c.solve_reference.ensures.still c.solve_reference-2.ensures.still in
+    let lifted = both_still _ _ _ _ w.nets c.solve_reference-2.new.solving c.lift_both.new.solving north_nodes
+    space.adjoint_space.volt_count c.lift_both.ensures.still referred in
+    let can = both_still _ _ _ _ w.nets c.lift_both.new.solving c.lift_both-2.new.solving east_nodes volts c.lift_both-2.ensures.still lifted in
     record {
       has_space = record {
         elements = space.elements;
-        nets = space.nets;
-        solving = can.has_space;
+        nets = subst (λ (n : GroundNets). AreNetsFor c.args.case.now n) (together_again _ _ w.nets.modest _) space.nets;
+        solving = can.most.has_space;
         adjoint_space = record { volt_count = c.lift_both-2.ensures.volts ∙ volts; adjoint_count = space.adjoint_space.adjoint_count };
         north_space = record {
           own_count = c.solve_reference.ensures.space.own_count;
@@ -132,7 +173,13 @@ returns-clause-ready c =
           own_count = c.solve_reference-2.ensures.space.own_count;
           varied_count = subst (λ n. AreVariedOf n c.lift_both-2.new.out) east_nodes c.lift_both-2.ensures.space;
         };
+        least_corner = space.least_corner;
+        corner_space = subst (λ (n : GroundNets). HasCornerSpace (elements_of c.args.case.now).nodes (length c.args.case.now.transformers) n w.at_corner)
+            (together_again _ _ w.nets.modest _) space.corner_space;
       };
       solvable = c.requires.ready.solvable;
-      can_solve = can;
+      can_solve = record { least = can.least; most = can.most };
     }
+
+pub returns-clause-nets : goal.returns-clause-nets
+returns-clause-nets c = together_again _ _ _ c.args.self.now.nets.modest
