@@ -195,8 +195,12 @@ class First(unittest.TestCase):
         self.is_tidy()
 
     def test_an_early_interrupt_prints_no_traceback(self) -> None:
-        chance = random.Random(1)
-        for moment in [chance.uniform(0, 0.4) for _ in range(40)]:
+        chance, begun = random.Random(1), time.monotonic()
+        self.assertEqual(self.at.call("screen", TMPDIR=str(self.work))[0], 0)
+        whole = time.monotonic() - begun
+        shutil.rmtree(self.shelf)
+        # (a call that is at its end isn't interrupted any more)
+        for moment in [chance.uniform(0, whole / 2) for _ in range(40)]:
             started = self.at.start("screen", TMPDIR=str(self.work))
             time.sleep(moment)
             os.killpg(started.pid, signal.SIGINT)
