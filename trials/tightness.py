@@ -13,9 +13,9 @@ that vary in one part of the network are a fault; so is a current at a corner th
 A row of the table is of the assessed transformers of all random networks or of a case, at one tolerance. It tells how many
 they are; how many intervals to the north and to the east are compared, those where corners are 1 A apart at least, beside
 which rounding to mA doesn't count; how many times as wide as what corners have these are, in the mean and at most; how many
-transformers are `undecided`, and the same of their intervals alone; and for how many of these corners give one and the same other verdict: that of the interval
-which `robust` makes of the two currents, where each lies between its own corners, and that of the worst currents where both
-are those of one corner.
+transformers are `undecided`, and how many times as wide their intervals alone are; and for how many of these corners give one
+and the same other verdict: that of the interval which `robust` makes of the two currents, where each lies between its own
+corners, and that of the worst currents where both are those of one corner.
 """
 
 from __future__ import annotations
