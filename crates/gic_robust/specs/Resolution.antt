@@ -1,4 +1,4 @@
--- How near the first two intervals of a transformer in a right report come to the reference enclosure in exact numbers: within 10 mA, the least width that can be asked for, but at the edges of what a case may say.
+-- How far the first two intervals of a transformer in a right report end beyond the reference enclosure in exact numbers: at most 10 mA, the least width that can be asked for, but at the edges of what a case may say.
 use Rattle.std.specs.Prelude.{ℕ, ◌*◌, ◌≤◌, ◌<◌, length, ℤ, pos, ◌+ℤ◌, ◌-ℤ◌, ◌*ℤ◌, ◌≤ℤ◌}
 use Rattle.gic_base.specs.declared.limits.TheConstants.{MOST_WALK}
 use Rattle.gic_case.specs.Sound.{IsSound}

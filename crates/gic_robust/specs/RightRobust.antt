@@ -21,7 +21,7 @@ pub record AreVariedSolutionsOf (v : Tolerated) (north east : ℕ → ℤ) (to_n
   pub in_north : IsVaried (own_in v) (ranges_in v) north to_north
   pub in_east : IsVaried (own_in v) (ranges_in v) east to_east
 
--- the first two intervals hold the transformer's currents in every such solution and are the certified enclosures that are made of one pair of references; the third is the worst interval of the two, and holds its current for the worst orientation in every two such solutions
+-- the first two intervals hold the transformer's currents in every such solution and lie within the certified enclosures that are made of one pair of references with all grounds at their least; the third is the worst interval of the two, and holds its current for the worst orientation in every two such solutions
 pub record IsRobustRow (v : Tolerated) (north east : ℕ → ℤ) (t : ℕ) (row : ScreenRowView) : Type 0 where
   pub references : References
   pub of_case : AreReferences v north east references

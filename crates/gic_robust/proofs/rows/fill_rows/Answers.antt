@@ -3,7 +3,6 @@ use Rattle.std.proofs.lemmas.List.{length-set}
 use Rattle.gic_effective.proofs.Filled.{filled}
 use Rattle.gic_grounds.specs.declared.workspace.VariedWorkspace.{VariedWorkspace}
 use Rattle.gic_grounds.specs.Tolerated.{tolerated, AreNetsOf}
-use Rattle.gic_grounds.specs.Varied.{KeepsReferences}
 use Rattle.gic_model.specs.Voltages.{number_at}
 use Rattle.gic_worst.specs.Rows.{ScreenRowView, no_screen_row, screen_row_of}
 use Rattle.gic_robust.specs.RightRobust.{IsRobustRow}
