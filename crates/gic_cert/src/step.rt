@@ -22,7 +22,7 @@ pub(crate) fn most_residual(net: &Net, volts: &Volts, guesses: &[i128], node: No
     requires node { node.0 < net.now.network.nodes }
     ensures { result ≡ most_residual_of (standing net.now) (number_at volts.now) (number_at guesses.now) node.0 }
 {
-    let residual = rounded_residual(net, volts, guesses, node);
+    let residual = rounded_residual(net, volts.as_wide(), guesses, node);
     let down = residual.lo.unsigned_abs();
     let up = residual.hi.unsigned_abs();
     down.max(up)

@@ -1,15 +1,15 @@
 -- The potential bound: solutions and settled guesses are less than 2^94 grains from 0.
-use Rattle.std.proofs.Common.{◌∙◌, ◌≡◌, ℕ, ◌+◌, ◌*◌, ◌^◌, ◌<◌, ◌≤◌, Bool, true, false, cond, ◌==◌, List, [], ◌∷◌, ℤ, pos, ◌+ℤ◌, ◌-ℤ◌, ◌*ℤ◌, neg_ℤ, unsigned_abs, arith, refl, ap, mul-le-mul_right}
+use Rattle.std.proofs.Common.{◌∙◌, ◌≡◌, ℕ, ◌+◌, ◌*◌, ◌^◌, ◌<◌, ◌≤◌, Bool, true, false, cond, ◌==◌, List, [], ◌∷◌, ℤ, pos, ◌+ℤ◌, ◌-ℤ◌, ◌*ℤ◌, neg_ℤ, unsigned_abs, arith, refl, ap, mul-le-mul_right, mul-le-mul_left}
 use lib.IntN.{*ℤ-zero}
 use Rattle.std.specs.List.{AllByRecursion}
-use Rattle.std.proofs.lemmas.Int.{ints}
+use Rattle.std.proofs.lemmas.Int.{ints, unsigned_abs-mul}
 use Rattle.std.proofs.lemmas.List.Elements.{All-from_recursion}
-use Rattle.gic_fixed.proofs.Integers.{linear}
+use Rattle.gic_fixed.proofs.Integers.{linear, *ℤ_left_comm}
 use Rattle.gic_model.specs.declared.parts.Element.{Element}
 use Rattle.gic_model.specs.declared.parts.Item.{Item}
 use Rattle.gic_model.specs.Bound.{IsEarthedWithin}
 use Rattle.gic_model.specs.Network.{Network}
-use Rattle.gic_model.specs.Limits.{IsWithinLimits, most_volts, AreVolts}
+use Rattle.gic_model.specs.Limits.{IsWithinLimits, most_volts, most_wide_volts, AreVolts}
 use Rattle.gic_model.specs.Standing.{IsLive, elements_at, value_at, leaving, standing_elements}
 use Rattle.gic_model.specs.Sums.{Placed, sum_of}
 use Rattle.gic_model.specs.Solution.{Solution, IsSolution, IsOhm}
@@ -21,7 +21,8 @@ use Rattle.gic_model.proofs.Certificate.{error_bound}
 use Rattle.gic_model.proofs.Pushes.{no_guess, no_guess-at, settled_at_0, potentials_bounded}
 use Rattle.gic_model.proofs.LiveGuesses.{residual_same}
 use Rattle.gic_enclose.proofs.LinearResidual.{no_volts, residual_sum}
-use Rattle.gic_enclose.specs.Laws.{SolutionsAreBelow, SettledGuessesAreBelow}
+use Rattle.gic_enclose.specs.Drive.{in_grains, most_driven_potential, AreRoughPotentials}
+use Rattle.gic_enclose.specs.Laws.{SolutionsAreBelow, SettledGuessesAreBelow, DrivenSolutionsAreBelow, CaseVoltsDriveWithin}
 
 -- over plain numbers: the limit in grains
 below_limit : (p d : ℕ) → 0 < d → p ≤ 4096 * most_volts * d → 2 ^ 36 * p < 2 ^ 94 * d
@@ -99,3 +100,33 @@ settled_below_within network stands volts x k t few limits earthed volt settled 
 
 pub settled_below : SettledGuessesAreBelow
 settled_below network stands volts x k limits earthed volt settled live = settled_below_within network stands volts x k (2 ^ 18) (omega arith) limits earthed volt settled live
+
+-- over plain numbers: the error of rough potentials and their own size
+below_driven : (e n p : ℤ) (d v : ℕ) → 0 < d → e ≡ pos d *ℤ (pos (2 ^ 36) *ℤ n) -ℤ pos (2 ^ 36) *ℤ p → unsigned_abs e ≤ v * (d * (2 ^ 36 * most_volts)) → v ≤ 4096 → unsigned_abs n ≤ most_wide_volts →
+    2 ^ 36 * unsigned_abs p < most_driven_potential * d
+below_driven e n p d v some is error few most =
+    let all : v * (d * (2 ^ 36 * most_volts)) ≤ 4096 * (d * (2 ^ 36 * most_volts)) = mul-le-mul_right (d * (2 ^ 36 * most_volts)) few in
+    let own : unsigned_abs (pos d *ℤ n) ≡ d * unsigned_abs n = unsigned_abs-mul (pos d) n in
+    let turned : pos d *ℤ (pos (2 ^ 36) *ℤ n) ≡ pos (2 ^ 36) *ℤ (pos d *ℤ n) = *ℤ_left_comm (pos d) (pos (2 ^ 36)) n in
+    let times : d * unsigned_abs n ≤ d * most_wide_volts = mul-le-mul_left d most in
+    plain (pos d *ℤ n) (omega (arith, linear)) (omega (arith, own, times)) (omega (arith, error, all))
+  where
+    plain : (m : ℤ) → e ≡ pos (2 ^ 36) *ℤ m -ℤ pos (2 ^ 36) *ℤ p → unsigned_abs m ≤ d * most_wide_volts → unsigned_abs e ≤ 4096 * (d * (2 ^ 36 * most_volts)) → 2 ^ 36 * unsigned_abs p < most_driven_potential * d
+    plain m e_is m_most e_most = omega (arith, ints, e_is, m_most, e_most, some)
+
+pub driven_below : DrivenSolutionsAreBelow
+driven_below network stands volts s k limits earthed driven solves live =
+    let standing = standing_elements network stands in
+    let x = in_grains driven.potential in
+    let bound = error_bound network.nodes standing (standing_within network stands limits) volts x s earthed.entries (2 ^ 36 * most_volts) solves earthed.bound driven.are_rough.rough k live in
+    below_driven (error s x k) (driven.potential k) (s.potential k) s.denominator (earthed.entries k) solves.denominator_above_0 refl bound (earthed.none_above k) (driven.are_rough.within k live)
+
+-- the voltages of a case: potentials of 0 are rough
+pub case_volts_drive : CaseVoltsDriveWithin
+case_volts_drive network stands volts limit = record {
+  potential = no_guess;
+  are_rough = record {
+    within = λ k live. omega arith;
+    rough = settled_at_0 volts limit (standing_elements network stands);
+  };
+}

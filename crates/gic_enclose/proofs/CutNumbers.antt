@@ -7,9 +7,9 @@ use Rattle.gic_model.specs.Guess.{cut}
 pub cut_apart : (a b : ℤ) → unsigned_abs (cut b -ℤ cut a) ≤ unsigned_abs (b -ℤ a)
 cut_apart a b = omega (arith, ints, clamps)
 
--- it lengthens no number
-pub cut_short : (a : ℤ) → unsigned_abs (cut a) ≤ unsigned_abs a
-cut_short a = omega (arith, ints, clamps)
+-- it takes none further from a number within the limit
+pub cut_towards : (a p : ℤ) → unsigned_abs p ≤ 2 ^ 96 → unsigned_abs (cut a -ℤ p) ≤ unsigned_abs (a -ℤ p)
+cut_towards a p h = omega (arith, ints, clamps, h)
 
 -- what it leaves is within the limit
 pub cut_most : (a : ℤ) → unsigned_abs (cut a) ≤ 2 ^ 96

@@ -7,33 +7,33 @@ use Rattle.gic_fixed.proofs.Enclosures.{≤ℤ-times}
 use Rattle.gic_fixed.specs.Encloses.{Encloses}
 use Rattle.gic_model.specs.Guess.{cut}
 
-cut_low : (a : ℤ) → (cut a ≤ℤ a) ⊎ (cut a ≤ℤ neg_ℤ (pos (2 ^ 94)))
+cut_low : (a : ℤ) → (cut a ≤ℤ a) ⊎ (cut a ≤ℤ neg_ℤ (pos (2 ^ 95)))
 cut_low (pos n) = inl (omega (arith, ints, clamps))
 cut_low (negsuc n) = ⊎_elim (λ few. inl (omega (arith, ints, clamps, few))) (λ many. inr (omega (arith, ints, clamps, many))) (cases_lt n (2 ^ 96))
 
-cut_high : (a : ℤ) → (a ≤ℤ cut a) ⊎ (pos (2 ^ 94) ≤ℤ cut a)
+cut_high : (a : ℤ) → (a ≤ℤ cut a) ⊎ (pos (2 ^ 95) ≤ℤ cut a)
 cut_high (negsuc n) = inl (omega (arith, ints, clamps))
 cut_high (pos n) = ⊎_elim (λ few. inl (omega (arith, ints, clamps, few))) (λ many. inr (omega (arith, ints, clamps, many))) (cases_lt n (2 ^ 96))
 
--- a potential below 2^94 grains
-limit_encloses : (p : ℤ) (d : ℕ) → 2 ^ 36 * unsigned_abs p < 2 ^ 94 * d → Encloses (neg_ℤ (pos (2 ^ 94))) (pos (2 ^ 94)) (pos (2 ^ 36) *ℤ p) d
+-- a potential below 2^95 grains
+limit_encloses : (p : ℤ) (d : ℕ) → 2 ^ 36 * unsigned_abs p < 2 ^ 95 * d → Encloses (neg_ℤ (pos (2 ^ 95))) (pos (2 ^ 95)) (pos (2 ^ 36) *ℤ p) d
 limit_encloses p d h =
     let size = unsigned_abs-mul (pos (2 ^ 36)) p in
     plain (pos (2 ^ 36) *ℤ p) (omega (arith, size, h))
   where
-    plain : (z : ℤ) → unsigned_abs z ≤ 2 ^ 94 * d → Encloses (neg_ℤ (pos (2 ^ 94))) (pos (2 ^ 94)) z d
+    plain : (z : ℤ) → unsigned_abs z ≤ 2 ^ 95 * d → Encloses (neg_ℤ (pos (2 ^ 95))) (pos (2 ^ 95)) z d
     plain z h = record { above_lo = omega (arith, ints, h); below_hi = omega (arith, ints, h) }
 
 -- it stays in an interval whose ends are cut at 2^96
-pub cut_encloses : (lo hi p : ℤ) (d : ℕ) → Encloses lo hi (pos (2 ^ 36) *ℤ p) d → 2 ^ 36 * unsigned_abs p < 2 ^ 94 * d → Encloses (cut lo) (cut hi) (pos (2 ^ 36) *ℤ p) d
+pub cut_encloses : (lo hi p : ℤ) (d : ℕ) → Encloses lo hi (pos (2 ^ 36) *ℤ p) d → 2 ^ 36 * unsigned_abs p < 2 ^ 95 * d → Encloses (cut lo) (cut hi) (pos (2 ^ 36) *ℤ p) d
 cut_encloses lo hi p d h small = record {
   above_lo = ⊎_elim
       (λ a. let t = ≤ℤ-times (cut lo) lo d a in let b = h.above_lo in omega (arith, linear))
-      (λ a. let t = ≤ℤ-times (cut lo) (neg_ℤ (pos (2 ^ 94))) d a in let b = (limit_encloses p d small).above_lo in omega (arith, linear))
+      (λ a. let t = ≤ℤ-times (cut lo) (neg_ℤ (pos (2 ^ 95))) d a in let b = (limit_encloses p d small).above_lo in omega (arith, linear))
       (cut_low lo);
   below_hi = ⊎_elim
       (λ a. let t = ≤ℤ-times hi (cut hi) d a in let b = h.below_hi in omega (arith, linear))
-      (λ a. let t = ≤ℤ-times (pos (2 ^ 94)) (cut hi) d a in let b = (limit_encloses p d small).below_hi in omega (arith, linear))
+      (λ a. let t = ≤ℤ-times (pos (2 ^ 95)) (cut hi) d a in let b = (limit_encloses p d small).below_hi in omega (arith, linear))
       (cut_high hi);
 }
 

@@ -16,4 +16,5 @@ pub mod Rounds
 pub mod Turns
 pub mod Widths
 pub mod Bounds
+pub mod RoughSolutions
 pub mod LinearResidual

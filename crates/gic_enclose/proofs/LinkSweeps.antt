@@ -21,10 +21,6 @@ AreClose vs x xs ys = (k : ℕ) → 8192 * unsigned_abs (guess_at ys (Some k) -�
 abbrev pub most_push : ℕ
 most_push = most_volts * 2 ^ 36
 
--- no voltage is above it, either way
-abbrev pub IsPushWithin : Link → Type 0
-IsPushWithin l = unsigned_abs l.push ≤ most_push
-
 -- the far end is earth or a live node
 abbrev pub IsFarLive : (ℕ → List Link) → Option ℕ → Type 0
 IsFarLive rows None = Unit {0}
@@ -33,13 +29,17 @@ IsFarLive rows (Some i) = IsLiveRow rows i
 -- rows of a network within the limits, whose links end at live nodes
 pub record AreRowsWithin (rows : ℕ → List Link) : Type 0 where
   pub links : ((j : ℕ) → All IsLinkWithin (rows j))
-  pub pushes : ((j : ℕ) → All IsPushWithin (rows j))
   pub ends : (j : ℕ) → All (λ l. IsFarLive rows l.far) (rows j)
+
+-- guesses in grains, none of them beyond the limit, over which no live node's residual is more than what its row's conductance carries at the greatest voltage
+pub record AreRoughRows (rows : ℕ → List Link) (ps : ℕ → ℤ) : Type 0 where
+  pub within : (k : ℕ) → IsLiveRow rows k → unsigned_abs (ps k) ≤ 2 ^ 94
+  pub rough : (k : ℕ) → IsLiveRow rows k → unsigned_abs (residual (rows k) ps k) ≤ most_push * conductance (rows k)
 
 -- at each live node the residual is at most what the row's conductance carries at 2 ^ 18 grains
 abbrev pub AreRowsSettled : (ℕ → List Link) → (ℕ → ℤ) → Type 0
 AreRowsSettled rows xs = (k : ℕ) → IsLiveRow rows k → unsigned_abs (residual (rows k) xs k) ≤ 2 ^ 18 * conductance (rows k)
 
--- how far the guesses reach, where x falls from sweep to sweep
-abbrev pub AreWithin : (ℕ → List Link) → (ℕ → ℕ) → ℕ → (ℕ → ℤ) → Type 0
-AreWithin rows vs x xs = (k : ℕ) → IsLiveRow rows k → 8192 * unsigned_abs (guess_at xs (Some k)) ≤ (2 * (most_push + 6) * 8192 + x) * vs k
+-- how far the guesses xs are from rough ones, where x falls from sweep to sweep
+abbrev pub AreWithin : (ℕ → List Link) → (ℕ → ℕ) → (ps : ℕ → ℤ) → ℕ → (ℕ → ℤ) → Type 0
+AreWithin rows vs ps x xs = (k : ℕ) → IsLiveRow rows k → 8192 * unsigned_abs (guess_at xs (Some k) -ℤ guess_at ps (Some k)) ≤ (2 * (most_push + 6) * 8192 + x) * vs k

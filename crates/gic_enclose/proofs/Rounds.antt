@@ -27,7 +27,7 @@ module _ (standing : List Placed) (x : ℕ → ℤ) (v : ℕ → ℕ) (t k : ℕ
 -- where the uncut interval holds each solution, so does the cut one
 pub certain_round : (standing : List Placed) (volts x : ℕ → ℤ) (v : ℕ → ℕ) (t k : ℕ) (ends : Ends) → IsRoundGuess standing x v t k ends →
     ((s : Solution) → IsSolution standing volts s → IsLive standing k →
-    Encloses (x k -ℤ pos (v k * t)) (x k +ℤ pos (v k * t)) (pos (2 ^ 36) *ℤ s.potential k) s.denominator × (2 ^ 36 * unsigned_abs (s.potential k) < 2 ^ 94 * s.denominator)) →
+    Encloses (x k -ℤ pos (v k * t)) (x k +ℤ pos (v k * t)) (pos (2 ^ 36) *ℤ s.potential k) s.denominator × (2 ^ 36 * unsigned_abs (s.potential k) < 2 ^ 95 * s.denominator)) →
     IsCertainAt standing volts k ends
 certain_round standing volts x v t k ends round holds = record {
   live = λ live s solves.

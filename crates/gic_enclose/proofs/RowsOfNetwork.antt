@@ -1,22 +1,23 @@
 -- A standing network as rows of conductances.
 use Rattle.std.proofs.Common.{◌≡◌, ℕ, ◌*◌, ◌^◌, ◌≤◌, Bool, true, false, cond, ◌||◌, ◌==◌, List, [], ◌∷◌, length, map, All, ℤ, pos, ◌*ℤ◌, neg_ℤ, ◌≤ℤ◌, unsigned_abs, arith, refl, ap, sym, subst, ◌∙◌, inl, inr}
-use Rattle.std.proofs.lemmas.Int.{ints}
+use Rattle.std.proofs.lemmas.Int.{ints, unsigned_abs-mul}
 use Rattle.std.proofs.lemmas.List.Elements.{All-nil, All-cons}
 use Rattle.std.specs.List.{AllByRecursion, filter, list_any}
 use Rattle.gic_model.specs.declared.parts.End.{End}
 use Rattle.gic_model.specs.declared.parts.End.TheVariants.{Node, Earth}
 use Rattle.gic_model.specs.declared.parts.Item.{Item}
 use Rattle.gic_model.specs.Network.{Network, ends_at}
-use Rattle.gic_model.specs.Limits.{IsWithinLimits, IsElementWithin, AreVolts}
+use Rattle.gic_model.specs.Limits.{IsWithinLimits, IsElementWithin, most_volts}
 use Rattle.gic_model.specs.Standing.{standing_elements, is_live, IsLive, elements_at, other_end, leaving}
 use Rattle.gic_model.specs.Sums.{Placed}
 use Rattle.gic_model.specs.Guess.{residual as residual_of, IsSettledAt}
 use Rattle.gic_model.proofs.Members.{kept, some_kept}
 use Rattle.gic_model.proofs.Ends.{standing_within, IsLiveEnd, others_live, within_at}
 use Rattle.gic_enclose.proofs.Links.{Link, IsLiveRow, IsLinkWithin, AreRowsBound, residual, conductance}
-use Rattle.gic_enclose.proofs.LinkSweeps.{IsRowSweep, IsRowTarget, AreRowsWithin, IsPushWithin, IsFarLive, most_push}
+use Rattle.gic_enclose.proofs.LinkSweeps.{IsRowSweep, IsRowTarget, AreRowsWithin, AreRoughRows, IsFarLive, most_push}
 use Rattle.gic_sweep.specs.Sweep.{IsSweep, IsTarget}
 use Rattle.gic_bound.specs.Entries.{IsBoundWithin}
+use Rattle.gic_enclose.specs.Drive.{in_grains, AreRoughPotentials}
 use Rattle.gic_enclose.proofs.LinksOfElements.{far_of, link_of, links_at, length_is, denominator_is, diagonal_is, conductance_is, row_sum_is, residual_is}
 
 none_kept : {X : Type 0} (test : X → Bool) (xs : List X) → list_any test xs ≡ false → length (filter test xs) ≡ 0
@@ -34,13 +35,6 @@ none_kept test (x ∷ xs) any = by (none_kept test xs) (test x) refl
 each_link : (P : Link → Type 0) (volts : ℕ → ℤ) (k : ℕ) (ps : List Placed) → AllByRecursion (λ p. P (link_of volts k p)) ps → All P (map (link_of volts k) ps)
 each_link P volts k [] h = All-nil P
 each_link P volts k (p ∷ ps) h = All-cons P (link_of volts k p) (map (link_of volts k) ps) h.0 (each_link P volts k ps h.1)
-
-leaving_abs : (k : ℕ) (p : Placed) (z : ℤ) → unsigned_abs (leaving k p.1 z) ≡ unsigned_abs z
-leaving_abs k p z = by (p.1.from.0 == k)
-  where
-    by : (b : Bool) → unsigned_abs (cond b z (neg_ℤ z)) ≡ unsigned_abs z
-    by true = refl
-    by false = omega (arith, ints)
 
 module _ (network : Network) (stands : Item → Bool) (volts : ℕ → ℤ) (limits : IsWithinLimits network) where
   abbrev pub standing : List Placed
@@ -78,10 +72,9 @@ module _ (network : Network) (stands : Item → Bool) (volts : ℕ → ℤ) (lim
       by false is = is
       by true is = absurd (omega (arith, live_row k is, none))
 
-  pub fits : (volt : AreVolts volts) → AreRowsWithin rows
-  fits volt = record {
+  pub fits : AreRowsWithin rows
+  fits = record {
     links = λ k. each_link IsLinkWithin volts k (elements_at standing k) (links k (elements_at standing k) (each_at k));
-    pushes = λ k. each_link IsPushWithin volts k (elements_at standing k) (pushes k (elements_at standing k));
     ends = λ k. each_link (λ l. IsFarLive rows l.far) volts k (elements_at standing k) (far k (elements_at standing k) (others_live standing k));
   }
     where
@@ -91,13 +84,6 @@ module _ (network : Network) (stands : Item → Bool) (volts : ℕ → ℤ) (lim
           let three : p.1.times ≤ 3 = elim h.0.one_or_three [ inl one ↦ omega arith | inr three ↦ omega arith ] in
           let some : 1 ≤ p.1.times = elim h.0.one_or_three [ inl one ↦ omega arith | inr three ↦ omega arith ] in
           (record { resistance_least = h.0.least_ohm; resistance_most = h.0.most_ohm; numerator_least = omega arith; numerator_most = omega arith }, links k ps h.1)
-
-      push : (k : ℕ) (p : Placed) → unsigned_abs (leaving k p.1 (pos (2 ^ 36) *ℤ volts p.0)) ≤ most_push
-      push k p = let v = volt p.0 in omega (arith, ints, leaving_abs k p (pos (2 ^ 36) *ℤ volts p.0))
-
-      pushes : (k : ℕ) (ps : List Placed) → AllByRecursion (λ p. IsPushWithin (link_of volts k p)) ps
-      pushes k [] = tt
-      pushes k (p ∷ ps) = (push k p, pushes k ps)
 
       one_far : (e : End) → IsLiveEnd (is_live standing) e → IsFarLive rows (far_of e)
       one_far (Node m) live = live_row m.0 live
@@ -125,6 +111,21 @@ module _ (network : Network) (stands : Item → Bool) (volts : ℕ → ℤ) (lim
       let whole = residual_row x k in
       let scaled : 2 ^ 20 * unsigned_abs (residual_of standing volts x k) ≤ 2 ^ 20 * (t * g.0) = omega (arith, ints, whole, ap (λ n. t * n) g.2, h) in
       subst (λ (n : ℕ). unsigned_abs (residual_of standing volts x k) ≤ t * n) (sym size) (omega (arith, scaled))
+
+  pub rough : (potential : ℕ → ℤ) → AreRoughPotentials standing volts potential → AreRoughRows rows (in_grains potential)
+  rough potential are_rough = record {
+    within = λ k some.
+        let most = are_rough.within k (row_live k some) in
+        let size = unsigned_abs-mul (pos (2 ^ 36)) (potential k) in
+        omega (arith, most, size);
+    rough = λ k some.
+        let g = conductance_is volts k (elements_at standing k) in
+        let whole = residual_row (in_grains potential) k in
+        let most : unsigned_abs (residual_of standing volts (in_grains potential) k) ≤ 2 ^ 36 * most_volts * g.0 = omega (arith, ints, are_rough.rough k (row_live k some), ap (λ z. 2 ^ 36 * most_volts * unsigned_abs z) g.1) in
+        let times : most_push * conductance (rows k) ≡ most_push * (2 ^ 20 * g.0) = ap (λ n. most_push * n) g.2 in
+        let size = unsigned_abs-mul (pos (2 ^ 20)) (residual_of standing volts (in_grains potential) k) in
+        omega (arith, ap unsigned_abs whole, size, most, times);
+  }
 
   target : (x : ℕ → ℤ) (k : ℕ) (t : ℤ) → IsTarget standing volts x k t → IsRowTarget (rows k) x k t
   target x k t h =

@@ -1,3 +1,4 @@
+pub mod Drive
 pub mod Near
 pub mod Ends
 pub mod Certain

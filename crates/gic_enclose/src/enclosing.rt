@@ -6,20 +6,20 @@ ghost use Rattle.gic_model.specs.Standing.{IsLive};
 ghost use Rattle.gic_model.specs.Voltages.{number_at};
 ghost use Rattle.gic_model.specs.Guess.{most_guess, IsSettled, IsSettledWithin, cut};
 ghost use Rattle.gic_net.specs.Net.{standing};
-ghost use Rattle.gic_bound.specs.Entries.{IsBoundWithin};
+ghost use Rattle.gic_enclose.specs.Drive.{CanEnclose};
 ghost use Rattle.gic_enclose.specs.Ends.{potential_ends, low_at, high_at};
 ghost use Rattle.gic_fixed.specs.Ends.{ends_of};
 ghost use Rattle.gic_enclose.specs.Together.{BelongTogether};
 ghost use Rattle.gic_enclose.specs.Certain.{AreCertain, AreTight, IsNarrow};
 ghost use Rattle.gic_enclose.specs.Round.{IsRoundGuess};
 
-use crate::laws::potential_bound_law;
+use crate::laws::drive_law;
 use crate::potentials::Potentials;
 use gic_base::NodeId;
 use gic_bound::BoundVector;
 use gic_fixed::Interval;
 use gic_model::laws::certificate_law;
-use gic_model::{Volts, cut_guess};
+use gic_model::{WideVolts, cut_guess};
 use gic_net::Net;
 use gic_sweep::Solver;
 
@@ -87,12 +87,18 @@ fn interval_at(
 }
 
 /// The certificate: makes the interval at each live node one that holds the node's potential in every solution,
-/// whatever the guesses are, and that at each dead node the point 0. The vector is a bound vector of the net
-/// within `MOST_WALK`; voltages, guesses, vector and potentials are those of the net's elements and nodes. The
+/// whatever the guesses are, and that at each dead node the point 0. The voltages drive no potential far, and the vector is
+/// a bound vector of the net within `MOST_WALK`; voltages, guesses, vector and potentials are those of the net's elements and nodes. The
 /// nearer the guesses are to being settled, the narrower are the intervals.
-pub fn enclose(net: &Net, volts: &Volts, solver: &Solver, bound: &BoundVector, out: &mut Potentials)
+pub fn enclose_wide(
+    net: &Net,
+    volts: &WideVolts,
+    solver: &Solver,
+    bound: &BoundVector,
+    out: &mut Potentials,
+)
     requires together { BelongTogether net.now.network volts.now solver.now bound.now out.old }
-    requires bound { IsBoundWithin (standing net.now) MOST_WALK (slice_index bound.now) }
+    requires can { CanEnclose (standing net.now) (number_at volts.now) (slice_index bound.now) }
     ensures certain { AreCertain (standing net.now) (number_at volts.now) out.new }
 
     // Where the guesses are settled within 2^29 grains, no interval is wider than 2^43 grains, which are 128 nanovolts.
@@ -110,8 +116,7 @@ pub fn enclose(net: &Net, volts: &Volts, solver: &Solver, bound: &BoundVector, o
     ensures same_length { length out.new ≡ length out.old }
 {
     certificate_law();
-    potential_bound_law();
-    volts.within_limit();
+    drive_law();
     net.within_limits();
     let reach = out.reach(net, volts, solver);
     for node in 0..net.nodes() {

@@ -2,6 +2,7 @@
 //! and convergence of the Jacobi iteration, proved.
 #![tactic(auto)]
 
+mod case_volts;
 mod enclosing;
 pub mod laws;
 mod phases;
@@ -9,7 +10,8 @@ mod potentials;
 mod settling;
 mod solving;
 
-pub use enclosing::enclose;
+pub use case_volts::{enclose, settle};
+pub use enclosing::enclose_wide;
 pub use potentials::Potentials;
-pub use settling::settle;
-pub use solving::{MOST_TICKS, solve};
+pub use settling::settle_wide;
+pub use solving::{MOST_TICKS, solve_wide};

@@ -1,7 +1,7 @@
 //! One interval for each node.
 use gic_base::{NodeId, OutOfMemory};
 use gic_fixed::Interval;
-use gic_model::Volts;
+use gic_model::WideVolts;
 use gic_net::Net;
 use gic_sweep::{Residuals, Solver, reach};
 use std::alloc::Global;
@@ -79,7 +79,7 @@ impl Potentials {
 
     /// The grains within which the guesses are settled, as their residuals show, and hardly more than those within
     /// which they are settled indeed.
-    pub(crate) fn reach(&mut self, net: &Net, volts: &Volts, solver: &Solver) -> u128
+    pub(crate) fn reach(&mut self, net: &Net, volts: &WideVolts, solver: &Solver) -> u128
         requires volts { length volts.now ≡ length net.now.network.list }
         requires nodes { length solver.now ≡ net.now.network.nodes }
         requires space { length self.old ≡ net.now.network.nodes }

@@ -1,5 +1,5 @@
 -- The limits of a network and of its voltages.
-use Rattle.std.specs.Prelude.{ℕ, ◌≡◌, ◌≤◌, ◌<◌, ◌⊎◌, false, length, ℤ, unsigned_abs}
+use Rattle.std.specs.Prelude.{ℕ, ◌≡◌, ◌≤◌, ◌<◌, ◌^◌, ◌⊎◌, false, length, ℤ, unsigned_abs}
 use Rattle.std.specs.List.{AllByRecursion, count_by}
 use Rattle.gic_base.specs.declared.limits.TheConstants.{MOST_NODES, MOST_ELEMENTS, MOST_AT_A_NODE}
 use Rattle.gic_model.specs.declared.parts.End.{End}
@@ -14,6 +14,14 @@ most_volts = 60000000000000
 -- no voltage is above the greatest, either way
 abbrev pub AreVolts : (ℕ → ℤ) → Type 0
 AreVolts volts = (place : ℕ) → unsigned_abs (volts place) ≤ most_volts
+
+-- the greatest voltage in nanovolts for which a network is solved, either way: some 5000 times as great
+abbrev pub most_wide_volts : ℕ
+most_wide_volts = 2 ^ 58
+
+-- no voltage is above this, either way
+abbrev pub AreWideVolts : (ℕ → ℤ) → Type 0
+AreWideVolts volts = (place : ℕ) → unsigned_abs (volts place) ≤ most_wide_volts
 
 -- an end is one of the nodes, or earth
 abbrev pub IsEndWithin : ℕ → End → Type 0

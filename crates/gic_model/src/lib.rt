@@ -6,8 +6,10 @@ pub mod guess;
 pub mod laws;
 pub mod parts;
 pub mod volts;
+pub mod wide_volts;
 
 pub use elements::Elements;
 pub use guess::{MOST_GUESS, cut_guess};
 pub use parts::{Element, End, Item, Role, Switching};
 pub use volts::Volts;
+pub use wide_volts::WideVolts;

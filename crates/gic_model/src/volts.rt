@@ -1,5 +1,6 @@
 //! The voltages of the elements.
 use crate::elements::Elements;
+use crate::wide_volts::WideVolts;
 use gic_base::{ElementId, OutOfMemory};
 use std::alloc::Global;
 use std::marker::Model;
@@ -8,7 +9,7 @@ use std::marker::Model;
 /// It drives current from the element's `from` to its `to`.
 #[derive(Drop)]
 pub struct Volts {
-    list: Vec<i64>,
+    wide: WideVolts,
 }
 
 impl Model for Volts {
@@ -18,9 +19,9 @@ impl Model for Volts {
 
     ghost Value = { List ℤ };
 
-    ghost view = { λ v. v.list.items };
+    ghost view = { λ v. v.wide };
 
-    ghost invariant = { λ v. AreVolts (number_at v.list.items) };
+    ghost invariant = { λ v. AreVolts (number_at v.wide) };
 }
 
 impl Volts {
@@ -32,15 +33,22 @@ impl Volts {
     pub fn new(alloc: Global, elements: &Elements) -> Result<Volts, OutOfMemory>
         ensures { IfOk result (λ volts. volts ≡ replicate (length elements.now.list) (pos 0)) }
     {
-        let list = vec![in alloc; 0; elements.list().len()]?;
-        Ok(Volts { list })
+        let wide = WideVolts::new(alloc, elements)?;
+        Ok(Volts { wide })
     }
 
     /// No voltage is beyond the limit. The call computes nothing: it brings this fact to where it stands.
     pub fn within_limit(&self)
         ensures { AreVolts (number_at self.now) }
     {
-        let _ = &self.list;
+        let _ = &self.wide;
+    }
+
+    /// The same voltages, for whoever takes greater ones too.
+    pub fn as_wide(&self) -> &WideVolts
+        ensures { result.now ≡ self.now }
+    {
+        &self.wide
     }
 
     /// The voltage of an element, in nanovolts.
@@ -49,7 +57,7 @@ impl Volts {
         ensures value { result ≡ number_at self.now element.0 }
         ensures limit { AreVolts (number_at self.now) }
     {
-        self.list[element.0 as usize]
+        self.wide.get(element)
     }
 
     /// Changes the voltage of this element alone.
@@ -58,6 +66,6 @@ impl Volts {
         requires limit { unsigned_abs nanovolts ≤ most_volts }
         ensures { self.new ≡ slice_set self.old element.0 nanovolts }
     {
-        self.list[element.0 as usize] = nanovolts;
+        self.wide.set(element, nanovolts);
     }
 }

@@ -11,9 +11,9 @@ use Rattle.gic_model.specs.Limits.{IsElementWithin}
 use Rattle.gic_model.specs.Standing.{leaving, value_at}
 use Rattle.gic_model.specs.Guess.{part_times_ohms}
 
-pub product_small : (m : ℕ) (z w : ℤ) → unsigned_abs z ≤ 2 ^ 97 + 2 ^ 82 → w ≡ pos m *ℤ z → unsigned_abs w ≤ m * (2 ^ 97 + 2 ^ 82)
+pub product_small : (m : ℕ) (z w : ℤ) → unsigned_abs z ≤ 2 ^ 97 + 2 ^ 94 → w ≡ pos m *ℤ z → unsigned_abs w ≤ m * (2 ^ 97 + 2 ^ 94)
 product_small m z w q e =
-    let times : m * unsigned_abs z ≤ m * (2 ^ 97 + 2 ^ 82) = mul-le-mul_left m q in
+    let times : m * unsigned_abs z ≤ m * (2 ^ 97 + 2 ^ 94) = mul-le-mul_left m q in
     omega (arith, ap unsigned_abs e, unsigned_abs-mul (pos m) z, times)
 
 leaving_times : (k g : ℕ) (e : Element) (z : ℤ) → leaving k e (pos g *ℤ z) ≡ pos g *ℤ leaving k e z
@@ -31,14 +31,14 @@ part_is volts x k place e from to push d w z fe te pe de we ze =
     ze ∙ ap (leaving k e) (we ∙ *ℤ_assoc (pos 256) (pos (e.times * 1000000)) d ∙ ap (λ (y : ℤ). pos 256 *ℤ (pos (e.times * 1000000) *ℤ y)) inner) ∙
     leaving_times k 256 e (pos (e.times * 1000000) *ℤ (x e.from.0 -ℤ value_at x e.to +ℤ pos (2 ^ 36) *ℤ volts place))
 
-quotient_small : (r c : ℕ) (z : ℤ) → 0 < r → 1 ≤ c → unsigned_abs z ≤ c * r * (2 ^ 85 + 2 ^ 70) → unsigned_abs (floor_div z (pos r)) ≤ c * 2 ^ 86
+quotient_small : (r c : ℕ) (z : ℤ) → 0 < r → 1 ≤ c → unsigned_abs z ≤ c * r * (2 ^ 85 + 2 ^ 82) → unsigned_abs (floor_div z (pos r)) ≤ c * 2 ^ 86
 quotient_small r c (pos a) p one h =
-    let k : a / r * r ≤ c * (2 ^ 85 + 2 ^ 70) * r = omega (arith, h, div-add-mod' a r) in
-    let less : a / r ≤ c * (2 ^ 85 + 2 ^ 70) = le_of_mul-le-mul_right {k = r} k p in
+    let k : a / r * r ≤ c * (2 ^ 85 + 2 ^ 82) * r = omega (arith, h, div-add-mod' a r) in
+    let less : a / r ≤ c * (2 ^ 85 + 2 ^ 82) = le_of_mul-le-mul_right {k = r} k p in
     omega (arith, less)
 quotient_small r c (negsuc a) p one h =
-    let k : a / r * r ≤ c * (2 ^ 85 + 2 ^ 70) * r = omega (arith, h, div-add-mod' a r) in
-    let less : a / r ≤ c * (2 ^ 85 + 2 ^ 70) = le_of_mul-le-mul_right {k = r} k p in
+    let k : a / r * r ≤ c * (2 ^ 85 + 2 ^ 82) * r = omega (arith, h, div-add-mod' a r) in
+    let less : a / r ≤ c * (2 ^ 85 + 2 ^ 82) = le_of_mul-le-mul_right {k = r} k p in
     omega (arith, less)
 
 module _ (nodes : ℕ) (e : Element) (h : IsElementWithin nodes e) where
@@ -64,11 +64,11 @@ module _ (nodes : ℕ) (e : Element) (h : IsElementWithin nodes e) where
       omega (arith, div-add-mod' n e.micro_ohm, three, q)
 
   -- how great a rounded part of a residual can be
-  pub rounded_small : (z : ℤ) → unsigned_abs z ≤ 256 * (e.times * 1000000) * (2 ^ 97 + 2 ^ 82) →
+  pub rounded_small : (z : ℤ) → unsigned_abs z ≤ 256 * (e.times * 1000000) * (2 ^ 97 + 2 ^ 94) →
       IsWithin (div_ceil (e.times * 1000000 * 2 ^ 20) e.micro_ohm * 2 ^ 86) (floor_div z (pos e.micro_ohm)) (ceil_div z (pos e.micro_ohm))
   rounded_small z small =
-      let scaled : unsigned_abs z ≤ div_ceil (e.times * 1000000 * 2 ^ 20) e.micro_ohm * e.micro_ohm * (2 ^ 85 + 2 ^ 70) = omega (arith, ceil_ge, small) in
-      let turned : unsigned_abs (neg_ℤ z) ≤ div_ceil (e.times * 1000000 * 2 ^ 20) e.micro_ohm * e.micro_ohm * (2 ^ 85 + 2 ^ 70) = omega (arith, ints, scaled) in
+      let scaled : unsigned_abs z ≤ div_ceil (e.times * 1000000 * 2 ^ 20) e.micro_ohm * e.micro_ohm * (2 ^ 85 + 2 ^ 82) = omega (arith, ceil_ge, small) in
+      let turned : unsigned_abs (neg_ℤ z) ≤ div_ceil (e.times * 1000000 * 2 ^ 20) e.micro_ohm * e.micro_ohm * (2 ^ 85 + 2 ^ 82) = omega (arith, ints, scaled) in
       let some : 0 < e.micro_ohm = omega (arith, h.least_ohm) in
       record {
         low = quotient_small e.micro_ohm (div_ceil (e.times * 1000000 * 2 ^ 20) e.micro_ohm) z some one_le scaled;

@@ -12,7 +12,7 @@ ghost use Rattle.gic_sweep.specs.Guesses.{AreCut};
 use crate::driving::{drive, in_grains, micro_paths};
 use gic_base::{ElementId, NodeId};
 use gic_fixed::{Divisor, Interval};
-use gic_model::{Element, End, Volts};
+use gic_model::{Element, End, WideVolts};
 
 /// The guess at an end, 0 at earth.
 fn guess_there(guesses: &[i128], end: End) -> i128
@@ -35,7 +35,7 @@ fn weight(times: u8) -> u32
 
 fn product(weight: u32, drive: i128) -> i128
     requires weight { weight ≤ 768000000 }
-    requires drive { unsigned_abs drive ≤ 2 ^ 97 + 2 ^ 82 }
+    requires drive { unsigned_abs drive ≤ 2 ^ 97 + 2 ^ 94 }
     ensures { result ≡ pos weight *ℤ drive }
 {
     weight as i128 * drive
@@ -44,16 +44,16 @@ fn product(weight: u32, drive: i128) -> i128
 /// A drive times 256 times the element's conductance.
 fn weighed(times: u8, drive: i128) -> i128
     requires times { times ≤ 3 }
-    requires drive { unsigned_abs drive ≤ 2 ^ 97 + 2 ^ 82 }
+    requires drive { unsigned_abs drive ≤ 2 ^ 97 + 2 ^ 94 }
     ensures value { result ≡ pos (256 * (times * 1000000)) *ℤ drive }
-    ensures small { unsigned_abs result ≤ 256 * (times * 1000000) * (2 ^ 97 + 2 ^ 82) }
+    ensures small { unsigned_abs result ≤ 256 * (times * 1000000) * (2 ^ 97 + 2 ^ 94) }
 {
     product(weight(times), drive)
 }
 
 /// What leaves the node.
 fn leaving(node: NodeId, element: &Element, flow: i128) -> i128
-    requires { unsigned_abs flow ≤ 768000000 * (2 ^ 97 + 2 ^ 82) }
+    requires { unsigned_abs flow ≤ 768000000 * (2 ^ 97 + 2 ^ 94) }
     ensures value { result ≡ leaving_of node.0 element.now flow }
     ensures small { unsigned_abs result ≡ unsigned_abs flow }
 {
@@ -65,12 +65,18 @@ fn leaving(node: NodeId, element: &Element, flow: i128) -> i128
 }
 
 /// An element's part of the residual at a node in units of 2^-44 nanoampere, times its resistance.
-fn part(volts: &Volts, guesses: &[i128], node: NodeId, place: ElementId, element: &Element) -> i128
+fn part(
+    volts: &WideVolts,
+    guesses: &[i128],
+    node: NodeId,
+    place: ElementId,
+    element: &Element,
+) -> i128
     requires element { IsElementWithin (length guesses.now) element.now }
     requires place { place.0 < length volts.now }
     requires guesses { AreCut (number_at guesses.now) }
     ensures value { result ≡ part_times_ohms (number_at volts.now) (number_at guesses.now) node.0 (place.0, element.now) }
-    ensures small { unsigned_abs result ≤ 256 * (element.now.times * 1000000) * (2 ^ 97 + 2 ^ 82) }
+    ensures small { unsigned_abs result ≤ 256 * (element.now.times * 1000000) * (2 ^ 97 + 2 ^ 94) }
 {
     let from = guesses[element.from.0 as usize];
     let to = guess_there(guesses, element.to);
@@ -81,7 +87,7 @@ fn part(volts: &Volts, guesses: &[i128], node: NodeId, place: ElementId, element
 /// An element's part of the residual at a node in units of 2^-44 nanoampere, rounded down and up.
 #[inline(always)]
 pub(crate) fn current(
-    volts: &Volts,
+    volts: &WideVolts,
     guesses: &[i128],
     node: NodeId,
     place: ElementId,

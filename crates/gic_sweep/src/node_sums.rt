@@ -10,11 +10,11 @@ ghost use Rattle.gic_sweep.specs.Guesses.{AreCut};
 use crate::current::current;
 use gic_base::NodeId;
 use gic_fixed::Interval;
-use gic_model::Volts;
+use gic_model::WideVolts;
 use gic_net::Net;
 
 /// The residual at a node in units of 2^-44 nanoampere, each element's part rounded down and up.
-pub fn rounded_residual(net: &Net, volts: &Volts, guesses: &[i128], node: NodeId) -> Interval
+pub fn rounded_residual(net: &Net, volts: &WideVolts, guesses: &[i128], node: NodeId) -> Interval
     requires volts { length volts.now ≡ length net.now.network.list }
     requires nodes { length guesses.now ≡ net.now.network.nodes }
     requires node { node.0 < net.now.network.nodes }

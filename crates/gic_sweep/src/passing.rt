@@ -9,14 +9,14 @@ ghost use Rattle.gic_sweep.specs.Passes.{part_down, part_up, AreOfNet, IsCarried
 use crate::current::current;
 use crate::sums::{add_ends, clear, share_down, share_up};
 use gic_base::ElementId;
-use gic_model::Volts;
+use gic_model::WideVolts;
 use gic_net::Net;
 
 /// Adds an element's current at both its ends, where it stands.
 #[inline(always)]
 fn add_element(
     net: &Net,
-    volts: &Volts,
+    volts: &WideVolts,
     guesses: &[i128],
     place: ElementId,
     low: &mut [i128],
@@ -45,7 +45,7 @@ fn add_element(
 /// The residuals at all nodes in units of 2^-44 nanoampere, each element's part rounded down in `low` and up in `high`.
 pub(crate) fn residuals_into(
     net: &Net,
-    volts: &Volts,
+    volts: &WideVolts,
     guesses: &[i128],
     low: &mut [i128],
     high: &mut [i128],

@@ -1,7 +1,7 @@
 //! The ends of the intervals that hold the residuals at all nodes.
 use crate::passing::residuals_into;
 use gic_base::{NodeId, OutOfMemory};
-use gic_model::Volts;
+use gic_model::WideVolts;
 use gic_net::Net;
 use std::alloc::Global;
 use std::marker::Model;
@@ -72,7 +72,7 @@ impl Residuals {
     }
 
     /// Makes them those of these guesses, each element's part rounded down in the low ends and up in the high ones.
-    pub(crate) fn find(&mut self, net: &Net, volts: &Volts, guesses: &[i128])
+    pub(crate) fn find(&mut self, net: &Net, volts: &WideVolts, guesses: &[i128])
         requires volts { length volts.now ≡ length net.now.network.list }
         requires nodes { length guesses.now ≡ net.now.network.nodes }
         requires guesses { AreCut (number_at guesses.now) }

@@ -8,7 +8,7 @@ ghost use Rattle.gic_sweep.specs.ResidualEnds.{node_count};
 
 use crate::reaching::reach_between;
 use crate::residuals::Residuals;
-use gic_model::Volts;
+use gic_model::WideVolts;
 use gic_model::laws::rounded_residual_law;
 use gic_net::Net;
 
@@ -19,7 +19,7 @@ const SETTLED: u128 = 1 << 18;
 /// grains. `residuals` is space for them.
 pub(crate) fn are_settled(
     net: &Net,
-    volts: &Volts,
+    volts: &WideVolts,
     guesses: &[i128],
     residuals: &mut Residuals,
 ) -> bool

@@ -7,7 +7,7 @@ use crate::steps::Steps;
 use crate::workspace::Workspace;
 use gic_base::{NodeId, OutOfMemory};
 use gic_fixed::Interval;
-use gic_model::Volts;
+use gic_model::WideVolts;
 use gic_model::laws::rounded_residual_law;
 use gic_net::Net;
 use gic_precondition::RoughSolver;
@@ -114,7 +114,7 @@ impl Solver {
         self.guesses.as_slice()
     }
 
-    fn advance<L: Ledger>(&mut self, net: &Net, volts: &Volts, steps: &mut Steps<L>)
+    fn advance<L: Ledger>(&mut self, net: &Net, volts: &WideVolts, steps: &mut Steps<L>)
         requires volts { length volts.now ≡ length net.now.network.list }
         requires nodes { length self.old ≡ net.now.network.nodes }
         ensures sweep { IsSweep (standing net.now) (number_at volts.now) (number_at self.old) (number_at self.new) }
@@ -134,7 +134,12 @@ impl Solver {
 
     /// Puts guesses in that the rough solver proposes, which ticks once, and hands on how many passes it tells of.
     /// Where it proposes none, no guess is changed and nothing ticks.
-    fn approach<L: Ledger>(&mut self, net: &Net, volts: &Volts, steps: &mut Steps<L>) -> Option<u32>
+    fn approach<L: Ledger>(
+        &mut self,
+        net: &Net,
+        volts: &WideVolts,
+        steps: &mut Steps<L>,
+    ) -> Option<u32>
         requires volts { length volts.now ≡ length net.now.network.list }
         requires nodes { length self.old ≡ net.now.network.nodes }
         ensures same_length { length self.new ≡ length self.old }
@@ -151,7 +156,7 @@ impl Solver {
     }
 
     /// Whether the residuals show that the guesses are settled.
-    fn is_settled(&mut self, net: &Net, volts: &Volts) -> bool
+    fn is_settled(&mut self, net: &Net, volts: &WideVolts) -> bool
         requires volts { length volts.now ≡ length net.now.network.list }
         requires nodes { length self.old ≡ net.now.network.nodes }
         ensures settled { IsTrue result → IsSettled (standing net.now) (number_at volts.now) (number_at self.old) }
@@ -166,7 +171,7 @@ impl Solver {
 /// of the old guess less its old residual over the node's diagonal d, where h is how many standing elements the node
 /// has, and is then cut to its limit. All residuals are those of the old guesses. The guesses at dead nodes stay. The
 /// voltages and the guesses are those of the net's elements and nodes.
-pub fn sweep<L: Ledger>(net: &Net, volts: &Volts, solver: &mut Solver, steps: &mut Steps<L>)
+pub fn sweep<L: Ledger>(net: &Net, volts: &WideVolts, solver: &mut Solver, steps: &mut Steps<L>)
     requires volts { length volts.now ≡ length net.now.network.list }
     requires nodes { length solver.old ≡ net.now.network.nodes }
     ensures sweep { IsSweep (standing net.now) (number_at volts.now) (number_at solver.old) (number_at solver.new) }
@@ -193,7 +198,7 @@ pub struct Improvement {
 /// net's elements and nodes.
 pub fn improve<L: Ledger>(
     net: &Net,
-    volts: &Volts,
+    volts: &WideVolts,
     solver: &mut Solver,
     steps: &mut Steps<L>,
 ) -> Improvement
@@ -226,7 +231,7 @@ pub fn improve<L: Ledger>(
 
 /// Whether the residuals show that the guesses are settled, which is within 2^18 grains, as they do where the guesses are
 /// settled within half of that. The guesses stay; the voltages and the guesses are those of the net's elements and nodes.
-pub fn is_settled(net: &Net, volts: &Volts, solver: &mut Solver) -> bool
+pub fn is_settled(net: &Net, volts: &WideVolts, solver: &mut Solver) -> bool
     requires volts { length volts.now ≡ length net.now.network.list }
     requires nodes { length solver.old ≡ net.now.network.nodes }
     ensures settled { IsTrue result → IsSettled (standing net.now) (number_at volts.now) (number_at solver.old) }
@@ -239,7 +244,7 @@ pub fn is_settled(net: &Net, volts: &Volts, solver: &mut Solver) -> bool
 /// An interval in units of 2^-44 nanoampere that holds the residual of the guesses at a node: the current that leaves
 /// it less the current that enters it. It is at most as wide as the node has standing elements. The voltages and the
 /// guesses are those of the net's elements and nodes.
-pub fn residual(net: &Net, volts: &Volts, solver: &Solver, node: NodeId) -> Interval
+pub fn residual(net: &Net, volts: &WideVolts, solver: &Solver, node: NodeId) -> Interval
     requires volts { length volts.now ≡ length net.now.network.list }
     requires nodes { length solver.now ≡ net.now.network.nodes }
     requires node { node.0 < net.now.network.nodes }
@@ -254,7 +259,7 @@ pub fn residual(net: &Net, volts: &Volts, solver: &Solver, node: NodeId) -> Inte
 
 /// The ends of an interval as `residual` gives it, at each node. The voltages, the guesses and the residuals are those of
 /// the net's elements and nodes.
-pub fn find_residuals(net: &Net, volts: &Volts, solver: &Solver, residuals: &mut Residuals)
+pub fn find_residuals(net: &Net, volts: &WideVolts, solver: &Solver, residuals: &mut Residuals)
     requires volts { length volts.now ≡ length net.now.network.list }
     requires nodes { length solver.now ≡ net.now.network.nodes }
     requires space { node_count residuals.old ≡ net.now.network.nodes }
@@ -269,7 +274,7 @@ pub fn find_residuals(net: &Net, volts: &Volts, solver: &Solver, residuals: &mut
 /// The grains within which the guesses are settled, as their residuals show: for each unit of a bound vector no
 /// solution is further from the guess at a node. They are hardly more than those within which the guesses are settled
 /// indeed. `residuals` is space for the residuals.
-pub fn reach(net: &Net, volts: &Volts, solver: &Solver, residuals: &mut Residuals) -> u128
+pub fn reach(net: &Net, volts: &WideVolts, solver: &Solver, residuals: &mut Residuals) -> u128
     requires volts { length volts.now ≡ length net.now.network.list }
     requires nodes { length solver.now ≡ net.now.network.nodes }
     requires space { node_count residuals.old ≡ net.now.network.nodes }

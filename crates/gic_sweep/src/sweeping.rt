@@ -12,12 +12,12 @@ use crate::node_sums::diagonal;
 use crate::steps::Steps;
 use gic_base::NodeId;
 use gic_model::laws::rounded_residual_law;
-use gic_model::{Volts, cut_guess};
+use gic_model::{WideVolts, cut_guess};
 use gic_net::Net;
 use std::sync::ledger::Ledger;
 
 /// Where a sweep moves a guess to, before the cut, as its residual rounded down tells.
-fn target(net: &Net, volts: &Volts, guesses: &[i128], low: &[i128], node: NodeId) -> i128
+fn target(net: &Net, volts: &WideVolts, guesses: &[i128], low: &[i128], node: NodeId) -> i128
     requires residuals { AreRoundedDown net.now volts.now guesses.now low.now }
     requires node { node.0 < net.now.network.nodes }
     requires live { IsLive (standing net.now) node.0 }
@@ -26,13 +26,12 @@ fn target(net: &Net, volts: &Volts, guesses: &[i128], low: &[i128], node: NodeId
 {
     rounded_residual_law();
     net.within_limits();
-    volts.within_limit();
     let down = fall(low[node.0 as usize], diagonal(net, node));
     guesses[node.0 as usize] - down
 }
 
 /// The new guess at a node.
-fn next_guess(net: &Net, volts: &Volts, guesses: &[i128], low: &[i128], node: NodeId) -> i128
+fn next_guess(net: &Net, volts: &WideVolts, guesses: &[i128], low: &[i128], node: NodeId) -> i128
     requires residuals { AreRoundedDown net.now volts.now guesses.now low.now }
     requires node { node.0 < net.now.network.nodes }
     ensures { IsSweptTo (standing net.now) (number_at volts.now) (number_at guesses.now) node.0 result }
@@ -47,7 +46,7 @@ fn next_guess(net: &Net, volts: &Volts, guesses: &[i128], low: &[i128], node: No
 /// One sweep, from the old guesses and their residuals rounded down, which ticks once.
 pub(crate) fn sweep_from<L: Ledger>(
     net: &Net,
-    volts: &Volts,
+    volts: &WideVolts,
     old: &[i128],
     low: &[i128],
     guesses: &mut Guesses,

@@ -6,7 +6,7 @@ use crate::settling::are_settled;
 use crate::steps::Steps;
 use crate::sweeping::sweep_from;
 use gic_base::OutOfMemory;
-use gic_model::Volts;
+use gic_model::WideVolts;
 use gic_net::Net;
 use gic_precondition::RoughSolver;
 use std::alloc::Global;
@@ -52,7 +52,7 @@ impl Workspace {
     pub(crate) fn sweep<L: Ledger>(
         &mut self,
         net: &Net,
-        volts: &Volts,
+        volts: &WideVolts,
         guesses: &mut Guesses,
         steps: &mut Steps<L>,
     )
@@ -77,7 +77,7 @@ impl Workspace {
     }
 
     /// Finds the residuals of the guesses.
-    pub(crate) fn find_residuals(&mut self, net: &Net, volts: &Volts, guesses: &Guesses)
+    pub(crate) fn find_residuals(&mut self, net: &Net, volts: &WideVolts, guesses: &Guesses)
         requires volts { length volts.now ≡ length net.now.network.list }
         requires nodes { length guesses.now ≡ net.now.network.nodes }
         requires space { self.old ≡ net.now.network.nodes }
@@ -112,7 +112,7 @@ impl Workspace {
 
     /// Whether the residuals show that the guesses are settled, as they do where the guesses are settled within half of
     /// the grains.
-    pub(crate) fn are_settled(&mut self, net: &Net, volts: &Volts, guesses: &Guesses) -> bool
+    pub(crate) fn are_settled(&mut self, net: &Net, volts: &WideVolts, guesses: &Guesses) -> bool
         requires volts { length volts.now ≡ length net.now.network.list }
         requires nodes { length guesses.now ≡ net.now.network.nodes }
         requires space { self.old ≡ net.now.network.nodes }

@@ -7,6 +7,7 @@ ghost use Rattle.gic_model.specs.Voltages.{number_at};
 ghost use Rattle.gic_net.specs.Net.{standing};
 ghost use Rattle.gic_bound.specs.Entries.{IsBoundWithin};
 ghost use Rattle.gic_enclose.specs.Certain.{AreTight};
+ghost use Rattle.gic_enclose.specs.Drive.{CanEnclose};
 ghost use Rattle.gic_enclose.specs.Solved.{IsSolvedWithin};
 ghost use Rattle.gic_enclose.specs.Together.{BelongTogether};
 ghost use Rattle.gic_winding.specs.ElementList.{elements_of};
@@ -16,8 +17,9 @@ ghost use Rattle.gic_uniform.specs.Ready.{IsSolveWorkspaceFor, IsWorkspaceForCas
 use gic_base::OutOfMemory;
 use gic_bound::BoundVector;
 use gic_case::Case;
-use gic_enclose::{Potentials, settle, solve};
-use gic_model::Volts;
+use gic_enclose::laws::drive_law;
+use gic_enclose::{Potentials, settle, solve_wide};
+use gic_model::{Volts, WideVolts};
 use gic_net::{Net, Scratch};
 use gic_stand::{NetworkRefusal, Start, expect_earthed, expect_resolved, find_bound};
 use gic_sweep::{Solver, Steps};
@@ -72,10 +74,10 @@ fn settle_uncounted<L: Ledger>(
     settle(net, volts, vector, solver, &mut steps);
 }
 
-/// Solves the network in these voltages, as `solve` does, and counts none of its steps.
+/// Solves the network in these voltages, as `solve_wide` does, and counts none of its steps.
 fn solve_uncounted<L: Ledger>(
     net: &Net,
-    volts: &Volts,
+    volts: &WideVolts,
     vector: &BoundVector,
     width: u32,
     solver: &mut Solver,
@@ -86,14 +88,14 @@ fn solve_uncounted<L: Ledger>(
     requires parts { blank.parts ≡ L.parts }
     requires some { 0 < blank.parts }
     requires together { BelongTogether net.now.network volts.now solver.old vector.now out.old }
-    requires bound { IsBoundWithin (standing net.now) MOST_WALK (slice_index vector.now) }
+    requires can { CanEnclose (standing net.now) (number_at volts.now) (slice_index vector.now) }
     requires width { 2 ≤ width }
     ensures solved { IsSolvedWithin (standing net.now) (number_at volts.now) width out.new }
     ensures tight { AreTight out.new }
     ensures together { BelongTogether net.now.network volts.now solver.new vector.now out.new }
 {
     let mut steps: Steps<L> = Steps::new(blank);
-    solve(net, volts, vector, width, solver, out, &mut steps);
+    solve_wide(net, volts, vector, width, solver, out, &mut steps);
 }
 
 impl SolveWorkspace {
@@ -162,6 +164,22 @@ impl SolveWorkspace {
         requires width { 2 ≤ width }
         requires space { IsSolveWorkspaceFor net.now.network.nodes self.old }
         requires bound { IsBoundWithin (standing net.now) MOST_WALK (slice_index self.old.vector) }
+        ensures solved { IsSolvedWithin (standing net.now) (number_at volts.now) width self.new.potentials }
+        ensures tight { AreTight self.new.potentials }
+        ensures space { IsSolveWorkspaceFor net.now.network.nodes self.new }
+        ensures rest { self.new ≡ record self.old { solver = self.new.solver; potentials = self.new.potentials } }
+    {
+        drive_law();
+        volts.within_limit();
+        self.solve_wide(net, volts.as_wide(), width);
+    }
+
+    /// The same in voltages that may be greater than those of a case, but drive no potential far. Takes no memory.
+    pub fn solve_wide(&mut self, net: &Net, volts: &WideVolts, width: u32)
+        requires volts { length volts.now ≡ length net.now.network.list }
+        requires width { 2 ≤ width }
+        requires space { IsSolveWorkspaceFor net.now.network.nodes self.old }
+        requires can { CanEnclose (standing net.now) (number_at volts.now) (slice_index self.old.vector) }
         ensures solved { IsSolvedWithin (standing net.now) (number_at volts.now) width self.new.potentials }
         ensures tight { AreTight self.new.potentials }
         ensures space { IsSolveWorkspaceFor net.now.network.nodes self.new }

@@ -3,14 +3,19 @@ ghost use Rattle.std.specs.Prelude.{◌≡◌, ◌<◌, length};
 
 use crate::worked::worked_loop;
 use gic_base::{ElementId, NodeId};
-use gic_model::{Item, Volts};
+use gic_model::{Item, WideVolts};
 use gic_net::Net;
 use gic_sweep::{Improvement, Solver, Steps, improve};
 use std::marker::Brand;
 use std::sync::ledger::{Blank, Ledger};
 use std::test::Fail;
 
-fn improved<L: Ledger>(net: &Net, volts: &Volts, solver: &mut Solver, blank: Blank) -> Improvement
+fn improved<L: Ledger>(
+    net: &Net,
+    volts: &WideVolts,
+    solver: &mut Solver,
+    blank: Blank,
+) -> Improvement
     requires name { blank.name ≡ L.name }
     requires parts { blank.parts ≡ L.parts }
     requires some { 0 < blank.parts }
@@ -24,7 +29,12 @@ fn improved<L: Ledger>(net: &Net, volts: &Volts, solver: &mut Solver, blank: Bla
 
 /// How far rough corrections leave the guess at the bus b from this many nanovolts, in grains; or none, where none was
 /// made.
-fn missed_at_the_bus(net: &Net, volts: &Volts, solver: &mut Solver, nanovolts: i64) -> Option<i128>
+fn missed_at_the_bus(
+    net: &Net,
+    volts: &WideVolts,
+    solver: &mut Solver,
+    nanovolts: i64,
+) -> Option<i128>
     requires volts { length volts.now ≡ length net.now.network.list }
     requires nodes { length solver.old ≡ net.now.network.nodes }
     requires bus { 3 < length solver.old }
@@ -47,7 +57,7 @@ fn is_near(missed: Option<i128>) -> bool {
 fn corrections_follow_a_switching(rt: HostRuntime) -> Result<(), Fail> {
     let elements = worked_loop(rt.alloc())?;
     let mut net = Net::build(rt.alloc(), &elements)?;
-    let mut volts = Volts::new(rt.alloc(), &elements)?;
+    let mut volts = WideVolts::new(rt.alloc(), &elements)?;
     volts.set(ElementId(2), 100_000_000_000);
     let mut solver = Solver::new(rt.alloc(), 4, net.count())?;
     let closed = missed_at_the_bus(&net, &volts, &mut solver, 34_375_000_000);

@@ -99,10 +99,10 @@ fn residual_and_enclosure_at_zero(rt: HostRuntime) -> Result<(), Fail> {
     let mut volts = Volts::new(rt.alloc(), &elements)?;
     volts.set(ElementId(2), 100_000_000_000);
     let solver = Solver::new(rt.alloc(), 4, net.count())?;
-    let at_a = residual(&net, &volts, &solver, NodeId(0));
+    let at_a = residual(&net, volts.as_wide(), &solver, NodeId(0));
     assert_eq!(rt; (at_a.lo, at_a.hi), (0, 0));
     let entering = -100_000_000_000 * (1 << 44);
-    let at_b = residual(&net, &volts, &solver, NodeId(3));
+    let at_b = residual(&net, volts.as_wide(), &solver, NodeId(3));
     assert_eq!(rt; (at_b.lo, at_b.hi), (entering, entering));
     let mut vector = BoundVector::new(rt.alloc(), 4)?;
     bound(&net, &mut vector)?;

@@ -3,7 +3,7 @@ use Rattle.gic_model.specs.Voltages.{number_at}
 use Rattle.gic_net.specs.Net.{standing}
 use Rattle.gic_enclose.specs.Ends.{potential_ends}
 use Rattle.gic_enclose.specs.Round.{IsRoundGuess}
-use Rattle.gic_enclose.proofs.enclosing.enclose.Given as goal
+use Rattle.gic_enclose.proofs.enclosing.enclose_wide.Given as goal
 
 abbrev pub invariant-loop-node : goal.invariant-loop-node
 invariant-loop-node l = record {

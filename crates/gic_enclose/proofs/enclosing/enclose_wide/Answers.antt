@@ -9,7 +9,7 @@ use Rattle.gic_fixed.specs.Ends.{Ends, zero_ends, ends_of}
 use Rattle.gic_enclose.specs.Ends.{potential_ends}
 use Rattle.gic_enclose.specs.Round.{IsRoundGuess}
 use Rattle.gic_enclose.proofs.Rounds.{certain_round, narrow_round, tight_round, middle_round}
-use Rattle.gic_enclose.proofs.enclosing.enclose.Goals as goal
+use Rattle.gic_enclose.proofs.enclosing.enclose_wide.Goals as goal
 
 -- what holds below a place holds below the next one, where the interval there was set
 next_place : (P : ℕ → Ends → Type 0) (old new : List Ends) (n : ℕ) (ends : Ends) → new ≡ slice_set old n ends → n < length old
@@ -55,25 +55,25 @@ returns-clause-certain c k =
     let x = number_at c.args.solver.now in
     let v = slice_index c.args.bound.now in
     let limits = c.within_limits.ensures in
-    let bound = c.requires.bound in
+    let bound = c.requires.can.bound in
     let earthed : IsEarthedWithin (standing net) 4096 = record { entries = v; bound = bound.bound; none_above = bound.none_above } in
     certain_round (standing net) volts x v c.reach-reach.result k (potential_ends c.loop-node.out k) (rounds c k)
     (λ s solves live. (
       c.certificate_law.ensures net.network (stands net) volts x s v c.reach-reach.result k limits solves bound.bound c.reach-reach.ensures.settled live,
-      c.potential_bound_law.ensures.grains net.network (stands net) volts s k limits earthed c.within_limit.ensures solves live,
+      c.drive_law.ensures.below net.network (stands net) volts s k limits earthed c.requires.can.driven solves live,
     ))
 
 pub returns-clause-narrow : goal.returns-clause-narrow
 returns-clause-narrow c settled k =
     let close = c.reach-reach.ensures.close (2 ^ 29) settled in
-    narrow_round (standing c.args.net.now) (number_at c.args.solver.now) (slice_index c.args.bound.now) c.reach-reach.result k (potential_ends c.loop-node.out k) (rounds c k) (c.requires.bound.none_above k) (omega (arith, close))
+    narrow_round (standing c.args.net.now) (number_at c.args.solver.now) (slice_index c.args.bound.now) c.reach-reach.result k (potential_ends c.loop-node.out k) (rounds c k) (c.requires.can.bound.none_above k) (omega (arith, close))
 
 pub returns-clause-tight : goal.returns-clause-tight
 returns-clause-tight c settled k =
     let close = c.reach-reach.ensures.close (2 ^ 18) settled in
-    tight_round (standing c.args.net.now) (number_at c.args.solver.now) (slice_index c.args.bound.now) c.reach-reach.result k (potential_ends c.loop-node.out k) (rounds c k) (c.requires.bound.none_above k) (omega (arith, close))
+    tight_round (standing c.args.net.now) (number_at c.args.solver.now) (slice_index c.args.bound.now) c.reach-reach.result k (potential_ends c.loop-node.out k) (rounds c k) (c.requires.can.bound.none_above k) (omega (arith, close))
 
 pub returns-clause-middle : goal.returns-clause-middle
 returns-clause-middle c settled k live small =
     let close = c.reach-reach.ensures.close (2 ^ 29) settled in
-    middle_round (standing c.args.net.now) (number_at c.args.solver.now) (slice_index c.args.bound.now) c.reach-reach.result k (potential_ends c.loop-node.out k) (rounds c k) (c.requires.bound.none_above k) (omega (arith, close)) live small
+    middle_round (standing c.args.net.now) (number_at c.args.solver.now) (slice_index c.args.bound.now) c.reach-reach.result k (potential_ends c.loop-node.out k) (rounds c k) (c.requires.can.bound.none_above k) (omega (arith, close)) live small
