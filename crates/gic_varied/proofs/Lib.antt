@@ -26,3 +26,6 @@ pub mod LiftsCompared
 pub mod NearProducts
 pub mod NearParts
 pub mod NearEnclosure
+pub mod LiftReach
+pub mod PotentialReach
+pub mod SumsAndSizes

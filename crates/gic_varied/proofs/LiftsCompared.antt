@@ -110,15 +110,15 @@ raised_fall x e s f g i Earth h = absurd (no_way h)
     no_way q = cc
 
 -- a flow by Ohm's law over a height, at any element but a ground
-abbrev IsFlow : (z c : ℕ → ℤ) → Placed → Type 0
+abbrev pub IsFlow : (z c : ℕ → ℤ) → Placed → Type 0
 IsFlow z c p = is_ground p.1 ≡ false → pos p.1.micro_ohm *ℤ c p.0 ≡ pos (micro_paths p) *ℤ (z p.1.from.0 -ℤ value_at z p.1.to)
 
 -- a ground that only brings current to a node lower than earth
-abbrev IsBringing : (z c : ℕ → ℤ) → Placed → Type 0
+abbrev pub IsBringing : (z c : ℕ → ℤ) → Placed → Type 0
 IsBringing z c p = is_ground p.1 ≡ true → z p.1.from.0 <ℤ pos 0 → c p.0 <ℤ pos 0
 
 -- then no live node is lower than earth
-none_lower : (nodes : ℕ) (standing : List Placed) → AllByRecursion (λ p. IsElementWithin nodes p.1) standing → AreEarthed standing → (z c : ℕ → ℤ) →
+pub none_lower : (nodes : ℕ) (standing : List Placed) → AllByRecursion (λ p. IsElementWithin nodes p.1) standing → AreEarthed standing → (z c : ℕ → ℤ) →
     ((k : ℕ) → IsLive standing k → sum_of (λ p. leaving k p.1 (c p.0)) (elements_at standing k) ≡ pos 0) →
     AllByRecursion (λ p. IsFlow z c p × IsBringing z c p) standing → (k : ℕ) → IsLive standing k → pos 0 ≤ℤ z k
 none_lower nodes standing within earthed z c kirchhoff flows = not_below nodes standing within z c kirchhoff down_to earthed
@@ -184,7 +184,7 @@ volt_bound range e high p u inside modest bound is =
     omega (arith, linear)
 
 -- a number below 0 and one that is a multiple of it
-below_from : (n w : ℕ) (t a : ℤ) → 0 < w → pos n *ℤ t ≡ pos w *ℤ a → a <ℤ pos 0 → t <ℤ pos 0
+pub below_from : (n w : ℕ) (t a : ℤ) → 0 < w → pos n *ℤ t ≡ pos w *ℤ a → a <ℤ pos 0 → t <ℤ pos 0
 below_from n w t a some is below = by_lt_z t (pos 0) (λ under. under) (λ more. absurd (never more))
   where
     never : pos 0 ≤ℤ t → ⊥

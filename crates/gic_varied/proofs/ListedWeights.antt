@@ -1,16 +1,18 @@
--- Weights that are listed by their places, and the sum of the currents there.
-use Rattle.std.proofs.Common.{◌≡◌, ℕ, ◌+◌, ◌<◌, Bool, true, false, cond, ◌||◌, ◌==◌, List, [], ◌∷◌, ℤ, pos, ◌+ℤ◌, ◌*ℤ◌, arith, refl, ap, sym, ◌∙◌, eqb-true, eq-eqb, ne_eqb}
+-- Weights that are listed by their places, the sum of the currents there, and what such weights add up to.
+use Rattle.std.proofs.Common.{◌≡◌, ℕ, ◌+◌, ◌*◌, ◌<◌, Bool, true, false, cond, ◌||◌, ◌==◌, List, [], ◌∷◌, ℤ, pos, negsuc, ◌+ℤ◌, ◌*ℤ◌, ◌≤ℤ◌, unsigned_abs, arith, refl, ap, sym, ◌∙◌, eqb-true, eq-eqb, ne_eqb}
 use lib.IntN.{*ℤ_comm, *ℤ-zero}
-use Rattle.std.specs.List.{AllByRecursion, filter, enumerate_from}
+use Rattle.std.specs.List.{AllByRecursion, filter, enumerate_from, sum_by}
+use Rattle.std.proofs.lemmas.List.Sums.{sum_by-cons}
 use Rattle.gic_base.specs.declared.id.ElementId.{ElementId}
-use Rattle.gic_fixed.proofs.Integers.{linear, *ℤ-+ℤ, +ℤ-*ℤ, *ℤ_assoc}
-use Rattle.gic_fixed.proofs.Sums.{sum_of-same, sum_of-+ℤ}
+use Rattle.gic_fixed.proofs.Integers.{linear, *ℤ-+ℤ, +ℤ-*ℤ, *ℤ_assoc, *ℤ-≤ℤ}
+use Rattle.gic_fixed.proofs.Sums.{sum_of-same, sum_of-+ℤ, sum_of-*ℤ, sum_of-pos}
 use Rattle.gic_model.specs.declared.parts.Element.{Element}
 use Rattle.gic_model.specs.declared.parts.Item.{Item}
 use Rattle.gic_model.specs.Network.{Network}
 use Rattle.gic_model.specs.Solution.{Solution}
 use Rattle.gic_model.specs.Standing.{is_standing, standing_elements}
 use Rattle.gic_model.specs.Sums.{Placed, sum_of}
+use Rattle.gic_varied.specs.Reach.{ListedWeightsAddUp}
 use Rattle.gic_varied.specs.Reciprocal.{weights_from, current_by_weights}
 use Rattle.gic_varied.proofs.Tellegen.{if_kept, sum_of_zeros}
 
@@ -100,3 +102,59 @@ listed_count network stands (w ∷ ws) c s none =
     each : (ps : List Placed) → AllByRecursion (λ p. weights_from c (w ∷ ws) p.0 *ℤ s.current p.0 ≡ if_kept (w.0.0 == p.0) (pos c *ℤ (pos w.1 *ℤ s.current p.0)) +ℤ weights_from c ws p.0 *ℤ s.current p.0) ps
     each [] = tt
     each (p ∷ ps) = (term c (w.0.0 == p.0) w.1 (sum_of (λ x. cond (x.0.0 == p.0) (pos x.1) (pos 0)) ws) (s.current p.0), each ps)
+
+-- what the list has at a place
+abbrev listed_at : List (ElementId × ℕ) → ℕ → ℤ
+listed_at windings place = sum_of (λ w. cond (w.0.0 == place) (pos w.1) (pos 0)) windings
+
+listed_not_below_0 : (windings : List (ElementId × ℕ)) (place : ℕ) → pos 0 ≤ℤ listed_at windings place
+listed_not_below_0 [] place = omega (arith, linear)
+listed_not_below_0 (w ∷ ws) place = by (w.0.0 == place) (listed_not_below_0 ws place)
+  where
+    by : (b : Bool) → pos 0 ≤ℤ listed_at ws place → pos 0 ≤ℤ (cond b (pos w.1) (pos 0) +ℤ listed_at ws place)
+    by true rest = omega (arith, linear)
+    by false rest = omega (arith, linear)
+
+kept_at_most : (b : Bool) (n : ℕ) → if_kept b (pos n) ≤ℤ pos n
+kept_at_most true n = omega (arith, linear)
+kept_at_most false n = omega (arith, linear)
+
+-- over the standing elements, where each place of the list counts once at most, it adds up to no more than the list itself
+listed_sum : (network : Network) (stands : Item → Bool) (windings : List (ElementId × ℕ)) →
+    sum_of (λ p. listed_at windings p.0) (standing_elements network stands) ≤ℤ pos (sum_by (λ w. w.1) windings)
+listed_sum network stands [] = let none = sum_of_zeros (standing_elements network stands) in omega (arith, linear)
+listed_sum network stands (w ∷ ws) =
+    let standing = standing_elements network stands in
+    let split = sum_of-+ℤ (λ p. if_kept (w.0.0 == p.0) (pos w.1)) (λ p. listed_at ws p.0) standing in
+    let here = one_place (λ p. stands p.1.item) w.0.0 (λ place. pos w.1) 0 network.list in
+    let first = kept_at_most (is_standing standing w.0.0) w.1 in
+    let rest = listed_sum network stands ws in
+    let all = sum_by-cons (λ x. x.1) w ws in
+    omega (arith, linear)
+
+-- sizes of what is not below 0 add up to its sum
+sizes_sum : (f : Placed → ℤ) → ((p : Placed) → pos 0 ≤ℤ f p) → (ps : List Placed) → pos (sum_by (λ p. unsigned_abs (f p)) ps) ≡ sum_of f ps
+sizes_sum f above ps = sym (sum_of-same f (λ p. pos (unsigned_abs (f p))) ps (each ps) ∙ sum_of-pos (λ p. unsigned_abs (f p)) ps)
+  where
+    own : (z : ℤ) → pos 0 ≤ℤ z → z ≡ pos (unsigned_abs z)
+    own (pos n) h = refl
+    own (negsuc n) h = absurd (omega (arith, linear))
+
+    each : (qs : List Placed) → AllByRecursion (λ p. f p ≡ pos (unsigned_abs (f p))) qs
+    each [] = tt
+    each (p ∷ qs) = (own (f p) (above p), each qs)
+
+pub listed_add_up : ListedWeightsAddUp
+listed_add_up network stands times windings =
+    let standing = standing_elements network stands in
+    let sizes = sizes_sum (λ p. weights_from times windings p.0) (λ p. not_below_0 p.0) standing in
+    let out = sum_of-*ℤ (pos times) (λ p. listed_at windings p.0) standing in
+    let bound : (pos times *ℤ sum_of (λ p. listed_at windings p.0) standing) ≤ℤ pos (times * sum_by (λ w. w.1) windings) =
+    *ℤ-≤ℤ times (sum_of (λ p. listed_at windings p.0) standing) (pos (sum_by (λ w. w.1) windings)) (listed_sum network stands windings) in
+    omega (arith, linear)
+  where
+    not_below_0 : (place : ℕ) → pos 0 ≤ℤ weights_from times windings place
+    not_below_0 place =
+        let scaled = *ℤ-≤ℤ times (pos 0) (listed_at windings place) (listed_not_below_0 windings place) in
+        let none = *ℤ-zero (pos times) in
+        omega (arith, linear)

@@ -25,7 +25,7 @@ no_way : true ≡ false → ⊥
 no_way q = cc
 
 -- a sum that is 0 of terms none of which is above 0 has no term below 0
-each_nothing : {X : Type 0} (f : X → ℤ) (xs : List X) → AllByRecursion (λ x. f x ≤ℤ pos 0) xs → sum_of f xs ≡ pos 0 → AllByRecursion (λ x. f x ≡ pos 0) xs
+pub each_nothing : {X : Type 0} (f : X → ℤ) (xs : List X) → AllByRecursion (λ x. f x ≤ℤ pos 0) xs → sum_of f xs ≡ pos 0 → AllByRecursion (λ x. f x ≡ pos 0) xs
 each_nothing f [] h is = tt
 each_nothing f (x ∷ xs) h is =
     let here = h.0 in

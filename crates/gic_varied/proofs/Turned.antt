@@ -29,7 +29,7 @@ value_turned : (x : ℕ → ℤ) (t : End) → value_at (λ m. neg_ℤ (x m)) t 
 value_turned x (Node m) = refl
 value_turned x Earth = refl
 
-ohm_turned : (volts : ℕ → ℤ) (s : Solution) (p : Placed) → IsOhm volts s p → IsOhm (turned_volts volts) (turned s) p
+pub ohm_turned : (volts : ℕ → ℤ) (s : Solution) (p : Placed) → IsOhm volts s p → IsOhm (turned_volts volts) (turned s) p
 ohm_turned volts s p ohm =
     let w = pos (p.1.times * 1000000) in
     let drive = s.potential p.1.from.0 -ℤ value_at s.potential p.1.to +ℤ pos s.denominator *ℤ volts p.0 in
@@ -46,7 +46,7 @@ leaving_turned k e z = by (e.from.0 == k)
     by true = refl
     by false = refl
 
-kirchhoff_turned : (standing : List Placed) (s : Solution) → ((k : ℕ) → IsLive standing k → sum_of (λ p. leaving k p.1 (s.current p.0)) (elements_at standing k) ≡ pos 0) →
+pub kirchhoff_turned : (standing : List Placed) (s : Solution) → ((k : ℕ) → IsLive standing k → sum_of (λ p. leaving k p.1 (s.current p.0)) (elements_at standing k) ≡ pos 0) →
     (k : ℕ) → IsLive standing k → sum_of (λ p. leaving k p.1 (neg_ℤ (s.current p.0))) (elements_at standing k) ≡ pos 0
 kirchhoff_turned standing s kirchhoff k live =
     sum_of-same (λ p. leaving k p.1 (neg_ℤ (s.current p.0))) (λ p. neg_ℤ (leaving k p.1 (s.current p.0))) (elements_at standing k) (each (elements_at standing k)) ∙

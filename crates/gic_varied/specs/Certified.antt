@@ -54,7 +54,7 @@ GrainsHoldInUnits = (standing : List Placed) (volts : ℕ → ℤ) (unit : ℕ) 
     ((s : Solution) → IsSolution standing volts s → (k : ℕ) → IsLive standing k → Encloses (grains k).low (grains k).high (pos (2 ^ 36) *ℤ s.potential k) s.denominator) →
     HoldPotentials standing volts unit (λ k. in_units unit (grains k))
 
--- the voltages are those of a lift at each ground, over potentials of at most `high`, and 0 elsewhere
+-- the voltages are those of a lift at each ground, over the height of its node, and 0 elsewhere
 abbrev pub AreLiftVolts : List Placed → Ranges → (high : ℕ → ℤ) → (volts : ℕ → ℤ) → Type 0
 AreLiftVolts standing ranges high volts = All (λ p. volts p.0 ≡ (if is_ground p.1 then lift_volt (ranges p.1) (high p.1.from.0) else pos 0)) standing
 

@@ -26,15 +26,15 @@ corner_ohm ranges corner e = if corner e.from.0 then (ranges e).most else (range
 abbrev pub with_corner : Ranges → Corner → Network → Network
 with_corner ranges corner network = with_grounds (corner_ohm ranges corner) network
 
--- how far above 0 a reference's potential at a node counts in the lift that raises: a ground at its least resistance takes more current than any other of its range where the potential is above 0, one at its greatest less where it is below
+-- over which height the lift that raises is made at a node's grounds: at their least resistances how far above 0 the reference's potential may be, since there such a ground takes more from the node than any other of its range would; at their greatest how far below 0 it may be, since there such a ground gives the node less than any other would
 abbrev pub raising_height : Corner → (reference : ℕ → Ends) → ℕ → ℤ
 raising_height corner reference k = if corner k then neg_ℤ (reference k).low else (reference k).high
 
--- and how far below 0 in the lift that lowers
+-- and over which the lift that lowers is: at their least resistances how far below 0 it may be, since there such a ground gives the node more than any other would; at their greatest how far above 0, since there such a ground takes less from it
 abbrev pub lowering_height : Corner → (reference : ℕ → Ends) → ℕ → ℤ
 lowering_height corner reference k = if corner k then (reference k).high else neg_ℤ (reference k).low
 
--- what is known of each corner of the ranges that tolerances give: the network there is within the limits, its grounds are resistances of their ranges, and none is above the greatest
+-- what is known of each corner of the ranges that tolerances give: the network there is within the limits, its grounds have resistances of their ranges, and none is above the greatest
 pub record IsCornerOfRanges (network : Network) (stands : Item → Bool) (ranges : Ranges) (corner : Corner) : Type 0 where
   pub within : IsWithinLimits (with_corner ranges corner network)
   pub in_ranges : AreInRanges ranges (corner_ohm ranges corner) (standing_elements network stands)

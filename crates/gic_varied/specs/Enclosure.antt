@@ -18,7 +18,7 @@ use Rattle.gic_varied.specs.Varied.{IsVaried}
 use Rattle.gic_varied.specs.Reciprocal.{current_by_weights}
 use Rattle.gic_varied.specs.Lifts.{IsLift, IsRaisedAtMost, IsLoweredAtMost}
 
--- the voltage of a lift at a ground of its least resistance, where its node's potential is at most high: (most - least) / least of that, rounded away from 0, and 0 where that is below 0
+-- the voltage of a lift over this height at a ground of this range: (most - least) / least of it, rounded away from 0, and 0 where it is below 0
 abbrev pub lift_volt : Range → (high : ℤ) → ℤ
 lift_volt range high = neg_ℤ (ceil_div (pos (range.most - range.least) *ℤ int_max high (pos 0)) (pos range.least))
 

@@ -13,4 +13,6 @@ pub mod Corners
 pub mod Certified
 pub mod Bounds
 pub mod Near
+pub mod Reach
+pub mod Sizes
 pub mod WorkedGrounds

@@ -6,6 +6,8 @@ ghost use Rattle.gic_varied.specs.Certified.{CertifiedEnclosuresHold, GrainsHold
 ghost use Rattle.gic_varied.specs.Bounds.{TolerancesAreModest, VariedCurrentsAreBounded};
 ghost use Rattle.gic_varied.specs.Enclosure.{EnclosuresHold, ProductsHold, VariedPotentialsHold, LiftVoltsLift};
 ghost use Rattle.gic_varied.specs.Near.{CertifiedEnclosuresAreNear};
+ghost use Rattle.gic_varied.specs.Reach.{LiftsReachNoFurther, PotentialsReachNoFurther, ListedWeightsAddUp};
+ghost use Rattle.gic_varied.specs.Sizes.{SumsGiveSizes};
 ghost use Rattle.gic_varied.specs.Exact.{VariedCurrentsAreInReferenceEnclosure};
 ghost use Rattle.gic_varied.specs.GroundLaws.{OtherGroundsEarthToo, BoundVectorsServeLesserGrounds, LesserGroundsEarthWithin};
 ghost use Rattle.gic_varied.specs.GroundLaws.{RangesStayWithinLimits};
@@ -85,7 +87,7 @@ pub fn any_grounds_law()
     ensures earthed { NetworksAreEarthedAlike }
 {}
 
-/// At each corner of the ranges that tolerances give, the network is within the limits, its grounds are resistances of their
+/// At each corner of the ranges that tolerances give, the network is within the limits, its grounds have resistances of their
 /// ranges, and none is above the greatest.
 pub fn corner_law()
     ensures { CornersAreOfRanges }
@@ -110,4 +112,18 @@ pub fn varied_bound_law()
 /// exact numbers: within a few units times what the field and the weights drive.
 pub fn near_enclosure_law()
     ensures near { CertifiedEnclosuresAreNear }
+{}
+
+/// Where every live node is earthed, no potential is further from 0 than what all voltages add up to; voltages that lift, which
+/// are at grounds alone, give no potential below 0, and none above the greatest of them. Listed weights add up to what the list
+/// adds up to.
+pub fn reach_law()
+    ensures lifts { LiftsReachNoFurther }
+    ensures potentials { PotentialsReachNoFurther }
+    ensures listed { ListedWeightsAddUp }
+{}
+
+/// What the voltages of the field and the weights add up to gives sizes, by which an enclosure's slack is known.
+pub fn sizes_law()
+    ensures { SumsGiveSizes }
 {}
