@@ -9,6 +9,7 @@ use Rattle.gic_grounds.specs.declared.nets.GroundNets.{GroundNets}
 use Rattle.gic_grounds.specs.Corner.{IsSomeCornerNet}
 use Rattle.gic_grounds.specs.Lifted.{CanSolveBoth, StillSolves}
 use Rattle.gic_grounds.specs.Modest.{AreModestNetworks}
+use Rattle.gic_grounds.specs.Nets.{AreSomeExtremes}
 
 -- what can be solved of so many nodes and elements, of as many that are counted otherwise
 pub recounted_both : (nodes count n m : ℕ) (nets : GroundNets) (solving : SolveWorkspace) → n ≡ nodes → m ≡ count →
@@ -22,7 +23,7 @@ pub both_still : (nodes count n m : ℕ) (nets : GroundNets) (before after : Sol
 both_still nodes count n m nets before after e f still can =
     let counted = recounted_both nodes count n m nets before e f can in
     recounted_both n m nodes count nets after (sym e) (sym f)
-    (record { least = still nets.least counted.least; most = still nets.most counted.most })
+    (record { extremes = counted.extremes; least = still nets.least counted.least; most = still nets.most counted.most })
 
 -- a net that is the one with the least grounds is at some corner
 pub least_at_corner : (nets : GroundNets) (net : NetView) → net ≡ nets.least → IsSomeCornerNet nets net
@@ -44,3 +45,22 @@ pub together_again : (least most : NetView) (one other : AreModestNetworks least
     the_nets least most one ≡ the_nets least most other
 together_again least most one other =
     ap (λ (m : AreModestNetworks least.network most.network). the_nets least most m) (modest_once least.network most.network one other)
+
+-- they are nets of the same network
+pub extremes_again : (nets : GroundNets) (modest : AreModestNetworks nets.least.network nets.most.network) → AreSomeExtremes nets → AreSomeExtremes (the_nets nets.least nets.most modest)
+extremes_again nets modest h = record {
+  network = h.network;
+  stands = h.stands;
+  ranges = h.ranges;
+  are = record {
+    least_network = h.are.least_network;
+    most_network = h.are.most_network;
+    least_standing = h.are.least_standing;
+    most_standing = h.are.most_standing;
+  };
+}
+
+-- and can be solved as well
+pub solved_again : (nodes count : ℕ) (nets : GroundNets) (modest : AreModestNetworks nets.least.network nets.most.network) (solving : SolveWorkspace) →
+    CanSolveBoth nodes count nets solving → CanSolveBoth nodes count (the_nets nets.least nets.most modest) solving
+solved_again nodes count nets modest solving can = record { extremes = extremes_again nets modest can.extremes; least = can.least; most = can.most }

@@ -24,6 +24,7 @@ use Rattle.gic_winding.specs.ElementList.{elements_of}
 use Rattle.gic_winding.specs.Weights.{transformer_at, weighted_windings}
 use Rattle.gic_grounds.specs.declared.nets.GroundNets.{GroundNets}
 use Rattle.gic_grounds.specs.declared.reference.Reference.{Reference}
+use Rattle.gic_grounds.specs.declared.unit.TheConstants.{ADJOINT_UNIT}
 use Rattle.gic_grounds.specs.Scale.{multiple, weight_times, stray_unit, units_of}
 use Rattle.gic_grounds.specs.Tolerated.{Tolerated, AreNetsOf, ranges_in, own_in, most_in, corner_in}
 use Rattle.gic_grounds.specs.Varied.{IsReferredTo, AreAdjoined}
@@ -52,10 +53,10 @@ pub same_inside : (all ends : Ends) → ends ≡ all → IsInside all ends
 same_inside all ends is = subst (λ (e : Ends). IsInside all e) (sym is) (record { from = omega (arith, ints); to = omega (arith, ints) })
 
 -- the scales fit: so many products of both units make 3 V nanoamperes of the weights' multiple
-pub scales : (high unit d : ℕ) → weight_times high unit * (3 * high * d) ≡ stray_unit high unit * (32 * unit) * d
+pub scales : (high unit d : ℕ) → weight_times high unit * (3 * high * d) ≡ stray_unit high unit * (ADJOINT_UNIT * unit) * d
 scales high unit d = plain (multiple high unit) high unit d
   where
-    plain : (m h u n : ℕ) → m * (32 * u) * (3 * h * n) ≡ 3 * h * m * (32 * u) * n
+    plain : (m h u n : ℕ) → m * (ADJOINT_UNIT * u) * (3 * h * n) ≡ 3 * h * m * (ADJOINT_UNIT * u) * n
     plain m h u n = omega arith
 
 module _ (grains_law : GrainsHoldInUnits) (listed : ListedWeightsCount) (v : Tolerated) (nets : GroundNets) (of_nets : AreNetsOf v nets)
@@ -96,8 +97,8 @@ module _ (grains_law : GrainsHoldInUnits) (listed : ListedWeightsCount) (v : Tol
   pub reference_rounded : (k : ℕ) → intervals.reference k ≡ in_units unit (potential_ends grains k)
   reference_rounded = rounded_at unit grains reference.potentials.reference some refers.rounded
 
-  adjoint_rounded : (k : ℕ) → intervals.adjoint k ≡ in_units 32 (potential_ends adjoins.grains k)
-  adjoint_rounded = rounded_at 32 adjoins.grains adjoint (omega arith) adjoins.rounded
+  adjoint_rounded : (k : ℕ) → intervals.adjoint k ≡ in_units ADJOINT_UNIT (potential_ends adjoins.grains k)
+  adjoint_rounded = rounded_at ADJOINT_UNIT adjoins.grains adjoint (omega arith) adjoins.rounded
 
   lowering_rounded : (k : ℕ) → intervals.lowering k ≡ in_units 1 (potential_ends refers.lifted.lowered.grains k)
   lowering_rounded = rounded_at 1 refers.lifted.lowered.grains reference.potentials.lowering (omega arith) refers.lifted.lowered.rounded
@@ -112,13 +113,13 @@ module _ (grains_law : GrainsHoldInUnits) (listed : ListedWeightsCount) (v : Tol
 
   -- the reference's own current, as a weighted current
   own_holds : (s : Solution) → IsSolution (corner_in v corner) volts s →
-      Encloses intervals.own.low intervals.own.high (current_by_weights (own_in v) adjoins.weights s) (stray_unit high unit * (32 * unit) * s.denominator)
+      Encloses intervals.own.low intervals.own.high (current_by_weights (own_in v) adjoins.weights s) (stray_unit high unit * (ADJOINT_UNIT * unit) * s.denominator)
   own_holds s solves =
       let in_net = subst (λ (ps : List Placed). IsSolution ps volts s) (sym there) solves in
       let own = (refers.own t inside).holds s in_net (λ k live. (refers.certain k).live live s in_net) in
       let times = Encloses-common intervals.own.low intervals.own.high (effective_numerator v.case s t) (3 * high * s.denominator) (weight_times high unit) own in
       let number = by_listed listed network stands (weight_times high unit) v.case t adjoins.weights s adjoins.by_weights (quiet_places s solves) in
-      subst (λ (n : ℤ). Encloses intervals.own.low intervals.own.high n (stray_unit high unit * (32 * unit) * s.denominator)) (sym number)
+      subst (λ (n : ℤ). Encloses intervals.own.low intervals.own.high n (stray_unit high unit * (ADJOINT_UNIT * unit) * s.denominator)) (sym number)
       (subst (λ (n : ℕ). Encloses intervals.own.low intervals.own.high (pos (weight_times high unit) *ℤ effective_numerator v.case s t) n) (scales high unit s.denominator) times)
 
   -- all of it is certified
@@ -129,7 +130,7 @@ module _ (grains_law : GrainsHoldInUnits) (listed : ListedWeightsCount) (v : Tol
     lowering_volts = refers.lifted.lowered.lifts network stands (ranges_in v) of_nets.extremes;
     raising_volts = refers.lifted.raised.lifts network stands (ranges_in v) of_nets.extremes;
     reference = held_in_units grains_law (corner_in v corner) volts unit grains intervals.reference some reference_certain reference_rounded;
-    adjoint = held_in_units grains_law (corner_in v corner) adjoins.weights 32 adjoins.grains intervals.adjoint (omega arith) adjoint_certain adjoint_rounded;
+    adjoint = held_in_units grains_law (corner_in v corner) adjoins.weights ADJOINT_UNIT adjoins.grains intervals.adjoint (omega arith) adjoint_certain adjoint_rounded;
     lowering = held_in_units grains_law (most_in v) refers.lifted.lowered.volts 1 refers.lifted.lowered.grains intervals.lowering (omega arith) lowered_certain lowering_rounded;
     raising = held_in_units grains_law (most_in v) refers.lifted.raised.volts 1 refers.lifted.raised.grains intervals.raising (omega arith) raised_certain raising_rounded;
     own = own_holds;

@@ -7,6 +7,7 @@ use Rattle.gic_bound.specs.Entries.{IsBoundWithin}
 use Rattle.gic_model.proofs.Members.{kept, placed, filter_same}
 use Rattle.gic_model.specs.declared.parts.Element.{Element}
 use Rattle.gic_model.specs.declared.parts.Item.{Item}
+use Rattle.gic_model.specs.Earthing.{AreEarthed}
 use Rattle.gic_model.specs.Network.{Network}
 use Rattle.gic_model.specs.Standing.{standing_elements, stands_after}
 use Rattle.gic_model.specs.Sums.{Placed}
@@ -23,6 +24,7 @@ use Rattle.gic_grounds.specs.declared.nets.GroundNets.{GroundNets}
 use Rattle.gic_grounds.specs.Corner.{element_at_corner, IsCornerNet}
 use Rattle.gic_grounds.specs.Lifted.{CanSolve}
 use Rattle.gic_grounds.specs.Tolerated.{Tolerated, AreNetsOf, ranges_in, corner_in}
+use Rattle.gic_grounds.proofs.Earthings.{earthed_other}
 use Rattle.gic_grounds.proofs.Extremes.{element_with}
 
 -- the places of a list that is numbered from i on
@@ -146,6 +148,8 @@ corner_solves v nets corner net nodes count solving of_nets at_corner serves of_
       node_count = ap (λ (n : Network). n.nodes) own ∙ sym (ap (λ (n : Network). n.nodes) most) ∙ can.node_count;
       element_count = ap (λ (n : Network). length n.list) own ∙ length-map elements.list (regrounded (corner_ohm ranges corner))
           ∙ sym (length-map elements.list (regrounded (λ e. (ranges e).most))) ∙ sym (ap (λ (n : Network). length n.list) most) ∙ can.element_count;
+      earthed = subst AreEarthed (sym (corner_standing v nets corner net of_nets at_corner))
+          (earthed_other elements (stands_after v.rows) (λ e. (ranges e).most) (corner_ohm ranges corner) (subst AreEarthed of_nets.extremes.most_standing can.earthed));
       has_space = can.has_space;
       bound = subst (λ (ps : List Placed). IsBoundWithin ps MOST_WALK entries) (sym (corner_standing v nets corner net of_nets at_corner))
           (record { bound = vector; none_above = bound.none_above });

@@ -1,5 +1,5 @@
 -- Intervals that are cut to what they share with those at corners.
-use Rattle.std.proofs.Common.{◌≡◌, ℕ, Bool, true, false, List, ℤ, pos, ◌*ℤ◌, ◌≤ℤ◌, arith, refl, sym, subst, ◌⊎◌, inl, inr, ⊎_elim}
+use Rattle.std.proofs.Common.{◌≡◌, ℕ, Bool, true, false, List, ℤ, pos, ◌*ℤ◌, ◌≤ℤ◌, arith, refl, ap, sym, subst, inl, inr, ⊎_elim}
 use Rattle.std.specs.Prelude.{int_le, cond}
 use Rattle.std.specs.Int.{int_min, int_max}
 use Rattle.std.proofs.lemmas.Int.{ints, clamps, by_lt_z}
@@ -8,8 +8,12 @@ use Rattle.gic_effective.specs.Weighted.{effective_numerator, effective_denomina
 use Rattle.gic_fixed.specs.Encloses.{Encloses}
 use Rattle.gic_fixed.specs.Ends.{Ends}
 use Rattle.gic_varied.specs.Corners.{Corner}
+use Rattle.gic_grounds.specs.declared.direction.Direction.{Direction}
+use Rattle.gic_grounds.specs.declared.direction.Direction.TheVariants.{North, East}
+use Rattle.gic_grounds.specs.declared.workspace.VariedWorkspace.{VariedWorkspace}
 use Rattle.gic_grounds.specs.Tolerated.{Tolerated, own_in}
-use Rattle.gic_grounds.specs.VariedCurrent.{IsInside, common, IsOfReference, IsCutAtCorner, IsVariedCurrent}
+use Rattle.gic_grounds.specs.Varied.{reference_to}
+use Rattle.gic_grounds.specs.VariedCurrent.{IsInside, common, IsOfReference, IsCutAtCorner, IsCutAtCorners, IsVariedCurrent}
 
 -- an interval is inside itself, and inside what one is inside of
 pub inside_itself : (ends : Ends) → IsInside ends ends
@@ -90,10 +94,10 @@ narrower v corner volts unit reference t before after inner made = record {
 }
 
 -- a current that is cut at a corner is one still
-pub cut_keeps : (v : Tolerated) (volts : ℕ → ℤ) (unit : ℕ) (reference : List Ends) (t : ℕ) (before after : Ends) →
-    (HasNoEffect v.case (own_in v) t → ⊥) → IsCutAtCorner v volts t before after →
+pub cut_keeps : (v : Tolerated) (corner : Corner) (volts : ℕ → ℤ) (unit : ℕ) (reference : List Ends) (t : ℕ) (before after : Ends) →
+    (HasNoEffect v.case (own_in v) t → ⊥) → IsCutAtCorner v corner volts t before after →
     IsVariedCurrent v volts unit reference t before → IsVariedCurrent v volts unit reference t after
-cut_keeps v volts unit reference t before after effect cut current = record {
+cut_keeps v corner volts unit reference t before after effect cut current = record {
   holds = λ s varies. subst (λ (e : Ends). Encloses e.low e.high (effective_numerator v.case s t) (effective_denominator v.case t s)) (sym cut.is)
       (common_encloses before cut.other (effective_numerator v.case s t) (effective_denominator v.case t s)
       (current.holds s varies) (cut.at_corner.holds s varies));
@@ -102,3 +106,18 @@ cut_keeps v volts unit reference t before after effect cut current = record {
       (λ made. inr (narrower _ _ volts unit reference t before after
       (subst (IsInside before) (sym cut.is) (common_inside before cut.other)) made)) current.pinned;
 }
+
+-- so is one that is cut at both corners, whatever named them
+pub cuts_keep : (v : Tolerated) (adjoint signs : List Ends) (volts : ℕ → ℤ) (unit : ℕ) (reference : List Ends) (t : ℕ) (before after : Ends) →
+    (HasNoEffect v.case (own_in v) t → ⊥) → IsCutAtCorners v adjoint signs volts t before after →
+    IsVariedCurrent v volts unit reference t before → IsVariedCurrent v volts unit reference t after
+cuts_keep v adjoint signs volts unit reference t before after effect cuts current =
+    cut_keeps v cuts.least volts unit reference t cuts.between after effect cuts.second_cut
+    (cut_keeps v cuts.greatest volts unit reference t before cuts.between effect cuts.first_cut current)
+
+-- the references are those that there were, where no more has changed than a cut at a corner changes
+pub kept_reference : (direction : Direction) (before now : VariedWorkspace) →
+    now ≡ record before { solving = now.solving; volts = now.volts; at_corner = now.at_corner } →
+    reference_to direction now ≡ reference_to direction before
+kept_reference North before now rest = ap (λ (w : VariedWorkspace). w.north.potentials.reference) rest
+kept_reference East before now rest = ap (λ (w : VariedWorkspace). w.east.potentials.reference) rest

@@ -18,6 +18,7 @@ use Rattle.gic_winding.specs.ElementList.{elements_of}
 use Rattle.gic_grounds.specs.declared.nets.GroundNets.{GroundNets}
 use Rattle.gic_grounds.specs.Tolerances.{tolerance_at}
 use Rattle.gic_grounds.specs.Tolerated.{Tolerated, AreNetsOf, ranges_in, own_in}
+use Rattle.gic_varied.proofs.OtherGrounds.{earthed_with}
 use Rattle.gic_varied.proofs.OwnRanges.{own_in_range, own_grounds}
 use Rattle.gic_varied.proofs.Regrounded.{placed_with, list_any-map, standing_with, live_with}
 
@@ -35,6 +36,11 @@ earthed_back network stands ohm earthed =
     over ps h k live =
         let chain = h k (live_with ohm ps k ∙ live) in
         record { live = live; over = chain.over; chain = chain_back ohm ps chain.over k chain.chain }
+
+-- and any other network of such is earthed too
+pub earthed_other : (network : Network) (stands : Item → Bool) (one other : Element → ℕ) → AreEarthed (standing_elements (with_grounds one network) stands) →
+    AreEarthed (standing_elements (with_grounds other network) stands)
+earthed_other network stands one other earthed = earthed_with network stands other (earthed_back network stands one earthed)
 
 -- the same places stand
 pub stands_with : (network : Network) (stands : Item → Bool) (ohm : Element → ℕ) (place : ℕ) →
@@ -74,6 +80,10 @@ module _ (v : Tolerated) (nets : GroundNets) (of_nets : AreNetsOf v nets) where
       let most = subst (λ (ps : List Placed). IsBoundWithin ps m entries) of_nets.extremes.most_standing h in
       let vector = law (elements_of v.case) (stands_after v.rows) (λ e. (ranges_in v e).least) (λ e. (ranges_in v e).most) entries (lesser (elements_of v.case) (tolerance_at v.case v.percent) limits) most.bound in
       subst (λ (ps : List Placed). IsBoundWithin ps m entries) (sym of_nets.extremes.least_standing) (record { bound = vector; none_above = most.none_above })
+
+  -- it is earthed where that is
+  pub least_earthed : AreEarthed (standing nets.most) → AreEarthed (standing nets.least)
+  least_earthed h = subst AreEarthed (sym of_nets.extremes.least_standing) (earthed_other (elements_of v.case) (stands_after v.rows) (λ e. (ranges_in v e).most) (λ e. (ranges_in v e).least) (subst AreEarthed of_nets.extremes.most_standing h))
 
   -- and the case itself is earthed where that is
   pub own_earthed : AreEarthed (standing nets.most) → AreEarthed (own_in v)

@@ -1,5 +1,5 @@
 -- The interval of a transformer's current holds that of every varied solution.
-use Rattle.std.proofs.Common.{◌≡◌, ℕ, ◌*◌, ◌^◌, ◌/◌, ◌<◌, ◌≤◌, zero, suc, false, List, length, get_or, ℤ, pos, ◌*ℤ◌, unsigned_abs, arith, ap, sym, subst, ◌∙◌, inl, inr}
+use Rattle.std.proofs.Common.{◌≡◌, ℕ, ◌*◌, ◌^◌, ◌<◌, ◌≤◌, zero, suc, false, List, length, get_or, ℤ, pos, ◌*ℤ◌, unsigned_abs, arith, ap, sym, subst, ◌∙◌, inl, inr}
 use Rattle.std.specs.List.{All, enumerate_from}
 use Rattle.std.proofs.lemmas.Bool.{cases_Bool}
 use Rattle.std.proofs.lemmas.Int.{ints}
@@ -36,8 +36,9 @@ use Rattle.gic_winding.specs.ElementList.{elements_of}
 use Rattle.gic_winding.specs.Weights.{transformer_at, no_transformer, weighted_windings}
 use Rattle.gic_grounds.specs.declared.nets.GroundNets.{GroundNets}
 use Rattle.gic_grounds.specs.declared.reference.Reference.{Reference}
+use Rattle.gic_grounds.specs.declared.unit.TheConstants.{ADJOINT_UNIT}
 use Rattle.gic_grounds.specs.Effect.{HasNoPart}
-use Rattle.gic_grounds.specs.Scale.{weight_times, stray_unit, units_of}
+use Rattle.gic_grounds.specs.Scale.{multiple, weight_times, stray_unit, units_of}
 use Rattle.gic_grounds.specs.Tolerances.{tolerance_at}
 use Rattle.gic_grounds.specs.Tolerated.{Tolerated, AreNetsOf, ranges_in, own_in, least_in, corner_in}
 use Rattle.gic_enclose.specs.Certain.{AreCertain}
@@ -152,7 +153,7 @@ module _ (laws : Laws) (v : Tolerated) (studied : IsStudied v) (few : v.percent 
 
   module _ (nets : GroundNets) (of_nets : AreNetsOf v nets) (corner : Corner) (net : NetView) (there : standing net ≡ corner_in v corner)
       (of_ranges : IsCornerOfRanges (elements_of v.case) (stands_after v.rows) (ranges_in v) corner) (t unit : ℕ) (adjoint : List Ends) (reference : Reference)
-      (grains : List Ends) (some : 0 < unit) (small : unit < 2 ^ 19)
+      (grains : List Ends) (some : 0 < unit) (small : unit < 2 ^ 7)
       (refers : IsReferredTo v.case nets corner net volts unit grains reference) (adjoins : AreAdjoined v.case net t unit adjoint) (inside : t < length reference.own) (place : t < length v.case.transformers) where
     -- the transformer's high voltage and its enclosure, in units of which enough make a nanoampere
     abbrev high : ℕ
@@ -169,9 +170,9 @@ module _ (laws : Laws) (v : Tolerated) (studied : IsStudied v) (few : v.percent 
 
     -- a volt of a weight isn't 0 nanovolts
     some_times : 0 < weight_times high unit
-    some_times = positive (60000000000000 / (high * (32 * unit))) high unit some enough
+    some_times = positive (multiple high unit) high unit some enough
       where
-        positive : (m h u : ℕ) → 0 < u → 2 ^ 22 ≤ 3 * h * m → 0 < m * (32 * u)
+        positive : (m h u : ℕ) → 0 < u → 2 ^ 22 ≤ 3 * h * m → 0 < m * (ADJOINT_UNIT * u)
         positive zero h u above many = absurd (omega (arith, many))
         positive (suc m) h u above many = omega (arith, above)
 
@@ -195,7 +196,7 @@ module _ (laws : Laws) (v : Tolerated) (studied : IsStudied v) (few : v.percent 
         (certified laws.grains laws.listed v nets of_nets corner net there t unit adjoint reference volts grains some refers adjoins inside) varies in
         let number = by_listed laws.listed network stands (weight_times high unit) v.case t adjoins.weights s adjoins.by_weights
         varies.none_if_open in
-        let nano = subst (λ (n : ℤ). Encloses enclosure.low enclosure.high n (stray_unit high unit * (32 * unit) * s.denominator)) number
+        let nano = subst (λ (n : ℤ). Encloses enclosure.low enclosure.high n (stray_unit high unit * (ADJOINT_UNIT * unit) * s.denominator)) number
         whole in
         milli_cut_holds enclosure (effective_numerator v.case s t) (weight_times high unit) high s.denominator some_times
         (current_bounded s varies bounded t place)
@@ -208,7 +209,7 @@ module _ (laws : Laws) (v : Tolerated) (studied : IsStudied v) (few : v.percent 
         (enclosed s varies)
 
   module _ (nets : GroundNets) (of_nets : AreNetsOf v nets) (t unit : ℕ) (adjoint : List Ends) (reference : Reference)
-      (grains : List Ends) (some : 0 < unit) (small : unit < 2 ^ 19)
+      (grains : List Ends) (some : 0 < unit) (small : unit < 2 ^ 7)
       (refers : IsReferredTo v.case nets all_least nets.least volts unit grains reference) (adjoins : AreAdjoined v.case nets.least t unit adjoint) (inside : t < length reference.own) (place : t < length v.case.transformers) where
     -- the interval that is made with all grounds at their least, where something has an effect
     pub varied_current_is : (ends : Ends) → (HasNoEffect v.case (own_in v) t → ⊥) →

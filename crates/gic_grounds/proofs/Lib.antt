@@ -17,3 +17,6 @@ pub mod Holding
 pub mod Answered
 pub mod AtCorners
 pub mod RowParts
+pub mod ReachedEnds
+pub mod WideWeights
+pub mod WideLifts

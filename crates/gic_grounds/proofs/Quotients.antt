@@ -10,6 +10,8 @@ use Rattle.gic_fixed.specs.Rounding.{floor_div, ceil_div}
 use Rattle.gic_fixed.proofs.Integers.{linear, *ℤ-+ℤ, *ℤ-neg_ℤ, *ℤ_left_comm, *ℤ-≤ℤ, abs-neg_ℤ}
 use Rattle.gic_fixed.proofs.Divisions.{floor_below, floor_above, floor_is, floor_ge, floor_le, floor-floor, neg-neg, positive_product, quotient_rest, rest_within}
 use Rattle.gic_varied.specs.Enclosure.{varied_ends, product_ends, stray_ends}
+use Rattle.gic_grounds.specs.declared.unit.TheConstants.{MOST_UNITS}
+use Rattle.gic_grounds.specs.Varying.{most_adjoint, most_lift}
 use Rattle.gic_grounds.proofs.NodeLists.{floor_small}
 
 module _ (factor divisor : ℕ) (number : ℤ) (some : 0 < divisor) where
@@ -131,14 +133,14 @@ quotient_within factor divisor unit number some least few most large small =
     floor_small sum unit (2 ^ 105) (omega (arith, large)) (omega (arith, below, enough))
 
 -- products of a varied and an adjoint potential
-pub product_within : (a b : ℤ) → unsigned_abs a ≤ 5 * 2 ^ 58 → unsigned_abs b ≤ 2 ^ 55 → unsigned_abs (a *ℤ b) ≤ 5 * 2 ^ 113
+pub product_within : (a b : ℤ) → unsigned_abs a ≤ 17 * 2 ^ 54 → unsigned_abs b ≤ most_adjoint → unsigned_abs (a *ℤ b) ≤ 5 * 2 ^ 113
 product_within a b one other =
     let size = unsigned_abs-mul a b in
-    let product : unsigned_abs a * unsigned_abs b ≤ 5 * 2 ^ 58 * 2 ^ 55 = mul-le-mul one other in
+    let product : unsigned_abs a * unsigned_abs b ≤ 17 * 2 ^ 54 * most_adjoint = mul-le-mul one other in
     omega (arith, size, product)
 
 -- they fit
-pub product_fits : (a b : ℤ) → unsigned_abs a ≤ 5 * 2 ^ 58 → unsigned_abs b ≤ 2 ^ 55 → FitsSigned w128 (a *ℤ b)
+pub product_fits : (a b : ℤ) → unsigned_abs a ≤ 17 * 2 ^ 54 → unsigned_abs b ≤ most_adjoint → FitsSigned w128 (a *ℤ b)
 product_fits a b one other = fits_signed_from_abs w128 (a *ℤ b) (omega (arith, product_within a b one other))
 
 -- the lesser of two numbers within a bound is within it
@@ -169,8 +171,8 @@ abbrev pub both_ends : ℤ → ℤ → Ends
 both_ends low high = record { low = low; high = high }
 
 -- the ends of a varied potential, as the code computes them
-pub varied_is : (reference lowering raising : Ends) → unsigned_abs reference.low ≤ 2 ^ 60 → unsigned_abs reference.high ≤ 2 ^ 60 →
-    unsigned_abs lowering.high ≤ 2 ^ 60 → unsigned_abs raising.high ≤ 2 ^ 60 →
+pub varied_is : (reference lowering raising : Ends) → unsigned_abs reference.low ≤ MOST_UNITS → unsigned_abs reference.high ≤ MOST_UNITS →
+    unsigned_abs lowering.high ≤ most_lift → unsigned_abs raising.high ≤ most_lift →
     both_ends (held (held reference.low -ℤ held lowering.high)) (held (held reference.high +ℤ held raising.high)) ≡ varied_ends reference
     lowering raising
 varied_is reference lowering raising low high lower raise =
@@ -183,7 +185,7 @@ varied_is reference lowering raising low high lower raise =
     ap₂ both_ends less more
 
 -- a product as the code computes it
-product_is : (a b : ℤ) → unsigned_abs a ≤ 5 * 2 ^ 58 → unsigned_abs b ≤ 2 ^ 55 → held (held a *ℤ held b) ≡ a *ℤ b
+product_is : (a b : ℤ) → unsigned_abs a ≤ 17 * 2 ^ 54 → unsigned_abs b ≤ most_adjoint → held (held a *ℤ held b) ≡ a *ℤ b
 product_is a b one other =
     ap₂ (λ (x y : ℤ). held (x *ℤ y)) (held_is a (omega (arith, one))) (held_is b (omega (arith, other)))
     ∙ held_is (a *ℤ b) (omega (arith, product_within a b one other))
@@ -202,7 +204,7 @@ greatest_is a b x y m one other is_x is_y is =
     ap (λ (z : ℤ). held z) (is ∙ ap₂ (λ (p q : ℤ). int_max p q) is_x is_y)
     ∙ held_is (int_max a b) (omega (arith, max_within a b (5 * 2 ^ 113) one other))
 
-module _ (one other : Ends) (one_small : IsWithin (2 ^ 55) one.low one.high) (other_small : IsWithin (5 * 2 ^ 58) other.low other.high)
+module _ (one other : Ends) (one_small : IsWithin most_adjoint one.low one.high) (other_small : IsWithin (17 * 2 ^ 54) other.low other.high)
   where
     -- the products of the ends are within a bound
     low_low : unsigned_abs (other.low *ℤ one.low) ≤ 5 * 2 ^ 113

@@ -29,30 +29,30 @@ use Rattle.gic_grounds.proofs.Extremes.{element_with}
 use Rattle.gic_grounds.proofs.NodeLists.{ceil_small}
 
 -- a lift's voltage is at most 19 times as many nanovolts as the potential has units
-pub lift_within : (least most : ℕ) (height : ℤ) → 0 < least → IsModest least most → unsigned_abs height ≤ 3000000000000 →
-    unsigned_abs (ceil_div (pos (most - least) *ℤ int_max height (pos 0)) (pos least)) ≤ 57000000000000
+pub lift_within : (least most : ℕ) (height : ℤ) → 0 < least → IsModest least most → unsigned_abs height ≤ 15000000000000000 →
+    unsigned_abs (ceil_div (pos (most - least) *ℤ int_max height (pos 0)) (pos least)) ≤ 285000000000000000
 lift_within least most height some modest small =
     let top = int_max height (pos 0) in
-    let below : unsigned_abs top ≤ 3000000000000 = omega (arith, ints, clamps, small) in
+    let below : unsigned_abs top ≤ 15000000000000000 = omega (arith, ints, clamps, small) in
     let size = unsigned_abs-mul (pos (most - least)) top in
     let reach : most - least ≤ 19 * least = omega (arith, modest.twentyfold) in
-    let product : (most - least) * unsigned_abs top ≤ 19 * least * 3000000000000 = mul-le-mul reach below in
-    ceil_small (pos (most - least) *ℤ top) least 57000000000000 some (omega (arith, size, product))
+    let product : (most - least) * unsigned_abs top ≤ 19 * least * 15000000000000000 = mul-le-mul reach below in
+    ceil_small (pos (most - least) *ℤ top) least 285000000000000000 some (omega (arith, size, product))
 
 -- its rise before it is divided fits
-pub rise_fits : (least most : ℕ) (height : ℤ) → IsModest least most → least < 2 ^ 32 → unsigned_abs height ≤ 3000000000000 →
+pub rise_fits : (least most : ℕ) (height : ℤ) → IsModest least most → least < 2 ^ 32 → unsigned_abs height ≤ 15000000000000000 →
     FitsSigned w128 (pos (most - least) *ℤ int_max height (pos 0))
 rise_fits least most height modest few small =
     let top = int_max height (pos 0) in
-    let below : unsigned_abs top ≤ 3000000000000 = omega (arith, ints, clamps, small) in
+    let below : unsigned_abs top ≤ 15000000000000000 = omega (arith, ints, clamps, small) in
     let size = unsigned_abs-mul (pos (most - least)) top in
     let reach : most - least ≤ 19 * 2 ^ 32 = omega (arith, modest.twentyfold, few) in
-    let product : (most - least) * unsigned_abs top ≤ 19 * 2 ^ 32 * 3000000000000 = mul-le-mul reach below in
+    let product : (most - least) * unsigned_abs top ≤ 19 * 2 ^ 32 * 15000000000000000 = mul-le-mul reach below in
     fits_signed_from_abs w128 (pos (most - least) *ℤ top) (omega (arith, size, product))
 
 -- what the code makes of it, rounded up
 pub lifted : (least most : ℕ) (height over top rise under lift : ℤ) → 0 < least → IsModest least most → least < 2 ^ 32 →
-    unsigned_abs height ≤ 3000000000000 →
+    unsigned_abs height ≤ 15000000000000000 →
     over ≡ pos (most - least) → top ≡ int_max (to_z w128 (of_z w128 height)) (pos 0) →
     rise ≡ to_z w128 (of_z w128 (to_z w128 (of_z w128 over) *ℤ to_z w128 (of_z w128 top))) →
     under ≡ pos least → lift ≡ ceil_div rise (to_z w128 (of_z w128 under)) →
@@ -64,7 +64,7 @@ lifted least most height over top rise under lift some modest few small is_over 
     ∙ to_z-of_z w128 (pos (most - least)) (fits_signed_from_abs w128 (pos (most - least)) (omega (arith, size))) in
     let height_same : to_z w128 (of_z w128 height) ≡ height = to_z-of_z w128 height
     (fits_signed_from_abs w128 height (omega (arith, small))) in
-    let top_small : unsigned_abs (int_max height (pos 0)) ≤ 3000000000000 = omega (arith, ints, clamps, small) in
+    let top_small : unsigned_abs (int_max height (pos 0)) ≤ 15000000000000000 = omega (arith, ints, clamps, small) in
     let top_same : to_z w128 (of_z w128 top) ≡ int_max height (pos 0) =
     ap (λ (z : ℤ). to_z w128 (of_z w128 z)) (is_top ∙ ap (λ (z : ℤ). int_max z (pos 0)) height_same)
     ∙ to_z-of_z w128 (int_max height (pos 0)) (fits_signed_from_abs w128 (int_max height (pos 0)) (omega (arith, top_small))) in
@@ -77,12 +77,12 @@ lifted least most height over top rise under lift some modest few small is_over 
     is_lift ∙ ap₂ (λ (a b : ℤ). ceil_div a b) rise_same under_same
 
 -- turned and cut to 64 bits it is the same with its sign turned
-pub lowered : (lift : ℤ) → unsigned_abs lift ≤ 57000000000000 →
+pub lowered : (lift : ℤ) → unsigned_abs lift ≤ 285000000000000000 →
     to_z w64 (of_z w64 (to_z w128 (of_z w128 (pos 0 -ℤ to_z w128 (of_z w128 lift))))) ≡ neg_ℤ lift
 lowered lift small =
     let inner : to_z w128 (of_z w128 lift) ≡ lift = to_z-of_z w128 lift (fits_signed_from_abs w128 lift (omega (arith, small))) in
     let turned : pos 0 -ℤ lift ≡ neg_ℤ lift = omega (arith, ints) in
-    let size : unsigned_abs (neg_ℤ lift) ≤ 57000000000000 = omega (arith, ints, small) in
+    let size : unsigned_abs (neg_ℤ lift) ≤ 285000000000000000 = omega (arith, ints, small) in
     let deep : to_z w128 (of_z w128 (pos 0 -ℤ to_z w128 (of_z w128 lift))) ≡ neg_ℤ lift =
     ap (λ (z : ℤ). to_z w128 (of_z w128 (pos 0 -ℤ z))) inner ∙ ap (λ (z : ℤ). to_z w128 (of_z w128 z)) turned
     ∙ to_z-of_z w128 (neg_ℤ lift) (fits_signed_from_abs w128 (neg_ℤ lift) (omega (arith, size))) in

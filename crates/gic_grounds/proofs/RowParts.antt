@@ -12,7 +12,7 @@ use Rattle.gic_grounds.specs.declared.nets.GroundNets.{GroundNets}
 use Rattle.gic_grounds.specs.declared.reference.Reference.{Reference}
 use Rattle.gic_grounds.specs.Lifted.{CanSolve, HasReferenceSpace, CanEnclose}
 use Rattle.gic_grounds.specs.NodeEnds.{AreAllWithin}
-use Rattle.gic_grounds.specs.Varying.{AreVariedOf, AreVariedWithin}
+use Rattle.gic_grounds.specs.Varying.{most_adjoint, AreVariedOf, AreVariedWithin}
 
 -- the row that is read is the transformer's
 pub row_read : (case : Lists) (t : ℕ) (rows : List Transformer) (row : Transformer) → t < length case.transformers →
@@ -29,7 +29,7 @@ row_rated case t row inside sound is =
 
 -- there is all that an interval is made of
 pub can_enclose : (nodes count transformers t : ℕ) (nets : GroundNets) (solving : SolveWorkspace) (adjoint : List Ends) (reference : Reference) →
-    CanSolve nodes count nets.least solving → CanSolve nodes count nets.most solving → length adjoint ≡ nodes → AreAllWithin (2 ^ 55) adjoint →
+    CanSolve nodes count nets.least solving → CanSolve nodes count nets.most solving → length adjoint ≡ nodes → AreAllWithin most_adjoint adjoint →
     HasReferenceSpace nodes transformers reference → AreVariedWithin reference.potentials → AreAllWithin (2 ^ 80) reference.own →
     t < transformers → CanEnclose nets adjoint reference t
 can_enclose nodes count transformers t nets solving adjoint reference least most adjoined small space varied own inside = record {

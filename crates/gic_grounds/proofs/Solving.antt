@@ -13,6 +13,7 @@ pub still_solves : (nodes count : ℕ) (before after : SolveWorkspace) →
 still_solves nodes count before after space same = λ net can. record {
   node_count = can.node_count;
   element_count = can.element_count;
+  earthed = can.earthed;
   has_space = space;
   bound = subst (λ (v : List ℕ). IsBoundWithin (standing net) MOST_WALK (slice_index v)) (sym same) can.bound;
 }

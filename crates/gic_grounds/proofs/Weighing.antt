@@ -1,21 +1,24 @@
 -- The weights of a transformer's windings, by places.
 use Rattle.std.proofs.Common.{◌≡◌, ℕ, zero, suc, ◌+◌, ◌-◌, ◌*◌, ◌/◌, ◌^◌, ◌<◌, ◌≤◌, ◌==◌, Bool, true, false, cond, List, [], ◌∷◌, ◌++◌, length, get_or, map, arith, refl, ap, sym, subst, ◌∙◌, ⊎_elim, inl, inr, ◌⊎◌, ℤ, pos, ◌+ℤ◌, ◌*ℤ◌, ◌≤ℤ◌, eqb-true}
-use Rattle.std.proofs.Math.Nat.{mul-le-mul, mul-le-mul_left, mul-div-le, lt-mul-div-succ}
+use Rattle.std.proofs.Math.Nat.{mul-le-mul, mul-le-mul_left, mul-le-mul_right, mul-div-le, lt-mul-div-succ}
 use Rattle.std.proofs.lemmas.Bool.{cases_lt, ne_eqb}
 use Rattle.std.proofs.lemmas.Int.{ints}
 use Rattle.std.proofs.lemmas.List.{get_or_past, get_or_default, get_or-append_right, get_or_append_left, length-map}
 use Rattle.std.proofs.lemmas.List.Elements.{All-from_recursion, All-get_or}
-use Rattle.std.specs.List.{AllByRecursion, enumerate_from}
+use Rattle.std.proofs.lemmas.List.Sums.{sum_by-cons}
+use Rattle.std.specs.List.{AllByRecursion, enumerate_from, sum_by}
 use lib.IntN.{*ℤ-zero}
+use Rattle.gic_base.specs.declared.id.ElementId.{ElementId}
 use Rattle.gic_case.specs.declared.item.Transformer.{Transformer}
 use Rattle.gic_case.specs.declared.winding.Winding.{Winding}
 use Rattle.gic_case.specs.Lists.{Lists, neutrals_of}
 use Rattle.gic_case.specs.Sound.{IsRated, IsSound, IsSoundTransformer}
 use Rattle.gic_case.specs.Windings.{windings_of}
+use Rattle.gic_case.proofs.SoundWindings.{few_windings}
 use Rattle.gic_fixed.proofs.Integers.{linear}
 use Rattle.gic_model.specs.declared.parts.Element.{Element}
 use Rattle.gic_model.specs.declared.parts.Item.{Item}
-use Rattle.gic_model.specs.Limits.{most_volts}
+use Rattle.gic_model.specs.Limits.{most_wide_volts}
 use Rattle.gic_model.specs.Standing.{standing_elements}
 use Rattle.gic_model.specs.Sums.{Placed}
 use Rattle.gic_model.specs.Voltages.{number_at}
@@ -28,63 +31,83 @@ use Rattle.gic_effective.proofs.Weighings.{weights_at_most}
 use Rattle.gic_winding.specs.declared.weights.Weights.{Weights}
 use Rattle.gic_winding.specs.ElementList.{elements_of, winding_element, winding_elements}
 use Rattle.gic_winding.specs.WeightParts.{weights_of}
-use Rattle.gic_winding.specs.Weights.{weight_of, transformer_at, no_transformer, weighted_windings}
+use Rattle.gic_winding.specs.Weights.{weight_of, windings_at, weighed_by, transformer_at, no_transformer, weighted_windings}
 use Rattle.gic_winding.proofs.Around.{prefix_of, suffix_of, around}
 use Rattle.gic_winding.proofs.Parts.{winding_part}
 use Rattle.gic_winding.proofs.Neutrals.{transformer_of}
 use Rattle.gic_winding.proofs.Weighted.{weighed, weighted_there, windings_fit}
-use Rattle.gic_grounds.specs.Scale.{windings_in, weight_at}
+use Rattle.gic_grounds.specs.Scale.{most_weight_volts, windings_in, weight_at}
 
 -- the greatest multiple leaves each weight's voltage within its limit
-pub multiple_space : (high unit : ℕ) → most_volts / (high * (32 * unit)) * (32 * unit) * high ≤ most_volts
-multiple_space high unit = let below = mul-div-le most_volts (high * (32 * unit)) in omega (arith, below)
+pub multiple_space : (high unit : ℕ) → most_weight_volts / (high * (2 * unit)) * (2 * unit) * high ≤ most_weight_volts
+multiple_space high unit = let below = mul-div-le most_weight_volts (high * (2 * unit)) in omega (arith, below)
 
 -- and is great enough for stray powers
-pub multiple_enough : (high unit : ℕ) → IsRated high → 0 < unit → unit < 2 ^ 19 → 2 ^ 22 ≤ 3 * high * (most_volts / (high * (32 * unit)))
+pub multiple_enough : (high unit : ℕ) → IsRated high → 0 < unit → unit < 2 ^ 7 → 2 ^ 22 ≤ 3 * high * (most_weight_volts / (high * (2 * unit)))
 multiple_enough high unit rated some small =
-    let m = most_volts / (high * (32 * unit)) in
+    let m = most_weight_volts / (high * (2 * unit)) in
     let first_one : 1 ≤ high = omega (arith, rated.0) in
     let product : 1 * 1 ≤ high * unit = mul-le-mul first_one some in
-    let above : most_volts < high * (32 * unit) * (m + 1) = lt-mul-div-succ most_volts (omega (arith, product)) in
-    let few : unit ≤ 524288 = omega (arith, small) in
-    let size : high * unit ≤ 2000000 * 524288 = mul-le-mul rated.1 few in
+    let above : most_weight_volts < high * (2 * unit) * (m + 1) = lt-mul-div-succ most_weight_volts (omega (arith, product)) in
+    let few : unit ≤ 128 = omega (arith, small) in
+    let size : high * unit ≤ 2000000 * 128 = mul-le-mul rated.1 few in
     ⊎_elim
     (λ none.
     let zero_is : m ≡ 0 = omega (arith, none) in
-    let over : most_volts < high * (32 * unit) * (0 + 1) = subst (λ k. most_volts < high * (32 * unit) * (k + 1)) zero_is above in
+    let over : most_weight_volts < high * (2 * unit) * (0 + 1) = subst (λ k. most_weight_volts < high * (2 * unit) * (k + 1)) zero_is above in
     absurd (omega (arith, over, size)))
     (λ one.
     let more : high * unit * 1 ≤ high * unit * m = mul-le-mul_left (high * unit) one in
-    let less : high * m * unit ≤ high * m * 524288 = mul-le-mul_left (high * m) (omega (arith, small)) in
+    let less : high * m * unit ≤ high * m * 128 = mul-le-mul_left (high * m) (omega (arith, small)) in
     omega (arith, above, more, less))
     (cases_lt m 1)
 
 -- its divisor fits
-pub divisor_fits : (high unit : ℕ) → IsRated high → unit < 2 ^ 19 → high * (32 * unit) < 2 ^ 64
+pub divisor_fits : (high unit : ℕ) → IsRated high → unit < 2 ^ 7 → high * (2 * unit) < 2 ^ 64
 divisor_fits high unit rated small =
-    let few : 32 * unit ≤ 32 * 524288 = omega (arith, small) in
-    let size : high * (32 * unit) ≤ 2000000 * (32 * 524288) = mul-le-mul rated.1 few in
+    let few : 2 * unit ≤ 2 * 128 = omega (arith, small) in
+    let size : high * (2 * unit) ≤ 2000000 * (2 * 128) = mul-le-mul rated.1 few in
     omega (arith, size)
 
 -- and is above 0
-pub divisor_above : (high unit : ℕ) → IsRated high → 0 < unit → 0 < high * (32 * unit)
+pub divisor_above : (high unit : ℕ) → IsRated high → 0 < unit → 0 < high * (2 * unit)
 divisor_above high unit rated some =
     let one : 1 ≤ high = omega (arith, rated.0) in
-    let other : 1 ≤ 32 * unit = omega (arith, some) in
-    let product : 1 * 1 ≤ high * (32 * unit) = mul-le-mul one other in
+    let other : 1 ≤ 2 * unit = omega (arith, some) in
+    let product : 1 * 1 ≤ high * (2 * unit) = mul-le-mul one other in
     omega (arith, product)
 
 -- the unit of stray powers fits
-pub stray_fits : (high unit m : ℕ) → 0 < unit → m * (32 * unit) * high ≤ most_volts → 3 * high * m < 2 ^ 64
+pub stray_fits : (high unit m : ℕ) → 0 < unit → m * (2 * unit) * high ≤ most_weight_volts → 3 * high * m < 2 ^ 64
 stray_fits high unit m some space = let more : high * m * 1 ≤ high * m * unit = mul-le-mul_left (high * m) some in omega (arith, space, more)
 
 -- so does the number of nanovolts in a weight's volt
-pub times_fits : (high unit m : ℕ) → IsRated high → m * (32 * unit) * high ≤ most_volts → m * (32 * unit) < 2 ^ 64
-times_fits high unit m rated space = let more : m * (32 * unit) * 1 ≤ m * (32 * unit) * high = mul-le-mul_left (m * (32 * unit)) (omega (arith, rated.0)) in omega (arith, space, more)
+pub times_fits : (high unit m : ℕ) → IsRated high → m * (2 * unit) * high ≤ most_weight_volts → m * (2 * unit) < 2 ^ 64
+times_fits high unit m rated space = let more : m * (2 * unit) * 1 ≤ m * (2 * unit) * high = mul-le-mul_left (m * (2 * unit)) (omega (arith, rated.0)) in omega (arith, space, more)
 
 -- and a weight so many times stays within the limit
-pub scaled_fits : (times weight high : ℕ) (z : ℤ) → pos weight ≡ z → z ≤ℤ pos high → times * high ≤ most_volts → times * weight ≤ most_volts
+pub scaled_fits : (times weight high : ℕ) (z : ℤ) → pos weight ≡ z → z ≤ℤ pos high → times * high ≤ most_weight_volts → times * weight ≤ most_wide_volts
 scaled_fits times weight high z is most space = let less : times * weight ≤ times * high = mul-le-mul_left times (omega (arith, ints, is, most)) in omega (arith, space, less)
+
+-- listed weights add up to at most as many times the greatest as there are windings
+weighed_reach : (weight : Winding → ℕ) (most : ℕ) (ps : List Placed) (ws : List Winding) → AllByRecursion (λ w. weight w ≤ most) ws →
+    sum_by (λ v. v.1) (weighed_by weight ps ws) ≤ length ws * most
+weighed_reach weight most [] ws h = omega arith
+weighed_reach weight most (p ∷ ps) [] h = omega arith
+weighed_reach weight most (p ∷ ps) (w ∷ ws) h =
+    let rest = weighed_reach weight most ps ws h.1 in
+    let sum = sum_by-cons (λ (v : ElementId × ℕ). v.1) (record { 0 = p.0 }, weight w) (weighed_by weight ps ws) in
+    omega (arith, h.0, rest, sum)
+
+-- so the weights of a transformer, which are at most three, add up to at most three times its high voltage
+pub weights_sum : (c : Lists) (t : ℕ) → IsSound c → t < length c.transformers → sum_by (λ w. w.1) (weighted_windings c t) ≤ 3 * (transformer_at c t).high_volts
+weights_sum c t sound inside =
+    let row = transformer_at c t in
+    let row_sound = All-get_or (IsSoundTransformer c) c.transformers t no_transformer inside sound.transformers_sound in
+    let few : length (windings_of row) ≤ 3 = few_windings row.high_volts row.kind in
+    let sum = weighed_reach (weight_of row) row.high_volts (windings_at (elements_of c) t) (windings_of row) (weights_at_most c row row_sound) in
+    let three : length (windings_of row) * row.high_volts ≤ 3 * row.high_volts = mul-le-mul_right row.high_volts few in
+    omega (arith, sum, three)
 
 -- windings that stand one after another have no weight before the first place
 none_before : (weight : Winding → ℕ) (n place : ℕ) (ws : List Winding) → place < n → weight_at (map (λ p. weighed weight p.0 p.1) (enumerate_from n ws)) place ≡ pos 0

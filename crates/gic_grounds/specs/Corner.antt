@@ -1,5 +1,6 @@
 -- Corners of the ranges of grounds, as marks of the nodes, and nets that are at them.
 use Rattle.std.specs.Prelude.{ℕ, ◌≡◌, ◌<◌, Bool, false, not, List, length, slice_index_or, int_lt, pos, if◌then◌else◌}
+use Rattle.gic_enclose.specs.Ends.{potential_ends}
 use Rattle.gic_fixed.specs.Ends.{Ends}
 use Rattle.gic_model.specs.declared.parts.Element.{Element}
 use Rattle.gic_net.specs.Net.{NetView, element_of}
@@ -37,3 +38,8 @@ is_above_0 ends = int_lt (pos 0) ends.high
 abbrev pub is_most_for : Extreme → (adjoint reference : Ends) → Bool
 is_most_for Least adjoint reference = if is_above_0 adjoint then is_above_0 reference else not (is_above_0 reference)
 is_most_for Most adjoint reference = if is_above_0 adjoint then not (is_above_0 reference) else is_above_0 reference
+
+-- a corner as the signs of an adjoint solution's and of a reference's potentials name it, for this extreme of a transformer's current
+abbrev pub IsChosen : Extreme → (adjoint reference : List Ends) → Corner → Type 0
+IsChosen extreme adjoint reference corner =
+    (k : ℕ) → k < length adjoint → corner k ≡ is_most_for extreme (potential_ends adjoint k) (potential_ends reference k)

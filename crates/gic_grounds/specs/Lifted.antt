@@ -7,6 +7,7 @@ use Rattle.gic_enclose.specs.Certain.{AreCertain, AreTight}
 use Rattle.gic_enclose.specs.Ends.{potential_ends}
 use Rattle.gic_fixed.specs.Ends.{Ends}
 use Rattle.gic_model.specs.declared.parts.Item.{Item}
+use Rattle.gic_model.specs.Earthing.{AreEarthed}
 use Rattle.gic_model.specs.Guess.{most_guess}
 use Rattle.gic_model.specs.Network.{Network}
 use Rattle.gic_model.specs.Standing.{standing_elements}
@@ -22,20 +23,22 @@ use Rattle.gic_grounds.specs.declared.nets.GroundNets.{GroundNets}
 use Rattle.gic_grounds.specs.declared.reference.Reference.{Reference}
 use Rattle.gic_grounds.specs.declared.varied.VariedPotentials.{VariedPotentials}
 use Rattle.gic_grounds.specs.Lifting.{height_at}
-use Rattle.gic_grounds.specs.Nets.{AreExtremesOf}
+use Rattle.gic_grounds.specs.Nets.{AreExtremesOf, AreSomeExtremes}
 use Rattle.gic_grounds.specs.NodeEnds.{AreAllWithin}
 use Rattle.gic_grounds.specs.OwnCurrent.{IsOwnCurrent}
-use Rattle.gic_grounds.specs.Varying.{AreVariedOf, AreVariedWithin}
+use Rattle.gic_grounds.specs.Varying.{most_adjoint, AreVariedOf, AreVariedWithin}
 
--- the net has these many nodes and elements, there is space to solve it, and the workspace has a bound vector of it
+-- the net has these many nodes and elements and is earthed, there is space to solve it, and the workspace has a bound vector of it
 pub record CanSolve (nodes count : ℕ) (net : NetView) (solving : SolveWorkspace) : Type 0 where
   pub node_count : net.network.nodes ≡ nodes
   pub element_count : length net.network.list ≡ count
+  pub earthed : AreEarthed (standing net)
   pub has_space : IsSolveWorkspaceFor nodes solving
   pub bound : IsBoundWithin (standing net) MOST_WALK (slice_index solving.vector)
 
--- so it is of the nets with the least and with the greatest grounds
+-- so it is of the nets with the least and with the greatest grounds of some network
 pub record CanSolveBoth (nodes count : ℕ) (nets : GroundNets) (solving : SolveWorkspace) : Type 0 where
+  pub extremes : AreSomeExtremes nets
   pub least : CanSolve nodes count nets.least solving
   pub most : CanSolve nodes count nets.most solving
 
@@ -78,16 +81,16 @@ pub record HasAdjointSpace (nodes count : ℕ) (volts : List ℤ) (adjoint : Lis
   pub volt_count : length volts ≡ count
   pub adjoint_count : length adjoint ≡ nodes
 
--- a unit of potentials is at least a nanovolt, and less than 2^19
+-- a unit of potentials is at least a nanovolt, and less than 2^7
 pub record IsSmallUnit (unit : ℕ) : Type 0 where
   pub some : 0 < unit
-  pub small : unit < 2 ^ 19
+  pub small : unit < 2 ^ 7
 
 -- there is all that the stray powers of the grounds are made of
 pub record HasStrayParts (nets : GroundNets) (adjoint : List Ends) (potentials : VariedPotentials) : Type 0 where
   pub same_count : length nets.most.network.list ≡ length nets.least.network.list
   pub adjoint_count : length adjoint ≡ nets.least.network.nodes
-  pub adjoint_within : AreAllWithin (2 ^ 55) adjoint
+  pub adjoint_within : AreAllWithin most_adjoint adjoint
   pub varied_count : AreVariedOf nets.least.network.nodes potentials
   pub varied_within : AreVariedWithin potentials
 

@@ -14,3 +14,10 @@ pub record AreExtremesOf (network : Network) (stands : Item → Bool) (ranges : 
   pub most_network : nets.most.network ≡ with_most ranges network
   pub least_standing : standing nets.least ≡ standing_elements (with_least ranges network) stands
   pub most_standing : standing nets.most ≡ standing_elements (with_most ranges network) stands
+
+-- they are so of some network
+pub record AreSomeExtremes (nets : GroundNets) : Type 0 where
+  pub network : Network
+  pub stands : Item → Bool
+  pub ranges : Ranges
+  pub are : AreExtremesOf network stands ranges nets

@@ -3,14 +3,17 @@ use Rattle.std.specs.Prelude.{ℕ, ◌*◌, ◌/◌, ◌==◌, List, ◌++◌, �
 use Rattle.std.specs.Option.{option_to_list}
 use Rattle.gic_base.specs.declared.id.ElementId.{ElementId}
 use Rattle.gic_grounds.specs.declared.unit.TheConstants.{ADJOINT_UNIT}
-use Rattle.gic_model.specs.Limits.{most_volts}
 use Rattle.gic_model.specs.Sums.{sum_of}
 use Rattle.gic_varied.specs.Certified.{Units}
 use Rattle.gic_winding.specs.declared.weights.Weights.{Weights}
 
--- the greatest multiple for which no weight's voltage is beyond the limit
+-- the greatest voltage of a weight in nanovolts: a third of the greatest for which a network is solved, since a transformer has at most three windings
+abbrev pub most_weight_volts : ℕ
+most_weight_volts = 96000000000000000
+
+-- the greatest multiple for which no weight's voltage is beyond it
 abbrev pub multiple : (high_volts unit : ℕ) → ℕ
-multiple high_volts unit = most_volts / (high_volts * (ADJOINT_UNIT * unit))
+multiple high_volts unit = most_weight_volts / (high_volts * (ADJOINT_UNIT * unit))
 
 -- a volt of a weight is this many nanovolts in the adjoint solution: a whole multiple of both units
 abbrev pub weight_times : (high_volts unit : ℕ) → ℕ

@@ -30,7 +30,7 @@ use Rattle.gic_grounds.specs.OwnCurrent.{IsOwnCurrent}
 use Rattle.gic_grounds.specs.Scale.{weight_times}
 use Rattle.gic_grounds.specs.Tolerated.{AreNetsFor}
 use Rattle.gic_grounds.specs.Unit.{IsLeastUnit}
-use Rattle.gic_grounds.specs.Varying.{AreVariedWithin}
+use Rattle.gic_grounds.specs.Varying.{most_adjoint, AreVariedWithin}
 
 -- a net at some corner of the ranges, and space for the marks of a corner, for a reference there and for adjoint potentials
 pub record HasCornerSpace (nodes transformers : ℕ) (nets : GroundNets) (at_corner : CornerWorkspace) : Type 0 where
@@ -67,7 +67,7 @@ pub record IsReadyToVary (case : Lists) (workspace : VariedWorkspace) : Type 0 w
 abbrev pub HasNoGroundVolts : Lists → (ℕ → ℤ) → Type 0
 HasNoGroundVolts case volts = (stands : Item → Bool) → HaveNoGroundVolts (standing_elements (elements_of case) stands) volts
 
--- the reference in units of so many nanovolts, for these voltages, is made of these intervals in grains, in a net that is at this corner
+-- the reference in units of so many nanovolts, for these voltages, is made of these intervals in grains, which are tight and hold every solution of this net; its lifts are made as for a reference at this corner
 pub record IsReferredTo (case : Lists) (nets : GroundNets) (corner : Corner) (net : NetView) (volts : ℕ → ℤ) (unit : ℕ) (grains : List Ends) (reference : Reference) : Type 0 where
   pub limit : AreVolts volts
   pub no_ground : HasNoGroundVolts case volts
@@ -90,7 +90,7 @@ pub record AreFieldVolts (case : Lists) (north east : List ℤ) : Type 0 where
   pub north_count : length north ≡ length (elements_of case).list
   pub east_count : length east ≡ length (elements_of case).list
 
--- the reference of a field's direction
+-- the potentials of the reference in the field of this direction
 abbrev pub reference_to : Direction → VariedWorkspace → List Ends
 reference_to North workspace = workspace.north.potentials.reference
 reference_to East workspace = workspace.east.potentials.reference
@@ -132,7 +132,7 @@ pub record AreAdjoined (case : Lists) (net : NetView) (transformer unit : ℕ) (
   pub certain : AreCertain (standing net) weights grains
   pub tight : AreTight grains
   pub rounded : adjoint ≡ map (in_units ADJOINT_UNIT) grains
-  pub within : AreAllWithin (2 ^ 55) adjoint
+  pub within : AreAllWithin most_adjoint adjoint
 
 -- the workspace is as it was, but for what transformers' currents are worked out in
 abbrev pub KeepsReferences : (before now : VariedWorkspace) → Type 0

@@ -17,8 +17,10 @@ use Rattle.gic_varied.specs.Reciprocal.{weights_from}
 use Rattle.gic_varied.specs.Varied.{IsVaried}
 use Rattle.gic_winding.specs.ElementList.{elements_of}
 use Rattle.gic_winding.specs.Weights.{transformer_at, weighted_windings}
+use Rattle.gic_grounds.specs.declared.extreme.Extreme.TheVariants.{Least, Most}
 use Rattle.gic_grounds.specs.declared.varied_currents.VariedCurrents.{VariedCurrents}
 use Rattle.gic_grounds.specs.declared.unit.TheConstants.{ADJOINT_UNIT}
+use Rattle.gic_grounds.specs.Corner.{IsChosen}
 use Rattle.gic_grounds.specs.Scale.{weight_times, units_of}
 use Rattle.gic_grounds.specs.Tolerated.{Tolerated, ranges_in, own_in, least_in, most_in, corner_in}
 use Rattle.gic_grounds.specs.Unit.{IsLeastUnit}
@@ -96,12 +98,26 @@ pub record IsAtCorner (v : Tolerated) (corner : Corner) (volts : ℕ → ℤ) (t
   pub of_reference : IsOfReference v corner volts unit reference t ends
   pub holds : HoldsVaried v volts t ends
 
--- an interval was cut to what it shares with one that is made at some corner
-pub record IsCutAtCorner (v : Tolerated) (volts : ℕ → ℤ) (t : ℕ) (before after : Ends) : Type 0 where
-  pub corner : Corner
+-- an interval was cut to what it shares with one that is made at this corner; where they share nothing it stayed
+pub record IsCutAtCorner (v : Tolerated) (corner : Corner) (volts : ℕ → ℤ) (t : ℕ) (before after : Ends) : Type 0 where
   pub other : Ends
   pub at_corner : IsAtCorner v corner volts t other
   pub is : after ≡ common before other
+
+-- an interval was cut at the corner where the current is the greatest, and then at the one where it is the least, as far as the signs of these potentials tell
+pub record IsCutAtCorners (v : Tolerated) (adjoint reference : List Ends) (volts : ℕ → ℤ) (t : ℕ) (before after : Ends) : Type 0 where
+  pub greatest : Corner
+  pub least : Corner
+  pub between : Ends
+  pub greatest_chosen : IsChosen Most adjoint reference greatest
+  pub least_chosen : IsChosen Least adjoint reference least
+  pub first_cut : IsCutAtCorner v greatest volts t before between
+  pub second_cut : IsCutAtCorner v least volts t between after
+
+-- so were those in the fields to the north and to the east, by one adjoint solution and the reference in each field
+pub record AreCutAtCorners (v : Tolerated) (adjoint north_reference east_reference : List Ends) (north east : ℕ → ℤ) (t : ℕ) (before after : VariedCurrents) : Type 0 where
+  pub to_north : IsCutAtCorners v adjoint north_reference north t (ends_of before.north) (ends_of after.north)
+  pub to_east : IsCutAtCorners v adjoint east_reference east t (ends_of before.east) (ends_of after.east)
 
 -- the interval holds the transformer's signed effective current of every varied solution for these voltages, and is 0 alone where no winding that stands has a weight; else it lies within the certified enclosure that is made of the reference with all grounds at their least and of tight intervals
 pub record IsVariedCurrent (v : Tolerated) (volts : ℕ → ℤ) (unit : ℕ) (reference : List Ends) (t : ℕ) (ends : Ends) : Type 0 where

@@ -1,7 +1,8 @@
 -- The intervals of a reference, of its lifts and of an adjoint solution, as lists of the nodes' intervals.
-use Rattle.std.specs.Prelude.{ℕ, ◌≡◌, ◌^◌, List, length, if◌then◌else◌}
+use Rattle.std.specs.Prelude.{ℕ, ◌≡◌, ◌+◌, ◌^◌, List, length, if◌then◌else◌}
 use Rattle.gic_enclose.specs.Ends.{potential_ends}
 use Rattle.gic_fixed.specs.Ends.{Ends, zero_ends}
+use Rattle.gic_model.specs.Limits.{most_wide_volts}
 use Rattle.gic_model.specs.Network.{Network}
 use Rattle.gic_net.specs.Net.{NetView, element_of, stands}
 use Rattle.gic_varied.specs.Certified.{Intervals, product_at}
@@ -29,13 +30,21 @@ pub record AreVariedOf (nodes : ℕ) (varied : VariedPotentials) : Type 0 where
   pub lowering_count : length varied.lowering ≡ nodes
   pub raising_count : length varied.raising ≡ nodes
 
--- the reference's ends are within MOST_UNITS, and those of the lifts within what the solver gives in nanovolts
+-- no interval of a lift ends beyond this in nanovolts, which stand for units: no lift is above the greatest voltage for which a network is solved
+abbrev pub most_lift : ℕ
+most_lift = most_wide_volts + 1
+
+-- nor one of an adjoint potential beyond this in its units
+abbrev pub most_adjoint : ℕ
+most_adjoint = 2 ^ 57 + 1
+
+-- the reference's ends are within MOST_UNITS, and those of the lifts within their limit
 pub record AreVariedWithin (varied : VariedPotentials) : Type 0 where
   pub reference_within : AreAllWithin MOST_UNITS varied.reference
-  pub lowering_within : AreAllWithin (2 ^ 60) varied.lowering
-  pub raising_within : AreAllWithin (2 ^ 60) varied.raising
+  pub lowering_within : AreAllWithin most_lift varied.lowering
+  pub raising_within : AreAllWithin most_lift varied.raising
 
--- the stray power of the element at a place in units, with its resistances in two networks, one of which it has in the reference by its corner
+-- the stray power, in units, of the element at a place: its resistances in the two networks are the ends of its range, and the corner tells which of them it has in the reference
 abbrev pub stray_power_at : (least most : Network) → Corner → (unit : ℕ) → (adjoint : List Ends) → VariedPotentials → (place : ℕ) → Ends
 stray_power_at least most corner unit adjoint varied place =
     let e = element_of least place in

@@ -9,9 +9,12 @@ use crate::reference::WIDTH;
 use crate::unit::ADJOINT_UNIT;
 use crate::weights::fill_weights;
 use gic_case::Case;
-use gic_model::{Elements, Volts};
+use gic_enclose::laws::drive_law;
+use gic_exists::laws::existence_law;
+use gic_model::{Elements, WideVolts};
 use gic_net::Net;
 use gic_uniform::SolveWorkspace;
+use gic_varied::laws::reach_law;
 
 /// Solves a net for the weights of a transformer, where the unit of potentials is so
 /// many nanovolts. Takes no memory.
@@ -21,7 +24,7 @@ pub(crate) fn adjoin(
     net: &Net,
     transformer: u16,
     unit: u32,
-    volts: &mut Volts,
+    volts: &mut WideVolts,
     solving: &mut SolveWorkspace,
     out: &mut NodeIntervals,
 )
@@ -34,8 +37,13 @@ pub(crate) fn adjoin(
     ensures space { HasAdjointSpace elements.now.nodes (length elements.now.list) volts.new out.new }
     ensures still { StillSolves elements.now.nodes (length elements.now.list) solving.old solving.new }
 {
+    drive_law();
+    existence_law();
+    reach_law();
+    case.keeps_rules();
+    net.within_limits();
     fill_weights(case, elements.list(), transformer, unit, volts);
-    solving.solve(net, volts, WIDTH);
+    solving.solve_wide(net, volts, WIDTH);
     out.keep(&solving.potentials);
     out.in_units(ADJOINT_UNIT);
 }

@@ -25,7 +25,7 @@ fn resistance_at(nets: &GroundNets, corner: &Corner, place: ElementId) -> u32
     }
 }
 
-/// Goes over to a corner with a net that is at another one.
+/// Goes over to a corner with a net that is at any corner.
 pub(crate) fn go_to_corner(nets: &GroundNets, corner: &Corner, net: &mut Net)
     requires same_count { length nets.now.most.network.list ≡ length nets.now.least.network.list }
     requires some_corner { IsSomeCornerNet nets.now net.old }

@@ -1,9 +1,8 @@
 //! The voltages of lifts: how far the grounds move the potentials of a reference.
 ghost use Rattle.std.specs.Prelude.{◌≡◌, ◌<◌, ◌≤◌, length, ℕ, Bool, unsigned_abs};
-ghost use Rattle.gic_enclose.specs.Ends.{low_at, high_at};
 ghost use Rattle.gic_model.specs.declared.parts.Item.{Item};
 ghost use Rattle.gic_model.specs.Network.{Network};
-ghost use Rattle.gic_model.specs.Limits.{most_volts};
+ghost use Rattle.gic_model.specs.Limits.{most_wide_volts, AreWideVolts};
 ghost use Rattle.gic_model.specs.Standing.{standing_elements};
 ghost use Rattle.gic_model.specs.Voltages.{number_at};
 ghost use Rattle.gic_varied.specs.Certified.{AreLiftVolts};
@@ -22,7 +21,7 @@ use crate::side::Side;
 use crate::unit::MOST_UNITS;
 use gic_base::{ElementId, NodeId};
 use gic_fixed::Interval;
-use gic_model::Volts;
+use gic_model::WideVolts;
 
 /// Over which height a lift is made at the grounds of a node, where the reference's are at this corner.
 fn height_at(corner: &Corner, reference: &NodeIntervals, node: NodeId, side: Side) -> i128
@@ -49,7 +48,7 @@ fn lift_volt(least: u32, most: u32, height: i128) -> i64
     requires modest { IsModest least most }
     requires height { unsigned_abs height ≤ MOST_UNITS }
     ensures value { result ≡ lift_volt (record { least = least; most = most }) height }
-    ensures limit { unsigned_abs result ≤ most_volts }
+    ensures limit { unsigned_abs result ≤ most_wide_volts }
 {
     let rise = i128::from(most - least) * height.max(0);
     let lift = Interval::point(rise).div_out(i128::from(least));
@@ -69,7 +68,7 @@ fn lift_at(
     requires nodes { length reference.now ≡ nets.now.least.network.nodes }
     requires units { AreAllWithin MOST_UNITS reference.now }
     ensures value { result ≡ lift_at nets.now.least.network nets.now.most.network (height_at (is_most_at corner.now) side reference.now) place.0 }
-    ensures limit { unsigned_abs result ≤ most_volts }
+    ensures limit { unsigned_abs result ≤ most_wide_volts }
 {
     let ground = nets.least.element(place);
     if !ground.to.is_earth() {
@@ -90,7 +89,7 @@ pub fn fill_lifts(
     corner: &Corner,
     reference: &NodeIntervals,
     side: Side,
-    out: &mut Volts,
+    out: &mut WideVolts,
 )
     requires count { length nets.now.most.network.list ≡ length nets.now.least.network.list }
     requires nodes { length reference.now ≡ nets.now.least.network.nodes }
@@ -100,6 +99,7 @@ pub fn fill_lifts(
         number_at out.new place ≡ lift_at nets.now.least.network nets.now.most.network (height_at (is_most_at corner.now) side reference.now) place }
     ensures lifts { (network : Network) (stands : Item → Bool) (ranges : Ranges) → AreExtremesOf network stands ranges nets.now →
         AreLiftVolts (standing_elements network stands) ranges (height_at (is_most_at corner.now) side reference.now) (number_at out.new) }
+    ensures limit { AreWideVolts (number_at out.new) }
     ensures same_count { length out.new ≡ length out.old }
 {
     for place in 0..nets.least.count() {

@@ -1,12 +1,12 @@
 //! The reference in a field: the network with its grounds at a corner of their ranges, and how far others move it.
-ghost use Rattle.std.specs.Prelude.{ℕ, ◌≡◌, ◌^◌, length, IfOk};
+ghost use Rattle.std.specs.Prelude.{◌≡◌, ◌^◌, length, IfOk};
 ghost use Rattle.gic_model.specs.Voltages.{number_at};
 ghost use Rattle.gic_winding.specs.ElementList.{elements_of};
 ghost use Rattle.gic_grounds.specs.declared.unit.TheConstants.{MOST_UNITS};
 ghost use Rattle.gic_grounds.specs.Corner.{is_most_at};
 ghost use Rattle.gic_grounds.specs.Lifted.{CanSolve, CanSolveBoth, StillSolves, HasReferenceSpace, IsSolvedReference, AreLifted, AreBothLifted};
 ghost use Rattle.gic_grounds.specs.NodeEnds.{AreAllWithin};
-ghost use Rattle.gic_grounds.specs.Varying.{AreVariedOf};
+ghost use Rattle.gic_grounds.specs.Varying.{most_lift, AreVariedOf};
 
 use crate::corner::Corner;
 use crate::lift::fill_lifts;
@@ -17,9 +17,12 @@ use crate::side::Side;
 use crate::varied::VariedPotentials;
 use gic_base::OutOfMemory;
 use gic_case::Case;
-use gic_model::{Elements, Volts};
+use gic_enclose::laws::drive_law;
+use gic_exists::laws::existence_law;
+use gic_model::{Elements, Volts, WideVolts};
 use gic_net::Net;
 use gic_uniform::SolveWorkspace;
+use gic_varied::laws::reach_law;
 use std::alloc::Global;
 
 /// The width to which networks are solved, the least that can be asked for. Tight intervals are far narrower.
@@ -100,7 +103,7 @@ fn lift(
     corner: &Corner,
     reference: &NodeIntervals,
     side: Side,
-    volts: &mut Volts,
+    volts: &mut WideVolts,
     solving: &mut SolveWorkspace,
     out: &mut NodeIntervals,
 )
@@ -108,13 +111,18 @@ fn lift(
     requires units { AreAllWithin MOST_UNITS reference.now }
     requires space { length out.old ≡ length reference.now }
     ensures lifted { AreLifted nets.now (is_most_at corner.now) side reference.now out.new }
-    ensures within { AreAllWithin (2 ^ 60) out.new }
+    ensures within { AreAllWithin most_lift out.new }
     ensures space { length out.new ≡ length reference.now }
     ensures volts { length volts.new ≡ length volts.old }
     ensures still { StillSolves (length reference.now) (length volts.old) solving.old solving.new }
 {
+    drive_law();
+    existence_law();
+    reach_law();
+    nets.least.within_limits();
+    nets.most.within_limits();
     fill_lifts(nets, corner, reference, side, volts);
-    solving.solve(&nets.most, volts, WIDTH);
+    solving.solve_wide(&nets.most, volts, WIDTH);
     out.keep(&solving.potentials);
     // A nanovolt of a lift stands for a unit of potentials.
     out.in_units(1);
@@ -124,7 +132,7 @@ fn lift(
 pub(crate) fn lift_both(
     nets: &GroundNets,
     corner: &Corner,
-    volts: &mut Volts,
+    volts: &mut WideVolts,
     solving: &mut SolveWorkspace,
     out: &mut VariedPotentials,
 )

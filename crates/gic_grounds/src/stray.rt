@@ -1,10 +1,11 @@
 //! The interval of the stray power at a ground.
-ghost use Rattle.std.specs.Prelude.{◌≡◌, ◌<◌, ◌≤◌, ◌*◌, ◌^◌, pos, ◌-ℤ◌, ◌+ℤ◌, ◌*ℤ◌, unsigned_abs, if◌then◌else◌};
+ghost use Rattle.std.specs.Prelude.{◌≡◌, ◌<◌, ◌≤◌, ◌*◌, ◌^◌, pos, ◌*ℤ◌, unsigned_abs, if◌then◌else◌};
 ghost use Rattle.gic_fixed.specs.Encloses.{IsWithin};
 ghost use Rattle.gic_fixed.specs.Ends.{ends_of};
 ghost use Rattle.gic_fixed.specs.Rounding.{floor_div};
 ghost use Rattle.gic_varied.specs.Enclosure.{varied_ends, product_ends, stray_ends};
 ghost use Rattle.gic_grounds.specs.VariedEnds.{ends_seen};
+ghost use Rattle.gic_grounds.specs.Varying.{most_adjoint, most_lift};
 
 use crate::unit::MOST_UNITS;
 use crate::varied::VariedEnds;
@@ -13,10 +14,10 @@ use gic_fixed::Interval;
 /// A reference's potential, lowered by one lift and raised by another.
 pub(crate) fn varied(reference: &Interval, lowering: &Interval, raising: &Interval) -> VariedEnds
     requires reference { IsWithin MOST_UNITS reference.now.lo reference.now.hi }
-    requires lowering { IsWithin (2 ^ 60) lowering.now.lo lowering.now.hi }
-    requires raising { IsWithin (2 ^ 60) raising.now.lo raising.now.hi }
+    requires lowering { IsWithin most_lift lowering.now.lo lowering.now.hi }
+    requires raising { IsWithin most_lift raising.now.lo raising.now.hi }
     ensures value { ends_seen result ≡ varied_ends (ends_of reference.now) (ends_of lowering.now) (ends_of raising.now) }
-    ensures small { IsWithin (5 * 2 ^ 58) result.low result.high }
+    ensures small { IsWithin (17 * 2 ^ 54) result.low result.high }
 {
     VariedEnds {
         low: reference.lo - lowering.hi,
@@ -27,8 +28,8 @@ pub(crate) fn varied(reference: &Interval, lowering: &Interval, raising: &Interv
 /// The products of an adjoint potential and a varied one.
 #[tactic(auto, using(crate::proofs::Quotients::product_fits))]
 pub(crate) fn product(one: &Interval, other: &VariedEnds) -> Interval
-    requires one { IsWithin (2 ^ 55) one.now.lo one.now.hi }
-    requires other { IsWithin (5 * 2 ^ 58) other.now.low other.now.high }
+    requires one { IsWithin most_adjoint one.now.lo one.now.hi }
+    requires other { IsWithin (17 * 2 ^ 54) other.now.low other.now.high }
     ensures value { ends_of result ≡ product_ends (ends_of one.now) (ends_seen other.now) }
     ensures small { IsWithin (5 * 2 ^ 113) result.lo result.hi }
 {

@@ -1,5 +1,5 @@
 //! The interval of a weighted current, whatever resistances of their ranges the grounds have.
-ghost use Rattle.std.specs.Prelude.{◌≡◌, ◌<◌, ◌≤◌, ◌^◌, length, ℕ, Bool};
+ghost use Rattle.std.specs.Prelude.{◌≡◌, ◌<◌, ◌≤◌, ◌^◌, length, Bool};
 ghost use Rattle.gic_fixed.specs.Encloses.{IsWithin};
 ghost use Rattle.gic_fixed.specs.Ends.{ends_of};
 ghost use Rattle.gic_model.specs.declared.parts.Item.{Item};
@@ -94,7 +94,8 @@ pub fn enclosure(
     requires own { IsWithin (2 ^ 100) own.lo own.hi }
     ensures enclosure { (network : Network) (stands : Item → Bool) (ranges : Ranges) (units : Units) →
         AreExtremesOf network stands ranges nets.now → units.stray ≡ unit →
-        ends_of result ≡ certified_enclosure (standing_elements network stands) ranges (is_most_at corner.now) units (intervals_of adjoint.now potentials.now (ends_of own)) }
+        ends_of result ≡ certified_enclosure (standing_elements network stands) ranges (is_most_at corner.now) units
+        (intervals_of adjoint.now potentials.now (ends_of own)) }
     ensures small { IsWithin (2 ^ 122) result.lo result.hi }
 {
     let mut total = own;

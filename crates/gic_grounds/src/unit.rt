@@ -10,11 +10,11 @@ use gic_base::NodeId;
 use gic_fixed::Interval;
 
 /// The greatest potential of a reference, either way, in units: a lift's voltage is at most 19 times as many nanovolts,
-/// and no voltage may be beyond 60000000000000.
-pub const MOST_UNITS: u64 = 3_000_000_000_000;
+/// and no voltage for which a network is solved may be beyond 2^58.
+pub const MOST_UNITS: u64 = 15_000_000_000_000_000;
 
 /// The unit of adjoint potentials, in nanovolts.
-pub const ADJOINT_UNIT: u32 = 32;
+pub const ADJOINT_UNIT: u32 = 2;
 
 /// Grains of 2^-36 nanovolt in the greatest potential, for a unit of one nanovolt.
 const MOST_GRAINS: u128 = (MOST_UNITS as u128) << 36;
@@ -25,7 +25,7 @@ pub fn potential_unit(north: &NodeIntervals, east: &NodeIntervals) -> u32
     requires north { AreAllWithin most_guess north.now }
     requires east { AreAllWithin most_guess east.now }
     ensures least { IsLeastUnit north.now east.now result }
-    ensures small { result < 2 ^ 19 }
+    ensures small { result < 2 ^ 7 }
 {
     let grains = greatest_end(north).max(greatest_end(east));
     grains.div_ceil(MOST_GRAINS).max(1) as u32

@@ -9,10 +9,11 @@ ghost use Rattle.gic_stand.specs.Needs.{Solved, Fails};
 ghost use Rattle.gic_winding.specs.ElementList.{elements_of};
 ghost use Rattle.gic_grounds.specs.Tolerated.{Tolerated, tolerated, AreNetsOf, own_in, most_in};
 ghost use Rattle.gic_grounds.specs.Varied.{IsVariedWorkspaceFor, IsReadyToVary, HasNoGroundVolts, AreReferred, HasReferences, AreFieldVolts, AreOfOneCount, reference_to, IsReferredAtCorner, HasReferenceAtCorner};
-ghost use Rattle.gic_grounds.specs.VariedCurrent.{IsVariedCurrent, AreVariedCurrents, AreCutCurrents, IsAtCorner, IsCutAtCorner, IsInside, AreInside};
-ghost use Rattle.gic_grounds.specs.Corner.{is_most_at, is_most_for};
-ghost use Rattle.gic_enclose.specs.Ends.{potential_ends};
-ghost use Rattle.gic_fixed.specs.Ends.{Ends, ends_of};
+ghost use Rattle.gic_grounds.specs.VariedCurrent.{AreVariedCurrents, AreCutCurrents, IsAtCorner, IsInside, AreInside};
+ghost use Rattle.gic_grounds.specs.VariedCurrent.{IsCutAtCorner, IsCutAtCorners, AreCutAtCorners};
+ghost use Rattle.gic_grounds.specs.Corner.{is_most_at, IsChosen};
+ghost use Rattle.gic_grounds.specs.declared.direction.Direction.TheVariants.{North, East};
+ghost use Rattle.gic_fixed.specs.Ends.{ends_of};
 
 use crate::adjoint::adjoin;
 use crate::at_corner::{CornerWorkspace, common, make_corner_workspace};
@@ -32,7 +33,7 @@ use crate::weights::stray_unit;
 use gic_base::OutOfMemory;
 use gic_case::Case;
 use gic_fixed::Interval;
-use gic_model::{Elements, Volts};
+use gic_model::{Elements, Volts, WideVolts};
 use gic_stand::NetworkRefusal;
 use gic_switch::Switchings;
 use gic_uniform::SolveWorkspace;
@@ -49,8 +50,8 @@ pub struct VariedWorkspace {
     pub(crate) elements: Elements,
     pub nets: GroundNets,
     pub(crate) solving: SolveWorkspace,
-    /// The voltages of lifts, and then of weights.
-    pub(crate) volts: Volts,
+    /// The voltages of a lift or of weights, whichever a net was solved for last.
+    pub(crate) volts: WideVolts,
     /// The adjoint potentials of the last transformer.
     pub(crate) adjoint: NodeIntervals,
     /// The unit of potentials, in nanovolts.
@@ -97,7 +98,7 @@ pub fn make_varied_workspace(
     let transformers = case.transformers().len() as u16;
     let nodes = elements.nodes();
     let nets = ground_nets(alloc, case, percent, &elements, switchings)?;
-    let volts = Volts::new(alloc, &elements)?;
+    let volts = WideVolts::new(alloc, &elements)?;
     let adjoint = NodeIntervals::new(alloc, nodes)?;
     let north = new_reference(alloc, nodes, transformers)?;
     let east = new_reference(alloc, nodes, transformers)?;
@@ -257,12 +258,12 @@ impl VariedWorkspace {
         );
         VariedCurrents { north, east }
     }
+
     /// Leaves the corner where a transformer's current in the field of this direction is the least, or the greatest, as far as
-    /// the signs of the adjoint potentials of the last transformer tell.
+    /// the signs of the adjoint potentials of the last transformer and of its reference's potentials tell.
     fn choose(&mut self, direction: Direction, extreme: Extreme)
         requires counts { AreOfOneCount self.old }
-        ensures each { (k : ℕ) → k < length self.old.adjoint → is_most_at self.new.at_corner.corner k ≡
-            is_most_for extreme (potential_ends self.old.adjoint k) (potential_ends (reference_to direction self.old) k) }
+        ensures chosen { IsChosen extreme self.old.adjoint (reference_to direction self.old) (is_most_at self.new.at_corner.corner) }
         ensures count { length self.new.at_corner.corner ≡ length self.old.at_corner.corner }
         ensures rest { self.new ≡ record self.old { at_corner = record self.old.at_corner { corner = self.new.at_corner.corner } } }
     {
@@ -332,6 +333,7 @@ impl VariedWorkspace {
             AreNetsOf (tolerated case.now rows percent) self.old.nets → HasNoGroundVolts case.now (number_at field.now) →
             (HasNoEffect case.now (own_in (tolerated case.now rows percent)) transformer → ⊥) →
             IsAtCorner (tolerated case.now rows percent) (is_most_at self.old.at_corner.corner) (number_at field.now) transformer (ends_of result) }
+        ensures same_corner { self.new.at_corner.corner ≡ self.old.at_corner.corner }
         ensures ready { IsReadyToVary case.now self.new }
         ensures rest { self.new ≡ record self.old { solving = self.new.solving; volts = self.new.volts; at_corner = self.new.at_corner } }
     {
@@ -365,7 +367,8 @@ impl VariedWorkspace {
     }
 
     /// Cuts the interval of a transformer's current in the field of this direction to what it shares with that by a reference
-    /// at the corner where the current is the least, or the greatest, as far as can be told. Takes no memory.
+    /// at the corner where the current is the least, or the greatest, as far as can be told; where the two share nothing it
+    /// stays. Takes no memory.
     fn cut_at_corner(
         &mut self,
         case: &Case,
@@ -381,7 +384,9 @@ impl VariedWorkspace {
         ensures right { (rows : List Switching) (percent : ℕ) →
             AreNetsOf (tolerated case.now rows percent) self.old.nets → HasNoGroundVolts case.now (number_at field.now) →
             (HasNoEffect case.now (own_in (tolerated case.now rows percent)) transformer → ⊥) →
-            IsCutAtCorner (tolerated case.now rows percent) (number_at field.now) transformer (ends_of before) (ends_of result) }
+            IsCutAtCorner (tolerated case.now rows percent) (is_most_at self.new.at_corner.corner) (number_at field.now) transformer
+            (ends_of before) (ends_of result) }
+        ensures chosen { IsChosen extreme self.old.adjoint (reference_to direction self.old) (is_most_at self.new.at_corner.corner) }
         ensures inside { IsInside (ends_of before) (ends_of result) }
         ensures ready { IsReadyToVary case.now self.new }
         ensures rest { self.new ≡ record self.old { solving = self.new.solving; volts = self.new.volts; at_corner = self.new.at_corner } }
@@ -403,11 +408,11 @@ impl VariedWorkspace {
         requires ready { IsReadyToVary case.now self.old }
         requires field { length field.now ≡ length (elements_of case.now).list }
         requires place { transformer < length case.now.transformers }
-        ensures right { (rows : List Switching) (percent unit : ℕ) (reference : List Ends) →
+        ensures right { (rows : List Switching) (percent : ℕ) →
             AreNetsOf (tolerated case.now rows percent) self.old.nets → HasNoGroundVolts case.now (number_at field.now) →
             (HasNoEffect case.now (own_in (tolerated case.now rows percent)) transformer → ⊥) →
-            IsVariedCurrent (tolerated case.now rows percent) (number_at field.now) unit reference transformer (ends_of before) →
-            IsVariedCurrent (tolerated case.now rows percent) (number_at field.now) unit reference transformer (ends_of result) }
+            IsCutAtCorners (tolerated case.now rows percent) self.old.adjoint (reference_to direction self.old) (number_at field.now) transformer
+            (ends_of before) (ends_of result) }
         ensures inside { IsInside (ends_of before) (ends_of result) }
         ensures ready { IsReadyToVary case.now self.new }
         ensures rest { self.new ≡ record self.old { solving = self.new.solving; volts = self.new.volts; at_corner = self.new.at_corner } }
@@ -433,6 +438,11 @@ impl VariedWorkspace {
             HasNoGroundVolts case.now (number_at north.now) → HasNoGroundVolts case.now (number_at east.now) →
             AreVariedCurrents (tolerated case.now rows percent) (number_at north.now) (number_at east.now) transformer currents →
             AreVariedCurrents (tolerated case.now rows percent) (number_at north.now) (number_at east.now) transformer result }
+        ensures cut { (rows : List Switching) (percent : ℕ) → AreNetsOf (tolerated case.now rows percent) self.old.nets →
+            HasNoGroundVolts case.now (number_at north.now) → HasNoGroundVolts case.now (number_at east.now) →
+            (HasNoEffect case.now (own_in (tolerated case.now rows percent)) transformer → ⊥) →
+            AreCutAtCorners (tolerated case.now rows percent) self.old.adjoint (reference_to North self.old) (reference_to East self.old)
+            (number_at north.now) (number_at east.now) transformer currents result }
         ensures inside { AreInside currents result }
         ensures ready { IsReadyToVary case.now self.new }
         ensures rest { self.new ≡ record self.old { solving = self.new.solving; volts = self.new.volts; at_corner = self.new.at_corner } }

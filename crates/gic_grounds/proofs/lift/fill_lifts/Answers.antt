@@ -1,6 +1,8 @@
-use Rattle.std.proofs.Common.{◌≡◌, ◌<◌, ◌≤◌, ◌∙◌, List, length, set, arith, ap, ℤ, to_z, of_z, w64}
+use Rattle.std.proofs.Common.{◌≡◌, ◌<◌, ◌≤◌, ◌∙◌, ℕ, List, length, set, arith, ap, sym, subst, ⊎_elim, unsigned_abs, pos, ℤ, to_z, of_z, w64}
+use Rattle.std.proofs.lemmas.Bool.{cases_eq, cases_lt}
 use Rattle.std.proofs.lemmas.Int.{to_z-of_z, fits_signed_from_abs}
-use Rattle.std.proofs.lemmas.List.{length-map, length-set}
+use Rattle.std.proofs.lemmas.List.{get_or_past, length-map, length-set}
+use Rattle.gic_model.specs.Limits.{most_wide_volts}
 use Rattle.gic_model.specs.Network.{Network}
 use Rattle.gic_model.specs.Voltages.{number_at}
 use Rattle.gic_varied.specs.Grounds.{regrounded}
@@ -32,4 +34,18 @@ loop-place-preserved c =
       filled = next_lift (lift_at c.args.nets.now.least.network c.args.nets.now.most.network (height_at (is_most_at c.args.corner.now) c.args.side c.args.reference.now))
           c.loop-place.out c.set.new.self place volt inside is
           c.lift_at-nanovolts.ensures.value c.loop-place.invariant.filled;
+      small = λ k less. ⊎_elim
+          (λ it. subst (λ (m : ℕ). unsigned_abs (lift_at c.args.nets.now.least.network c.args.nets.now.most.network (height_at (is_most_at c.args.corner.now) c.args.side c.args.reference.now) m) ≤ most_wide_volts) (sym it) (subst (λ (z : ℤ). unsigned_abs z ≤ most_wide_volts) c.lift_at-nanovolts.ensures.value c.lift_at-nanovolts.ensures.limit))
+          (λ other. c.loop-place.invariant.small k (omega (arith, less, other)))
+          (cases_eq k place);
     }
+
+pub returns-clause-limit : goal.returns-clause-limit
+returns-clause-limit c k =
+    let all : length c.args.nets.now.least.network.list ≤ c.loop-place.place = omega arith in
+    ⊎_elim
+    (λ inside.
+    let before : k < c.loop-place.place = omega (arith, inside, all, c.loop-place.invariant.count) in
+    subst (λ (z : ℤ). unsigned_abs z ≤ most_wide_volts) (sym (c.loop-place.invariant.filled k before)) (c.loop-place.invariant.small k before))
+    (λ past. subst (λ (z : ℤ). unsigned_abs z ≤ most_wide_volts) (sym (get_or_past c.loop-place.out k (pos 0) past)) (omega arith))
+    (cases_lt k (length c.loop-place.out))

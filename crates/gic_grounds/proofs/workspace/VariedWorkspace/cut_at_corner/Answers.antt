@@ -1,10 +1,12 @@
-use Rattle.std.proofs.Common.{ap, sym, subst, ◌∙◌}
+use Rattle.std.proofs.Common.{Bool, List, ap, sym, subst, ◌∙◌}
 use Rattle.gic_fixed.specs.Ends.{ends_of}
+use Rattle.gic_model.specs.Voltages.{number_at}
 use Rattle.gic_grounds.specs.declared.workspace.VariedWorkspace.{VariedWorkspace}
 use Rattle.gic_grounds.specs.declared.nets.GroundNets.{GroundNets}
-use Rattle.gic_grounds.specs.Corner.{is_most_at}
+use Rattle.gic_grounds.specs.Corner.{is_most_at, IsChosen}
 use Rattle.gic_grounds.specs.Tolerated.{tolerated, AreNetsOf}
-use Rattle.gic_grounds.specs.VariedCurrent.{IsInside}
+use Rattle.gic_grounds.specs.Varied.{reference_to}
+use Rattle.gic_grounds.specs.VariedCurrent.{IsInside, IsCutAtCorner}
 use Rattle.gic_grounds.proofs.AtCorners.{ready_elsewhere}
 use Rattle.gic_grounds.proofs.CutAtCorners.{common_inside}
 use Rattle.gic_grounds.proofs.workspace.VariedWorkspace.cut_at_corner.Goals as goal
@@ -28,12 +30,19 @@ pub returns-clause-right : goal.returns-clause-right
 returns-clause-right c rows percent of_nets quiet effect =
     let v = tolerated c.args.case.now rows percent in
     let same = ap (λ (w : VariedWorkspace). w.nets) c.choose.ensures.rest in
-    record {
-      corner = is_most_at c.choose.new.self.at_corner.corner;
+    subst (λ (marks : List Bool). IsCutAtCorner v (is_most_at marks) (number_at c.args.field.now) c.args.transformer
+    (ends_of c.args.before) (ends_of c.common.result)) (sym c.enclose_at_corner-other.ensures.same_corner)
+    (record {
       other = ends_of c.enclose_at_corner-other.result;
       at_corner = c.enclose_at_corner-other.ensures.right rows percent (subst (λ (n : GroundNets). AreNetsOf v n) (sym same) of_nets) quiet effect;
       is = c.common.ensures;
-    }
+    })
+
+pub returns-clause-chosen : goal.returns-clause-chosen
+returns-clause-chosen c =
+    let before = c.args.self.now in
+    subst (λ (marks : List Bool). IsChosen c.args.extreme before.adjoint (reference_to c.args.direction before) (is_most_at marks))
+    (sym c.enclose_at_corner-other.ensures.same_corner) c.choose.ensures.chosen
 
 pub returns-clause-inside : goal.returns-clause-inside
 returns-clause-inside c =

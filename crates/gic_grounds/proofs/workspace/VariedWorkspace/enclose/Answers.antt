@@ -22,7 +22,7 @@ use Rattle.gic_grounds.specs.Scale.{stray_unit, units_of}
 use Rattle.gic_grounds.specs.Tolerated.{Tolerated, AreNetsOf, AreNetsFor, tolerated, own_in, ranges_in}
 use Rattle.gic_grounds.specs.Varied.{IsReadyToVary, HasCornerSpace}
 use Rattle.gic_grounds.specs.VariedCurrent.{milli_cut}
-use Rattle.gic_grounds.proofs.BothNets.{both_still, together_again}
+use Rattle.gic_grounds.proofs.BothNets.{both_still, together_again, solved_again}
 use Rattle.gic_grounds.proofs.Earthings.{own_earthed}
 use Rattle.gic_grounds.proofs.Holding.{Laws, IsStudied, varied_current_is, references_in, references_of}
 use Rattle.gic_grounds.proofs.RowParts.{row_read, row_rated, can_enclose}
@@ -155,7 +155,7 @@ returns-clause-ready c =
             (together_again _ _ w.nets.modest _) space.corner_space;
       };
       solvable = c.requires.ready.solvable;
-      can_solve = record { least = can.least; most = can.most };
+      can_solve = solved_again _ _ w.nets _ _ can;
     }
 
 pub returns-clause-rest : goal.returns-clause-rest

@@ -5,6 +5,7 @@ use Rattle.gic_base.specs.declared.limits.TheConstants.{MOST_WALK}
 use Rattle.gic_model.specs.Earthing.{AreEarthed}
 use Rattle.gic_model.specs.Limits.{IsWithinLimits}
 use Rattle.gic_model.specs.Network.{Network}
+use Rattle.gic_model.specs.Standing.{stands_after}
 use Rattle.gic_model.specs.Sums.{Placed}
 use Rattle.gic_net.specs.Net.{NetView, standing}
 use Rattle.gic_stand.specs.Needs.{Solved, Fails}
@@ -14,7 +15,7 @@ use Rattle.gic_winding.specs.ElementList.{elements_of}
 use Rattle.gic_grounds.specs.Tolerated.{ranges_in, tolerated, own_in}
 use Rattle.gic_grounds.specs.Varied.{IsReadyToVary}
 use Rattle.gic_grounds.proofs.Answered.{on_ok}
-use Rattle.gic_grounds.proofs.Earthings.{least_bound, own_earthed}
+use Rattle.gic_grounds.proofs.Earthings.{least_bound, least_earthed, own_earthed}
 use Rattle.gic_grounds.proofs.workspace.VariedWorkspace.look.Goals as goal
 
 pub look-requires-clause-nodes : goal.look-requires-clause-nodes
@@ -50,10 +51,12 @@ returns-clause-ready c =
       };
       solvable = ready.solvable;
       can_solve = record {
+        extremes = record { network = network; stands = stands_after v.rows; ranges = ranges_in v; are = of_case.extremes };
         least = record {
           node_count = ap (λ (n : Network). n.nodes) of_case.extremes.least_network;
           element_count = ap (λ (n : Network). length n.list) of_case.extremes.least_network
               ∙ length-map network.list (regrounded (λ e. (ranges_in v e).least));
+          earthed = least_earthed v nets of_case ready.solvable.earthed;
           has_space = ready.has_workspace;
           bound = least_bound v nets of_case c.other_grounds_law.ensures.bound limits MOST_WALK (slice_index c.look.new.self.vector)
               ready.bound;
@@ -62,6 +65,7 @@ returns-clause-ready c =
           node_count = ap (λ (n : Network). n.nodes) of_case.extremes.most_network;
           element_count = ap (λ (n : Network). length n.list) of_case.extremes.most_network
               ∙ length-map network.list (regrounded (λ e. (ranges_in v e).most));
+          earthed = ready.solvable.earthed;
           has_space = ready.has_workspace;
           bound = ready.bound;
         };

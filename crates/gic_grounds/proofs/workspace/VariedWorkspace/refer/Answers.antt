@@ -15,7 +15,7 @@ use Rattle.gic_grounds.specs.Modest.{AreModestNetworks}
 use Rattle.gic_grounds.specs.Tolerated.{AreNetsFor}
 use Rattle.gic_grounds.specs.Varied.{IsReadyToVary, HasCornerSpace}
 use Rattle.gic_grounds.specs.Varying.{AreVariedOf}
-use Rattle.gic_grounds.proofs.BothNets.{recounted_both, both_still, the_nets, together_again}
+use Rattle.gic_grounds.proofs.BothNets.{recounted_both, both_still, the_nets, together_again, solved_again}
 use Rattle.gic_grounds.proofs.workspace.VariedWorkspace.refer.Goals as goal
 
 -- both nets can be solved after both references were
@@ -38,7 +38,7 @@ at_least case w nets varied ready = subst (λ (marks : List Bool). AreBothLifted
 -- and of nets that are put together again of both
 moved : (nodes count : ℕ) (nets : GroundNets) (modest : AreModestNetworks nets.least.network nets.most.network) (solving : SolveWorkspace) →
     CanSolveBoth nodes count nets solving → CanSolveBoth nodes count (the_nets nets.least nets.most modest) solving
-moved nodes count nets modest solving can = record { least = can.least; most = can.most }
+moved nodes count nets modest solving can = solved_again nodes count nets modest solving can
 
 -- in units there are as many intervals
 in_units_space : (nodes : ℕ) (varied : VariedPotentials) (reference : List Ends) → AreVariedOf nodes varied → length reference ≡ length varied.reference →
@@ -178,7 +178,7 @@ returns-clause-ready c =
             (together_again _ _ w.nets.modest _) space.corner_space;
       };
       solvable = c.requires.ready.solvable;
-      can_solve = record { least = can.least; most = can.most };
+      can_solve = solved_again _ _ w.nets _ _ can;
     }
 
 pub returns-clause-nets : goal.returns-clause-nets
