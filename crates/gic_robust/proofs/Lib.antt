@@ -1,6 +1,9 @@
 pub mod CutEnds
 pub mod GroundVolts
-pub mod OrdinarySizes
+pub mod SmallSlack
+pub mod LineSums
+pub mod FewUnits
+pub mod CaseSlack
 pub mod Referred
 pub mod Resolved
 pub mod RobustDetermined

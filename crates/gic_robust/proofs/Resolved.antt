@@ -25,6 +25,11 @@ use Rattle.gic_varied.specs.Corners.{all_least}
 use Rattle.gic_varied.specs.Grounds.{is_ground, grounds_among, HaveNoGroundVolts}
 use Rattle.gic_varied.specs.Lifts.{with_least, with_most}
 use Rattle.gic_varied.specs.Near.{ExactSolutions, AreExact, IsExactPart, exact_enclosure, exact_product, Sizes, AreSizes, AreDrivenAtMost, AreAllNear, current_unit, slack, micro_paths, CertifiedEnclosuresAreNear}
+use Rattle.gic_varied.specs.GroundLaws.{OtherGroundsEarthToo}
+use Rattle.gic_varied.specs.Reach.{ListedWeightsAddUp}
+use Rattle.gic_varied.specs.Sizes.{SumsGiveSizes, sizes_of_sums}
+use Rattle.gic_exists.specs.Exists.{EarthedNetworksAreSolved}
+use Rattle.gic_model.specs.SolutionLaws.{PotentialsAreBounded}
 use Rattle.gic_varied.specs.Ranges.{Ranges, IsInRange, AreInRanges}
 use Rattle.gic_varied.specs.Reciprocal.{current_by_weights}
 use Rattle.gic_varied.specs.Varied.{IsVaried}
@@ -41,6 +46,8 @@ use Rattle.gic_grounds.proofs.Extremes.{few_percent}
 use Rattle.gic_grounds.proofs.Holding.{Laws, current_bounded}
 use Rattle.gic_robust.specs.Resolution.{weights_in, units_in, IsStudiedIn, AreExactOf, IsWithinTen, IsNearReference, RowsAreNearReference}
 use Rattle.gic_robust.proofs.CutEnds.{low_within_ten, high_within_ten, low_of_nothing, high_of_nothing, part_low, part_high, sum_not_above, sum_not_below, own_most, own_least}
+use Rattle.gic_robust.proofs.CaseSlack.{case_slack}
+use Rattle.gic_robust.proofs.FewUnits.{few_units}
 use Rattle.gic_robust.proofs.TightNear.{near_of_tight}
 
 -- the low end of a ground's part is not above 0
@@ -109,7 +116,8 @@ further_down all high other one inside h =
 
 module _ (near : CertifiedEnclosuresAreNear) (others : SolutionsAreVaried) (laws : Laws) (v : Tolerated) (volts : ℕ → ℤ) (unit t : ℕ) (grains : List Ends) (ends : Ends)
     (inside : t < length v.case.transformers) (some : 0 < unit) (certain : AreCertain (least_in v) volts grains) (tight : AreTight grains) (of : IsOfReference v all_least volts unit grains t ends)
-    (studied : IsStudiedIn v volts) (exact : ExactSolutions) (parts : Placed → Ends) (sizes : Sizes) (is : AreExactOf v volts unit t exact parts sizes) where
+    (studied : IsStudiedIn v volts) (exact : ExactSolutions) (parts : Placed → Ends) (is : AreExactOf v volts unit t exact parts)
+    (sizes : Sizes) (sized : AreSizes (own_in v) (ranges_in v) volts (weights_in v unit t) sizes) (small : slack (units_in v unit t) sizes ≤ 9000000 * current_unit (units_in v unit t)) where
   -- the case's network, what stands of it, the transformer's high voltage and its units
   abbrev network : Network
   network = elements_of v.case
@@ -206,7 +214,7 @@ module _ (near : CertifiedEnclosuresAreNear) (others : SolutionsAreVaried) (laws
       tight = tight;
       rounded = of.of_reference;
     });
-    adjoint = near_of_tight (least_in v) of.given.weights 32 of.intervals.adjoint (omega arith) of.tight_adjoint;
+    adjoint = near_of_tight (least_in v) of.given.weights 2 of.intervals.adjoint (omega arith) of.tight_adjoint;
     lowering = near_of_tight (standing_elements (with_most (ranges_in v) network) stands) of.given.lowering 1 of.intervals.lowering (omega arith) of.tight_lowering;
     raising = near_of_tight (standing_elements (with_most (ranges_in v) network) stands) of.given.raising 1 of.intervals.raising (omega arith) of.tight_raising;
     own = of.tight_own;
@@ -226,14 +234,14 @@ module _ (near : CertifiedEnclosuresAreNear) (others : SolutionsAreVaried) (laws
 
   sizes_given : AreSizes (own_in v) (ranges_in v) of.given.field of.given.weights sizes
   sizes_given = record {
-    driven_field = is.sized.driven_field;
-    driven_weights = is.sized.driven_weights;
-    by_field = subst (λ (f : ℕ → ℤ). AreDrivenAtMost (own_in v) f is.sized.driven_field) (sym of.in_field) is.sized.by_field;
-    by_weights = subst (λ (f : ℕ → ℤ). AreDrivenAtMost (own_in v) f is.sized.driven_weights) (sym weights_are) is.sized.by_weights;
-    field_sum = is.sized.field_sum;
-    weights_sum = is.sized.weights_sum;
-    conducting = is.sized.conducting;
-    count = is.sized.count;
+    driven_field = sized.driven_field;
+    driven_weights = sized.driven_weights;
+    by_field = subst (λ (f : ℕ → ℤ). AreDrivenAtMost (own_in v) f sized.driven_field) (sym of.in_field) sized.by_field;
+    by_weights = subst (λ (f : ℕ → ℤ). AreDrivenAtMost (own_in v) f sized.driven_weights) (sym weights_are) sized.by_weights;
+    field_sum = sized.field_sum;
+    weights_sum = sized.weights_sum;
+    conducting = sized.conducting;
+    count = sized.count;
   }
 
   -- so the certified enclosure is near the exact one
@@ -248,7 +256,7 @@ module _ (near : CertifiedEnclosuresAreNear) (others : SolutionsAreVaried) (laws
 
   -- the slack is at most nine milliamperes
   few : slack units sizes * (d * d) ≤ 9 * (1000000 * one)
-  few = slack_most (slack units sizes) (current_unit units) (d * d) is.small
+  few = slack_most (slack units sizes) (current_unit units) (d * d) small
 
   -- so both ends are within ten milliamperes
   low_ten : all.low ≤ℤ ((ends.low +ℤ pos 10) *ℤ pos (1000000 * one))
@@ -268,21 +276,36 @@ module _ (near : CertifiedEnclosuresAreNear) (others : SolutionsAreVaried) (laws
   pub within_ten : IsWithinTen one all ends
   within_ten = record { low = low_ten; high = high_ten }
 
+-- what is proved elsewhere of solutions and sums
+pub record Sums : Type 0 where
+  pub sizes : SumsGiveSizes
+  pub listed : ListedWeightsAddUp
+
 -- a transformer's interval in a field is near the reference enclosure, where a winding that stands has a weight
-pub near_reference : CertifiedEnclosuresAreNear → SolutionsAreVaried → Laws → (v : Tolerated) (volts : ℕ → ℤ) (unit t : ℕ) (grains : List Ends) (ends : Ends) →
-    t < length v.case.transformers → 0 < unit → AreCertain (least_in v) volts grains → AreTight grains → IsStudiedIn v volts → (HasNoEffect v.case (own_in v) t → ⊥) →
+pub near_reference : CertifiedEnclosuresAreNear → SolutionsAreVaried → Laws → Sums → (v : Tolerated) (volts : ℕ → ℤ) (unit t : ℕ) (grains : List Ends) (ends : Ends) →
+    t < length v.case.transformers → 0 < unit → unit ≤ 20 → AreCertain (least_in v) volts grains → AreTight grains → IsStudiedIn v volts → (HasNoEffect v.case (own_in v) t → ⊥) →
     IsVariedCurrent v volts unit grains t ends → IsNearReference v volts unit t ends
-near_reference near others laws v volts unit t grains ends inside some certain tight studied effect varied = by varied.pinned
+near_reference near others laws sums v volts unit t grains ends inside some few certain tight studied effect varied = by varied.pinned
   where
+    limits : IsWithinLimits (with_least (ranges_in v) (elements_of v.case))
+    limits = (laws.limits (elements_of v.case) (tolerance_at v.case v.percent) studied.limits).0
+
+    slack_is : slack (units_in v unit t) (sizes_of_sums (own_in v) volts (weights_in v unit t)) ≤ 9000000 * current_unit (units_in v unit t)
+    slack_is = case_slack sums.listed v volts unit t inside some few studied
+
     by : HasNoEffect v.case (own_in v) t ⊎ IsOfReference v all_least volts unit grains t ends → IsNearReference v volts unit t ends
     by (inl none) = absurd (effect none)
-    by (inr of) = within_ten near others laws v volts unit t grains ends inside some certain tight of studied
+    by (inr of) = λ exact parts is. within_ten near others laws v volts unit t grains ends inside some certain tight of studied exact parts is
+        (sizes_of_sums (own_in v) volts (weights_in v unit t))
+        (sums.sizes (elements_of v.case) (stands_after v.rows) (ranges_in v) volts (weights_in v unit t) studied.limits limits) slack_is
 
 -- so are the first two intervals of each row
-pub rows_near : CertifiedEnclosuresAreNear → SolutionsAreVaried → Laws → RowsAreNearReference
-rows_near near others laws v north east t row inside in_north in_east right effect = record {
-  to_north = near_reference near others laws v north right.references.unit t right.references.north row.north inside right.of_case.least_unit.above_0
-      right.of_case.north_certain right.of_case.north_tight in_north effect right.to_north;
-  to_east = near_reference near others laws v east right.references.unit t right.references.east row.east inside right.of_case.least_unit.above_0
-      right.of_case.east_certain right.of_case.east_tight in_east effect right.to_east;
-}
+pub rows_near : CertifiedEnclosuresAreNear → SolutionsAreVaried → Laws → Sums → OtherGroundsEarthToo → EarthedNetworksAreSolved → PotentialsAreBounded → RowsAreNearReference
+rows_near near others laws sums earthed solved bounded v north east t row inside in_north in_east right effect =
+    let few = few_units laws.limits earthed solved bounded v north east right.references in_north in_east right.of_case in
+    record {
+      to_north = near_reference near others laws sums v north right.references.unit t right.references.north row.north inside right.of_case.least_unit.above_0 few
+          right.of_case.north_certain right.of_case.north_tight in_north effect right.to_north;
+      to_east = near_reference near others laws sums v east right.references.unit t right.references.east row.east inside right.of_case.least_unit.above_0 few
+          right.of_case.east_certain right.of_case.east_tight in_east effect right.to_east;
+    }

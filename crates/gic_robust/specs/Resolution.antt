@@ -1,16 +1,21 @@
--- How far the first two intervals of a transformer in a right report end beyond the reference enclosure in exact numbers: at most 10 mA, the least width that can be asked for, but at the edges of what a case may say.
-use Rattle.std.specs.Prelude.{ℕ, ◌*◌, ◌≤◌, ◌<◌, length, ℤ, pos, ◌+ℤ◌, ◌-ℤ◌, ◌*ℤ◌, ◌≤ℤ◌}
+-- How far the first two intervals of a transformer in a right report end beyond the reference enclosure in exact numbers: at most 10 mA, the least width that can be asked for.
+use Rattle.std.specs.Prelude.{ℕ, ◌≡◌, ◌*◌, ◌≤◌, ◌<◌, Bool, true, false, List, length, IsFalse, ℤ, pos, ◌+ℤ◌, ◌-ℤ◌, ◌*ℤ◌, ◌≤ℤ◌}
+use Rattle.std.specs.List.{All}
 use Rattle.gic_base.specs.declared.limits.TheConstants.{MOST_WALK}
 use Rattle.gic_case.specs.Sound.{IsSound}
 use Rattle.gic_effective.specs.RightView.{HasNoEffect}
 use Rattle.gic_fixed.specs.Ends.{Ends}
+use Rattle.gic_induce.specs.LineVolts.{volts_of}
+use Rattle.gic_model.specs.declared.parts.Item.{Item}
+use Rattle.gic_model.specs.declared.parts.Item.TheVariants.{Line, Ground, Transformer, Neutral}
 use Rattle.gic_model.specs.Bound.{IsEarthedWithin}
 use Rattle.gic_model.specs.Earthing.{AreEarthed}
 use Rattle.gic_model.specs.Limits.{IsWithinLimits, AreVolts}
 use Rattle.gic_model.specs.Standing.{stands_after}
 use Rattle.gic_model.specs.Sums.{Placed}
+use Rattle.gic_model.specs.Voltages.{number_at}
 use Rattle.gic_varied.specs.Certified.{Units}
-use Rattle.gic_varied.specs.Near.{ExactSolutions, AreExact, AreExactParts, exact_enclosure, Sizes, AreSizes, current_unit, slack}
+use Rattle.gic_varied.specs.Near.{ExactSolutions, AreExact, AreExactParts, exact_enclosure, current_unit}
 use Rattle.gic_varied.specs.Reciprocal.{weights_from}
 use Rattle.gic_winding.specs.ElementList.{elements_of}
 use Rattle.gic_winding.specs.Weights.{transformer_at, weighted_windings}
@@ -19,21 +24,20 @@ use Rattle.gic_grounds.specs.Scale.{weight_times, units_of}
 use Rattle.gic_grounds.specs.Tolerated.{Tolerated, ranges_in, own_in, least_in}
 use Rattle.gic_robust.specs.RightRobust.{IsRobustRow}
 
--- the slack moves no end by more than nine milliamperes
-abbrev pub HasSmallSlack : Units → Sizes → Type 0
-HasSmallSlack units sizes = slack units sizes ≤ 9000000 * current_unit units
+-- whether an item is a line
+abbrev pub is_line : Item → Bool
+is_line (Line place) = true
+is_line (Ground place) = false
+is_line (Transformer place) = false
+is_line (Neutral place) = false
 
--- sizes of networks that aren't at the edges: the voltages of the field drive at most 10^8 amperes together, each over its own element's resistance, in all its phases. The rest bounds what a case can have: windings conduct at most 9000 siemens, each times its weight over the high voltage, a ground 1000, and there are at most 4096 grounds
-pub record IsOrdinary (high_volts unit : ℕ) (sizes : Sizes) : Type 0 where
-  pub field : sizes.field ≤ 100000000000000000
-  pub weights : sizes.weights ≤ 10000 * (weight_times high_volts unit * high_volts)
-  pub conductance : sizes.conductance ≤ 1000000
-  pub grounds : sizes.grounds ≤ 65536
+-- no standing element has a voltage but lines, as in a field
+abbrev pub HaveLineVoltsAlone : List Placed → (volts : ℕ → ℤ) → Type 0
+HaveLineVoltsAlone standing volts = All (λ p. IsFalse (is_line p.1.item) → volts p.0 ≡ pos 0) standing
 
--- with these the slack is small where a unit of potentials is at most 16 nanovolts: where no interval of a potential with all grounds at their least reaches beyond 48000 volts, in either field
-abbrev pub OrdinarySizesHaveSmallSlack : Type 0
-OrdinarySizesHaveSmallSlack = (high_volts unit : ℕ) (sizes : Sizes) → 0 < high_volts → high_volts ≤ 10000000 → 0 < unit → unit ≤ 16 →
-    IsOrdinary high_volts unit sizes → HasSmallSlack (units_of high_volts unit) sizes
+-- so it is in every field
+abbrev pub FieldsDriveLinesAlone : Type 0
+FieldsDriveLinesAlone = (v : Tolerated) (fields : List (ℤ × ℤ)) → HaveLineVoltsAlone (own_in v) (number_at (volts_of v.case fields (elements_of v.case).list))
 
 -- the voltages of a transformer's weights, each volt of which is so many nanovolts
 abbrev pub weights_in : Tolerated → (unit t : ℕ) → ℕ → ℤ
@@ -43,7 +47,7 @@ weights_in v unit t = weights_from (weight_times (transformer_at v.case t).high_
 abbrev pub units_in : Tolerated → (unit t : ℕ) → Units
 units_in v unit t = units_of (transformer_at v.case t).high_volts unit
 
--- a sound case that can be solved with its grounds at their least, and voltages within their limit
+-- a sound case that can be solved with its grounds at their least, and voltages of its lines within their limit
 pub record IsStudiedIn (v : Tolerated) (volts : ℕ → ℤ) : Type 0 where
   pub sound : IsSound v.case
   pub limits : IsWithinLimits (elements_of v.case)
@@ -51,13 +55,12 @@ pub record IsStudiedIn (v : Tolerated) (volts : ℕ → ℤ) : Type 0 where
   pub within : IsEarthedWithin (least_in v) MOST_WALK
   pub percent : v.percent ≤ 90
   pub volts_limit : AreVolts volts
+  pub lines_alone : HaveLineVoltsAlone (own_in v) volts
 
--- exact numbers of a transformer's current for these voltages, and sizes with a small slack
-pub record AreExactOf (v : Tolerated) (volts : ℕ → ℤ) (unit t : ℕ) (exact : ExactSolutions) (parts : Placed → Ends) (sizes : Sizes) : Type 0 where
+-- exact numbers of a transformer's current for these voltages
+pub record AreExactOf (v : Tolerated) (volts : ℕ → ℤ) (unit t : ℕ) (exact : ExactSolutions) (parts : Placed → Ends) : Type 0 where
   pub solve : AreExact (elements_of v.case) (stands_after v.rows) (ranges_in v) volts (weights_in v unit t) exact
   pub parts_are : AreExactParts (own_in v) (ranges_in v) exact parts
-  pub sized : AreSizes (own_in v) (ranges_in v) volts (weights_in v unit t) sizes
-  pub small : HasSmallSlack (units_in v unit t) sizes
 
 -- an interval in milliamperes ends at most ten beyond the exact one, of which `one` is a nanoampere
 pub record IsWithinTen (one : ℕ) (exact ends : Ends) : Type 0 where
@@ -66,8 +69,8 @@ pub record IsWithinTen (one : ℕ) (exact ends : Ends) : Type 0 where
 
 -- a transformer's interval for these voltages, with all exact numbers over which the parts are whole
 abbrev pub IsNearReference : Tolerated → (volts : ℕ → ℤ) → (unit t : ℕ) → (ends : Ends) → Type 0
-IsNearReference v volts unit t ends = (exact : ExactSolutions) (parts : Placed → Ends) (sizes : Sizes) →
-    AreExactOf v volts unit t exact parts sizes →
+IsNearReference v volts unit t ends = (exact : ExactSolutions) (parts : Placed → Ends) →
+    AreExactOf v volts unit t exact parts →
     IsWithinTen (current_unit (units_in v unit t) * (exact.reference.denominator * exact.reference.denominator))
     (exact_enclosure (own_in v) (weights_in v unit t) exact parts) ends
 

@@ -1,12 +1,14 @@
 //! What the text of the mode tells, and what follows of a right report.
 ghost use Rattle.gic_robust.specs.Determines.{TextDeterminesRobust};
 ghost use Rattle.gic_robust.specs.Follows.{RobustVerdictsAreTrue};
-ghost use Rattle.gic_robust.specs.Resolution.{RowsAreNearReference, OrdinarySizesHaveSmallSlack};
+ghost use Rattle.gic_robust.specs.Resolution.{RowsAreNearReference, FieldsDriveLinesAlone};
 
 use gic_criteria::laws::{verdict_law, worst_verdict_law};
+use gic_enclose::laws::potential_bound_law;
+use gic_exists::laws::existence_law;
 use gic_varied::laws::{
-    certified_enclosure_law, near_enclosure_law, other_grounds_law, reciprocity_law,
-    varied_bound_law, varied_law,
+    certified_enclosure_law, near_enclosure_law, other_grounds_law, reach_law, reciprocity_law,
+    sizes_law, varied_bound_law, varied_law,
 };
 
 /// Texts on one case that are equal show the same width, threshold, field and tolerance and the same intervals.
@@ -24,13 +26,16 @@ pub fn robust_verdicts_law()
 }
 
 /// In a right report the first two intervals of each transformer end at most 10 mA beyond the reference enclosure in exact
-/// numbers, where the slack is small. With ordinary sizes it is, wherever no interval of a potential with all grounds at
-/// their least reaches beyond 48 kV.
+/// numbers. No element but lines has a voltage in a field, as that asks.
 pub fn resolution_law()
     ensures near { RowsAreNearReference }
-    ensures ordinary { OrdinarySizesHaveSmallSlack }
+    ensures lines { FieldsDriveLinesAlone }
 {
     near_enclosure_law();
+    sizes_law();
+    reach_law();
+    existence_law();
+    potential_bound_law();
     varied_law();
     certified_enclosure_law();
     reciprocity_law();
