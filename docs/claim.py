@@ -111,8 +111,10 @@ rows. A variant without a dot is one of the type that the signature names: types
 `Unearthed`), or of that of another type (`Event`). Where one definition speaks of two of them, one has another name here:
 `NoMemory` is `Memory` of InputFault, `UsageFault` and `RefusedUsage` are `Usage`, `CaseRefused`, `StormRefused` and
 `SwitchRefused` are `Case`, `Storm` and `Switch` of InputRefusal, `CertificateFile` is `Certificate` of File, and `NamedEvent`
-is the type `Event`. No other name stands for two things; one sign does, `>>=`, to which the lines with `←` come: it goes on
-with the value that is there, and else stops with what was refused.
+is the type `Event`. No two definitions share a name, but these are a definition and a field of some record or type too:
+`counted`, `earthing`, `fetches`, `given`, `in_order`, `named`, `node`, `of_case`, `opens`, `outcome`, `shown`, `times`, `within`.
+A field is written with its record, or after a dot. One sign has two meanings, `>>=`, to which the lines with `←` come: it goes
+on with the value that is there, and else stops with what was refused.
 """
 # what a reader of a part should know that its definitions don't say
 NOTES = {

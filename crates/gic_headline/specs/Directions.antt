@@ -23,7 +23,8 @@ IsUnderInEveryDirection inputs standing threshold t = (north east : ℤ) (parts 
     square_of north + square_of east ≤ square_of (strength_asked inputs *ℤ pos parts) →
     IsSolution standing (uniform_volts inputs.case north east) (times parts s) → IsUnder inputs.case threshold t s
 
--- in each field of whole parts there is one solution. No field of at most the event's strength, whatever its direction, gives a transformer more than its worst current, and one that goes as its two currents do gives as much, in proportion to its strength; so where its worst current is under a threshold, its current is in every direction
+-- in each field of whole parts a solution exists, and any two agree (`HasOneSolution`). No field of at most the event's strength, whatever its direction, gives a transformer more than its worst current; a field whose parts are in proportion to the transformer's two currents gives as much, in proportion to the field's strength.
+-- So where its worst current is under a threshold, its current is in each of these fields. All parts of fields are rational numbers: in the worst direction none of exactly the event's strength need exist
 pub record HasWorstDirection (inputs : Inputs Criteria) (standing : List Placed) : Type 0 where
   pub solved : (north east : ℤ) → HasOneSolution standing (uniform_volts inputs.case north east)
   pub none_gives_more : (north east : ℤ) (parts : ℕ) (in_north in_east s : Solution) (t : ℕ) →
