@@ -621,7 +621,7 @@ def declaration(top: Path, key: str) -> list[str]:
                 first -= 1
             if not line.endswith(";"):
                 last = next((end for end in range(place, len(lines)) if lines[end].endswith("}") and not lines[end].startswith(" ")), place)
-            told = [each for each in lines[first : last + 1] if each.strip() and not each.startswith("#[") and "ghost" not in each]
+            told = [each for each in lines[first : last + 1] if each.strip() and not each.strip().startswith("#[") and "ghost" not in each]
             return ["", f"    crates/{crate}/src/{module}.rt", *("    " + each for each in told)]
     return []
 
