@@ -2,6 +2,7 @@
 """Makes docs/CLAIM.txt, all definitions that the headline says, in one file to be printed and read, and checks it.
 
     python3 docs/claim.py [--write]
+    python3 docs/claim.py --mode=MODE
 
 The headline is `Headline` of gic_headline, which `run` of that crate says of the program (crates/gic_headline/src/program.rt).
 It stands first, with the clause of `run`. From it this follows what is cited, definition by definition, through
@@ -15,6 +16,10 @@ Two faults are of names: a word of a library that is cited and told nowhere, and
 definition and a word of a library. Of a sign in SIGNS each definition tells the others, and one that cites that of another
 crate tells which it is. A third is of README.md: a field of `Headline`, or of what is true of a report, that the list in
 *What is proved* doesn't name, and an entry of that list that names none.
+
+With --mode it prints the claim of one mode and checks nothing: the headline, and all that it rests on where the words ask for this
+mode. Rows of other modes are left out. What reads words and files comes last, since a reader who knows the formats can pass over it.
+A line on the error stream says how many lines were printed.
 
 Without --write it compares docs/CLAIM.txt, and the table of its parts in docs/DEFINITIONS.md, with what it makes. The
 last line is `N definitions of the claim, M faults`, and the status is 0 only where M is 0.
@@ -60,6 +65,27 @@ PARTS = (
     ("The lines of faults", ("gic_study/Faults.line_of_fault",)),
     (ENDS, ("gic_study/Answers.moment", "gic_study/ProgramEnds.status_without_words", "gic_headline/Program.ProgramHeadline")),
 )
+# the modes, each with the variants that stand for it in the types of the code, which definitions have rows for
+MODES = {
+    "volts": ("Volts",),
+    "list": ("List", "ListAsked"),
+    "check": ("Check",),
+    "field": ("Field",),
+    "study": ("Study",),
+    "screen": ("Screen",),
+    "make": ("Make",),
+    "certify": ("Certify",),
+    "recheck": ("Recheck",),
+    "outage": ("Outage",),
+    "series": ("Series",),
+    "review": ("Review",),
+    "robust": ("Robust",),
+}
+# a definition with rows for at least this many modes is cut to one of them
+FEWEST_ROWS = 4
+TRUE_REPORT = "gic_headline/TrueReports.IsTrueReport"
+# the crates that read words and files
+READERS = ("gic_words", "gic_case_reader", "gic_records", "gic_storm", "gic_switch")
 # the signs that two definitions have; no word has two meanings
 SIGNS = (">>=",)
 # the list of what is proved, whose entries name the fields of the records behind it
@@ -256,6 +282,40 @@ def read_all(top: Path) -> dict[str, File]:
             name = f"{path.parent.parent.name}/{path.stem}"
             files[name] = read_file(name, path.read_text(encoding="utf-8"))
     return files
+
+
+def row_of(line: str, name: str) -> str | None:
+    """The variant that a line of a definition is the row of: `name a (Field inputs) = ..`, `name asked.Field = ..`."""
+    if not line.startswith(f"{name} ") or "=" not in line:
+        return None
+    variants = [word for words in MODES.values() for word in words]
+    for token in re.findall(r"[\w.']+", line.partition("=")[0])[1:]:
+        word = token.rpartition(".")[2]
+        if word in variants:
+            return word
+    return None
+
+
+def cut_rows(lines: list[str], name: str, mode: str) -> list[str]:
+    """The lines of a definition without the rows of other modes, where it has rows for several."""
+    rows = [row_of(line, name) for line in lines]
+    if len({word for word in rows if word}) < FEWEST_ROWS:
+        return lines
+    kept: list[str] = []
+    keeping = True
+    for line, word in zip(lines, rows):
+        if not line.startswith((" ", "--")):
+            keeping = word is None or word in MODES[mode]
+        if keeping:
+            kept.append(line)
+    return kept
+
+
+def cut_to(files: dict[str, File], mode: str) -> None:
+    """Leaves the rows of other modes out of all definitions."""
+    for file in files.values():
+        for definition in file.definitions:
+            definition.lines = cut_rows(definition.lines, definition.names[0], mode)
 
 
 def resolve(files: dict[str, File]) -> dict[str, Definition]:
@@ -563,7 +623,7 @@ def declaration(top: Path, key: str) -> list[str]:
                 first -= 1
             if not line.endswith(";"):
                 last = next((end for end in range(place, len(lines)) if lines[end].endswith("}") and not lines[end].startswith(" ")), place)
-            told = [each for each in lines[first : last + 1] if each.strip() and not each.startswith("#[") and "ghost" not in each]
+            told = [each for each in lines[first : last + 1] if each.strip() and not each.strip().startswith("#[") and "ghost" not in each]
             return ["", f"    crates/{crate}/src/{module}.rt", *("    " + each for each in told)]
     return []
 
@@ -626,6 +686,61 @@ def text_of(top: Path, files: dict[str, File], parts: list[Part], front: Part) -
     return "\n".join(lines) + "\n"
 
 
+def crate_of(definition: Definition) -> str:
+    """The crate of a definition."""
+    return definition.file.partition("/")[0]
+
+
+def text_of_mode(top: Path, files: dict[str, File], known: dict[str, Definition], crates: list[str], mode: str) -> str:
+    """The claim of one mode, as it is printed: the headline, what it rests on in the order of reading, and the readers last."""
+    front = front_of(files, known)
+    said = {definition.key for definition in front.definitions}
+    reports = set(reached(known, (TRUE_REPORT,)))
+    behind = reached(known, tuple(definition.key for definition in front.definitions))
+    ordered = [d for file in files.values() for d in file.definitions if d.key in behind and d.key not in said]
+    groups = (
+        (f"A true report of `{mode}`", [d for d in ordered if d.key in reports]),
+        ("How a call ends, and what it is asked for", [d for d in ordered if d.key not in reports and crate_of(d) not in READERS]),
+        ("How words and files are read", [d for d in ordered if d.key not in reports and crate_of(d) in READERS]),
+    )
+    found = [*front.definitions, *ordered]
+    several, names, declared = twice(found), declared_in(top), set[str]()
+    lines = [f"THE CLAIM OF `{mode}`", "", f"Made by `python3 docs/claim.py --mode={mode}`; rows of other modes are left out.", "", CALL, ""]
+    lines += clause(top)
+    for definition in front.definitions:
+        lines += ["", *definition.lines]
+    lines += ["", *PREFACE.rstrip("\n").splitlines(), "", "Words of libraries.", *outside_lines(found)]
+    for number, (title, members) in enumerate(groups, 1):
+        lines += ["", "=" * 100, f"{number}. {title} ({len(members)} definitions)", "=" * 100]
+        file = None
+        for definition in in_order(members, crates):
+            for key in dict.fromkeys(definition.types):
+                lines += declarations(top, key, names, declared)
+            if definition.file != file:
+                file = definition.file
+                lines += ["", f"crates/{file.replace('/', '/specs/')}.antt", *files[file].says]
+            lines += ["", *definition.lines, *name_lines(definition, several)]
+    return "\n".join(lines) + "\n"
+
+
+def print_mode(mode: str) -> int:
+    """Prints the claim of one mode."""
+    if mode not in MODES:
+        print(f"claim.py: there is no mode {mode}; the modes are {', '.join(MODES)}", file=sys.stderr)
+        return 2
+    try:
+        files = read_all(TOP)
+        cut_to(files, mode)
+        crates = crate_names((TOP / "crates.txt").read_text(encoding="utf-8"))
+        text = text_of_mode(TOP, files, resolve(files), crates, mode)
+    except (OSError, ValueError) as error:
+        print(f"claim.py: {error}", file=sys.stderr)
+        return 1
+    print(text, end="")
+    print(f"{len(text.splitlines())} lines", file=sys.stderr)
+    return 0
+
+
 def with_table(words: str, table: list[str]) -> str:
     """A document with its table of the parts of the claim replaced."""
     kept: list[str] = []
@@ -641,6 +756,8 @@ def with_table(words: str, table: list[str]) -> str:
 
 
 def main(words: list[str]) -> int:
+    if len(words) == 1 and words[0].startswith("--mode="):
+        return print_mode(words[0].removeprefix("--mode="))
     if words not in ([], ["--write"]):
         print(__doc__.strip(), file=sys.stdout if words in (["--help"], ["-h"]) else sys.stderr)
         return 0 if words in (["--help"], ["-h"]) else 2

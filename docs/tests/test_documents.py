@@ -186,6 +186,26 @@ twice n = n * 2
         self.assertEqual(item[2:], ["    /// What is switched.", "    pub enum Item {", "        Line,", "    }"])
         self.assertEqual(most[2:], ["    pub const MOST: u8 = 3;"])
 
+    def test_rows_of_other_modes_are_left_out(self) -> None:
+        lines = [
+            "-- one row a mode",
+            "abbrev pub said : Asked → Type 0",
+            "said (Field inputs) =",
+            "    first inputs",
+            "said (Screen inputs) = second inputs",
+            "said asked.Make = third",
+            "said (ListAsked inputs) = fourth",
+        ]
+        self.assertEqual(claim.cut_rows(lines, "said", "field"), lines[:4])
+        self.assertEqual(claim.cut_rows(lines, "said", "list"), [*lines[:2], lines[6]])
+        self.assertEqual(claim.cut_rows(lines[:5], "said", "field"), lines[:5])
+
+    def test_a_mode_that_is_not_there_is_reported(self) -> None:
+        out = io.StringIO()
+        with contextlib.redirect_stderr(out):
+            self.assertEqual(claim.main(["--mode=fields"]), 2)
+        self.assertIn("claim.py: there is no mode fields; the modes are volts, list,", out.getvalue())
+
     def test_the_table_of_a_document_is_replaced(self) -> None:
         words = "a\n\n| part | files | lines | minutes |\n|---|---|---|---|\n| old | | 1 | 1 |\n\nb\n"
         self.assertEqual(claim.with_table(words, ["| part |", "|---|"]), "a\n\n| part |\n|---|\n\nb\n")
