@@ -1,6 +1,6 @@
 """What became of the wrong edits: for each that was refused, at which commit and on which day it was tried last.
 
-`edits_state.csv` has a line for each, by crate and name. An edit without a line was never tried, or wasn't refused when it was tried last."""
+`edits_state.csv` has a line for each, by crate and name. An edit without a line was never tried, or its last trial didn't refuse it."""
 
 import csv
 import io

@@ -135,7 +135,8 @@ class Names(Said):
 
     def test_a_changed_name_that_is_gone(self) -> None:
         _, lines = self.said(TABLES + NONE.replace("`Null::new`", "`Null::new` changed"))
-        self.assertEqual(lines[:2], [f"{it} of gic_low is no public item, and its row says that it is changed" for it in ("Null", "Null::new")])
+        told = "of gic_low is no public item, and its row says that it is changed"
+        self.assertEqual(lines[:2], [f"{it} {told}" for it in ("Null", "Null::new")])
 
     def test_a_name_with_two_rows(self) -> None:
         _, lines = self.said(TABLES + NONE + CHANGED + CHANGED)
