@@ -34,7 +34,7 @@ RUNS = 5
 # A step that is solved afresh takes at least this much as long as one that is put together; README of bench/ has the ratios.
 RATIO = 1.5
 # A run of a tenth of the steps that takes longer than this is one of a program without proof.
-SLOW_SECONDS = 5.0
+SLOW_SECONDS = 0.5
 
 
 def sums_of_grounds(report: str) -> list[tuple[int, int]]:
