@@ -26,6 +26,8 @@ pub mod LiftsCompared
 pub mod NearProducts
 pub mod NearParts
 pub mod NearEnclosure
+pub mod FlatLifts
+pub mod GreatestPotentials
 pub mod LiftReach
 pub mod PotentialReach
 pub mod SumsAndSizes

@@ -12,6 +12,10 @@ pub mod EachGround
 pub mod Corners
 pub mod Certified
 pub mod Bounds
+pub mod PotentialRanges
+pub mod OneNetwork
+pub mod AdjointForm
+pub mod Parts
 pub mod Near
 pub mod Reach
 pub mod Sizes

@@ -14,6 +14,8 @@ ghost use Rattle.gic_varied.specs.GroundLaws.{RangesStayWithinLimits};
 ghost use Rattle.gic_varied.specs.Corners.{CornersAreOfRanges};
 ghost use Rattle.gic_varied.specs.EachGround.{StandingGroundsAreInRanges, AnyGroundsStayWithinLimits, NetworksAreEarthedAlike};
 ghost use Rattle.gic_varied.specs.Lifts.{PotentialsAreRaisedAtMost, PotentialsAreLoweredAtMost};
+ghost use Rattle.gic_varied.specs.PotentialRanges.{RaisingGroundsGiveGreatestPotentials, LoweringGroundsGiveLeastPotentials};
+ghost use Rattle.gic_varied.specs.PotentialRanges.{CertifiedCornersRaise, CertifiedCornersLower};
 ghost use Rattle.gic_varied.specs.Strays.{StrayPowersAreBounded};
 ghost use Rattle.gic_varied.specs.Reciprocal.{VariedCurrentsAreReciprocal, CurrentsAreReciprocal, VariedCurrentsAreOffByStrayPower};
 ghost use Rattle.gic_varied.specs.Reciprocal.{ListedWeightsCount};
@@ -126,4 +128,14 @@ pub fn reach_law()
 /// What the voltages of the field and the weights add up to gives sizes, by which an enclosure's slack is known.
 pub fn sizes_law()
     ensures { SumsGiveSizes }
+{}
+
+/// The range of all potentials is that of two networks: where each ground raises its node the most, no varied potential is
+/// above that network's, at any live node; where each lowers it the most, none is below. At a corner whose certain intervals
+/// leave signs open at the grounds, a varied potential is beyond them by at most 20 times what they leave open.
+pub fn greatest_potentials_law()
+    ensures greatest { RaisingGroundsGiveGreatestPotentials }
+    ensures least { LoweringGroundsGiveLeastPotentials }
+    ensures certified_above { CertifiedCornersRaise }
+    ensures certified_below { CertifiedCornersLower }
 {}
