@@ -100,16 +100,23 @@ nothing_leaves k (p ∷ ps) = (either (p.1.from.0 == k), nothing_leaves k ps)
     either true = refl
     either false = refl
 
-pub solves_flat : (network : Network) (stands : Item → Bool) (most : Element → ℕ) (v : ℕ) → SolvesWith (standing_elements network stands) most (even network v) (flat v)
-solves_flat network stands most v = record {
+pub solves_flat_by : (network : Network) (stands : Item → Bool) (most : Element → ℕ) (v : ℕ) (volts : ℕ → ℤ) →
+    AllByRecursion (λ p. volts p.0 ≡ cond (is_ground p.1) (neg_ℤ (pos v)) (pos 0)) (standing_elements network stands) → SolvesWith (standing_elements network stands) most volts (flat v)
+solves_flat_by network stands most v volts are = record {
   denominator_above_0 = omega arith;
-  by_ohm = weaker (IsFound 0 network.list) (λ p. IsOhm (even network v) (flat v) (placed_with most p))
-      (λ p h. flat_ohm (cond (is_ground p.1) (most p.1) p.1.micro_ohm) (p.1.times * 1000000) v p.1.to (even network v p.0) (even_at network v p h)) (standing_elements network stands) (found_standing network stands);
+  by_ohm = weaker (λ p. volts p.0 ≡ cond (is_ground p.1) (neg_ℤ (pos v)) (pos 0)) (λ p. IsOhm volts (flat v) (placed_with most p))
+      (λ p is. flat_ohm (cond (is_ground p.1) (most p.1) p.1.micro_ohm) (p.1.times * 1000000) v p.1.to (volts p.0) is) (standing_elements network stands) are;
   none_if_open = λ place none. refl;
   kirchhoff = λ k live.
       let here = elements_at (standing_elements network stands) k in
       sum_of-same (λ p. leaving k p.1 (pos 0)) (λ p. pos 0) here (nothing_leaves k here) ∙ sum_of_zeros here;
 }
+
+pub solves_flat : (network : Network) (stands : Item → Bool) (most : Element → ℕ) (v : ℕ) → SolvesWith (standing_elements network stands) most (even network v) (flat v)
+solves_flat network stands most v =
+    solves_flat_by network stands most v (even network v)
+    (weaker (IsFound 0 network.list) (λ p. even network v p.0 ≡ cond (is_ground p.1) (neg_ℤ (pos v)) (pos 0)) (λ p h. even_at network v p h) (standing_elements network stands) (found_standing network stands))
+
 -- it lifts over a ground at its greatest resistance too, by how far the potential may be below 0
 lift_of_twenty_at_most : (range : Range) (b d : ℕ) (z : ℤ) → range.least ≤ range.most → range.most ≤ 20 * range.least → neg_ℤ z ≤ℤ pos (b * d) → IsLift range range.most z d (neg_ℤ (pos (20 * b)))
 lift_of_twenty_at_most range b d z order modest above =

@@ -28,6 +28,7 @@ pub mod NearParts
 pub mod NearEnclosure
 pub mod FlatLifts
 pub mod GreatestPotentials
+pub mod Fractions
 pub mod LiftReach
 pub mod PotentialReach
 pub mod SumsAndSizes

@@ -16,6 +16,7 @@ ghost use Rattle.gic_varied.specs.EachGround.{StandingGroundsAreInRanges, AnyGro
 ghost use Rattle.gic_varied.specs.Lifts.{PotentialsAreRaisedAtMost, PotentialsAreLoweredAtMost};
 ghost use Rattle.gic_varied.specs.PotentialRanges.{RaisingGroundsGiveGreatestPotentials, LoweringGroundsGiveLeastPotentials};
 ghost use Rattle.gic_varied.specs.PotentialRanges.{CertifiedCornersRaise, CertifiedCornersLower};
+ghost use Rattle.gic_varied.specs.OneNetwork.{VariedNetworksAreSolved};
 ghost use Rattle.gic_varied.specs.Strays.{StrayPowersAreBounded};
 ghost use Rattle.gic_varied.specs.Reciprocal.{VariedCurrentsAreReciprocal, CurrentsAreReciprocal, VariedCurrentsAreOffByStrayPower};
 ghost use Rattle.gic_varied.specs.Reciprocal.{ListedWeightsCount};
@@ -138,4 +139,10 @@ pub fn greatest_potentials_law()
     ensures least { LoweringGroundsGiveLeastPotentials }
     ensures certified_above { CertifiedCornersRaise }
     ensures certified_below { CertifiedCornersLower }
+{}
+
+/// The network of a varied solution, which has one resistance of its range at each ground, whole or not, has a solution for any
+/// other voltages too.
+pub fn one_network_law()
+    ensures { VariedNetworksAreSolved }
 {}
