@@ -23,7 +23,7 @@ use Rattle.gic_model.proofs.Ends.{standing_within, live_within}
 use Rattle.gic_model.proofs.Members.{both}
 use Rattle.gic_model.proofs.SumLaws.{HasOhms}
 use Rattle.gic_varied.specs.Grounds.{is_ground, HaveNoGroundVolts}
-use Rattle.gic_varied.specs.OneNetwork.{ground_drive_of, ShareResistance, HasVariedSolution}
+use Rattle.gic_varied.specs.OneNetwork.{ground_drive_of, ShareResistance, AreOfOneNetwork, HasVariedSolution}
 use Rattle.gic_varied.specs.PotentialRanges.{IsRaising, AreRaising}
 use Rattle.gic_varied.specs.Ranges.{Ranges, AreInRanges, IsInRange}
 use Rattle.gic_varied.specs.Varied.{IsVaried, IsGroundWithin, IsFractionOf, IsOhmOf}
@@ -212,27 +212,32 @@ module _ (network : Network) (stands : Item → Bool) (ranges : Ranges) (limits 
       weaker (λ p. is_ground p.1 ≡ true → IsFraction (ranges p.1) (ground_drive_of s p) (s.current p.0) (fractions s p))
       (λ p. is_ground p.1 ≡ true → IsFractionOf (ranges p.1) (fractions s p).numerator (fractions s p).denominator) (λ p h ground. (h ground).inside) standing (are_fractions volts s varies)
 
-  -- the network of a varied solution, for other voltages
-  pub other_solution : (volts others : ℕ → ℤ) (one : Solution) → HaveNoGroundVolts standing others → IsVaried standing ranges volts one → HasVariedSolution standing ranges others one
-  other_solution volts others one quiet varies = by (solved_by (fractions one) others quiet (inside_by volts one varies))
+  -- a solution for these fractions is of the varied solution's network
+  pub of_one_network : (volts others : ℕ → ℤ) (one other : Solution) → IsVaried standing ranges volts one → SolvesBy standing (fractions one) others other → AreOfOneNetwork standing ranges one other
+  of_one_network volts others one other varies solves =
+      All-from_recursion (λ p. is_ground p.1 ≡ true → ShareResistance (ranges p.1) one other p) standing
+      (weaker (λ p. Own p × Law p) (λ p. is_ground p.1 ≡ true → ShareResistance (ranges p.1) one other p)
+      (λ p have ground. record {
+        numerator = (fractions one p).numerator;
+        denominator = (fractions one p).denominator;
+        inside = (have.0 ground).inside;
+        in_one = (have.0 ground).ohm;
+        in_other = have.1 ground;
+      }) standing (both Own Law standing (are_fractions volts one varies) solves.grounds))
     where
-      Law : Solution → Placed → Type 0
-      Law s p = is_ground p.1 ≡ true → IsOhmOf (fractions one p).numerator (fractions one p).denominator (ground_drive_of s p) (s.current p.0)
+      Law : Placed → Type 0
+      Law p = is_ground p.1 ≡ true → IsOhmOf (fractions one p).numerator (fractions one p).denominator (ground_drive_of other p) (other.current p.0)
 
       Own : Placed → Type 0
       Own p = is_ground p.1 ≡ true → IsFraction (ranges p.1) (ground_drive_of one p) (one.current p.0) (fractions one p)
 
+  -- the network of a varied solution, for other voltages
+  pub other_solution : (volts others : ℕ → ℤ) (one : Solution) → HaveNoGroundVolts standing others → IsVaried standing ranges volts one → HasVariedSolution standing ranges others one
+  other_solution volts others one quiet varies = by (solved_by (fractions one) others quiet (inside_by volts one varies))
+    where
       by : HasFractionSolution standing (fractions one) others → HasVariedSolution standing ranges others one
       by h = record {
         solution = h.solution;
         varies = varied_by standing ranges (fractions one) others h.solution (inside_by volts one varies) h.solves;
-        of_one_network = All-from_recursion (λ p. is_ground p.1 ≡ true → ShareResistance (ranges p.1) one h.solution p) standing
-            (weaker (λ p. Own p × Law h.solution p) (λ p. is_ground p.1 ≡ true → ShareResistance (ranges p.1) one h.solution p)
-            (λ p have ground. record {
-              numerator = (fractions one p).numerator;
-              denominator = (fractions one p).denominator;
-              inside = (have.0 ground).inside;
-              in_one = (have.0 ground).ohm;
-              in_other = have.1 ground;
-            }) standing (both Own (Law h.solution) standing (are_fractions volts one varies) h.solves.grounds));
+        of_one_network = of_one_network volts others one h.solution varies h.solves;
       }

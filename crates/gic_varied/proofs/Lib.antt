@@ -29,6 +29,9 @@ pub mod NearEnclosure
 pub mod FlatLifts
 pub mod GreatestPotentials
 pub mod Fractions
+pub mod Shared
+pub mod AdjointEnclosed
+pub mod RaisingParts
 pub mod LiftReach
 pub mod PotentialReach
 pub mod SumsAndSizes

@@ -29,7 +29,7 @@ cancel w a b some same =
     omega (arith, linear)
 
 -- over plain numbers: by Ohm's law of both, each current over what drives the other is the same
-crossed : (w : ℕ) (r c z a b : ℤ) → 0 < w → r *ℤ c ≡ pos w *ℤ a → r *ℤ z ≡ pos w *ℤ b → c *ℤ b ≡ z *ℤ a
+pub crossed : (w : ℕ) (r c z a b : ℤ) → 0 < w → r *ℤ c ≡ pos w *ℤ a → r *ℤ z ≡ pos w *ℤ b → c *ℤ b ≡ z *ℤ a
 crossed w r c z a b some one other =
     cancel w (c *ℤ b) (z *ℤ a) some
     (*ℤ_left_comm (pos w) c b ∙ ap (λ x. c *ℤ x) (sym other) ∙ *ℤ_left_comm c r z ∙ ap (λ x. r *ℤ x) (*ℤ_comm c z) ∙ *ℤ_left_comm r z c ∙ ap (λ x. z *ℤ x) one ∙ *ℤ_left_comm z (pos w) a)

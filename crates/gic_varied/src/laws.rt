@@ -17,6 +17,8 @@ ghost use Rattle.gic_varied.specs.Lifts.{PotentialsAreRaisedAtMost, PotentialsAr
 ghost use Rattle.gic_varied.specs.PotentialRanges.{RaisingGroundsGiveGreatestPotentials, LoweringGroundsGiveLeastPotentials};
 ghost use Rattle.gic_varied.specs.PotentialRanges.{CertifiedCornersRaise, CertifiedCornersLower};
 ghost use Rattle.gic_varied.specs.OneNetwork.{VariedNetworksAreSolved};
+ghost use Rattle.gic_varied.specs.AdjointForm.{VariedCurrentsAreOffByAdjointPower, AdjointEnclosuresHold};
+ghost use Rattle.gic_varied.specs.Parts.{RaisingPartsHaveTheGreatest, LoweringPartsHaveTheLeast};
 ghost use Rattle.gic_varied.specs.Strays.{StrayPowersAreBounded};
 ghost use Rattle.gic_varied.specs.Reciprocal.{VariedCurrentsAreReciprocal, CurrentsAreReciprocal, VariedCurrentsAreOffByStrayPower};
 ghost use Rattle.gic_varied.specs.Reciprocal.{ListedWeightsCount};
@@ -145,4 +147,20 @@ pub fn greatest_potentials_law()
 /// other voltages too.
 pub fn one_network_law()
     ensures { VariedNetworksAreSolved }
+{}
+
+/// The adjoint form of reciprocity, with the two networks in each other's place: a varied weighted current is the reference's,
+/// and the stray power of the reference's own potentials and the varied network's adjoint ones. The enclosure that ranges of
+/// those adjoint potentials give holds the weighted current of every varied solution.
+pub fn adjoint_form_law()
+    ensures off { VariedCurrentsAreOffByAdjointPower }
+    ensures holds { AdjointEnclosuresHold }
+{}
+
+/// Turning grounds: where the adjoint potential times the potential at a ground has one sign in all varied networks, be they two,
+/// one end of the ground's range has the greatest weighted current, and the other the least. So these are found among the varied
+/// solutions of parts of the ranges, in one step for any number of grounds.
+pub fn turning_law()
+    ensures greatest { RaisingPartsHaveTheGreatest }
+    ensures least { LoweringPartsHaveTheLeast }
 {}
